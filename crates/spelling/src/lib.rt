@@ -1,0 +1,7 @@
+//! Values spelled as bytes, and bytes read back: the words that every format is told in.
+//! Each format has one spelling a value, and no spelling begins another of the same format.
+#![tactic(auto)]
+
+mod ending;
+
+pub use ending::{End, NoMemory, NotHere};
