@@ -1,9 +1,15 @@
 -- How a reader goes with a spelling, and how the readers of fields are joined.
-use Rattle.std.proofs.Common.{◌≡◌, ℕ, zero, suc, ◌+◌, ◌-◌, ◌<◌, ◌≤◌, Bool, true, false, List, [], ◌∷◌, ◌++◌, length, take, drop, refl, sym, ap, subst, ◌∙◌, append_assoc, arith}
+use Rattle.std.proofs.Common.{◌≡◌, ℕ, zero, suc, ◌+◌, ◌-◌, ◌<◌, ◌≤◌, Bool, true, false, List, [], ◌∷◌, ◌++◌, length, take, drop, Result, Ok, Err, refl, sym, ap, subst, ◌∙◌, append_assoc, arith}
 use Rattle.std.proofs.lemmas.List.{append-nil, take-append-drop, length-append, length-drop}
 use Rattle.spelling.specs.Front.{Front, Whole, Part, Wrong, ◌>>=◌}
-use Rattle.spelling.specs.Form.{AreBytes, IsForm}
-use Rattle.spelling.specs.Reading.{guard}
+use Rattle.spelling.specs.Form.{AreBytes, IsForm, Decodes}
+use Rattle.spelling.specs.Reading.{guard, Fails, IsEndOf}
+use Rattle.spelling.specs.declared.ending.End.{End}
+use Rattle.spelling.specs.declared.ending.End.TheVariants as ends
+use Rattle.spelling.specs.declared.ending.NotHere.{NotHere}
+use Rattle.spelling.specs.declared.input.Unread.{Unread}
+use Rattle.spelling.specs.declared.input.Unread.TheVariants as unread
+use Rattle.spelling.proofs.Lists.{take_front, nothing_behind}
 
 -- what a reader took from the front of bytes
 pub record Takes (bytes text rest : List ℕ) (Fits : Type 0) : Type 0 where
@@ -132,3 +138,44 @@ pub one_spelling : {A : Type 0} {at : List ℕ → Front A} {spell : A → List 
 one_spelling {A} {at} reads x y a b fx fy e =
     let same : Whole x a ≡ Whole y b = sym (reads.again x a fx) ∙ ap at e ∙ reads.again y b fy in
     (whole_value x y a b same, whole_rest x y a b same)
+
+whole_not_part : {A : Type 0} (x : A) (rest : List ℕ) (r : Front A) → r ≡ Whole x rest → r ≡ Part → ⊥
+whole_not_part x rest r e f = cc
+
+whole_not_wrong : {A : Type 0} (x : A) (rest : List ℕ) (r : Front A) → r ≡ Whole x rest → r ≡ Wrong → ⊥
+whole_not_wrong x rest r e f = cc
+
+-- a whole value alone
+pub alone : {A : Type 0} {at : List ℕ → Front A} {spell : A → List ℕ} {fits : A → Type 0} → Reads at spell fits → (x : A) → fits x → at (spell x) ≡ Whole x []
+alone {A} {at} {spell} reads x f = ap at (sym (append-nil (spell x))) ∙ reads.again x [] f
+
+-- by what its beginning is, where the whole is one value and nothing behind it
+part_of_whole : {A : Type 0} (at : List ℕ → Front A) (x : A) (front tail : List ℕ) (r : Front A) → at (front ++ tail) ≡ Whole x [] → at front ≡ r
+    → ((y : A) (rest : List ℕ) → at front ≡ Whole y rest → at (front ++ tail) ≡ Whole y (rest ++ tail))
+    → (at front ≡ Wrong → at (front ++ tail) ≡ Wrong)
+    → 0 < length tail → r ≡ Part
+part_of_whole at x front tail (Whole y rest) whole is more wrong some =
+    let none : rest ++ tail ≡ [] = whole_rest y x (rest ++ tail) [] (sym (more y rest is) ∙ whole) in
+    absurd (omega (arith, some, ap length (nothing_behind rest tail none)))
+part_of_whole at x front tail Part whole is more wrong some = refl
+part_of_whole at x front tail Wrong whole is more wrong some = absurd (whole_not_wrong x [] (at (front ++ tail)) whole (wrong is))
+
+-- the beginning of a spelling is a part
+pub part_of : {A : Type 0} {at : List ℕ → Front A} {spell : A → List ℕ} {fits : A → Type 0} → Reads at spell fits → (x : A) (n : ℕ) → fits x → n < length (spell x) → at (take n (spell x)) ≡ Part
+part_of {A} {at} {spell} reads x n f lt =
+    part_of_whole at x (take n (spell x)) (drop n (spell x)) (at (take n (spell x))) (ap at (take-append-drop n (spell x)) ∙ alone reads x f) refl
+      (λ y rest e. reads.more (take n (spell x)) y rest (drop n (spell x)) e) (reads.wrong (take n (spell x)) (drop n (spell x))) (omega (arith, length-drop n (spell x)))
+
+-- a decoder that read a whole value
+pub decodes_whole : {A : Type 0} {at : List ℕ → Front A} {spell : A → List ℕ} {fits : A → Type 0} → Reads at spell fits → (bytes : List ℕ) (x : A) (rest : List ℕ) → AreBytes bytes → at bytes ≡ Whole x rest
+    → Decodes spell fits bytes (Ok (x, length bytes - length rest))
+decodes_whole {A} {at} {spell} reads bytes x rest are e =
+    let t = reads.takes bytes x rest are e in
+    (t.fits, omega arith, take_front bytes (spell x) rest t.parts)
+
+-- a decoder whose reader read no value
+pub decodes_end : {A : Type 0} {at : List ℕ → Front A} {spell : A → List ℕ} {fits : A → Type 0} → Reads at spell fits → (bytes : List ℕ) (u : Unread) (e : End NotHere) → Fails u (at bytes) → IsEndOf u e
+    → Decodes spell fits bytes (Err e)
+decodes_end {A} {at} {spell} {fits} reads bytes unread.NoMemory e h is = subst (λ (d : End NotHere). Decodes spell fits bytes (Err d)) (sym is) tt
+decodes_end {A} {at} {spell} {fits} reads bytes unread.Part e h is = subst (λ (d : End NotHere). Decodes spell fits bytes (Err d)) (sym is) (λ x rest f parts. whole_not_part x rest (at bytes) (ap at parts ∙ reads.again x rest f) h)
+decodes_end {A} {at} {spell} {fits} reads bytes unread.Wrong e h is = subst (λ (d : End NotHere). Decodes spell fits bytes (Err d)) (sym is) (λ x rest f parts. whole_not_wrong x rest (at bytes) (ap at parts ∙ reads.again x rest f) h)

@@ -66,13 +66,16 @@ list_at count_at limit at bytes = do
   n ← count_at bytes
   guard (nat_le n.0 limit) (many_at at n.0 n.1)
 
--- What a reader returned, seen by view, is what stands at the front, and the bytes behind it are left;
--- for want of memory nothing is said.
+-- why no value was read is what stands at the front; for want of memory nothing is said
+abbrev pub Fails : {Y : Type 0} → Unread → Front Y → Type 0
+Fails unread.Part front = front ≡ Part
+Fails unread.Wrong front = front ≡ Wrong
+Fails unread.NoMemory front = Unit {0}
+
+-- what a reader returned, seen by view, is what stands at the front, and the bytes behind it are left
 abbrev pub Gives : {X Y : Type 0} → (X → Y) → Result X Unread → List ℕ → Front Y → Type 0
 Gives view (Ok x) left front = front ≡ Whole (view x) left
-Gives view (Err unread.Part) left front = front ≡ Part
-Gives view (Err unread.Wrong) left front = front ≡ Wrong
-Gives view (Err unread.NoMemory) left front = Unit {0}
+Gives view (Err e) left front = Fails e front
 
 -- how a decoder ends where its reader read no value
 abbrev pub IsEndOf : Unread → End NotHere → Type 0
