@@ -22,6 +22,7 @@ pub enum Unread {
 }
 
 /// The bytes that are left to read. After an error it is of no more use.
+#[derive(Drop)]
 pub struct Input<'a> {
     bytes: &'a [u8],
 }
