@@ -34,25 +34,37 @@ byte_below [] i are = omega arith
 byte_below (b ∷ bytes) zero are = are.0
 byte_below (b ∷ bytes) (suc i) are = byte_below bytes i are.1
 
--- ---- regrouping, from the fields one by one to the fields as they are written
+-- ---- regrouping, from the fields as they are read to the fields as they are written
 
-pub group_3 : (a b c : List ℕ) → a ++ (b ++ c) ≡ a ++ b ++ c
-group_3 a b c = sym (append_assoc a b c)
+pub group_1 : (a : List ℕ) → a ++ [] ≡ a
+group_1 a = append-nil a
 
-pub group_4 : (a b c d : List ℕ) → a ++ (b ++ (c ++ d)) ≡ a ++ b ++ c ++ d
-group_4 a b c d = group_3 a b (c ++ d) ∙ group_3 (a ++ b) c d
+pub group_2 : (a b : List ℕ) → a ++ (b ++ []) ≡ a ++ b
+group_2 a b = sym (append_assoc a b []) ∙ group_1 (a ++ b)
 
-pub group_5 : (a b c d e : List ℕ) → a ++ (b ++ (c ++ (d ++ e))) ≡ a ++ b ++ c ++ d ++ e
-group_5 a b c d e = group_4 a b c (d ++ e) ∙ group_3 (a ++ b ++ c) d e
+pub group_3 : (a b c : List ℕ) → a ++ (b ++ (c ++ [])) ≡ a ++ b ++ c
+group_3 a b c = sym (append_assoc a b (c ++ [])) ∙ group_2 (a ++ b) c
 
-pub group_6 : (a b c d e f : List ℕ) → a ++ (b ++ (c ++ (d ++ (e ++ f)))) ≡ a ++ b ++ c ++ d ++ e ++ f
-group_6 a b c d e f = group_5 a b c d (e ++ f) ∙ group_3 (a ++ b ++ c ++ d) e f
+pub group_4 : (a b c d : List ℕ) → a ++ (b ++ (c ++ (d ++ []))) ≡ a ++ b ++ c ++ d
+group_4 a b c d = sym (append_assoc a b (c ++ (d ++ []))) ∙ group_3 (a ++ b) c d
 
-pub group_7 : (a b c d e f g : List ℕ) → a ++ (b ++ (c ++ (d ++ (e ++ (f ++ g))))) ≡ a ++ b ++ c ++ d ++ e ++ f ++ g
-group_7 a b c d e f g = group_6 a b c d e (f ++ g) ∙ group_3 (a ++ b ++ c ++ d ++ e) f g
+pub group_5 : (a b c d e : List ℕ) → a ++ (b ++ (c ++ (d ++ (e ++ [])))) ≡ a ++ b ++ c ++ d ++ e
+group_5 a b c d e = sym (append_assoc a b (c ++ (d ++ (e ++ [])))) ∙ group_4 (a ++ b) c d e
 
-pub group_8 : (a b c d e f g h : List ℕ) → a ++ (b ++ (c ++ (d ++ (e ++ (f ++ (g ++ h)))))) ≡ a ++ b ++ c ++ d ++ e ++ f ++ g ++ h
-group_8 a b c d e f g h = group_7 a b c d e f (g ++ h) ∙ group_3 (a ++ b ++ c ++ d ++ e ++ f) g h
+pub group_6 : (a b c d e f : List ℕ) → a ++ (b ++ (c ++ (d ++ (e ++ (f ++ []))))) ≡ a ++ b ++ c ++ d ++ e ++ f
+group_6 a b c d e f = sym (append_assoc a b (c ++ (d ++ (e ++ (f ++ []))))) ∙ group_5 (a ++ b) c d e f
+
+pub group_7 : (a b c d e f g : List ℕ) → a ++ (b ++ (c ++ (d ++ (e ++ (f ++ (g ++ [])))))) ≡ a ++ b ++ c ++ d ++ e ++ f ++ g
+group_7 a b c d e f g = sym (append_assoc a b (c ++ (d ++ (e ++ (f ++ (g ++ [])))))) ∙ group_6 (a ++ b) c d e f g
+
+pub group_8 : (a b c d e f g h : List ℕ) → a ++ (b ++ (c ++ (d ++ (e ++ (f ++ (g ++ (h ++ []))))))) ≡ a ++ b ++ c ++ d ++ e ++ f ++ g ++ h
+group_8 a b c d e f g h = sym (append_assoc a b (c ++ (d ++ (e ++ (f ++ (g ++ (h ++ []))))))) ∙ group_7 (a ++ b) c d e f g h
+
+pub group_9 : (a b c d e f g h i : List ℕ) → a ++ (b ++ (c ++ (d ++ (e ++ (f ++ (g ++ (h ++ (i ++ [])))))))) ≡ a ++ b ++ c ++ d ++ e ++ f ++ g ++ h ++ i
+group_9 a b c d e f g h i = sym (append_assoc a b (c ++ (d ++ (e ++ (f ++ (g ++ (h ++ (i ++ [])))))))) ∙ group_8 (a ++ b) c d e f g h i
+
+pub group_10 : (a b c d e f g h i j : List ℕ) → a ++ (b ++ (c ++ (d ++ (e ++ (f ++ (g ++ (h ++ (i ++ (j ++ []))))))))) ≡ a ++ b ++ c ++ d ++ e ++ f ++ g ++ h ++ i ++ j
+group_10 a b c d e f g h i j = sym (append_assoc a b (c ++ (d ++ (e ++ (f ++ (g ++ (h ++ (i ++ (j ++ []))))))))) ∙ group_9 (a ++ b) c d e f g h i j
 
 -- ---- a text in front of others
 
