@@ -1,10 +1,10 @@
 -- What `placed` and `rising` hold, and that a strictly rising list is told by its members.
-use Rattle.std.proofs.Common.{◌≡◌, ◌⊎◌, inl, inr, List, [], ◌∷◌, ◌++◌, sym, refl, ap, ap₂, ◌∙◌, subst, Ordering, Less, Equal, Greater, is_lt, is_eq, is_gt, true≢false}
+use Rattle.std.proofs.Common.{◌≡◌, ◌⊎◌, inl, inr, List, [], ◌∷◌, sym, refl, ap, ap₂, ◌∙◌, subst, Ordering, Less, Equal, Greater, is_lt, true≢false}
 use Rattle.std.specs.List.{AllByRecursion}
 use Rattle.std.specs.List.Sorted.{IsStrictlySortedBy}
 use Rattle.std.specs.Cmp.{IsTotalOrder}
 use Rattle.std.specs.Ordering.{match_ordering, ordering_reverse}
-use Rattle.std.proofs.lemmas.Cmp.{tied_itself, tied_back, alike_right}
+use Rattle.std.proofs.lemmas.Cmp.{tied_itself}
 use Rattle.willow_entry.specs.Pruning.{placed, rising}
 use Rattle.willow_entry.proofs.Members.{Member}
 
