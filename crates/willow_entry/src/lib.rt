@@ -2,4 +2,6 @@
 //! Each function answers by the definitions over plain rows, and the laws of pruning and joining are proved here.
 #![tactic(auto)]
 
-pub mod laws;
+mod entry;
+
+pub use entry::{Entry, newer};
