@@ -1,2 +1,4 @@
 pub mod Front
 pub mod Form
+pub mod Spelling
+pub mod Reading

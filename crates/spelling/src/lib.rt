@@ -3,5 +3,7 @@
 #![tactic(auto)]
 
 mod ending;
+mod input;
 
 pub use ending::{End, NoMemory, NotHere};
+pub use input::{guard, Input, Unread};

@@ -1,0 +1,84 @@
+-- The readers of fields: each answers what stands at the front of bytes.
+use Rattle.std.specs.Prelude.{ℕ, zero, suc, List, [], ◌∷◌, length, take, drop, Option, Some, None, Bool, true, false, Result, Ok, Err, ◌≡◌, nat_lt, nat_le, ◌==◌, if◌then◌else◌}
+use Rattle.std.specs.Int.{Width, byte_len, from_be_bytes}
+use Rattle.spelling.specs.Front.{Front, Whole, Part, Wrong, ◌>>=◌}
+use Rattle.spelling.specs.declared.ending.End.{End}
+use Rattle.spelling.specs.declared.ending.End.TheVariants as ends
+use Rattle.spelling.specs.declared.ending.NotHere.{NotHere}
+use Rattle.spelling.specs.declared.input.Unread.{Unread}
+use Rattle.spelling.specs.declared.input.Unread.TheVariants as unread
+
+-- what a test that fails makes wrong
+abbrev pub guard : {A : Type 0} → Bool → Front A → Front A
+guard true front = front
+guard false front = Wrong
+
+-- one byte
+abbrev pub byte_at : List ℕ → Front ℕ
+byte_at [] = Part
+byte_at (b ∷ rest) = Whole b rest
+
+-- so many bytes
+abbrev pub bytes_at : ℕ → List ℕ → Front (List ℕ)
+bytes_at n bytes = if nat_lt (length bytes) n then Part else Whole (take n bytes) (drop n bytes)
+
+-- a number of a width, the highest byte first
+abbrev pub number_at : Width → List ℕ → Front ℕ
+number_at w bytes = if nat_lt (length bytes) (byte_len w) then Part else Whole (from_be_bytes w (take (byte_len w) bytes)) (drop (byte_len w) bytes)
+
+-- just these bytes; wrong at the first that differs
+unfoldable pub exactly_at : List ℕ → List ℕ → Front (List ℕ)
+exactly_at [] bytes = Whole [] bytes
+exactly_at (m ∷ more) [] = Part
+exactly_at (m ∷ more) (b ∷ bytes) = guard (m == b) (exactly_at more bytes >>= λ x. Whole (m ∷ x.0) x.1)
+
+-- so many values in a row
+unfoldable pub many_at : {A : Type 0} → (List ℕ → Front A) → ℕ → List ℕ → Front (List A)
+many_at at zero bytes = Whole [] bytes
+many_at at (suc n) bytes = do
+  first ← at bytes
+  others ← many_at at n first.1
+  Whole (first.0 ∷ others.0) others.1
+
+-- what stands behind the flag of an optional value
+unfoldable pub behind_flag : {A : Type 0} → (List ℕ → Front A) → ℕ → List ℕ → Front (Option A)
+behind_flag at zero bytes = Whole None bytes
+behind_flag at (suc zero) bytes = do
+  x ← at bytes
+  Whole (Some x.0) x.1
+behind_flag at (suc (suc flag)) bytes = Wrong
+
+-- a byte 00 for none, or a byte 01 and the value
+unfoldable pub option_at : {A : Type 0} → (List ℕ → Front A) → List ℕ → Front (Option A)
+option_at at bytes = do
+  flag ← byte_at bytes
+  behind_flag at flag.0 flag.1
+
+-- a count of bytes up to a limit, and that many bytes
+unfoldable pub text_at : (List ℕ → Front ℕ) → ℕ → List ℕ → Front (List ℕ)
+text_at count_at limit bytes = do
+  n ← count_at bytes
+  guard (nat_le n.0 limit) (bytes_at n.0 n.1)
+
+-- a count of values up to a limit, and that many values
+unfoldable pub list_at : {A : Type 0} → (List ℕ → Front ℕ) → ℕ → (List ℕ → Front A) → List ℕ → Front (List A)
+list_at count_at limit at bytes = do
+  n ← count_at bytes
+  guard (nat_le n.0 limit) (many_at at n.0 n.1)
+
+-- why no value was read is what stands at the front; for want of memory nothing is said
+abbrev pub Fails : {Y : Type 0} → Unread → Front Y → Type 0
+Fails unread.Part front = front ≡ Part
+Fails unread.Wrong front = front ≡ Wrong
+Fails unread.NoMemory front = Unit {0}
+
+-- what a reader returned, seen by view, is what stands at the front, and the bytes behind it are left
+abbrev pub Gives : {X Y : Type 0} → (X → Y) → Result X Unread → List ℕ → Front Y → Type 0
+Gives view (Ok x) left front = front ≡ Whole (view x) left
+Gives view (Err e) left front = Fails e front
+
+-- how a decoder ends where its reader read no value
+abbrev pub IsEndOf : Unread → End NotHere → Type 0
+IsEndOf unread.NoMemory e = e ≡ ends.NoMemory
+IsEndOf unread.Part e = e ≡ ends.Refused (record {})
+IsEndOf unread.Wrong e = e ≡ ends.Refused (record {})
