@@ -2,6 +2,9 @@
 use Rattle.std.specs.Prelude.{ℕ, zero, suc, List, [], ◌∷◌, length, take, drop, Option, Some, None, Bool, true, false, Result, Ok, Err, ◌≡◌, nat_lt, nat_le, ◌==◌, if◌then◌else◌}
 use Rattle.std.specs.Int.{Width, byte_len, from_be_bytes}
 use Rattle.spelling.specs.Front.{Front, Whole, Part, Wrong, ◌>>=◌}
+use Rattle.spelling.specs.declared.ending.End.{End}
+use Rattle.spelling.specs.declared.ending.End.TheVariants as ends
+use Rattle.spelling.specs.declared.ending.NotHere.{NotHere}
 use Rattle.spelling.specs.declared.input.Unread.{Unread}
 use Rattle.spelling.specs.declared.input.Unread.TheVariants as unread
 
@@ -51,22 +54,31 @@ option_at at bytes = do
   flag ← byte_at bytes
   behind_flag at flag.0 flag.1
 
--- a number of bytes up to a limit, and that many bytes
-unfoldable pub text_at : Width → ℕ → List ℕ → Front (List ℕ)
-text_at w limit bytes = do
-  n ← number_at w bytes
+-- a count of bytes up to a limit, and that many bytes
+unfoldable pub text_at : (List ℕ → Front ℕ) → ℕ → List ℕ → Front (List ℕ)
+text_at count_at limit bytes = do
+  n ← count_at bytes
   guard (nat_le n.0 limit) (bytes_at n.0 n.1)
 
--- a number of values up to a limit, and that many values
-unfoldable pub list_at : {A : Type 0} → Width → ℕ → (List ℕ → Front A) → List ℕ → Front (List A)
-list_at w limit at bytes = do
-  n ← number_at w bytes
+-- a count of values up to a limit, and that many values
+unfoldable pub list_at : {A : Type 0} → (List ℕ → Front ℕ) → ℕ → (List ℕ → Front A) → List ℕ → Front (List A)
+list_at count_at limit at bytes = do
+  n ← count_at bytes
   guard (nat_le n.0 limit) (many_at at n.0 n.1)
 
--- What a reader returned, seen by view, is what stands at the front, and the bytes behind it are left;
--- for want of memory nothing is said.
+-- why no value was read is what stands at the front; for want of memory nothing is said
+abbrev pub Fails : {Y : Type 0} → Unread → Front Y → Type 0
+Fails unread.Part front = front ≡ Part
+Fails unread.Wrong front = front ≡ Wrong
+Fails unread.NoMemory front = Unit {0}
+
+-- what a reader returned, seen by view, is what stands at the front, and the bytes behind it are left
 abbrev pub Gives : {X Y : Type 0} → (X → Y) → Result X Unread → List ℕ → Front Y → Type 0
 Gives view (Ok x) left front = front ≡ Whole (view x) left
-Gives view (Err unread.Part) left front = front ≡ Part
-Gives view (Err unread.Wrong) left front = front ≡ Wrong
-Gives view (Err unread.NoMemory) left front = Unit {0}
+Gives view (Err e) left front = Fails e front
+
+-- how a decoder ends where its reader read no value
+abbrev pub IsEndOf : Unread → End NotHere → Type 0
+IsEndOf unread.NoMemory e = e ≡ ends.NoMemory
+IsEndOf unread.Part e = e ≡ ends.Refused (record {})
+IsEndOf unread.Wrong e = e ≡ ends.Refused (record {})

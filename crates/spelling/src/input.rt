@@ -1,8 +1,8 @@
 //! Bytes that are read from the front, field by field.
 
-ghost use Rattle.std.specs.Prelude.{◌≡◌, List, ℕ, length};
+ghost use Rattle.std.specs.Prelude.{◌≡◌, List, ℕ, length, if◌then◌else◌};
 ghost use Rattle.std.specs.Int.{w16, w32, w64};
-ghost use Rattle.spelling.specs.Reading.{Gives, byte_at, bytes_at, number_at};
+ghost use Rattle.spelling.specs.Reading.{Gives, IsEndOf, byte_at, bytes_at, number_at};
 ghost use Rattle.spelling.specs.declared.ending.End.TheVariants as ends;
 ghost use Rattle.spelling.specs.declared.input.Unread.TheVariants as unread;
 
@@ -22,6 +22,7 @@ pub enum Unread {
 }
 
 /// The bytes that are left to read. After an error it is of no more use.
+#[derive(Drop)]
 pub struct Input<'a> {
     bytes: &'a [u8],
 }
@@ -63,7 +64,7 @@ impl<'a> Input<'a> {
     }
 
     /// So many bytes, borrowed.
-    fn front(&mut self, n: usize) -> Result<&'a [u8], Unread>
+    pub fn slice(&mut self, n: usize) -> Result<&'a [u8], Unread>
         ensures { Gives (λ x. x.now) result self.new (bytes_at n self.old) }
     {
         if self.bytes.len() < n {
@@ -72,5 +73,86 @@ impl<'a> Input<'a> {
         let (front, left) = self.bytes.split_at(n);
         self.bytes = left;
         Ok(front)
+    }
+
+    /// N bytes.
+    pub fn array<const N: usize>(&mut self) -> Result<[u8; N], Unread>
+        ensures { Gives (λ x. x) result self.new (bytes_at N self.old) }
+    {
+        let front = self.slice(N)?;
+        let mut array = [0; N];
+        array.copy_from_slice(front);
+        Ok(array)
+    }
+
+    /// So many bytes, in a vector.
+    pub fn vec(&mut self, alloc: Global, n: usize) -> Result<Vec<u8>, Unread>
+        ensures { Gives (λ v. v.items) result self.new (bytes_at n self.old) }
+    {
+        let front = self.slice(n)?;
+        Ok(Vec::from_slice(alloc, front)?)
+    }
+
+    /// A number of two bytes, the highest first.
+    pub fn number_u16(&mut self) -> Result<u16, Unread>
+        ensures { Gives (λ n. n) result self.new (number_at w16 self.old) }
+    {
+        Ok(u16::from_be_bytes(self.array()?))
+    }
+
+    /// A number of four bytes, the highest first.
+    pub fn number_u32(&mut self) -> Result<u32, Unread>
+        ensures { Gives (λ n. n) result self.new (number_at w32 self.old) }
+    {
+        Ok(u32::from_be_bytes(self.array()?))
+    }
+
+    /// A number of eight bytes, the highest first.
+    pub fn number_u64(&mut self) -> Result<u64, Unread>
+        ensures { Gives (λ n. n) result self.new (number_at w64 self.old) }
+    {
+        Ok(u64::from_be_bytes(self.array()?))
+    }
+}
+
+/// Wrong, where the test fails.
+pub fn guard(test: bool) -> Result<(), Unread>
+    ensures { result ≡ (if test then Ok tt else Err unread.Wrong) }
+{
+    if test { Ok(()) } else { Err(Unread::Wrong) }
+}
+
+impl From<AllocError> for Unread {
+    ghost from_gives = { λ _ e. e ≡ unread.NoMemory };
+
+    fn from(_e: AllocError) -> Unread {
+        Unread::NoMemory
+    }
+}
+
+impl<T: Drop> From<AllocFailed<T>> for Unread {
+    ghost from_gives = { λ _ e. e ≡ unread.NoMemory };
+
+    fn from(_e: AllocFailed<T>) -> Unread {
+        Unread::NoMemory
+    }
+}
+
+impl From<NoMemory> for Unread {
+    ghost from_gives = { λ _ e. e ≡ unread.NoMemory };
+
+    fn from(_e: NoMemory) -> Unread {
+        Unread::NoMemory
+    }
+}
+
+impl From<Unread> for End<NotHere> {
+    ghost from_gives = { IsEndOf };
+
+    fn from(e: Unread) -> End<NotHere> {
+        match e {
+            Unread::Part | Unread::Wrong => End::Refused(NotHere),
+            Unread::NoMemory => End::NoMemory,
+        }
     }
 }

@@ -6,4 +6,4 @@ mod ending;
 mod input;
 
 pub use ending::{End, NoMemory, NotHere};
-pub use input::{Input, Unread};
+pub use input::{guard, Input, Unread};

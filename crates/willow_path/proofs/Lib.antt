@@ -1,0 +1,2 @@
+pub mod PathLimits
+pub mod PathOrder

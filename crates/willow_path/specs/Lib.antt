@@ -1,1 +1,4 @@
 pub mod Key
+pub mod Path
+pub mod PathPush
+pub mod Answers

@@ -3,6 +3,10 @@
 #![tactic(auto)]
 
 mod key;
+mod limits;
+mod path;
 
 pub use key::{Digest, NamespaceKey, UserKey};
+pub use limits::{MAX_PART, MAX_PARTS, MAX_TOTAL};
+pub use path::{Path, PathRefusal};
 pub use spelling::{End, NoMemory, NotHere};

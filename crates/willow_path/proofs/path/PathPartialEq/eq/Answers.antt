@@ -1,0 +1,7 @@
+use Rattle.std.proofs.Common.{◌∙◌, sym, Vec, Global, ℕ, nat_eq}
+use Rattle.std.specs.Cmp.Lexicographic.{pointwise}
+use Rattle.std.specs.Cmp.Derive.Mapped.{pointwise-map}
+use Rattle.willow_path.proofs.path.PathPartialEq.eq.Goals as goal
+
+pub returns : goal.returns
+returns c = rw (← c.self.view_is, ← c.other.view_is) (c.eq.ensures ∙ sym (pointwise-map {X = Vec ℕ Global} (λ part. part.items) (pointwise nat_eq) c.self.inside.parts.items c.other.inside.parts.items))
