@@ -1,0 +1,4 @@
+pub mod Range
+pub mod Times
+pub mod Area
+pub mod AreaMeaning

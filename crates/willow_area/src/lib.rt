@@ -1,0 +1,11 @@
+//! Areas of the Willow Data Model (Grouping Entries): which subspaces, paths and times they include.
+//! Contracts say which triples of a key, a path and a time an area or a box includes.
+#![tactic(auto)]
+
+mod area;
+mod laws;
+mod times;
+
+pub use area::Area;
+pub use laws::{inclusion, intersection};
+pub use times::TimeRange;
