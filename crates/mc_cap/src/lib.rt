@@ -5,9 +5,11 @@
 mod capability;
 mod chain;
 mod check;
+mod messages;
 mod signature;
 
 pub use capability::{Capability, Mode};
 pub use chain::{Chain, Delegation, MAX_CHAIN};
 pub use check::{ChainRefusal, MAX_DELEGATIONS};
+pub use messages::initial_message;
 pub use signature::Signature;
