@@ -13,6 +13,11 @@ abbrev pub guard : {A : Type 0} → Bool → Front A → Front A
 guard true front = front
 guard false front = Wrong
 
+-- no byte, where the test holds: a line of its own between the fields
+abbrev pub holds_at : Bool → List ℕ → Front (Unit {0})
+holds_at true bytes = Whole tt bytes
+holds_at false bytes = Wrong
+
 -- one byte
 abbrev pub byte_at : List ℕ → Front ℕ
 byte_at [] = Part
