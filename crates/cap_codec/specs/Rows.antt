@@ -1,0 +1,51 @@
+-- Rows with their tokens read out, their bodies and their frames.
+use Rattle.std.specs.Prelude.{◌≡◌, ℕ, ◌≤◌, List, ◌++◌, length}
+use Rattle.std.specs.List.{AllByRecursion, flat_map}
+use Rattle.std.specs.Int.{w32, to_be_bytes}
+use Rattle.spelling.specs.Spelling.{text_spelling}
+use Rattle.willow_entry.specs.EntryForm.{entry_spelling, IsEntry}
+use Rattle.willow_entry.specs.Row.{RowValue}
+use Rattle.willow_entry.specs.declared.entry.Entry.{Entry}
+use Rattle.mc_cap.specs.Forms.{capability_spelling, IsCapability}
+use Rattle.mc_cap.specs.Signature.{signature_spelling, IsSignature}
+use Rattle.cap_codec.specs.declared.token.WriteToken.{WriteToken}
+use Rattle.cap_codec.specs.declared.row.TheConstants.{MAX_FRAME}
+
+-- a capability, and the signature of an entry
+abbrev pub token_spelling : WriteToken → List ℕ
+token_spelling t = capability_spelling t.capability ++ signature_spelling t.signature
+
+pub record IsToken (t : WriteToken) : Type 0 where
+  pub capability_fits : IsCapability t.capability
+  pub signature_fits : IsSignature t.signature
+
+-- an entry with its token, read out
+pub record RawValue : Type 0 where
+  pub entry : Entry
+  pub token : WriteToken
+
+pub record IsRaw (r : RawValue) : Type 0 where
+  pub entry_fits : IsEntry r.entry
+  pub token_fits : IsToken r.token
+
+-- what a store sees of it: the entry, and the token's bytes
+abbrev pub row_of : RawValue → RowValue
+row_of r = record { entry = r.entry; token = token_spelling r.token }
+
+-- the body of a row: its entry and its token
+abbrev pub raw_spelling : RawValue → List ℕ
+raw_spelling r = entry_spelling r.entry ++ token_spelling r.token
+
+-- a body that a frame may carry
+pub record FitsFrame (r : RawValue) : Type 0 where
+  pub raw : IsRaw r
+  pub short : length (raw_spelling r) ≤ MAX_FRAME
+
+-- the length of the body in four bytes, and the body
+abbrev pub frame : RawValue → List ℕ
+frame r = text_spelling (to_be_bytes w32) (raw_spelling r)
+
+-- the bytes are the frames of these rows, one after the other, and nothing else
+pub record AreFrames (bytes : List ℕ) (rows : List RawValue) : Type 0 where
+  pub fit : AllByRecursion FitsFrame rows
+  pub spelled : bytes ≡ flat_map frame rows
