@@ -1,3 +1,4 @@
 pub mod Membership
 pub mod Including
 pub mod Meeting
+pub mod TimesReads

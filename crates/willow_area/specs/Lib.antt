@@ -1,4 +1,5 @@
 pub mod Range
 pub mod Times
+pub mod TimesSpelling
 pub mod Area
 pub mod AreaMeaning

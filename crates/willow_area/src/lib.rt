@@ -5,7 +5,9 @@
 mod area;
 mod laws;
 mod times;
+mod times_codec;
 
 pub use area::Area;
 pub use laws::{inclusion, intersection};
 pub use times::TimeRange;
+pub use times_codec::read_times;
