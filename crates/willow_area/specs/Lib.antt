@@ -3,3 +3,4 @@ pub mod Times
 pub mod TimesSpelling
 pub mod Area
 pub mod AreaMeaning
+pub mod AreaSpelling
