@@ -6,3 +6,5 @@ pub mod Ranks
 pub mod RowLaws
 pub mod Live
 pub mod Covering
+pub mod Placing
+pub mod Local
