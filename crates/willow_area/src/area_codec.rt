@@ -29,7 +29,6 @@ impl Area {
 
     /// The area that is spelled at the front of the bytes, with the number of bytes taken. It is not here
     /// exactly where no front of the bytes is the spelling of an area.
-    #[tactic(auto, using(crate::proofs::AreaReads::area_decodes))]
     pub fn decode(alloc: Global, bytes: &[u8]) -> Result<(Area, usize), End<NotHere>>
         ensures { Decodes area_spelling IsArea bytes.now result }
     {
