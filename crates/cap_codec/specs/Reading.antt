@@ -5,7 +5,7 @@ use Rattle.spelling.specs.Front.{Front, Whole, Part, Wrong, ◌>>=◌}
 use Rattle.spelling.specs.Reading.{byte_at, number_at, text_at, list_at}
 use Rattle.scheme_core.specs.declared.signer.TheConstants.{MAX_SIGNATURE}
 use Rattle.willow_path.specs.Key.{key_at}
-use Rattle.willow_area.specs.AreaForm.{area_at}
+use Rattle.willow_area.specs.AreaSpelling.{area_at}
 use Rattle.willow_entry.specs.EntryForm.{entry_at}
 use Rattle.mc_cap.specs.declared.chain.TheConstants.{MAX_CHAIN}
 use Rattle.mc_cap.specs.declared.chain.Delegation.{Delegation}

@@ -3,9 +3,13 @@
 #![tactic(auto)]
 
 mod area;
+mod area_codec;
 mod laws;
 mod times;
+mod times_codec;
 
 pub use area::Area;
+pub use area_codec::read_area;
 pub use laws::{inclusion, intersection};
 pub use times::TimeRange;
+pub use times_codec::read_times;
