@@ -3,12 +3,14 @@
 #![tactic(auto)]
 
 mod entry;
+mod entry_codec;
 pub mod laws;
 mod placed;
 mod row;
 mod row_form;
 
 pub use entry::{Entry, newer};
+pub use entry_codec::read_entry;
 pub use placed::Placed;
 pub use row::{LogRow, Row, SharedRow, by_place, cover, covers, dominates, same};
 pub use row_form::RowForm;
