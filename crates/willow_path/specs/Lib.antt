@@ -2,3 +2,4 @@ pub mod Key
 pub mod Path
 pub mod PathPush
 pub mod Answers
+pub mod PathSpelling

@@ -6,7 +6,10 @@ ghost use Rattle.std.specs.declared.cmp.Ordering.TheVariants.{Equal};
 ghost use Rattle.std.specs.Ordering.{is_gt};
 ghost use Rattle.std.specs.Cmp.{IsTotalOrder};
 ghost use Rattle.std.specs.Cmp.Lexicographic.{pointwise};
-ghost use Rattle.willow_path.specs.Path.{IsPrefix, is_prefix, part_cmp, path_cmp};
+ghost use Rattle.spelling.specs.Form.{IsForm};
+ghost use Rattle.willow_path.specs.Key.{IsKey};
+ghost use Rattle.willow_path.specs.Path.{IsPath, IsPrefix, is_prefix, part_cmp, path_cmp};
+ghost use Rattle.willow_path.specs.PathSpelling.{path_spelling};
 
 /// Bytes are ordered as strings of numbers are. Keys and digests compare equal, by `==` and by their
 /// order, exactly where their bytes are the same.
@@ -34,4 +37,12 @@ pub fn prefixes()
     ensures means { (path longer : List (List ℕ)) → IsTrue (is_prefix path longer) ↔ IsPrefix path longer }
     ensures first { (path longer : List (List ℕ)) → IsTrue (is_prefix path longer) → is_gt (path_cmp path longer) ≡ false }
     ensures between { (path a b c : List (List ℕ)) → IsTrue (is_prefix path a) → IsTrue (is_prefix path c) → is_gt (path_cmp a b) ≡ false → is_gt (path_cmp b c) ≡ false → IsTrue (is_prefix path b) }
+{}
+
+/// A path within the limits has one spelling, and no spelling of a path begins another; so for keys, which
+/// are spelled as their bytes.
+#[tactic(auto, using(crate::proofs::PathReads::path_form, crate::proofs::PathReads::key_form))]
+pub fn one_spelling()
+    ensures path { IsForm path_spelling IsPath }
+    ensures key { IsForm (λ key. key) IsKey }
 {}
