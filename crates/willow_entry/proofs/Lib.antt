@@ -8,3 +8,4 @@ pub mod Live
 pub mod Covering
 pub mod Placing
 pub mod Local
+pub mod EntryReads
