@@ -1,8 +1,8 @@
 //! Capabilities, read from bytes.
 
-ghost use Rattle.std.specs.Prelude.{◌≡◌};
+ghost use Rattle.std.specs.Prelude.{◌≡◌, length, IfOk};
 ghost use Rattle.spelling.specs.Form.{Decodes};
-ghost use Rattle.spelling.specs.Reading.{Gives};
+ghost use Rattle.spelling.specs.Reading.{Gives, many_at};
 ghost use Rattle.mc_cap.specs.Forms.{capability_spelling, IsCapability};
 ghost use Rattle.cap_codec.specs.Reading.{form_at, signature_at, initial_at, delegation_at, chain_at, capability_at};
 
@@ -20,7 +20,7 @@ pub fn decode_capability(alloc: Global, bytes: &[u8]) -> Result<(Capability, usi
 {
     let mut input = Input::new(bytes);
     let capability = read_capability(alloc, &mut input)?;
-    Ok((capability, bytes.len().saturating_sub(input.len())))
+    Ok((capability, input.taken_of(bytes)))
 }
 
 /// Reads a capability from the front of the input. It is wrong as soon as no capability begins so.
@@ -96,4 +96,17 @@ fn read_chain(alloc: Global, input: &mut Input) -> Result<Chain, Unread>
     guard(count <= MAX_CHAIN)?;
     let delegations = read_delegations(alloc, input, count)?;
     Chain::new(delegations).ok_or(Unread::Wrong)
+}
+
+// So many delegations.
+fn read_delegations(alloc: Global, input: &mut Input, count: usize) -> Result<Vec<Delegation>, Unread>
+    ensures read { Gives (λ delegations. delegations.items) result input.new (many_at delegation_at count input.old) }
+    ensures counted { IfOk result (λ delegations. length delegations.items ≡ count) }
+{
+    let mut delegations = Vec::new(alloc);
+    for _ in 0..count {
+        let delegation = read_delegation(alloc, input)?;
+        delegations.push(delegation)?;
+    }
+    Ok(delegations)
 }

@@ -3,9 +3,12 @@
 #![tactic(auto)]
 
 mod capability;
+mod frame;
+pub mod laws;
 mod row;
 mod token;
 
 pub use capability::{decode_capability, read_capability, read_signature};
-pub use row::{MAX_FRAME, RawRow, RawRows};
+pub use frame::{MAX_FRAME, decode_frame, read_frames};
+pub use row::{RawRow, RawRows};
 pub use token::{WriteToken, read_token};
