@@ -1,5 +1,5 @@
 -- What holds of all items when the first goes out.
-use Rattle.std.proofs.Common.{◌≡◌, ℕ, zero, suc, ◌<◌, List, [], ◌∷◌, length, Contains, refl, sym, subst, arith}
+use Rattle.std.proofs.Common.{◌≡◌, zero, suc, ◌<◌, List, [], ◌∷◌, length, Contains, refl, sym, subst, arith}
 use Rattle.std.specs.List.{AllByRecursion}
 
 -- of the first

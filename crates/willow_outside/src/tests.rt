@@ -1,8 +1,8 @@
 //! What no clause says: which calls of an object in memory fail, and that calls can succeed.
 
 use crate::{
-    read_all, write_whole, Door, Fault, Link, MemDoor, MemLink, MemNoise, MemShelf, MemSink, MemSource, Noise, ReadEnd,
-    Shelf, Sink, Source, SureShelf, SureSink, SureSource,
+    Door, Fault, Link, MemDoor, MemLink, MemNoise, MemShelf, MemSink, MemSource, Noise, ReadEnd,
+    Shelf, Sink, Source, SureShelf, SureSink, SureSource, read_all, write_whole,
 };
 use spelling::End;
 use std::collections::BTreeMap;
@@ -87,8 +87,17 @@ fn holds<S: Shelf>(shelf: &mut S, name: &str, want: Option<&[u8]>) -> bool {
 #[test]
 fn noise_gives_its_draws(rt: HostRuntime) -> Result<(), Fault> {
     let alloc = rt.alloc();
-    let mut noise = MemNoise::new(alloc, vec![in alloc; [1u8; 32], [2u8; 32]]?, vec![in alloc; 2]?);
-    for want in [Ok([1u8; 32]), Err(Fault::Failed), Ok([2u8; 32]), Err(Fault::Failed)] {
+    let mut noise = MemNoise::new(
+        alloc,
+        vec![in alloc; [1u8; 32], [2u8; 32]]?,
+        vec![in alloc; 2]?,
+    );
+    for want in [
+        Ok([1u8; 32]),
+        Err(Fault::Failed),
+        Ok([2u8; 32]),
+        Err(Fault::Failed),
+    ] {
         assert!(rt; noise.words() == want);
     }
     Ok(())

@@ -1,4 +1,3 @@
-use Rattle.std.proofs.Common.{◌≡◌}
 use Rattle.willow_outside.specs.Links.{IsFresh}
 use Rattle.willow_outside.proofs.FirstOut.{each-from_all}
 use Rattle.willow_outside.proofs.mem_door.MemDoor.new.Goals as goal
