@@ -1,26 +1,14 @@
 -- How a box is cut in two at a point of one of its ranges.
-use Rattle.std.specs.Prelude.{ℕ, Bool, ◌&&◌, List, Option, Some, None, not}
+use Rattle.std.specs.Prelude.{ℕ, Bool, List, Option, not}
 use Rattle.std.specs.Ordering.{is_lt, nat_cmp}
 use Rattle.std.specs.declared.cmp.Ordering.{Ordering}
 use Rattle.spelling.specs.Answers.{cause_if}
 use Rattle.willow_path.specs.Path.{part_cmp, path_cmp}
-use Rattle.willow_area.specs.Range.{Range, is_before_end}
+use Rattle.willow_area.specs.Range.{Range, is_inside, lower, upper}
 use Rattle.willow_area.specs.Boxes.{Ranges}
 use Rattle.willow_area.specs.declared.cut.CutAt.{CutAt}
 use Rattle.willow_area.specs.declared.cut.CutAt.TheVariants.{Subspace, Path, Time}
 use Rattle.willow_area.specs.declared.cut.CutOutside.{CutOutside}
-
--- the point is above the start of the range, and below its end
-abbrev pub is_inside : {A : Type 0} → (A → A → Ordering) → Range A → A → Bool
-is_inside cmp range point = is_lt (cmp range.start point) && is_before_end cmp point range.end
-
--- what is below the point
-abbrev pub lower : {A : Type 0} → Range A → A → Range A
-lower range point = record { start = range.start; end = Some point }
-
--- the point and what is above it
-abbrev pub upper : {A : Type 0} → Range A → A → Range A
-upper range point = record { start = point; end = range.end }
 
 -- the point is inside its range
 unfoldable pub can_cut : Ranges → CutAt → Bool
