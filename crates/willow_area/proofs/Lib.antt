@@ -5,3 +5,4 @@ pub mod TimesReads
 pub mod AreaReads
 pub mod Orders
 pub mod Cutting
+pub mod Boxing

@@ -6,3 +6,4 @@ pub mod AreaMeaning
 pub mod AreaSpelling
 pub mod Boxes
 pub mod Cuts
+pub mod AreaBox

@@ -5,6 +5,7 @@ ghost use Rattle.std.specs.Prelude.{◌≡◌, ◌↔◌, ℕ, List, IsTrue, Som
 ghost use Rattle.spelling.specs.Form.{IsForm};
 ghost use Rattle.willow_area.specs.Area.{IsArea, in_area, includes_area, meet_area};
 ghost use Rattle.willow_area.specs.AreaMeaning.{Includes, AreApart};
+ghost use Rattle.willow_area.specs.AreaBox.{HasTriplesOf, area_box};
 ghost use Rattle.willow_area.specs.AreaSpelling.{area_spelling};
 ghost use Rattle.willow_area.specs.Boxes.{Ranges, in_box};
 ghost use Rattle.willow_area.specs.Cuts.{can_cut, is_below, lower_part, upper_part};
@@ -48,5 +49,12 @@ pub fn cuts()
         (ranges : Ranges) (at : CutAt) (subspace : List ℕ) (path : List (List ℕ)) (time : ℕ) → IsTrue (can_cut ranges at)
           → IsTrue (in_box (upper_part ranges at) subspace path time) ↔ (IsTrue (in_box ranges subspace path time) × (is_below at subspace path time ≡ false))
     }
+{
+}
+
+/// The box of an area includes a triple exactly where the area does.
+#[tactic(auto, using(crate::proofs::Boxing::area_box_means))]
+pub fn boxes()
+    ensures same { (area : Area) → IsArea area → HasTriplesOf (area_box area) area }
 {
 }

@@ -14,6 +14,6 @@ pub use area::Area;
 pub use area_codec::read_area;
 pub use box3::Box3;
 pub use cut::{CutAt, CutOutside};
-pub use laws::{cuts, inclusion, intersection, one_spelling};
+pub use laws::{boxes, cuts, inclusion, intersection, one_spelling};
 pub use times::TimeRange;
 pub use times_codec::read_times;
