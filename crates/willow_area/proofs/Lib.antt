@@ -3,3 +3,6 @@ pub mod Including
 pub mod Meeting
 pub mod TimesReads
 pub mod AreaReads
+pub mod Orders
+pub mod Cutting
+pub mod Boxing

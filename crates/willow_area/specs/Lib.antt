@@ -4,3 +4,6 @@ pub mod TimesSpelling
 pub mod Area
 pub mod AreaMeaning
 pub mod AreaSpelling
+pub mod Boxes
+pub mod Cuts
+pub mod AreaBox

@@ -1,6 +1,8 @@
 //! Ranges of times.
 
-ghost use Rattle.std.specs.Prelude.{◌≡◌, ◌≤◌, None, IsSomeAnd, MatchOption};
+ghost use Rattle.std.specs.Prelude.{◌≡◌, ◌≤◌, None, IfSome, IsSomeAnd, MatchOption, true, false};
+ghost use Rattle.std.specs.Ordering.{nat_cmp};
+ghost use Rattle.willow_area.specs.Range.{is_inside, lower, upper};
 ghost use Rattle.willow_area.specs.Times.{IsTimes, in_times, ends_later, earlier_end, includes_times, meet_times};
 
 use std::marker::Model;
@@ -72,6 +74,27 @@ impl TimeRange {
         ensures { result ≡ includes_times self.now other.now }
     {
         self.start <= other.start && ends_later(self.end, other.end)
+    }
+
+    // The times below the time, and those from it on; None where the time is at most the start, or at least
+    // the end.
+    pub(crate) fn cut(&self, time: u64) -> Option<(TimeRange, TimeRange)>
+        ensures inside { MatchOption result (is_inside nat_cmp self.now time ≡ false) (λ _. is_inside nat_cmp self.now time ≡ true) }
+        ensures lower { IfSome result (λ parts. (parts.0 ≡ lower self.now time) × IsTimes parts.0) }
+        ensures upper { IfSome result (λ parts. (parts.1 ≡ upper self.now time) × IsTimes parts.1) }
+    {
+        if time <= self.start || self.end.is_some_and(|end| end <= time) {
+            return None;
+        }
+        let lower = TimeRange {
+            start: self.start,
+            end: Some(time),
+        };
+        let upper = TimeRange {
+            start: time,
+            end: self.end,
+        };
+        Some((lower, upper))
     }
 
     // The times that both ranges have; None where there are none.

@@ -1,8 +1,9 @@
 -- The reader of entries goes with their spelling.
-use Rattle.std.proofs.Common.{◌≡◌, ℕ, ◌<◌, ◌^◌, List, [], ◌++◌, refl, sym, ap, ◌∙◌, append_assoc, append-nil}
+use Rattle.std.proofs.Common.{◌≡◌, ℕ, zero, suc, ◌<◌, ◌^◌, List, [], ◌∷◌, ◌++◌, take, drop, refl, sym, ap, ap₂, ◌∙◌, subst, append_assoc, length, ◌-◌, arith}
+use Rattle.std.proofs.lemmas.List.{take-append-drop, take_all, length-drop}
 use Rattle.std.specs.Int.{w64, to_be_bytes}
 use Rattle.spelling.specs.Front.{Front, Whole, ◌>>=◌}
-use Rattle.spelling.specs.Form.{IsForm}
+use Rattle.spelling.specs.Form.{IsForm, AreBytes}
 use Rattle.spelling.specs.Reading.{number_at, bytes_at}
 use Rattle.spelling.specs.Spelling.{AreSoManyBytes}
 use Rattle.spelling.proofs.Joining.{Reads, Reads-then, Reads-last, Reads-is, one_spelling}
@@ -14,7 +15,7 @@ use Rattle.willow_path.proofs.PathReads.{key-reads, path-reads}
 use Rattle.willow_entry.specs.declared.entry.Entry.{Entry}
 use Rattle.willow_entry.specs.EntryForm.{entry_spelling, entry_at, IsEntry}
 use Rattle.willow_entry.specs.Row.{RowValue}
-use Rattle.willow_entry.specs.RowBody.{row_body}
+use Rattle.willow_entry.specs.RowBody.{row_body, IsBareRow}
 use Rattle.willow_entry.proofs.RowLaws.{row_same}
 
 abbrev made : List ℕ → List ℕ → List (List ℕ) → ℕ → ℕ → List ℕ → Entry
@@ -76,3 +77,17 @@ entry_form = one_spelling entry-reads
 pub one_body : (r s : RowValue) → IsEntry r.entry → IsEntry s.entry → row_body r ≡ row_body s → r ≡ s
 unfolding row_body
 one_body r s f g e = let both = entry_form r.entry s.entry r.token s.token f g e in row_same r s both.0 both.1
+
+are_bytes-drop : (n : ℕ) (bytes : List ℕ) → AreBytes bytes → AreBytes (drop n bytes)
+are_bytes-drop zero bytes are = are
+are_bytes-drop (suc n) [] are = tt
+are_bytes-drop (suc n) (b ∷ bytes) are = are_bytes-drop n bytes are.1
+
+-- a body whose front is an entry's spelling is that of the entry with what is left as token
+pub body_from_front : (body : List ℕ) (e : Entry) (taken : ℕ) (r : RowValue) → AreBytes body → IsEntry e → take taken body ≡ entry_spelling e
+    → r.entry ≡ e → r.token ≡ take (length body - taken) (drop taken body) → IsBareRow r × (body ≡ row_body r)
+unfolding row_body
+body_from_front body e taken r are fits front is behind =
+    let token : r.token ≡ drop taken body = behind ∙ take_all (length body - taken) (drop taken body) (omega (arith, length-drop taken body)) in
+    ((subst IsEntry (sym is) fits, subst AreBytes (sym token) (are_bytes-drop taken body are)),
+      sym (take-append-drop taken body) ∙ ap₂ (λ (a b : List ℕ). a ++ b) (front ∙ ap entry_spelling (sym is)) (sym token))

@@ -1,5 +1,5 @@
 -- How entries are spelled, and how they are read.
-use Rattle.std.specs.Prelude.{◌≡◌, ℕ, ◌<◌, ◌^◌, List, ◌++◌}
+use Rattle.std.specs.Prelude.{ℕ, ◌<◌, ◌^◌, List, ◌++◌}
 use Rattle.std.specs.Int.{w64, to_be_bytes}
 use Rattle.spelling.specs.Front.{Front, Whole, ◌>>=◌}
 use Rattle.spelling.specs.Reading.{bytes_at, number_at}

@@ -1,13 +1,9 @@
 -- Rows in frames: the form in which rows are stored in images and sent.
-use Rattle.std.specs.Prelude.{ℕ, List, ◌++◌}
+use Rattle.std.specs.Prelude.{ℕ, List}
 use Rattle.std.specs.Int.{w32, to_be_bytes}
 use Rattle.spelling.specs.Spelling.{text_spelling}
-use Rattle.willow_entry.specs.EntryForm.{entry_spelling}
 use Rattle.willow_entry.specs.Row.{RowValue}
-
--- the body of a row: the spelling of its entry, and its token
-abbrev pub row_body : RowValue → List ℕ
-row_body r = entry_spelling r.entry ++ r.token
+use Rattle.willow_entry.specs.RowBody.{row_body}
 
 -- the length of the body in four bytes, and the body
 abbrev pub row_frame : RowValue → List ℕ

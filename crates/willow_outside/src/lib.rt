@@ -35,7 +35,7 @@ pub use mem_shelf::MemShelf;
 pub use mem_sink::MemSink;
 pub use mem_source::MemSource;
 pub use noise::Noise;
-pub use reading::{read_all, ReadEnd};
+pub use reading::{ReadEnd, read_all};
 pub use shelf::Shelf;
 pub use sink::Sink;
 pub use source::Source;

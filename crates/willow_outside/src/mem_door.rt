@@ -1,6 +1,7 @@
 //! A door over links in memory, with faults where they are wanted.
 
 ghost use Rattle.std.specs.Prelude.{◌≡◌, ◌≤◌, Some, [], map, Contains};
+ghost use Rattle.std.specs.List.{AllByRecursion};
 ghost use Rattle.std.specs.String.{string_bytes};
 ghost use Rattle.std.proofs.Props.{props};
 ghost use Rattle.willow_outside.specs.Links.{IsFresh};
@@ -26,7 +27,7 @@ impl<L: Link> MemDoor<L> {
     /// Hands out `links`, which are as new. The calls whose numbers, from 1, are in `fails` fail;
     /// `give_back` is not counted.
     pub fn new(alloc: Global, links: Vec<L>, fails: Vec<u64>) -> MemDoor<L>
-        requires { (link : L) → Contains links.items link → IsFresh (L.facts link) }
+        requires { AllByRecursion (λ link. IsFresh (L.facts link)) links.items }
         ensures { ⟦<MemDoor<L> as Door>⟧.facts result ≡ record { faults = 0; out = 0; asked = Some []; back = Some [] } }
     {
         MemDoor {

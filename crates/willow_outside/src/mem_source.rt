@@ -3,7 +3,7 @@
 ghost use Rattle.std.specs.Prelude.{◌≡◌, ◌≤◌, Some};
 
 use crate::schedule::Schedule;
-use crate::supply::{count_end, Supply};
+use crate::supply::{Supply, count_end};
 use crate::{Fault, Source};
 use std::alloc::Global;
 

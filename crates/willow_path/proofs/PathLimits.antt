@@ -1,6 +1,8 @@
 -- What the limits of a path say when a component is added.
-use Rattle.std.proofs.Common.{◌≡◌, ℕ, ◌+◌, Bool, true, false, List, [], ◌∷◌, ◌++◌, length, map, Some, None, nat_lt, nat_le, if◌then◌else◌, refl, arith, lit≤}
-use Rattle.std.proofs.lemmas.List.{length_push, map-append}
+use Rattle.std.proofs.Common.{◌≡◌, ℕ, zero, suc, ◌+◌, ◌-◌, ◌<◌, ◌≤◌, min, Bool, true, false, List, [], ◌∷◌, ◌++◌, length, take, drop, get_or, map, Some, None, nat_lt, nat_le, if◌then◌else◌, refl, ap, ◌∙◌, arith, lit≤}
+use Rattle.std.specs.List.{AllByRecursion}
+use Rattle.std.proofs.lemmas.List.{length_push, map-append, take_more, take-append-drop, length-take}
+use Rattle.spelling.specs.Spelling.{IsText}
 use Rattle.std.proofs.lemmas.Bool.Decides.{nat_tests}
 use Rattle.spelling.specs.Form.{AreBytes}
 use Rattle.willow_path.specs.declared.limits.TheConstants.{MAX_PART, MAX_PARTS, MAX_TOTAL}
@@ -40,3 +42,44 @@ pub IsPath-push_map : {V : Type 0} (items : V → List ℕ) (parts : List V) (ad
     → IsPath (map items (parts ++ added ∷ [])) × (count + length part ≡ total (map items (parts ++ added ∷ [])))
 IsPath-push_map items parts added part count p h b e =
     rw (map-append items parts (added ∷ []), e) (IsPath-push _ part p.0 h b, omega (arith, total-append (map items parts) (part ∷ []), p.1))
+
+-- ---- the components of a path
+
+pub total-take_more : (path : List (List ℕ)) (i : ℕ) → i < length path → total (take (i + 1) path) ≡ total (take i path) + length (get_or path i [])
+total-take_more path i lt = ap total (take_more path i [] lt) ∙ total-append (take i path) (get_or path i [] ∷ []) ∙ omega arith
+
+pub total-take : (path : List (List ℕ)) (i : ℕ) → total (take i path) ≤ total path
+total-take path i = omega (arith, total-append (take i path) (drop i path), ap total (take-append-drop i path))
+
+pub part_fits : (path : List (List ℕ)) (i : ℕ) → AllByRecursion IsPart path → i < length path → IsPart (get_or path i [])
+part_fits [] i a lt = absurd (omega (arith, lt))
+part_fits (part ∷ parts) zero a lt = a.0
+part_fits (part ∷ parts) (suc i) a lt = part_fits parts i a.1 (omega (arith, lt))
+
+pub room_of : (path : List (List ℕ)) (i : ℕ) → IsPath path → i < length path → HasRoom (take i path) (get_or path i [])
+room_of path i p lt = record {
+  short = (part_fits path i p.parts_fit lt).0;
+  few = omega (arith, length-take i path, p.few);
+  within = omega (arith, total-take_more path i lt, total-take path (i + 1), p.short);
+}
+
+-- the room that the components before it leave to a component
+pub text_of : (path : List (List ℕ)) (i : ℕ) → IsPath path → i < length path → IsText (min MAX_PART (MAX_TOTAL - total (take i path))) (get_or path i [])
+text_of path i p lt = let r = room_of path i p lt in (omega (arith, r.short, r.within), (part_fits path i p.parts_fit lt).1)
+
+pub room_for : (path : List (List ℕ)) (i : ℕ) (next : List ℕ) → IsPath path → i < length path → IsText (min MAX_PART (MAX_TOTAL - total (take i path))) next → HasRoom (take i path) next
+room_for path i next p lt is = record {
+  short = omega (arith, is.0);
+  few = omega (arith, length-take i path, p.few);
+  within = omega (arith, is.0, total-take path i, p.short);
+}
+
+-- one component less
+pub total-less : (path : List (List ℕ)) (k before : ℕ) (part : List ℕ) → 0 < k → k ≤ length path → before ≡ total (take k path) → part ≡ get_or path (k - 1) []
+    → (length part ≤ before) × (before - length part ≡ total (take (k - 1) path))
+total-less path k before part some le counted is =
+    let n : k - 1 + 1 ≡ k = omega arith in
+    let all = ap (λ (m : ℕ). total (take m path)) n in
+    let more = total-take_more path (k - 1) (omega arith) in
+    let len = ap length is in
+    (omega (arith, all, more, len, counted), omega (arith, all, more, len, counted))

@@ -1,5 +1,5 @@
 -- The least path above all extensions of a path.
-use Rattle.std.proofs.Common.{◌≡◌, ℕ, zero, suc, ◌+◌, ◌-◌, ◌<◌, ◌≤◌, min, Bool, true, false, ◌&&◌, List, [], ◌∷◌, ◌++◌, length, Option, Some, None, nat_eq, refl, sym, ap, subst, ◌∙◌, arith, IsTrue, add_assoc}
+use Rattle.std.proofs.Common.{◌≡◌, ℕ, zero, suc, ◌+◌, ◌-◌, ◌<◌, ◌≤◌, min, Bool, true, false, ◌&&◌, List, [], ◌∷◌, ◌++◌, length, Option, Some, None, nat_eq, refl, sym, ap, subst, ◌∙◌, arith, IsTrue, take, get_or}
 use Rattle.std.specs.List.{AllByRecursion}
 use Rattle.std.specs.Option.{option_map, option_or}
 use Rattle.std.specs.Ordering.{is_gt, ordering_then, ordering_reverse}
@@ -7,7 +7,7 @@ use Rattle.std.specs.Cmp.Lexicographic.{pointwise}
 use Rattle.std.specs.declared.cmp.Ordering.{Ordering}
 use Rattle.std.specs.declared.cmp.Ordering.TheVariants.{Less, Equal, Greater}
 use Rattle.std.proofs.lemmas.Cmp.{tied_itself}
-use Rattle.std.proofs.lemmas.List.{append-nil}
+use Rattle.std.proofs.lemmas.List.{append-nil, take_more}
 use Rattle.spelling.specs.Spelling.{IsText}
 use Rattle.willow_path.specs.declared.limits.TheConstants.{MAX_PART, MAX_PARTS, MAX_TOTAL}
 use Rattle.willow_path.specs.Path.{IsPart, IsPath, total, is_prefix, part_cmp, path_cmp}
@@ -150,7 +150,7 @@ after_within-next room zero (c ∷ cs) f = absurd (omega (arith, f.few))
 after_within-next room (suc slots) (c ∷ cs) f =
     let t = head_fits room slots c cs f in
     next_step room slots c cs (after_within (room - length c) cs) (part_after (min MAX_PART room) c) t
-      (after_within-next (room - length c) slots cs (rest_fits room slots c cs f)) (part_after-next (min MAX_PART room) c t)
+    (after_within-next (room - length c) slots cs (rest_fits room slots c cs f)) (part_after-next (min MAX_PART room) c t)
 
 -- ---- whole paths
 
@@ -198,8 +198,8 @@ after_from path (Some next) p n = record {
   least = λ q is above. n.least q (fits_path q is) (beyond_is path q p is above);
 }
 
-pub after-is : (path : List (List ℕ)) → IsPath path → IsAfter path (after path)
-after-is path p = after_from path (after path) p (after_within-next MAX_TOTAL MAX_PARTS path (fits_path path p))
+pub after_is : (path : List (List ℕ)) → IsPath path → IsAfter path (after path)
+after_is path p = after_from path (after path) p (after_within-next MAX_TOTAL MAX_PARTS path (fits_path path p))
 
 -- ---- what follows
 
@@ -213,11 +213,11 @@ least_is_one path a b x y =
     (path_cmp_equal a b).0 (both_ways (path_cmp a b) (x.least b y.whole y.above) (rw (← path_cmp_total.antisymm b a) (y.least a x.whole x.above)))
 
 -- only one answer is right
-pub IsAfter-one : (path : List (List ℕ)) (a b : Option (List (List ℕ))) → IsAfter path a → IsAfter path b → a ≡ b
-IsAfter-one path None None x y = refl
-IsAfter-one path None (Some b) x y = absurd (x b y.whole y.above)
-IsAfter-one path (Some a) None x y = absurd (y a x.whole x.above)
-IsAfter-one path (Some a) (Some b) x y = ap (λ (q : List (List ℕ)). Some q) (least_is_one path a b x y)
+pub IsAfter_one : (path : List (List ℕ)) (a b : Option (List (List ℕ))) → IsAfter path a → IsAfter path b → a ≡ b
+IsAfter_one path None None x y = refl
+IsAfter_one path None (Some b) x y = absurd (x b y.whole y.above)
+IsAfter_one path (Some a) None x y = absurd (y a x.whole x.above)
+IsAfter_one path (Some a) (Some b) x y = ap (λ (q : List (List ℕ)). Some q) (least_is_one path a b x y)
 
 below_from : (path q : List (List ℕ)) (o : Option (List (List ℕ))) → IsPath q → IsAfter path o → is_prefix path q ≡ true → IsBelow q o
 below_from path q None is x h = tt
@@ -245,7 +245,7 @@ prefix_from path q o false is x e h below = absurd (no_gap path q o is x (less_o
 pub extensions_between : (path q : List (List ℕ)) → IsPath path → IsPath q
     → (IsTrue (is_prefix path q) → (is_gt (path_cmp path q) ≡ false) × IsBelow q (after path)) × ((is_gt (path_cmp path q) ≡ false) × IsBelow q (after path) → IsTrue (is_prefix path q))
 extensions_between path q p is =
-    let a = after-is path p in
+    let a = after_is path p in
     (λ h. (prefix_at_most path q h, below_from path q (after path) is a h), λ b. prefix_from path q (after path) (is_prefix path q) is a refl b.0 b.1)
 
 -- ---- by the last component
@@ -256,7 +256,7 @@ or_none (Some x) = refl
 
 one_level : (c : List ℕ) (cs : List (List ℕ)) (p : Option (List ℕ)) (o z : Option (List (List ℕ)))
     → option_or (option_map (λ next. c ∷ next) (option_or (option_map (λ next. cs ++ next ∷ []) p) o)) z
-      ≡ option_or (option_map (λ next. (c ∷ cs) ++ next ∷ []) p) (option_or (option_map (λ next. c ∷ next) o) z)
+    ≡ option_or (option_map (λ next. (c ∷ cs) ++ next ∷ []) p) (option_or (option_map (λ next. c ∷ next) o) z)
 one_level c cs None o z = refl
 one_level c cs (Some next) o z = refl
 
@@ -269,10 +269,38 @@ after_last_within room [] part =
 after_last_within room (c ∷ cs) part =
     let less : room - length c - total cs ≡ room - (length c + total cs) = omega arith in
     ap (λ o. option_or (option_map (λ next. c ∷ next) o) (option_map (λ next. next ∷ []) (part_after (min MAX_PART room) c))) (after_last_within (room - length c) cs part)
-      ∙ one_level c cs (part_after (min MAX_PART (room - length c - total cs)) part) (after_within (room - length c) cs) _
-      ∙ ap (λ (n : ℕ). option_or (option_map (λ next. (c ∷ cs) ++ next ∷ []) (part_after (min MAX_PART n) part)) (after_within room (c ∷ cs))) less
+    ∙ one_level c cs (part_after (min MAX_PART (room - length c - total cs)) part) (after_within (room - length c) cs) _
+    ∙ ap (λ (n : ℕ). option_or (option_map (λ next. (c ∷ cs) ++ next ∷ []) (part_after (min MAX_PART n) part)) (after_within room (c ∷ cs))) less
 
 -- The last component decides where it can be added to or raised, and else the path before it does.
-pub after-last : (path : List (List ℕ)) (part : List ℕ)
+pub after_last : (path : List (List ℕ)) (part : List ℕ)
     → after (path ++ part ∷ []) ≡ option_or (option_map (λ next. path ++ next ∷ []) (part_after (min MAX_PART (MAX_TOTAL - total path)) part)) (after path)
-after-last path part = after_last_within MAX_TOTAL path part
+after_last path part = after_last_within MAX_TOTAL path part
+
+-- ---- as a loop finds it
+
+after_at : (path : List (List ℕ)) (k : ℕ) → 0 < k → k ≤ length path
+    → after (take k path) ≡ option_or (option_map (λ next. take (k - 1) path ++ next ∷ []) (part_after (min MAX_PART (MAX_TOTAL - total (take (k - 1) path))) (get_or path (k - 1) []))) (after (take (k - 1) path))
+after_at path k some le =
+    let n : k - 1 + 1 ≡ k = omega arith in
+    ap (λ (m : ℕ). after (take m path)) (sym n) ∙ ap after (take_more path (k - 1) [] (omega arith)) ∙ after_last (take (k - 1) path) (get_or path (k - 1) [])
+
+pub after_here : (path found : List (List ℕ)) (k before : ℕ) → 0 < k → k ≤ length path → before ≡ total (take (k - 1) path) → after path ≡ after (take k path)
+    → Some found ≡ option_map (λ next. take (k - 1) path ++ next ∷ []) (part_after (min MAX_PART (MAX_TOTAL - before)) (get_or path (k - 1) [])) → Some found ≡ after path
+after_here path found k before some le counted so_far e =
+    let f : Some found ≡ option_map (λ next. take (k - 1) path ++ next ∷ []) (part_after (min MAX_PART (MAX_TOTAL - total (take (k - 1) path))) (get_or path (k - 1) [])) = rw counted at e in
+    ap (λ o. option_or o (after (take (k - 1) path))) f ∙ sym (after_at path k some le) ∙ sym so_far
+
+pub after_before : (path : List (List ℕ)) (k before : ℕ) → 0 < k → k ≤ length path → before ≡ total (take (k - 1) path) → after path ≡ after (take k path)
+    → None ≡ option_map (λ next. take (k - 1) path ++ next ∷ []) (part_after (min MAX_PART (MAX_TOTAL - before)) (get_or path (k - 1) [])) → after path ≡ after (take (k - 1) path)
+after_before path k before some le counted so_far e =
+    let f : None ≡ option_map (λ next. take (k - 1) path ++ next ∷ []) (part_after (min MAX_PART (MAX_TOTAL - total (take (k - 1) path))) (get_or path (k - 1) [])) = rw counted at e in
+    so_far ∙ after_at path k some le ∙ ap (λ o. option_or o (after (take (k - 1) path))) (sym f)
+
+pub after_none : (path : List (List ℕ)) (k : ℕ) → k ≡ 0 → after path ≡ after (take k path) → None ≡ after path
+unfolding after_within
+after_none path zero e so_far = sym so_far
+after_none path (suc k) e so_far = absurd (omega (arith, e))
+
+pub after_as : (path : List (List ℕ)) (o : Option (List (List ℕ))) → o ≡ after path → IsPath path → IsAfter path o
+after_as path o e is = subst (λ (a : Option (List (List ℕ))). IsAfter path a) (sym e) (after_is path is)

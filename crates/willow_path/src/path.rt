@@ -113,6 +113,11 @@ impl Path {
         None
     }
 
+    // The allocator that the path takes its memory from.
+    pub(crate) fn allocator(&self) -> Global {
+        *self.parts.allocator()
+    }
+
     /// The number of components.
     pub fn count(&self) -> usize
         ensures { result ≡ length self.now }
