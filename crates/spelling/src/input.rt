@@ -50,6 +50,13 @@ impl<'a> Input<'a> {
         self.bytes.len()
     }
 
+    /// The bytes that are left.
+    pub fn front(&self) -> &'a [u8]
+        ensures { result.now ≡ self.now }
+    {
+        self.bytes
+    }
+
     /// How many of the whole bytes are taken.
     pub fn taken_of(&self, whole: &[u8]) -> usize
         ensures { result ≡ length whole.now - length self.now }

@@ -4,7 +4,7 @@ use Rattle.std.specs.Prelude.{IfSome}
 use Rattle.std.specs.Cmp.Lexicographic.{pointwise}
 use Rattle.willow_path.specs.Key.{IsKey}
 use Rattle.willow_path.specs.Path.{is_prefix}
-use Rattle.willow_path.proofs.PathOrder.{is_prefix-decides, is_prefix-append}
+use Rattle.willow_path.proofs.PathOrder.{is_prefix_decides, is_prefix-append}
 use Rattle.willow_area.specs.Range.{is_before_end}
 use Rattle.willow_area.specs.Times.{Times, in_times, IsTimes, includes_times, ends_later}
 use Rattle.willow_area.specs.Area.{in_area, includes_area, fits_subspace, includes_subspace, IsArea, IsTriple}
@@ -14,13 +14,13 @@ use Rattle.willow_area.proofs.Membership.{both_of, and_of, is_key, key_is, subsp
 
 -- ---- a triple of an area
 
-least_key : List ℕ
+pub least_key : List ℕ
 least_key = replicate 33 0
 
 second_key : List ℕ
 second_key = 1 ∷ replicate 32 0
 
-least_fits : IsKey least_key
+pub least_fits : IsKey least_key
 unfolding least_key
 least_fits = record { whole = refl; kind = omega arith; bytes_fit = Prim.search arith }
 
@@ -100,7 +100,7 @@ times_tell own other o h k =
 -- ---- inclusion
 
 pub prefix_itself : (path : List (List ℕ)) → is_prefix path path ≡ true
-prefix_itself path = (is_prefix-decides path path).1 ([], sym (append-nil path))
+prefix_itself path = (is_prefix_decides path path).1 ([], sym (append-nil path))
 
 every : (area other : Area) → includes_area area other ≡ true → Includes area other
 unfolding includes_area

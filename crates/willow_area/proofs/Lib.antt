@@ -1,2 +1,5 @@
 pub mod Membership
 pub mod Including
+pub mod Meeting
+pub mod TimesReads
+pub mod AreaReads

@@ -5,7 +5,7 @@ use Rattle.std.proofs.lemmas.Bool.Decides.{nat_tests}
 use Rattle.std.specs.Bool.{Decides}
 use Rattle.std.specs.Cmp.Lexicographic.{pointwise, bytes_decides}
 use Rattle.willow_path.specs.Path.{is_prefix, IsPrefix}
-use Rattle.willow_path.proofs.PathOrder.{is_prefix-decides, IsPrefix-from_test, is_prefix-append}
+use Rattle.willow_path.proofs.PathOrder.{is_prefix_decides, IsPrefix-from_test, is_prefix-append}
 use Rattle.willow_area.specs.Range.{in_range, is_before_end}
 use Rattle.willow_area.specs.Times.{Times, in_times, includes_times, ends_later, meet_times, times_of, earlier_end, ends_by}
 use Rattle.std.specs.Ordering.{is_le, is_lt}
@@ -20,6 +20,10 @@ both_of false b h = absurd cc
 pub and_of : (a b : Bool) → a ≡ true → b ≡ true → (a && b) ≡ true
 and_of true b p q = q
 and_of false b p q = absurd cc
+
+not_first : (a b : Bool) → a ≡ true → (a && b) ≡ false → b ≡ false
+not_first true b h k = k
+not_first false b h k = absurd cc
 
 -- ---- subspaces
 
@@ -48,20 +52,20 @@ pub prefix_on : (path longer longest : List (List ℕ)) → is_prefix path longe
 prefix_on path longer longest h k =
     let p = IsPrefix-from_test path longer h in
     let q = IsPrefix-from_test longer longest k in
-    (is_prefix-decides path longest).1 (p.0 ++ q.0, q.1 ∙ ap (λ (l : List (List ℕ)). l ++ q.0) p.1 ∙ append_assoc path p.0 q.0)
+    (is_prefix_decides path longest).1 (p.0 ++ q.0, q.1 ∙ ap (λ (l : List (List ℕ)). l ++ q.0) p.1 ∙ append_assoc path p.0 q.0)
 
 -- of two prefixes of a path one is a prefix of the other
 pub prefixes_of_one : (path other longer : List (List ℕ)) → is_prefix path longer ≡ true → is_prefix other longer ≡ true → is_prefix path other ≡ false → is_prefix other path ≡ true
 unfolding is_prefix
-prefixes_of_one [] other longer h k no = absurd cc
-prefixes_of_one (part ∷ parts) [] longer h k no = refl
-prefixes_of_one (part ∷ parts) (first ∷ rest) [] h k no = absurd cc
-prefixes_of_one (part ∷ parts) (first ∷ rest) (x ∷ xs) h k no =
+prefixes_of_one [] other longer h k differ = absurd cc
+prefixes_of_one (part ∷ parts) [] longer h k differ = refl
+prefixes_of_one (part ∷ parts) (first ∷ rest) [] h k differ = absurd cc
+prefixes_of_one (part ∷ parts) (first ∷ rest) (x ∷ xs) h k differ =
     let p = both_of (pointwise nat_eq part x) (is_prefix parts xs) h in
     let q = both_of (pointwise nat_eq first x) (is_prefix rest xs) k in
     let same : part ≡ first = key_is part x p.0 ∙ sym (key_is first x q.0) in
-    and_of (pointwise nat_eq first part) (is_prefix rest parts) ((bytes_decides first part).1 (sym same))
-      (prefixes_of_one parts rest xs p.1 q.1 (rw (bytes_decides part first).1 same at no))
+    let shorter : is_prefix parts rest ≡ false = not_first (pointwise nat_eq part first) (is_prefix parts rest) ((bytes_decides part first).1 same) differ in
+    and_of (pointwise nat_eq first part) (is_prefix rest parts) ((bytes_decides first part).1 (sym same)) (prefixes_of_one parts rest xs p.1 q.1 shorter)
 
 -- ---- times
 

@@ -3,9 +3,17 @@
 #![tactic(auto)]
 
 mod area;
+mod area_codec;
+mod box3;
+mod cut;
 mod laws;
 mod times;
+mod times_codec;
 
 pub use area::Area;
+pub use area_codec::read_area;
+pub use box3::Box3;
+pub use cut::{CutAt, CutOutside};
 pub use laws::{inclusion, intersection};
 pub use times::TimeRange;
+pub use times_codec::read_times;

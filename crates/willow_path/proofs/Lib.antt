@@ -3,3 +3,5 @@ pub mod PathVectors
 pub mod PathOrder
 pub mod PathReading
 pub mod PathReads
+pub mod PartSuccessor
+pub mod PathSuccessor

@@ -3,3 +3,4 @@ pub mod Path
 pub mod PathPush
 pub mod Answers
 pub mod PathSpelling
+pub mod Successor
