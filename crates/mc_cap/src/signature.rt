@@ -40,7 +40,8 @@ impl Signature {
         ensures bytes { result.now ≡ self.now }
         ensures signature { IsSignature self.now }
     {
-        &self.bytes
+        let bytes: &[u8] = &self.bytes;
+        bytes
     }
 
     /// The bytes, taken out.
