@@ -1,3 +1,6 @@
 pub mod Chains
 pub mod Climbs
 pub mod Accepting
+pub mod Values
+pub mod Nodes
+pub mod Secrets
