@@ -6,6 +6,7 @@ mod bytes;
 mod hashing;
 mod height;
 mod one_time;
+mod signing;
 mod tree;
 mod verify;
 
