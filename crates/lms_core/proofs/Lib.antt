@@ -4,3 +4,5 @@ pub mod Accepting
 pub mod Values
 pub mod Nodes
 pub mod Secrets
+pub mod Digests
+pub mod Completeness

@@ -5,10 +5,12 @@
 mod bytes;
 mod hashing;
 mod height;
+mod laws;
 mod one_time;
 mod signing;
 mod tree;
 mod verify;
 
 pub use height::Height;
+pub use laws::made_signatures_are_accepted;
 pub use verify::lms_verify;
