@@ -1,7 +1,7 @@
 //! What makes signatures.
 
 ghost use Rattle.std.specs.Prelude.{◌≡◌, ℕ, ◌≤◌, ◌↔◌, Bool, true, List, length, IfOk, IsErrOf};
-ghost use Rattle.scheme_core.specs.Signing.{HasRisen};
+ghost use Rattle.willow_outside.specs.Counts.{Rose};
 ghost use Rattle.spelling.specs.declared.ending.End.TheVariants as ends;
 
 use std::alloc::Global;
@@ -34,7 +34,7 @@ pub trait Signer: Drop {
         ensures short { IfOk result (λ signature. length signature.items ≤ MAX_SIGNATURE) }
         ensures same { gives self.new ≡ gives self.old }
         ensures spent { IsErrOf result (ends.Refused SignRefusal.Spent) ↔ (left self.old ≡ 0) }
-        ensures failed { IsErrOf result (ends.Refused SignRefusal.Failed) → HasRisen (faults self.old) (faults self.new) }
+        ensures failed { IsErrOf result (ends.Refused SignRefusal.Failed) → Rose (faults self.old) (faults self.new) }
         ensures counted { faults self.old ≤ faults self.new };
 
     /// How many signatures are left.

@@ -1,5 +1,5 @@
 -- Lists of bytes, and lists of values spelled one after the other.
-use Rattle.std.proofs.Common.{◌≡◌, ℕ, zero, suc, ◌+◌, ◌-◌, ◌^◌, ◌<◌, ◌≤◌, List, [], ◌∷◌, ◌++◌, length, get_or, take, drop, refl, sym, ap, ◌∙◌, append_assoc, arith}
+use Rattle.std.proofs.Common.{◌≡◌, ℕ, zero, suc, ◌+◌, ◌-◌, ◌^◌, ◌<◌, ◌≤◌, List, [], ◌∷◌, ◌++◌, length, get_or, take, drop, refl, sym, ap, ◌∙◌, append_assoc, arith, Fits, w8}
 use Rattle.std.proofs.lemmas.List.{append-nil, take_at, take-append-drop, length-append}
 use Rattle.std.specs.List.{AllByRecursion}
 use Rattle.spelling.specs.Form.{AreBytes}
@@ -24,10 +24,13 @@ All-take P n xs p = All-left P (take n xs) (drop n xs) (rw take-append-drop p)
 pub All-drop : {X : Type 0} (P : X → Type 0) (n : ℕ) (xs : List X) → AllByRecursion P xs → AllByRecursion P (drop n xs)
 All-drop P n xs p = All-right P (take n xs) (drop n xs) (rw take-append-drop p)
 
--- from what a slice's type says
-pub are_bytes : (bytes : List ℕ) → ((i : ℕ) → get_or bytes i 0 < 2 ^ 8) → AreBytes bytes
-are_bytes [] h = tt
-are_bytes (b ∷ bytes) h = (h 0, are_bytes bytes (λ i. h (suc i)))
+below_bytes : (bytes : List ℕ) → ((i : ℕ) → get_or bytes i 0 < 2 ^ 8) → AreBytes bytes
+below_bytes [] h = tt
+below_bytes (b ∷ bytes) h = (h 0, below_bytes bytes (λ i. h (suc i)))
+
+-- from what a slice's or a vector's type says, as `c.type_inv.bytes`
+pub are_bytes : (bytes : List ℕ) → ((i : ℕ) → Fits w8 (get_or bytes i 0)) → AreBytes bytes
+are_bytes bytes h = below_bytes bytes (λ i. omega (arith, h i))
 
 pub byte_below : (bytes : List ℕ) (i : ℕ) → AreBytes bytes → get_or bytes i 0 < 2 ^ 8
 byte_below [] i are = omega arith

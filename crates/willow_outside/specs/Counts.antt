@@ -12,10 +12,16 @@ pub record HasCause {A : Type 0} (before now : ℕ) (result : Result A Fault) : 
   pub never_falls : before ≤ now
   pub failed : result ≡ Err Failed → Rose before now
 
--- a count of ends rises where a read with room gave nothing, and stays at every other answer
+-- a count of ends rises where a read with room gave nothing, and stays where it gave some or had no room
+pub record CountsEnd (before now given : ℕ) (buf : List ℕ) : Type 0 where
+  pub never_falls : before ≤ now
+  pub at_end : given ≡ 0 → 0 < length buf → Rose before now
+  pub gave_some : 0 < given → now ≡ before
+  pub no_room : length buf ≡ 0 → now ≡ before
+
+-- the end of a read's bytes is counted so, and no fault is an end
 abbrev pub EndHasCause : {E : Type 0} → ℕ → ℕ → Result ℕ E → List ℕ → Type 0
-EndHasCause before now (Ok n) buf =
-    (before ≤ now) × (n ≡ 0 → 0 < length buf → Rose before now) × (0 < n → now ≡ before) × (length buf ≡ 0 → now ≡ before)
+EndHasCause before now (Ok n) buf = CountsEnd before now n buf
 EndHasCause before now (Err e) buf = now ≡ before
 
 -- a write of some bytes takes at least one

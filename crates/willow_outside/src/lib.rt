@@ -23,3 +23,6 @@ pub use source::Source;
 pub use sure_sink::SureSink;
 pub use sure_source::SureSource;
 pub use writing::write_whole;
+
+#[cfg(test)]
+mod tests;

@@ -52,7 +52,9 @@ pub fn read_all<S: Source>(alloc: Global, source: &mut S, limit: u64) -> Result<
                 if limit.saturating_sub(bytes.len() as u64) < n as u64 {
                     return Err(End::Refused(ReadEnd::TooLong));
                 }
-                bytes.extend_from_slice(&piece[..n])?;
+                if bytes.extend_from_slice(&piece[..n]).is_err() {
+                    return Err(End::NoMemory);
+                }
             }
             Err(Fault::Failed) => return Err(End::Refused(ReadEnd::Failed)),
             Err(Fault::NoMemory) => return Err(End::NoMemory),

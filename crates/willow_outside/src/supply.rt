@@ -1,7 +1,7 @@
 //! Bytes in memory that are given from the front.
 
-ghost use Rattle.std.specs.Prelude.{◌≡◌, ◌<◌, ◌≤◌, ℕ, List, [], ◌++◌, length, take, drop, Ok};
-ghost use Rattle.willow_outside.specs.Counts.{EndHasCause};
+ghost use Rattle.std.specs.Prelude.{◌≡◌, ◌<◌, ◌≤◌, ℕ, List, [], ◌++◌, length, take, drop};
+ghost use Rattle.willow_outside.specs.Counts.{CountsEnd};
 
 use std::marker::Model;
 
@@ -35,8 +35,7 @@ impl Supply {
         ensures none { result ≡ 0 → 0 < length buf.new → self.new ≡ [] }
     {
         let n = buf.len().min(most).min(self.bytes.len() - self.at);
-        let (front, _) = buf.split_at_mut(n);
-        front.copy_from_slice(&self.bytes[self.at..self.at + n]);
+        buf[..n].copy_from_slice(&self.bytes[self.at..self.at + n]);
         self.at += n;
         n
     }
@@ -44,7 +43,7 @@ impl Supply {
 
 /// Counts the end where a read with room gave nothing.
 pub(crate) fn count_end(ends: &mut u64, given: usize, buf: &[u8])
-    ensures { EndHasCause {E = Fault} ends.old ends.new (Ok given) buf.now }
+    ensures { CountsEnd ends.old ends.new given buf.now }
 {
     if given == 0 && !buf.is_empty() {
         *ends = ends.saturating_add(1);
