@@ -12,3 +12,18 @@ pub record SourceFacts : Type 0 where
 pub record SinkFacts : Type 0 where
   pub held : Option (List ℕ)
   pub faults : ℕ
+
+-- the bytes that each name holds, if it holds some
+abbrev pub Names : Type 0
+Names = List ℕ → Option (List ℕ)
+
+-- what the names hold, and how many gets and puts failed
+pub record ShelfFacts : Type 0 where
+  pub names : Option Names
+  pub read_faults : ℕ
+  pub write_faults : ℕ
+
+-- the draws to come, and how many draws failed
+pub record NoiseFacts : Type 0 where
+  pub draws : Option (List (List ℕ))
+  pub faults : ℕ
