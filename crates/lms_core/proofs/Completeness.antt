@@ -59,10 +59,10 @@ pub record Six (a b c v t p s : List ℕ) : Type 0 where
   pub len : length s ≡ 1132 + length p
 
 -- the middle of three lists
-field_of : (x y z s : List ℕ) (n m : ℕ) → length x ≡ n → length y ≡ m → s ≡ x ++ (y ++ z) → take m (drop n s) ≡ y
+pub field_of : (x y z s : List ℕ) (n m : ℕ) → length x ≡ n → length y ≡ m → s ≡ x ++ (y ++ z) → take m (drop n s) ≡ y
 field_of x y z s n m hx hy hs = rw (hs, drop_at x (y ++ z) n hx) (take_at y z m hy)
 
-len_two : (x y : List ℕ) (n m k : ℕ) → length x ≡ n → length y ≡ m → n + m ≡ k → length (x ++ y) ≡ k
+pub len_two : (x y : List ℕ) (n m k : ℕ) → length x ≡ n → length y ≡ m → n + m ≡ k → length (x ++ y) ≡ k
 len_two x y n m k hx hy hk = omega (arith, length-append x y)
 
 pub six : (a b c v t p : List ℕ) → length a ≡ 4 → length b ≡ 4 → length c ≡ 32 → length v ≡ 1088 → length t ≡ 4 → Six a b c v t p (((((a ++ b) ++ c) ++ v) ++ t) ++ p)

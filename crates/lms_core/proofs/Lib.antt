@@ -6,3 +6,4 @@ pub mod Nodes
 pub mod Secrets
 pub mod Digests
 pub mod Completeness
+pub mod Files

@@ -5,6 +5,7 @@
 mod bytes;
 mod hashing;
 mod height;
+mod key;
 mod laws;
 mod one_time;
 mod signing;
@@ -12,5 +13,6 @@ mod tree;
 mod verify;
 
 pub use height::Height;
+pub use key::LmsKey;
 pub use laws::made_signatures_are_accepted;
 pub use verify::lms_verify;
