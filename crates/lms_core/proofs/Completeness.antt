@@ -125,7 +125,7 @@ four a b c d ha hb hc hd =
       last = field_of ((a ++ b) ++ c) d [] s 24 32 abc hd e3;
     }
 
-length_root_value : (height : Height) (id seed : List ℕ) → length (root_value height id seed) ≡ 32
+pub length_root_value : (height : Height) (id seed : List ℕ) → length (root_value height id seed) ≡ 32
 unfolding root_value
 length_root_value height id seed = length_node_value height id seed (levels height) 1
 

@@ -7,3 +7,4 @@ pub mod Secrets
 pub mod Digests
 pub mod Completeness
 pub mod Files
+pub mod Given

@@ -4,3 +4,5 @@ pub mod Tree
 pub mod Accepts
 pub mod Signer
 pub mod Key
+pub mod Use
+pub mod Reserve

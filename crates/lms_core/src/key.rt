@@ -4,12 +4,14 @@ ghost use Rattle.std.specs.Prelude.{◌≡◌, ◌++◌, ◌+◌, ◌≤◌, ◌
 ghost use Rattle.lms_core.specs.Accepts.{levels, leaves};
 ghost use Rattle.lms_core.specs.Key.{Key, IsKey, key_file, key_at, key_of_height, key_magic, raised};
 ghost use Rattle.lms_core.specs.Signer.{public_key};
+ghost use Rattle.lms_core.specs.Use.{user_key_of};
 
 use crate::bytes::{field_at, four_bytes, join_into, number_at};
 use crate::height::Height;
 use crate::tree::Tree;
 use spelling::NoMemory;
 use std::marker::Model;
+use willow_path::UserKey;
 
 /// What a key file begins with.
 const MAGIC: &[u8; 4] = b"WKY1";
@@ -18,8 +20,8 @@ const MAGIC: &[u8; 4] = b"WKY1";
 /// first index that is not used. A key whose next index is the number of its leaves is spent.
 #[derive(Drop)]
 pub struct LmsKey {
-    tree: Tree,
-    next: u32,
+    pub(crate) tree: Tree,
+    pub(crate) next: u32,
 }
 
 impl Model for LmsKey {
@@ -51,6 +53,13 @@ impl LmsKey {
         self.tree.public()
     }
 
+    /// The user key for which the signatures are accepted: kind 1, and the SHA-256 of the public key.
+    pub fn user_key(&self) -> UserKey
+        ensures { result ≡ user_key_of self.now.height self.now.identifier self.now.seed }
+    {
+        self.tree.user_key()
+    }
+
     /// The first index that is not used, at most the number of leaves.
     pub fn next(&self) -> u32
         ensures value { result ≡ self.now.next }
@@ -60,7 +69,7 @@ impl LmsKey {
     }
 
     /// The bytes of the key's file.
-    fn file(&self) -> [u8; 57]
+    pub(crate) fn file(&self) -> [u8; 57]
         ensures { result ≡ key_file self.now }
     {
         let mut front = [0; 5];

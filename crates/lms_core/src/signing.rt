@@ -1,6 +1,6 @@
 //! What one leaf of a tree signs.
 
-ghost use Rattle.std.specs.Prelude.{◌≡◌, ◌++◌, ◌+◌, ◌<◌, IfOk, OnOk};
+ghost use Rattle.std.specs.Prelude.{◌≡◌, ◌++◌, ◌+◌, ◌<◌, length, IfOk, OnOk};
 ghost use Rattle.lms_core.specs.Bytes.{u32_str};
 ghost use Rattle.lms_core.specs.Accepts.{one_time_type, levels, leaves, type_of};
 ghost use Rattle.lms_core.specs.Signer.{key_of_leaf, values_at, node_value, root_value, sibling, path_of, randomizer, public_key, signature_of};
@@ -103,7 +103,8 @@ impl Tree {
     /// The public key and a leaf's signature of a message, joined.
     pub(crate) fn signed(&self, alloc: Global, index: u32, message: &[u8]) -> Result<Vec<u8>, NoMemory>
         requires { index < leaves self.now.height }
-        ensures { IfOk result (λ v. v.items ≡ public_key self.now.height self.now.identifier self.now.seed
+        ensures identifier { length self.now.identifier ≡ 16 }
+        ensures signature { IfOk result (λ v. v.items ≡ public_key self.now.height self.now.identifier self.now.seed
             ++ signature_of self.now.height self.now.identifier self.now.seed index message.now) }
     {
         let randomizer = self.randomizer(index, message);

@@ -4,12 +4,14 @@ ghost use Rattle.std.specs.Prelude.{◌≡◌, ◌++◌, ◌*◌, ◌-◌, ◌+�
 ghost use Rattle.lms_core.specs.OneTime.{step};
 ghost use Rattle.lms_core.specs.Accepts.{levels, leaves};
 ghost use Rattle.lms_core.specs.Signer.{chain_start, key_of_leaf, node_value, root_value, public_key};
+ghost use Rattle.lms_core.specs.Use.{user_key_of};
 
 use crate::bytes::{four_bytes, join_into};
 use crate::hashing::{chain_step, inner, input_front, leaf, D_PBLC};
 use crate::height::{Height, ONE_TIME_TYPE};
 use crate::one_time::{chain_run, CHAINS};
 use sha2::{Digest, Sha256};
+use willow_path::UserKey;
 
 /// The height of a tree, its identifier, and the seed of its chains.
 #[derive(Clone, Copy, Drop)]
@@ -82,5 +84,17 @@ impl Tree {
         ensures { result ≡ public_key self.now.height self.now.identifier self.now.seed }
     {
         self.public_of_root(&self.root())
+    }
+
+    /// The key whose body is the digest of the public key.
+    pub(crate) fn user_key(&self) -> UserKey
+        ensures { result ≡ user_key_of self.now.height self.now.identifier self.now.seed }
+    {
+        let mut bytes = [0; 33];
+        join_into(&mut bytes, &[1], &Sha256::digest(self.public()));
+        match UserKey::from_bytes(bytes) {
+            Some(key) => key,
+            None => unreachable!(),
+        }
     }
 }

@@ -7,8 +7,8 @@ append_path-requires-clause-leaf_is c =
     let s = c.args.self.now in
     leaf_by_index s.height s.identifier s.seed c.args.index c.leaves.result c.in_ok-key.key c.leaf-leaf.result c.leaves.ensures.value c.in_ok-key.ensures.key c.leaf-leaf.ensures
 
-pub returns : goal.returns
-returns c =
+pub returns-clause-signature : goal.returns-clause-signature
+returns-clause-signature c =
     let s = c.args.self.now in
     let values = c.deref.ensures.value ∙ c.in_ok-key.ensures.signed ∙ rw (c.new-values.ensures.items, c.digits_of-digits.ensures) refl in
     let path = c.deref-2.ensures.value ∙ c.in_ok-root.ensures.siblings ∙ rw c.new-path.ensures.items refl in
