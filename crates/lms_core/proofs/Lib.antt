@@ -8,3 +8,4 @@ pub mod Digests
 pub mod Completeness
 pub mod Files
 pub mod Given
+pub mod Uses
