@@ -13,39 +13,26 @@ fn path_of(alloc: Global, parts: &[&[u8]]) -> Option<Path> {
     Some(path)
 }
 
-// Whether the successor of the path of these components is the path of the others.
-fn leads_to(alloc: Global, parts: &[&[u8]], want: Option<&[&[u8]]>) -> Option<bool> {
-    let found = path_of(alloc, parts)?.after_prefixed().ok()?;
-    match want {
-        Some(parts) => Some(found == Some(path_of(alloc, parts)?)),
-        None => Some(found.is_none()),
-    }
-}
-
 #[test]
-fn successors_of_paths(rt: HostRuntime) {
-    let alloc = rt.alloc();
-    let low = [0x61u8; 255];
-    let full = [0xffu8; 255];
-    let (a, a0, low, full) = (
-        b"a".as_slice(),
-        b"a\0".as_slice(),
-        low.as_slice(),
-        full.as_slice(),
-    );
+fn successors_of_paths(rt: HostRuntime) -> Result<(), Fail> {
+    let low_bytes = [0x61u8; 255];
+    let full_bytes = [0xffu8; 255];
+    let (low, full) = (low_bytes.as_slice(), full_bytes.as_slice());
+    let (a, a0) = (b"a".as_slice(), b"a\0".as_slice());
     let (last, next) = (b"b\xff\xff\xff".as_slice(), b"c".as_slice());
-    assert_eq!(rt; leads_to(alloc, &[], None), Some(true));
-    assert_eq!(rt; leads_to(alloc, &[a], Some(&[a0])), Some(true));
-    assert_eq!(rt; leads_to(alloc, &[full], None), Some(true));
-    assert_eq!(rt; leads_to(alloc, &[a, full], Some(&[a0])), Some(true));
-    assert_eq!(rt;
-        leads_to(
-            alloc,
-            &[low, low, low, low, last],
-            Some(&[low, low, low, low, next])
-        ),
-        Some(true)
-    );
+    let raised = path_of(rt.alloc(), &[a0]).ok_or("a path")?;
+    let empty = Path::empty(rt.alloc());
+    assert!(rt; empty.after_prefixed() == Ok(None));
+    let short = path_of(rt.alloc(), &[a]).ok_or("a path")?;
+    assert!(rt; short.after_prefixed() == Ok(Some(raised.copy().ok().ok_or("memory")?)));
+    let greatest = path_of(rt.alloc(), &[full]).ok_or("a path")?;
+    assert!(rt; greatest.after_prefixed() == Ok(None));
+    let behind = path_of(rt.alloc(), &[a, full]).ok_or("a path")?;
+    assert!(rt; behind.after_prefixed() == Ok(Some(raised)));
+    let longest = path_of(rt.alloc(), &[low, low, low, low, last]).ok_or("a path")?;
+    let cut = path_of(rt.alloc(), &[low, low, low, low, next]).ok_or("a path")?;
+    assert!(rt; longest.after_prefixed() == Ok(Some(cut)));
+    Ok(())
 }
 
 #[test]
