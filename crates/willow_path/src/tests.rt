@@ -13,25 +13,33 @@ fn path_of(alloc: Global, parts: &[&[u8]]) -> Option<Path> {
     Some(path)
 }
 
+// The path of so many components of 255 bytes 61 and the last one.
+fn behind_long(alloc: Global, count: usize, last: &[u8]) -> Option<Path> {
+    let mut path = Path::empty(alloc);
+    for _ in 0..count {
+        path.push(&[0x61; 255]).ok()?;
+    }
+    path.push(last).ok()?;
+    Some(path)
+}
+
 #[test]
 fn successors_of_paths(rt: HostRuntime) -> Result<(), Fail> {
-    let low_bytes = [0x61u8; 255];
-    let full_bytes = [0xffu8; 255];
-    let (low, full) = (low_bytes.as_slice(), full_bytes.as_slice());
-    let (a, a0) = (b"a".as_slice(), b"a\0".as_slice());
-    let (last, next) = (b"b\xff\xff\xff".as_slice(), b"c".as_slice());
-    let raised = path_of(rt.alloc(), &[a0]).ok_or("a path")?;
-    let empty = Path::empty(rt.alloc());
-    assert!(rt; empty.after_prefixed() == Ok(None));
-    let short = path_of(rt.alloc(), &[a]).ok_or("a path")?;
-    assert!(rt; short.after_prefixed() == Ok(Some(raised.copy().ok().ok_or("memory")?)));
-    let greatest = path_of(rt.alloc(), &[full]).ok_or("a path")?;
+    let mut path = Path::empty(rt.alloc());
+    assert!(rt; path.after_prefixed() == Ok(None));
+    path.push(b"a").ok().ok_or("there is room")?;
+    let raised = behind_long(rt.alloc(), 0, b"a\0").ok_or("a path")?;
+    let found = path.after_prefixed().ok().ok_or("there is memory")?;
+    assert!(rt; found.ok_or("a path")? == raised);
+    path.push(&[0xff; 255]).ok().ok_or("there is room")?;
+    let found = path.after_prefixed().ok().ok_or("there is memory")?;
+    assert!(rt; found.ok_or("a path")? == raised);
+    let greatest = behind_long(rt.alloc(), 0, &[0xff; 255]).ok_or("a path")?;
     assert!(rt; greatest.after_prefixed() == Ok(None));
-    let behind = path_of(rt.alloc(), &[a, full]).ok_or("a path")?;
-    assert!(rt; behind.after_prefixed() == Ok(Some(raised)));
-    let longest = path_of(rt.alloc(), &[low, low, low, low, last]).ok_or("a path")?;
-    let cut = path_of(rt.alloc(), &[low, low, low, low, next]).ok_or("a path")?;
-    assert!(rt; longest.after_prefixed() == Ok(Some(cut)));
+    let longest = behind_long(rt.alloc(), 4, b"b\xff\xff\xff").ok_or("a path")?;
+    let found = longest.after_prefixed().ok().ok_or("there is memory")?;
+    let cut = behind_long(rt.alloc(), 4, b"c").ok_or("a path")?;
+    assert!(rt; found.ok_or("a path")? == cut);
     Ok(())
 }
 
