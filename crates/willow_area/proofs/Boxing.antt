@@ -18,7 +18,7 @@ use Rattle.willow_area.specs.Area.{in_area, fits_subspace, IsArea, IsTriple}
 use Rattle.willow_area.specs.Boxes.{Ranges, in_box, IsBox}
 use Rattle.willow_area.specs.AreaBox.{key_range, path_range, area_box, HasTriplesOf}
 use Rattle.willow_area.specs.declared.area.Area.{Area}
-use Rattle.willow_area.proofs.Membership.{both_of, and_of, PassesArea, passes_area, area_passes}
+use Rattle.willow_area.proofs.Membership.{both_of, and_of, below_holds, PassesArea, passes_area, area_passes}
 use Rattle.willow_area.proofs.Including.{prefix_itself}
 use Rattle.willow_area.proofs.Orders.{less_is, is_less, not_greater, at_most_is, not_below}
 use Rattle.willow_area.proofs.Cutting.{PassesBox, passes_box, box_passes}
@@ -28,7 +28,7 @@ use Rattle.willow_area.proofs.Cutting.{PassesBox, passes_box, box_passes}
 -- zeros are the least bytes
 zero_first : (x : ℕ) (o : Ordering) → is_le o ≡ true → is_le (ordering_then (nat_cmp 0 x) o) ≡ true
 zero_first zero o h = h
-zero_first (suc x) o h = refl
+zero_first (suc x) o h = ap (λ (c : Ordering). is_le (ordering_then c o)) (less_is (nat_cmp 0 (suc x)) (below_holds 0 (suc x) (omega arith)))
 
 zeros_least : (n : ℕ) (bytes : List ℕ) → length bytes ≡ n → is_le (part_cmp (replicate n 0) bytes) ≡ true
 zeros_least zero [] e = refl
@@ -98,3 +98,12 @@ area_box_means area f subspace path time t =
      (λ h.
         let a = passes_area area subspace path time h in
         box_passes (area_box area) subspace path time (record { key_in = k.1 a.subspace_fits; path_in = p.1 a.path_fits; time_in = a.time_fits })))
+
+-- the same for fields that are those of the box
+pub box_as : (area : Area) (key : List ℕ) (key_end : Option (List ℕ)) (path : List (List ℕ)) (path_end : Option (List (List ℕ))) → IsArea area
+    → key ≡ (key_range area.subspace).start → key_end ≡ (key_range area.subspace).end → path ≡ area.path → path_end ≡ after area.path → is_before_end part_cmp key key_end ≡ true
+    → IsBox (record { keys = record { start = key; end = key_end }; paths = record { start = path; end = path_end }; times = area.times })
+      × HasTriplesOf (record { keys = record { start = key; end = key_end }; paths = record { start = path; end = path_end }; times = area.times }) area
+box_as area key key_end path path_end f a b c d rises =
+    (record { keys_rise = rises; paths_rise = rw (c, d) (path_rises area.path f.path_fits); times_fit = f.times_fit },
+     rw (a, b, c, d) (area_box_means area f))

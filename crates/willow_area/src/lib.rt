@@ -12,7 +12,7 @@ mod times_codec;
 
 pub use area::Area;
 pub use area_codec::read_area;
-pub use box3::Box3;
+pub use box3::{box_of, Box3};
 pub use cut::{CutAt, CutOutside};
 pub use laws::{boxes, cuts, inclusion, intersection, one_spelling};
 pub use times::TimeRange;
