@@ -20,14 +20,14 @@ last_taken {X} xs k d lt =
 flat_map_on : {X : Type 0} (f : X → List ℕ) (xs : List X) (k : ℕ) (d : X) → k < length xs → flat_map f (take k xs) ++ f (get_or xs k d) ≡ flat_map f (take (k + 1) xs)
 flat_map_on f xs k d lt =
     ap (λ (l : List ℕ). flat_map f (take k xs) ++ l) (sym (append-nil (f (get_or xs k d))))
-      ∙ sym (flat_map-append f (take k xs) (get_or xs k d ∷ []))
-      ∙ ap (flat_map f) (sym (taken_on xs k d lt))
+    ∙ sym (flat_map-append f (take k xs) (get_or xs k d ∷ []))
+    ∙ ap (flat_map f) (sym (taken_on xs k d lt))
 
 -- one item more at the end, and the byte that counts them
 pub grown : {X : Type 0} (f : X → List ℕ) (front : List ℕ) (b n place : ℕ) (xs : List X) (k : ℕ) (d : X) → place ≡ length front → k < length xs
     → set ((front ++ b ∷ flat_map f (take k xs)) ++ f (get_or xs k d)) place n ≡ front ++ n ∷ flat_map f (take (k + 1) xs)
 grown f front b n place xs k d at lt =
     ap (λ (l : List ℕ). set l place n) (append_assoc front (b ∷ flat_map f (take k xs)) (f (get_or xs k d)))
-      ∙ ap (λ (l : List ℕ). set (front ++ b ∷ l) place n) (flat_map_on f xs k d lt)
-      ∙ ap (λ (i : ℕ). set (front ++ b ∷ flat_map f (take (k + 1) xs)) i n) at
-      ∙ set-append_seam front b (flat_map f (take (k + 1) xs)) n
+    ∙ ap (λ (l : List ℕ). set (front ++ b ∷ l) place n) (flat_map_on f xs k d lt)
+    ∙ ap (λ (i : ℕ). set (front ++ b ∷ flat_map f (take (k + 1) xs)) i n) at
+    ∙ set-append_seam front b (flat_map f (take (k + 1) xs)) n
