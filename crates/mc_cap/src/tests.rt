@@ -118,7 +118,8 @@ fn each_refusal(rt: HostRuntime) -> Result<(), Fail> {
     let alloc = rt.alloc();
     let (communal, owned) = (0x4e, 0x4f);
     let message = initial_message(Mode::Read, &user(0x55)?);
-    assert_eq!(rt; message[..2], [0x49, 0]);
+    assert_eq!(rt; message[0], 0x49);
+    assert_eq!(rt; message[1], 0);
     assert_eq!(rt; refused(&first(alloc, Mode::Read, communal, None)?)?, None);
     assert_eq!(rt;
         refused(&first(alloc, Mode::Read, owned, None)?)?,
