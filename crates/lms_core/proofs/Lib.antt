@@ -9,3 +9,4 @@ pub mod Completeness
 pub mod Files
 pub mod Given
 pub mod Uses
+pub mod Once

@@ -17,7 +17,7 @@ mod verify;
 
 pub use height::Height;
 pub use key::LmsKey;
-pub use laws::made_signatures_are_accepted;
+pub use laws::{indices_are_handed_out_once, made_signatures_are_accepted};
 pub use one_use::OneUse;
 pub use reserve::{reserve_keys, KeyRefusal};
 pub use scheme::PeerScheme;
