@@ -4,3 +4,4 @@ pub mod Fields
 pub mod Repeated
 pub mod Loop
 pub mod Causes
+pub mod Exact

@@ -6,3 +6,6 @@ pub mod Ranks
 pub mod RowLaws
 pub mod Live
 pub mod Covering
+pub mod Placing
+pub mod Local
+pub mod EntryReads

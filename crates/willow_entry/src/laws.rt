@@ -7,6 +7,9 @@ ghost use Rattle.std.specs.Ordering.{ordering_then};
 ghost use Rattle.willow_path.specs.Path.{path_cmp};
 ghost use Rattle.willow_entry.specs.declared.entry.Entry.{Entry};
 ghost use Rattle.willow_entry.specs.Entry.{bytes_cmp, is_newer, IsNewer};
+ghost use Rattle.spelling.specs.Form.{IsForm};
+ghost use Rattle.willow_entry.specs.EntryForm.{entry_spelling, IsEntry};
+ghost use Rattle.willow_entry.specs.RowBody.{row_body};
 ghost use Rattle.willow_entry.specs.Row.{RowValue, is_dominating, is_covering, place_cmp, live, new, join, Dominates, HasCovering, IsLive, same_row};
 
 /// Newer is a strict order of entries, by timestamp, then digest, then payload length.
@@ -77,5 +80,14 @@ pub fn joins()
     ensures commutative { (xs ys : List RowValue) → join xs ys ≡ join ys xs }
     ensures associative { (xs ys zs : List RowValue) → join (join xs ys) zs ≡ join xs (join ys zs) }
     ensures idempotent { (xs : List RowValue) → live xs ≡ xs → join xs xs ≡ xs }
+{
+}
+
+/// An entry within its limits has one spelling, and no spelling of an entry begins another. A body is that of
+/// one row.
+pub fn one_spelling()
+    ensures entry { IsForm entry_spelling IsEntry }
+    ensures body { (r s : RowValue) → IsEntry r.entry → IsEntry s.entry
+        → row_body r ≡ row_body s → r ≡ s }
 {
 }

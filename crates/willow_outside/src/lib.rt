@@ -3,7 +3,11 @@
 #![tactic(auto)]
 
 mod cabinet;
+mod door;
 mod fault;
+mod link;
+mod mem_door;
+mod mem_link;
 mod mem_noise;
 mod mem_shelf;
 mod mem_sink;
@@ -18,15 +22,20 @@ mod supply;
 mod sure_shelf;
 mod sure_sink;
 mod sure_source;
+mod traffic;
 mod writing;
 
+pub use door::Door;
 pub use fault::Fault;
+pub use link::Link;
+pub use mem_door::MemDoor;
+pub use mem_link::MemLink;
 pub use mem_noise::MemNoise;
 pub use mem_shelf::MemShelf;
 pub use mem_sink::MemSink;
 pub use mem_source::MemSource;
 pub use noise::Noise;
-pub use reading::{read_all, ReadEnd};
+pub use reading::{ReadEnd, read_all};
 pub use shelf::Shelf;
 pub use sink::Sink;
 pub use source::Source;
