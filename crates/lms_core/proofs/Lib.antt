@@ -10,3 +10,5 @@ pub mod Files
 pub mod Given
 pub mod Uses
 pub mod Once
+pub mod Parts
+pub mod Heights

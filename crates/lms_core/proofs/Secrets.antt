@@ -1,5 +1,5 @@
 -- The values of a signer's nodes and its public key, by the steps that compute them.
-use Rattle.std.proofs.Common.{◌≡◌, ℕ, zero, suc, ◌+◌, ◌-◌, ◌*◌, ◌/◌, ◌%◌, ◌^◌, ◌<◌, ◌≤◌, List, [], ◌∷◌, ◌++◌, length, ◌⊎◌, inl, inr, refl, sym, ap, ◌∙◌, arith, append_assoc, Result, Ok, Err, IfOk, Vec, Global}
+use Rattle.std.proofs.Common.{◌≡◌, ℕ, zero, suc, ◌+◌, ◌-◌, ◌*◌, ◌/◌, ◌%◌, ◌^◌, ◌<◌, ◌≤◌, List, [], ◌∷◌, ◌++◌, length, ◌⊎◌, inl, inr, refl, sym, ap, ◌∙◌, arith, append_assoc}
 use Rattle.std.proofs.lemmas.Bool.{cases_eq}
 use Rattle.std.proofs.lemmas.List.{append-nil}
 use Rattle.lms_core.specs.declared.height.Height.{Height}
@@ -123,8 +123,3 @@ unfolding signature_of signed_values
 signed_by_steps height id seed q message public qs once numbers c head values types path whole hp hq ho hn hc hh hv ht hs hw =
     let e : (((public ++ head) ++ values) ++ types) ++ path ≡ public ++ (((head ++ values) ++ types) ++ path) = simp append_assoc in
     hw ∙ e ∙ rw (hp, hh, hn, hq, ho, hv, hc, ht, hs) refl
-
--- a result's items by an equal list
-pub items_by : {E : Type 0} (r : Result (Vec ℕ Global) E) (xs ys : List ℕ) → xs ≡ ys → IfOk r (λ v. v.items ≡ xs) → IfOk r (λ v. v.items ≡ ys)
-items_by (Ok v) xs ys e h = h ∙ e
-items_by (Err r) xs ys e h = tt

@@ -22,3 +22,6 @@ pub use one_use::OneUse;
 pub use reserve::{reserve_keys, KeyRefusal};
 pub use scheme::PeerScheme;
 pub use verify::lms_verify;
+
+#[cfg(test)]
+mod tests;
