@@ -50,7 +50,6 @@ climb_of_path height id seed (suc n) level node p q =
     let ih = rw f at (climb_of_path height id seed n (suc level) (node / 2) (omega arith) (omega arith)) in
     rw (t, d, node_value_parent height id seed level node, e) ih
 
-
 length_signed_values : (id seed : List ℕ) (q : ℕ) (message : List ℕ) → length (signed_values id seed q message) ≡ 1088
 unfolding signed_values
 length_signed_values id seed q message =
@@ -65,8 +64,7 @@ pub signature_parts : (height : Height) (id seed : List ℕ) (q : ℕ) (message 
 unfolding signature_of
 signature_parts height id seed q message =
     six (u32_str q) (u32_str one_time_type) (randomizer seed q message) (signed_values id seed q message) (u32_str (type_of height)) (path_of height id seed 0 (leaves height + q) (levels height))
-        (length_u32_str q) (length_u32_str one_time_type) (length_randomizer seed q message) (length_signed_values id seed q message) (length_u32_str (type_of height))
-
+    (length_u32_str q) (length_u32_str one_time_type) (length_randomizer seed q message) (length_signed_values id seed q message) (length_u32_str (type_of height))
 
 pub length_root_value : (height : Height) (id seed : List ℕ) → length (root_value height id seed) ≡ 32
 unfolding root_value
@@ -76,7 +74,6 @@ pub public_parts : (height : Height) (id seed : List ℕ) → length id ≡ 16 �
 unfolding public_key
 public_parts height id seed h =
     four (u32_str (type_of height)) (u32_str one_time_type) id (root_value height id seed) (length_u32_str (type_of height)) (length_u32_str one_time_type) h (length_root_value height id seed)
-
 
 all_of : (a b c d e : Bool) → a ≡ true → b ≡ true → c ≡ true → d ≡ true → e ≡ true → (a && b && c && d && e) ≡ true
 all_of a b c d e ha hb hc hd he = rw (ha, hb, hc, hd, he) refl
@@ -132,5 +129,5 @@ made_is_accepted height id seed q message h p =
     let kp = public_parts height id seed h in
     let r = made_root height id seed q message p in
     let same : true ≡ bytes_eq (root_of height (field 8 16 (public_key height id seed)) message (signature_of height id seed q message)) (field 24 32 (public_key height id seed)) =
-      rw (kp.third, kp.last, r) (sym ((bytes_eq-Decides (root_value height id seed) (root_value height id seed)).1 refl)) in
+    rw (kp.third, kp.last, r) (sym ((bytes_eq-Decides (root_value height id seed) (root_value height id seed)).1 refl)) in
     sym (accepts_by_root (public_key height id seed) message (signature_of height id seed q message) height true (made_sound_height height id seed q message h p) same)

@@ -16,13 +16,11 @@ use Rattle.lms_core.proofs.Digests.{length_u32_str, u32_at_by}
 use Rattle.lms_core.proofs.Heights.{leaves_below, height_at_levels, height_at_back}
 use Rattle.lms_core.proofs.Parts.{Five, five}
 
-
 pub file_parts : (k : Key) → IsKey k → Five key_magic (levels k.height ∷ []) k.identifier k.seed (u32_str k.next) (key_file k)
 unfolding key_file
 file_parts k h = five key_magic (levels k.height ∷ []) k.identifier k.seed (u32_str k.next) refl refl h.identifier.0 h.seed.0 (length_u32_str k.next)
 
 -- ---- from a key to its file and back
-
 
 -- the byte that a field of one byte holds
 byte_of_field : (s : List ℕ) (at b : ℕ) → at < length s → field at 1 s ≡ b ∷ [] → slice_index s at ≡ b
@@ -61,7 +59,6 @@ file_once k l hk hl e =
 chosen : (t : Bool) (o : Option Key) (k : Key) → cond t o None ≡ Some k → (t ≡ true) × (o ≡ Some k)
 chosen true o k e = (refl, e)
 chosen false o k e = absurd cc
-
 
 abbrev key_in : List ℕ → Height → Key
 key_in bytes height = record { height = height; identifier = field 5 16 bytes; seed = field 21 32 bytes; next = u32_at 53 bytes }

@@ -51,7 +51,6 @@ own_digest : (height : Height) (id seed : List ℕ) → bytes_eq (sha256 (public
 unfolding user_key_of
 own_digest height id seed = (bytes_eq-Decides (sha256 (public_key height id seed)) (take 32 (sha256 (public_key height id seed)))).1 (sym (take_all 32 (sha256 (public_key height id seed)) (omega (arith, length-sha256 (public_key height id seed)))))
 
-
 pub made_is_given : (s : Use) (message : List ℕ) → length s.identifier ≡ 16 → s.index < leaves s.height → use_gives s message (use_signature s message) ≡ true
 unfolding use_gives
 made_is_given s message h i =

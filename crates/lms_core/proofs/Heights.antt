@@ -29,16 +29,16 @@ height_at_levels H10 = refl
 pub height_at_back : (n : ℕ) (height : Height) → height_at n ≡ Some height → n ≡ levels height
 height_at_back n height e =
     elim (cases_Bool (eqb n 5)) [
-      inl t ↦
-        let f : Some H5 ≡ Some height = rw t at e in
-        let g : H5 ≡ height = cc in
-        eqb-true n 5 t ∙ ap levels g
+      | inl t ↦
+          let f : Some H5 ≡ Some height = rw t at e in
+          let g : H5 ≡ height = cc in
+          eqb-true n 5 t ∙ ap levels g
       | inr t ↦
-        elim (cases_Bool (eqb n 10)) [
-          inl u ↦
-            let f : Some H10 ≡ Some height = rw (t, u) at e in
-            let g : H10 ≡ height = cc in
-            eqb-true n 10 u ∙ ap levels g
-          | inr u ↦ let f : None ≡ Some height = rw (t, u) at e in absurd cc
-        ]
+          elim (cases_Bool (eqb n 10)) [
+            | inl u ↦
+                let f : Some H10 ≡ Some height = rw (t, u) at e in
+                let g : H10 ≡ height = cc in
+                eqb-true n 10 u ∙ ap levels g
+            | inr u ↦ let f : None ≡ Some height = rw (t, u) at e in absurd cc
+          ]
     ]

@@ -120,7 +120,7 @@ call_rises name n count held after before behind (Err (Refused ShelfWrite)) rest
     let k = h.0 in
     let was = got_held before.names name held _ t h.1.held.file in
     f n (elim h.1.kept_or_put [
-      inl kept ↦ idle n held after (kept_held before.names behind.names name held after t v kept) u
+      | inl kept ↦ idle n held after (kept_held before.names behind.names name held after t v kept) u
       | inr put ↦ put_idle n count held after k h.1.held.key h.1.room was (put_held before.names behind.names name _ held after t v put) u
     ])
 call_rises name n count held after before behind (Err NoMemory) rest t h v u f = f n (idle n held after (kept_held before.names behind.names name held after t v h) u)

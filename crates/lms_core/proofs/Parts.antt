@@ -71,7 +71,6 @@ pub record Six (a b c v t p s : List ℕ) : Type 0 where
   pub last : drop 1132 s ≡ p
   pub len : length s ≡ 1132 + length p
 
-
 pub six : (a b c v t p : List ℕ) → length a ≡ 4 → length b ≡ 4 → length c ≡ 32 → length v ≡ 1088 → length t ≡ 4 → Six a b c v t p (((((a ++ b) ++ c) ++ v) ++ t) ++ p)
 six a b c v t p ha hb hc hv ht =
     let s = ((((a ++ b) ++ c) ++ v) ++ t) ++ p in

@@ -69,14 +69,14 @@ node_value_parent height id seed level node =
     let above : ℕ → ℕ → List ℕ = λ m n. inner_value id (node / 2) (value m) (value n) in
     let up = node_value_above height id seed level (node / 2) in
     elim (parity node) [
-      inl odd ↦
-        let a : node - 1 ≡ 2 * (node / 2) = omega arith in
-        let b : node ≡ 2 * (node / 2) + 1 = omega arith in
-        parent_value_odd id node (value node) (value (sibling node)) odd ∙ ap (λ n. above n node) (sibling_odd node odd ∙ a) ∙ ap (λ n. above (2 * (node / 2)) n) b ∙ sym up
+      | inl odd ↦
+          let a : node - 1 ≡ 2 * (node / 2) = omega arith in
+          let b : node ≡ 2 * (node / 2) + 1 = omega arith in
+          parent_value_odd id node (value node) (value (sibling node)) odd ∙ ap (λ n. above n node) (sibling_odd node odd ∙ a) ∙ ap (λ n. above (2 * (node / 2)) n) b ∙ sym up
       | inr even ↦
-        let a : node + 1 ≡ 2 * (node / 2) + 1 = omega arith in
-        let b : node ≡ 2 * (node / 2) = omega arith in
-        parent_value_even id node (value node) (value (sibling node)) even ∙ ap (λ n. above node n) (sibling_even node even ∙ a) ∙ ap (λ n. above n (2 * (node / 2) + 1)) b ∙ sym up
+          let a : node + 1 ≡ 2 * (node / 2) + 1 = omega arith in
+          let b : node ≡ 2 * (node / 2) = omega arith in
+          parent_value_even id node (value node) (value (sibling node)) even ∙ ap (λ n. above node n) (sibling_even node even ∙ a) ∙ ap (λ n. above n (2 * (node / 2) + 1)) b ∙ sym up
     ]
 
 -- a path from a node on, with its first sibling taken

@@ -10,8 +10,7 @@ ghost use Rattle.lms_core.specs.Signer.{public_key, signature_of};
 pub fn made_signatures_are_accepted()
     ensures { (height : Height) (id seed : List ℕ) (q : ℕ) (message : List ℕ) → length id ≡ 16 → q < leaves height
         → lms_accepts (public_key height id seed) message (signature_of height id seed q message) ≡ true }
-{
-}
+{}
 
 /// A law, and no code: over every list of calls of `reserve_keys` for one name of one shelf that tells what it
 /// holds, whatever each call answered, the indices of the signers handed out rise. So no two signers have the
@@ -19,5 +18,4 @@ pub fn made_signatures_are_accepted()
 pub fn indices_are_handed_out_once()
     ensures { (name : List ℕ) (held : Option (List ℕ)) (calls : List Call) → AreCalls name held calls
         → AllPairs (λ i j. i < j) (handed_out calls) }
-{
-}
+{}
