@@ -1,0 +1,6 @@
+pub mod Members
+pub mod Rising
+pub mod Pruning
+pub mod Prefixes
+pub mod Ranks
+pub mod RowLaws

@@ -1,0 +1,3 @@
+pub mod Pruning
+pub mod Entry
+pub mod Row

@@ -1,0 +1,78 @@
+-- Rows: entries with the bytes of their write tokens; which dominate which, and what a set of rows keeps.
+use Rattle.std.specs.Prelude.{◌≡◌, ℕ, Bool, ◌&&◌, ◌||◌, ◌⊎◌, List, [], ◌∷◌, ◌++◌, Contains, ◌↔◌}
+use Rattle.std.specs.Ordering.{ordering_then, is_gt}
+use Rattle.std.specs.List.Sorted.{IsStrictlySortedBy}
+use Rattle.std.specs.declared.cmp.Ordering.{Ordering}
+use Rattle.willow_path.specs.Path.{is_prefix, IsPrefix, path_cmp}
+use Rattle.willow_entry.specs.declared.entry.Entry.{Entry}
+use Rattle.willow_entry.specs.Entry.{bytes_cmp, same_bytes, is_newer, same_entry, IsNewer, IsAbove}
+use Rattle.willow_entry.specs.Pruning.{pruned, new_after}
+
+-- what contracts see of a row: its entry, and the bytes of its write token
+pub record RowValue : Type 0 where
+  pub entry : Entry
+  pub token : List ℕ
+
+-- the same entry with the same token
+unfoldable pub same_row : RowValue → RowValue → Bool
+same_row r s = same_entry r.entry s.entry && same_bytes r.token s.token
+
+-- a newer entry, or the same entry with a greater token
+unfoldable pub is_stronger : RowValue → RowValue → Bool
+is_stronger r s = is_newer r.entry s.entry || (same_entry r.entry s.entry && is_gt (bytes_cmp r.token s.token))
+
+-- r stands in the namespace and subspace of s, at a prefix of its path, and is stronger
+unfoldable pub is_dominating : RowValue → RowValue → Bool
+is_dominating r s =
+    same_bytes r.entry.namespace s.entry.namespace
+    && (same_bytes r.entry.subspace s.entry.subspace
+    && (is_prefix r.entry.path s.entry.path && is_stronger r s))
+
+-- r is s or dominates it
+unfoldable pub is_covering : RowValue → RowValue → Bool
+is_covering r s = same_row r s || is_dominating r s
+
+-- by namespace, then by subspace, then by path
+unfoldable pub place_cmp : RowValue → RowValue → Ordering
+place_cmp r s =
+    ordering_then (bytes_cmp r.entry.namespace s.entry.namespace)
+      (ordering_then (bytes_cmp r.entry.subspace s.entry.subspace) (path_cmp r.entry.path s.entry.path))
+
+-- the rows that no row of the list dominates, each once, by rising place
+abbrev pub live : List RowValue → List RowValue
+live = pruned is_dominating place_cmp
+
+-- in the list's order, each row that no row before it covers
+abbrev pub new : List RowValue → List RowValue
+new = new_after is_covering []
+
+-- what two sets of rows keep together
+abbrev pub join : List RowValue → List RowValue → List RowValue
+join xs ys = live (xs ++ ys)
+
+-- ---- what these mean
+
+-- r dominates s: it stands in the same namespace and subspace, at a prefix of the path of s, and its entry
+-- is newer, or the entries are equal and its token is greater
+pub record Dominates (r s : RowValue) : Type 0 where
+  pub namespace : r.entry.namespace ≡ s.entry.namespace
+  pub subspace : r.entry.subspace ≡ s.entry.subspace
+  pub path : IsPrefix r.entry.path s.entry.path
+  pub stronger : IsNewer r.entry s.entry ⊎ ((r.entry ≡ s.entry) × IsAbove r.token s.token)
+
+-- the list holds a row that is s or dominates it
+abbrev pub HasCovering : List RowValue → RowValue → Type 0
+HasCovering rows s = (r : RowValue) × Contains rows r × ((r ≡ s) ⊎ Dominates r s)
+
+-- no row of the list dominates s
+abbrev pub IsUndominatedBy : List RowValue → RowValue → Type 0
+IsUndominatedBy rows s = (r : RowValue) → Contains rows r → Dominates r s → ⊥
+
+-- by strictly rising places, so that no two stand at one place
+abbrev pub IsRising : List RowValue → Type 0
+IsRising = IsStrictlySortedBy place_cmp
+
+-- the kept rows rise, and are just those rows that no row dominates
+pub record IsLive (rows kept : List RowValue) : Type 0 where
+  pub is_rising : IsRising kept
+  pub members : (r : RowValue) → Contains kept r ↔ (Contains rows r × IsUndominatedBy rows r)

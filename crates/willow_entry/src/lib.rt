@@ -1,0 +1,7 @@
+//! Willow entries and rows: which entry is newer, which row dominates another, and what a set of rows keeps.
+//! Each function answers by the definitions over plain rows, and the laws of pruning and joining are proved here.
+#![tactic(auto)]
+
+mod entry;
+
+pub use entry::{Entry, newer};
