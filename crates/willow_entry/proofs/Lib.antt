@@ -4,3 +4,4 @@ pub mod Pruning
 pub mod Prefixes
 pub mod Ranks
 pub mod RowLaws
+pub mod Live

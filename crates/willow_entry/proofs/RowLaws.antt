@@ -106,6 +106,16 @@ covering_decides r s = (there, back) where
   back (inl e) = or_left (same_row r s) (is_dominating r s) ((same_row_decides r s).1 e)
   back (inr d) = or_right (same_row r s) (is_dominating r s) d
 
+-- the same in the words of contracts
+pub covering_means : (r s : RowValue) → Decides (is_covering r s) ((r ≡ s) ⊎ Dominates r s)
+covering_means r s = (there, back) where
+  there : is_covering r s ≡ true → (r ≡ s) ⊎ Dominates r s
+  there e = elim ((covering_decides r s).0 e) [ inl p ↦ inl p | inr d ↦ inr ((dominates_decides r s).0 d) ]
+
+  back : (r ≡ s) ⊎ Dominates r s → is_covering r s ≡ true
+  back (inl p) = (covering_decides r s).1 (inl p)
+  back (inr d) = (covering_decides r s).1 (inr ((dominates_decides r s).1 d))
+
 -- ---- the premises of pruning
 
 not_stronger_newer : (r s : RowValue) → is_stronger r s ≡ false → is_newer r.entry s.entry ≡ false

@@ -3,5 +3,6 @@
 #![tactic(auto)]
 
 mod entry;
+pub mod laws;
 
 pub use entry::{Entry, newer};
