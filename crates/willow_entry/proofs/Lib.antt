@@ -5,3 +5,4 @@ pub mod Prefixes
 pub mod Ranks
 pub mod RowLaws
 pub mod Live
+pub mod Placing
