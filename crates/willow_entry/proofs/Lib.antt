@@ -5,4 +5,4 @@ pub mod Prefixes
 pub mod Ranks
 pub mod RowLaws
 pub mod Live
-pub mod Placing
+pub mod Between

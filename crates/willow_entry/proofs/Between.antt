@@ -1,5 +1,5 @@
 -- Where an item's place is among rising items, and where a row goes among those that it leaves.
-use Rattle.std.proofs.Common.{◌≡◌, ◌⊎◌, inl, inr, ℕ, zero, suc, ◌≤◌, ◌<◌, Bool, true, false, not, List, [], ◌∷◌, ◌++◌, length, take, drop, map, get_or, filter, sym, refl, ap, ◌∙◌, subst, Ordering, Less, Equal, Greater, is_lt, false≢true, arith}
+use Rattle.std.proofs.Common.{◌≡◌, ◌⊎◌, inl, inr, ℕ, zero, suc, ◌≤◌, ◌<◌, Bool, true, false, not, List, [], ◌∷◌, ◌++◌, length, take, drop, map, get_or, filter, sym, refl, ap, ◌∙◌, subst, Ordering, Less, Equal, Greater, is_lt, arith}
 use Rattle.std.specs.List.{AllByRecursion, AllWithin}
 use Rattle.std.specs.List.Sorted.{IsStrictlySortedBy, IsPartitionPoint, IsPartitionedBy}
 use Rattle.std.specs.Cmp.{IsTotalOrder}
@@ -11,7 +11,7 @@ use Rattle.willow_entry.proofs.Rising.{all_member, all_from_members}
 use Rattle.willow_entry.proofs.Pruning.{IsCovered}
 use Rattle.willow_entry.proofs.Ranks.{place_total}
 use Rattle.willow_entry.proofs.RowLaws.{rows_prune, covered_from_covering, covering_from_covered}
-use Rattle.std.proofs.lemmas.Bool.{not-true}
+use Rattle.std.proofs.lemmas.Bool.{not-true, false≢true}
 use Rattle.willow_entry.proofs.Live.{live-uncovered}
 
 pub less_from_test : (o : Ordering) → is_lt o ≡ true → o ≡ Less
