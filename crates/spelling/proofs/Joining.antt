@@ -1,5 +1,5 @@
 -- How a reader goes with a spelling, and how the readers of fields are joined.
-use Rattle.std.proofs.Common.{◌≡◌, ℕ, zero, suc, ◌+◌, ◌-◌, ◌<◌, ◌≤◌, Bool, true, false, List, [], ◌∷◌, ◌++◌, length, take, drop, Result, Ok, Err, refl, sym, ap, subst, ◌∙◌, append_assoc, arith}
+use Rattle.std.proofs.Common.{◌≡◌, ℕ, zero, suc, ◌+◌, ◌-◌, ◌^◌, ◌<◌, ◌≤◌, Bool, true, false, List, [], ◌∷◌, ◌++◌, length, get_or, take, drop, Result, Ok, Err, refl, sym, ap, subst, ◌∙◌, append_assoc, arith, Fits, w8}
 use Rattle.std.proofs.lemmas.List.{append-nil, take-append-drop, length-append, length-drop}
 use Rattle.spelling.specs.Front.{Front, Whole, Part, Wrong, ◌>>=◌}
 use Rattle.spelling.specs.Form.{AreBytes, IsForm, Decodes}
@@ -9,7 +9,9 @@ use Rattle.spelling.specs.declared.ending.End.TheVariants as ends
 use Rattle.spelling.specs.declared.ending.NotHere.{NotHere}
 use Rattle.spelling.specs.declared.input.Unread.{Unread}
 use Rattle.spelling.specs.declared.input.Unread.TheVariants as unread
-use Rattle.spelling.proofs.Lists.{take_front, nothing_behind}
+use Rattle.std.specs.Result.{IsErrAnd}
+use Rattle.std.proofs.lemmas.Result.{err_from_is_err_and}
+use Rattle.spelling.proofs.Lists.{take_front, nothing_behind, are_bytes}
 
 -- what a reader took from the front of bytes
 pub record Takes (bytes text rest : List ℕ) (Fits : Type 0) : Type 0 where
@@ -166,16 +168,22 @@ part_of {A} {at} {spell} reads x n f lt =
     part_of_whole at x (take n (spell x)) (drop n (spell x)) (at (take n (spell x))) (ap at (take-append-drop n (spell x)) ∙ alone reads x f) refl
       (λ y rest e. reads.more (take n (spell x)) y rest (drop n (spell x)) e) (reads.wrong (take n (spell x)) (drop n (spell x))) (omega (arith, length-drop n (spell x)))
 
--- a decoder that read a whole value
-pub decodes_whole : {A : Type 0} {at : List ℕ → Front A} {spell : A → List ℕ} {fits : A → Type 0} → Reads at spell fits → (bytes : List ℕ) (x : A) (rest : List ℕ) → AreBytes bytes → at bytes ≡ Whole x rest
-    → Decodes spell fits bytes (Ok (x, length bytes - length rest))
-decodes_whole {A} {at} {spell} reads bytes x rest are e =
-    let t = reads.takes bytes x rest are e in
-    (t.fits, omega arith, take_front bytes (spell x) rest t.parts)
+none_here : {A : Type 0} {at : List ℕ → Front A} {spell : A → List ℕ} {fits : A → Type 0} → Reads at spell fits → (bytes : List ℕ) (u : Unread) (e : End NotHere) → Fails u (at bytes) → IsEndOf u e
+    → Decodes spell fits bytes (Err e)
+none_here {A} {at} {spell} {fits} reads bytes unread.NoMemory e h is = subst (λ (d : End NotHere). Decodes spell fits bytes (Err d)) (sym is) tt
+none_here {A} {at} {spell} {fits} reads bytes unread.Part e h is = subst (λ (d : End NotHere). Decodes spell fits bytes (Err d)) (sym is) (λ x rest f parts. whole_not_part x rest (at bytes) (ap at parts ∙ reads.again x rest f) h)
+none_here {A} {at} {spell} {fits} reads bytes unread.Wrong e h is = subst (λ (d : End NotHere). Decodes spell fits bytes (Err d)) (sym is) (λ x rest f parts. whole_not_wrong x rest (at bytes) (ap at parts ∙ reads.again x rest f) h)
+
+-- a decoder that read a whole value: of the bytes all but what is left are taken
+pub decodes_whole : {A : Type 0} {at : List ℕ → Front A} {spell : A → List ℕ} {fits : A → Type 0} → Reads at spell fits → (bytes input : List ℕ) (x : A) (rest : List ℕ) (taken : ℕ) → ((i : ℕ) → Fits w8 (get_or bytes i 0)) → input ≡ bytes → at input ≡ Whole x rest
+    → taken ≡ length bytes - length rest → Decodes spell fits bytes (Ok (x, taken))
+decodes_whole {A} {at} {spell} reads bytes input x rest taken are is e n =
+    let t = reads.takes bytes x rest (are_bytes bytes are) (ap at (sym is) ∙ e) in
+    (t.fits, omega (arith, n), ap (λ (k : ℕ). take k bytes) n ∙ take_front bytes (spell x) rest t.parts)
 
 -- a decoder whose reader read no value
-pub decodes_end : {A : Type 0} {at : List ℕ → Front A} {spell : A → List ℕ} {fits : A → Type 0} → Reads at spell fits → (bytes : List ℕ) (u : Unread) (e : End NotHere) → Fails u (at bytes) → IsEndOf u e
-    → Decodes spell fits bytes (Err e)
-decodes_end {A} {at} {spell} {fits} reads bytes unread.NoMemory e h is = subst (λ (d : End NotHere). Decodes spell fits bytes (Err d)) (sym is) tt
-decodes_end {A} {at} {spell} {fits} reads bytes unread.Part e h is = subst (λ (d : End NotHere). Decodes spell fits bytes (Err d)) (sym is) (λ x rest f parts. whole_not_part x rest (at bytes) (ap at parts ∙ reads.again x rest f) h)
-decodes_end {A} {at} {spell} {fits} reads bytes unread.Wrong e h is = subst (λ (d : End NotHere). Decodes spell fits bytes (Err d)) (sym is) (λ x rest f parts. whole_not_wrong x rest (at bytes) (ap at parts ∙ reads.again x rest f) h)
+pub decodes_end : {A : Type 0} {at : List ℕ → Front A} {spell : A → List ℕ} {fits : A → Type 0} → Reads at spell fits → (bytes input : List ℕ) (u : Unread) (result : Result (A × ℕ) (End NotHere)) → input ≡ bytes → Fails u (at input)
+    → IsErrAnd result (IsEndOf u) → Decodes spell fits bytes result
+decodes_end {A} {at} {spell} {fits} reads bytes input u result is h err =
+    let p = err_from_is_err_and result err in
+    subst (λ (r : Result (A × ℕ) (End NotHere)). Decodes spell fits bytes r) (sym p.1) (none_here reads bytes u p.0 (subst (λ (l : List ℕ). Fails u (at l)) is h) p.2)

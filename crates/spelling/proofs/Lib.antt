@@ -2,3 +2,4 @@ pub mod Lists
 pub mod Joining
 pub mod Fields
 pub mod Repeated
+pub mod Loop

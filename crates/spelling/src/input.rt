@@ -1,6 +1,6 @@
 //! Bytes that are read from the front, field by field.
 
-ghost use Rattle.std.specs.Prelude.{◌≡◌, List, ℕ, length, if◌then◌else◌};
+ghost use Rattle.std.specs.Prelude.{◌≡◌, List, ℕ, ◌-◌, length, if◌then◌else◌};
 ghost use Rattle.std.specs.Int.{w16, w32, w64};
 ghost use Rattle.spelling.specs.Reading.{Gives, IsEndOf, byte_at, bytes_at, number_at};
 ghost use Rattle.spelling.specs.declared.ending.End.TheVariants as ends;
@@ -48,6 +48,13 @@ impl<'a> Input<'a> {
         ensures { result ≡ length self.now }
     {
         self.bytes.len()
+    }
+
+    /// How many of the whole bytes are taken.
+    pub fn taken_of(&self, whole: &[u8]) -> usize
+        ensures { result ≡ length whole.now - length self.now }
+    {
+        whole.len().saturating_sub(self.bytes.len())
     }
 
     /// One byte.

@@ -4,6 +4,8 @@
 
 mod ending;
 mod input;
+mod output;
 
 pub use ending::{End, NoMemory, NotHere};
 pub use input::{guard, Input, Unread};
+pub use output::{put_byte, put_bytes, put_u16, put_u32, put_u64};

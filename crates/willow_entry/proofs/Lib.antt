@@ -6,3 +6,4 @@ pub mod Ranks
 pub mod RowLaws
 pub mod Live
 pub mod Between
+pub mod Covering

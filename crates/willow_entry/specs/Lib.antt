@@ -1,3 +1,4 @@
 pub mod Pruning
 pub mod Entry
+pub mod EntryForm
 pub mod Row

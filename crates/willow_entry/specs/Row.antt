@@ -1,5 +1,5 @@
 -- Rows: entries with the bytes of their write tokens; which dominate which, and what a set of rows keeps.
-use Rattle.std.specs.Prelude.{◌≡◌, ℕ, Bool, ◌&&◌, ◌||◌, ◌⊎◌, List, [], ◌∷◌, ◌++◌, Contains, ◌↔◌}
+use Rattle.std.specs.Prelude.{◌≡◌, ℕ, Bool, ◌&&◌, ◌||◌, ◌⊎◌, List, [], ◌∷◌, ◌++◌, ◌<◌, length, slice_index_or, Contains, ◌↔◌}
 use Rattle.std.specs.Ordering.{ordering_then, is_gt}
 use Rattle.std.specs.List.Sorted.{IsStrictlySortedBy}
 use Rattle.std.specs.declared.cmp.Ordering.{Ordering}
@@ -63,6 +63,11 @@ pub record Dominates (r s : RowValue) : Type 0 where
 -- the list holds a row that is s or dominates it
 abbrev pub HasCovering : List RowValue → RowValue → Type 0
 HasCovering rows s = (r : RowValue) × Contains rows r × ((r ≡ s) ⊎ Dominates r s)
+
+-- the row of the list at place i is s or dominates it
+pub record IsCoveringAt (rows : List RowValue) (i : ℕ) (s : RowValue) : Type 0 where
+  pub within : i < length rows
+  pub covers : (slice_index_or rows i s ≡ s) ⊎ Dominates (slice_index_or rows i s) s
 
 -- no row of the list dominates s
 abbrev pub IsUndominatedBy : List RowValue → RowValue → Type 0

@@ -7,7 +7,7 @@ use std::cmp::Ordering;
 use willow_path::{Digest, NamespaceKey, Path, UserKey};
 
 /// An entry of the Willow Data Model: what was written where, when, and by whose leave.
-#[derive(Drop)]
+#[derive(Debug, Drop)]
 pub struct Entry {
     /// The namespace that it belongs to.
     pub namespace: NamespaceKey,
@@ -41,7 +41,7 @@ pub(crate) fn same_entry(e: &Entry, f: &Entry) -> bool
 {
     e.namespace == f.namespace
         && e.subspace == f.subspace
-        && e.path.count() == f.path.count()
+        && e.path == f.path
         && e.timestamp == f.timestamp
         && e.length == f.length
         && e.digest == f.digest

@@ -4,5 +4,7 @@
 
 mod entry;
 pub mod laws;
+mod row;
 
 pub use entry::{Entry, newer};
+pub use row::{LogRow, Row, SharedRow, by_place, cover, covers, dominates, same};

@@ -1,2 +1,3 @@
 pub mod PathLimits
+pub mod PathVectors
 pub mod PathOrder

@@ -1,17 +1,96 @@
--- Comparisons of paths that are kept as vectors.
-use Rattle.std.proofs.Common.{◌≡◌, ℕ, ◌&&◌, List, [], ◌∷◌, map, nat_eq, refl, ap}
-use Rattle.std.specs.Cmp.Lexicographic.{pointwise}
-use Rattle.std.specs.List.{starts_with, AllZip}
-use Rattle.willow_path.specs.Path.{is_prefix}
+-- The order of paths, and their prefixes.
+use Rattle.std.proofs.Common.{◌≡◌, ℕ, Bool, true, false, ◌&&◌, List, [], ◌∷◌, ◌++◌, nat_eq, refl, sym, ap, ◌∙◌}
+use Rattle.std.specs.declared.cmp.Ordering.{Ordering}
+use Rattle.std.specs.declared.cmp.Ordering.TheVariants.{Less, Equal, Greater}
+use Rattle.std.specs.Ordering.{ordering_then, ordering_reverse, is_gt, is_eq}
+use Rattle.std.specs.Bool.{Decides}
+use Rattle.std.specs.Cmp.{IsTotalOrder}
+use Rattle.std.specs.Cmp.Lexicographic.{pointwise, lists_ties, texts_ties, lists_total, nat_list_cmp_total, bytes_decides, pointwise_decides}
+use Rattle.std.proofs.lemmas.Cmp.{tied_itself}
+use Rattle.willow_path.specs.Path.{part_cmp, path_cmp, is_prefix, IsPrefix}
 
-pub is_prefix-map : {X : Type 0} (items : X → List ℕ) (path longer : List X) → starts_with (λ a b. pointwise nat_eq (items a) (items b)) longer path ≡ is_prefix (map items path) (map items longer)
+pub part_cmp_total : IsTotalOrder part_cmp
+part_cmp_total = nat_list_cmp_total
+
+pub path_cmp_total : IsTotalOrder path_cmp
+path_cmp_total = lists_total nat_list_cmp_total
+
+both_tests : (a b : Bool) → (a && b) ≡ true → (a ≡ true) × (b ≡ true)
+both_tests true true h = (refl, refl)
+both_tests true false h = absurd cc
+both_tests false b h = absurd cc
+
+is_eq_is : (o : Ordering) → is_eq o ≡ true → o ≡ Equal
+is_eq_is Less h = absurd cc
+is_eq_is Equal h = refl
+is_eq_is Greater h = absurd cc
+
+pub part_eq_decides : (a b : List ℕ) → Decides (pointwise nat_eq a b) (a ≡ b)
+part_eq_decides = bytes_decides
+
+pub path_eq_decides : (p q : List (List ℕ)) → Decides (pointwise (pointwise nat_eq) p q) (p ≡ q)
+path_eq_decides = pointwise_decides bytes_decides
+
+pub part_cmp_equal : (a b : List ℕ) → (part_cmp a b ≡ Equal → a ≡ b) × (a ≡ b → part_cmp a b ≡ Equal)
+part_cmp_equal a b =
+    (λ e. (part_eq_decides a b).0 (texts_ties a b ∙ ap is_eq e), λ e. is_eq_is _ (sym (texts_ties a b) ∙ (part_eq_decides a b).1 e))
+
+pub path_cmp_equal : (p q : List (List ℕ)) → (path_cmp p q ≡ Equal → p ≡ q) × (p ≡ q → path_cmp p q ≡ Equal)
+path_cmp_equal p q =
+    let tie = lists_ties part_cmp texts_ties p q in
+    (λ e. (path_eq_decides p q).0 (tie ∙ ap is_eq e), λ e. is_eq_is _ (sym tie ∙ (path_eq_decides p q).1 e))
+
+pub part_cmp-itself : (a : List ℕ) → part_cmp a a ≡ Equal
+part_cmp-itself a = tied_itself part_cmp_total a
+
+pub IsPrefix-from_test : (path longer : List (List ℕ)) → is_prefix path longer ≡ true → IsPrefix path longer
 unfolding is_prefix
-is_prefix-map items [] longer = refl
-is_prefix-map items (part ∷ parts) [] = refl
-is_prefix-map items (part ∷ parts) (first ∷ rest) = ap (λ r. pointwise nat_eq (items part) (items first) && r) (is_prefix-map items parts rest)
+IsPrefix-from_test [] longer h = (longer, refl)
+IsPrefix-from_test (part ∷ parts) [] h = absurd cc
+IsPrefix-from_test (part ∷ parts) (first ∷ rest) h =
+    let both = both_tests (pointwise nat_eq part first) (is_prefix parts rest) h in
+    let same = (part_eq_decides part first).0 both.0 in
+    let more = IsPrefix-from_test parts rest both.1 in
+    let behind = more.1 in
+    (more.0, cc)
 
-pub map-clones : {V : Type 0} (R : V → V → Type 0) (items : V → List ℕ) → ((v w : V) → R v w → items w ≡ items v) → (xs ys : List V) → AllZip R xs ys → map items ys ≡ map items xs
-map-clones R items says [] [] z = refl
-map-clones R items says [] (y ∷ ys) z = absurd z
-map-clones R items says (x ∷ xs) [] z = absurd z
-map-clones R items says (x ∷ xs) (y ∷ ys) z = let e = says x y z.0 in let t = map-clones R items says xs ys z.1 in cc
+pub is_prefix-append : (path rest : List (List ℕ)) → is_prefix path (path ++ rest) ≡ true
+unfolding is_prefix
+is_prefix-append [] rest = refl
+is_prefix-append (part ∷ parts) rest = rw ((part_eq_decides part part).1 refl) (is_prefix-append parts rest)
+
+pub is_prefix_decides : (path longer : List (List ℕ)) → Decides (is_prefix path longer) (IsPrefix path longer)
+is_prefix_decides path longer = (IsPrefix-from_test path longer, λ p. ap (is_prefix path) p.1 ∙ is_prefix-append path p.0)
+
+-- a prefix is never greater than its extensions
+pub prefix_first : (path rest : List (List ℕ)) → is_gt (path_cmp path (path ++ rest)) ≡ false
+prefix_first [] [] = refl
+prefix_first [] (x ∷ rest) = refl
+prefix_first (part ∷ parts) rest = rw (part_cmp-itself part) (prefix_first parts rest)
+
+pub prefix_at_most : (path longer : List (List ℕ)) → is_prefix path longer ≡ true → is_gt (path_cmp path longer) ≡ false
+prefix_at_most path longer h =
+    let p = IsPrefix-from_test path longer h in ap (λ q. is_gt (path_cmp path q)) p.1 ∙ prefix_first path p.0
+
+squeezed : (o r s : Ordering) → is_gt (ordering_then o r) ≡ false → is_gt (ordering_then (ordering_reverse o) s) ≡ false → (o ≡ Equal) × (is_gt r ≡ false) × (is_gt s ≡ false)
+squeezed Less r s h k = absurd cc
+squeezed Equal r s h k = (refl, h, k)
+squeezed Greater r s h k = absurd cc
+
+-- what stands between two extensions of a path is an extension of it
+pub prefix_between : (path a b c : List (List ℕ)) → is_prefix path a ≡ true → is_prefix path c ≡ true
+    → is_gt (path_cmp a b) ≡ false → is_gt (path_cmp b c) ≡ false → is_prefix path b ≡ true
+unfolding is_prefix
+prefix_between [] a b c p q h k = refl
+prefix_between (part ∷ parts) [] b c p q h k = absurd cc
+prefix_between (part ∷ parts) (x ∷ a) [] c p q h k = absurd cc
+prefix_between (part ∷ parts) (x ∷ a) (y ∷ b) [] p q h k = absurd cc
+prefix_between (part ∷ parts) (x ∷ a) (y ∷ b) (z ∷ c) p q h k =
+    let p' = both_tests (pointwise nat_eq part x) (is_prefix parts a) p in
+    let q' = both_tests (pointwise nat_eq part z) (is_prefix parts c) q in
+    let x' = (part_eq_decides part x).0 p'.0 in
+    let z' = (part_eq_decides part z).0 q'.0 in
+    let back : part_cmp y z ≡ ordering_reverse (part_cmp x y) = ap (part_cmp y) (sym z' ∙ x') ∙ part_cmp_total.antisymm y x in
+    let both = squeezed (part_cmp x y) (path_cmp a b) (path_cmp b c) h (rw back at k) in
+    let y' = (part_cmp_equal x y).0 both.0 in
+    rw ((part_eq_decides part y).1 (x' ∙ y')) (prefix_between parts a b c p'.1 q'.1 both.1 both.2)

@@ -1,6 +1,6 @@
 use Rattle.std.proofs.Common.{ℕ, ◌∙◌, Vec, Global}
 use Rattle.std.proofs.lemmas.List.Elements.{same_from_all_zip}
-use Rattle.willow_path.proofs.PathOrder.{map-clones}
+use Rattle.willow_path.proofs.PathVectors.{map-clones}
 use Rattle.willow_path.proofs.path.Path.copy.Goals as goal
 
 pub invariant_of-result : goal.invariant_of-result

@@ -1,5 +1,5 @@
 use Rattle.std.proofs.Common.{◌∙◌}
-use Rattle.willow_path.proofs.PathOrder.{is_prefix-map}
+use Rattle.willow_path.proofs.PathVectors.{is_prefix-map}
 use Rattle.willow_path.proofs.path.Path.is_prefix_of.Goals as goal
 
 pub returns : goal.returns

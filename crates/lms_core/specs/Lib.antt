@@ -1,0 +1,4 @@
+pub mod Bytes
+pub mod OneTime
+pub mod Tree
+pub mod Accepts

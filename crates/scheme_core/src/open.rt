@@ -1,0 +1,97 @@
+//! Open keys: a signature is a digest that anyone can make. They are insecure by design.
+
+ghost use Rattle.std.specs.Prelude.{◌≡◌, ◌++◌, ℕ, List, slice_index};
+ghost use Rattle.scheme_core.specs.Open.{open_accepts, open_rules, open_signature};
+
+use crate::scheme::{Scheme, Verify};
+use crate::signer::{SignRefusal, Signer};
+use sha2::{Digest, Sha256};
+use std::alloc::Global;
+use std::marker::Model;
+use willow_path::{End, NamespaceKey, UserKey};
+
+/// The digest of the key's bytes and then the message: the open signature.
+fn open_signature(key: &[u8; 33], message: &[u8]) -> [u8; 32]
+    ensures { result ≡ open_signature key.now message.now }
+{
+    let mut hasher = Sha256::new();
+    hasher.update(key);
+    hasher.update(message);
+    hasher.finalize()
+}
+
+/// Whether the key is open and the signature is its digest of the message.
+#[tactic(auto, unfolding(crate::specs::Open::open_accepts))]
+fn open_accepts(key: &[u8; 33], message: &[u8], signature: &[u8]) -> bool
+    ensures { result ≡ open_accepts key.now message.now signature.now }
+{
+    key[0] == 0 && signature == open_signature(key, message).as_slice()
+}
+
+/// The scheme of open keys alone: it accepts nothing for keys of another kind.
+#[derive(Clone, Copy, Debug)]
+pub struct OpenScheme;
+
+impl Verify for OpenScheme {
+    ghost rules = { open_rules };
+
+    fn verify_user(&self, key: &UserKey, message: &[u8], signature: &[u8]) -> bool {
+        open_accepts(&key.to_bytes(), message, signature)
+    }
+
+    fn verify_namespace(&self, key: &NamespaceKey, message: &[u8], signature: &[u8]) -> bool {
+        open_accepts(&key.to_bytes(), message, signature)
+    }
+
+    #[tactic(auto, unfolding(crate::specs::Open::is_communal))]
+    fn is_communal(&self, key: &NamespaceKey) -> bool {
+        key.to_bytes()[32] % 2 == 0
+    }
+}
+
+impl Scheme for OpenScheme {}
+
+/// What signs with an open key. It never fails and is never spent.
+#[derive(Clone, Copy, Debug)]
+pub struct OpenSigner {
+    key: UserKey,
+}
+
+impl Model for OpenSigner {
+    ghost use Rattle.std.specs.Prelude.{◌≡◌, ℕ, List, slice_index};
+
+    ghost Value = { List ℕ };
+
+    ghost view = { λ s. s.key };
+
+    ghost invariant = { λ s. slice_index s.key 0 ≡ 0 };
+
+    ghost inverse = { λ v. record { key = v } };
+}
+
+impl OpenSigner {
+    /// Signs with a key of kind 0.
+    pub fn new(key: UserKey) -> OpenSigner
+        requires { slice_index key 0 ≡ 0 }
+        ensures { result ≡ key }
+    {
+        OpenSigner { key }
+    }
+}
+
+impl Signer for OpenSigner {
+    ghost gives = { open_accepts };
+
+    ghost left = { λ _. 1 };
+
+    ghost faults = { λ _. 0 };
+
+    fn sign(&mut self, alloc: Global, message: &[u8]) -> Result<Vec<u8>, End<SignRefusal>> {
+        let signature = open_signature(&self.key.to_bytes(), message);
+        Ok(Vec::from_slice(alloc, &signature)?)
+    }
+
+    fn left(&self) -> u64 {
+        1
+    }
+}

@@ -1,0 +1,26 @@
+//! Schemes of keys.
+
+ghost use Rattle.std.specs.Prelude.{◌≡◌};
+ghost use Rattle.scheme_core.specs.Rules.{Rules};
+
+use willow_path::{NamespaceKey, UserKey};
+
+/// What verifies signatures. What it answers is a fact of the type, its `rules`, and not of the value.
+pub trait Verify: Copy {
+    ghost rules: { Rules };
+
+    /// Whether the signature of the message is accepted for a user's key.
+    fn verify_user(&self, key: &UserKey, message: &[u8], signature: &[u8]) -> bool
+        ensures { result ≡ rules.user key.now message.now signature.now };
+
+    /// Whether the signature of the message is accepted for a namespace's key.
+    fn verify_namespace(&self, key: &NamespaceKey, message: &[u8], signature: &[u8]) -> bool
+        ensures { result ≡ rules.owner key.now message.now signature.now };
+
+    /// Whether the namespace is communal: everybody may write in a subspace of one's own.
+    fn is_communal(&self, key: &NamespaceKey) -> bool
+        ensures { result ≡ rules.communal key.now };
+}
+
+/// A scheme that threads may share.
+pub trait Scheme: Verify + Send + Sync {}

@@ -1,0 +1,43 @@
+//! What makes signatures.
+
+ghost use Rattle.std.specs.Prelude.{◌≡◌, ℕ, ◌≤◌, ◌↔◌, Bool, true, List, length, IfOk, IsErrOf};
+ghost use Rattle.willow_outside.specs.Counts.{Rose};
+ghost use Rattle.spelling.specs.declared.ending.End.TheVariants as ends;
+
+use std::alloc::Global;
+use willow_path::End;
+
+/// The greatest number of bytes of a signature.
+pub const MAX_SIGNATURE: usize = 1508;
+
+/// Why nothing was signed.
+#[derive(Clone, Copy, Debug, PartialEq, Eq)]
+pub enum SignRefusal {
+    /// Every signature of this signer is used up.
+    Spent,
+    /// The signer failed, as its count of faults shows.
+    Failed,
+}
+
+/// What signs messages. Which signatures it may give is fixed with the value.
+pub trait Signer: Drop {
+    /// whether the signer may give this signature of this message
+    ghost gives: { Self → List ℕ → List ℕ → Bool };
+    /// how many signatures are left
+    ghost left: { Self → ℕ };
+    /// how often it failed
+    ghost faults: { Self → ℕ };
+
+    /// Signs a message. `Spent` comes exactly where nothing is left, `Failed` only where `faults` rose.
+    fn sign(&mut self, alloc: Global, message: &[u8]) -> Result<Vec<u8>, End<SignRefusal>>
+        ensures given { IfOk result (λ signature. gives self.old message.now signature.items ≡ true) }
+        ensures short { IfOk result (λ signature. length signature.items ≤ MAX_SIGNATURE) }
+        ensures same { gives self.new ≡ gives self.old }
+        ensures spent { IsErrOf result (ends.Refused SignRefusal.Spent) ↔ (left self.old ≡ 0) }
+        ensures failed { IsErrOf result (ends.Refused SignRefusal.Failed) → Rose (faults self.old) (faults self.new) }
+        ensures counted { faults self.old ≤ faults self.new };
+
+    /// How many signatures are left.
+    fn left(&self) -> u64
+        ensures { result ≡ left self.now };
+}

@@ -1,0 +1,3 @@
+pub mod Counts
+pub mod Facts
+pub mod Whole

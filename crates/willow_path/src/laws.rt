@@ -1,0 +1,37 @@
+//! What the definitions mean, and what follows from them. These functions do nothing: each is called,
+//! if at all, for its clauses.
+
+ghost use Rattle.std.specs.Prelude.{◌≡◌, ◌↔◌, ℕ, List, IsTrue, nat_eq, false};
+ghost use Rattle.std.specs.declared.cmp.Ordering.TheVariants.{Equal};
+ghost use Rattle.std.specs.Ordering.{is_gt};
+ghost use Rattle.std.specs.Cmp.{IsTotalOrder};
+ghost use Rattle.std.specs.Cmp.Lexicographic.{pointwise};
+ghost use Rattle.willow_path.specs.Path.{IsPrefix, is_prefix, part_cmp, path_cmp};
+
+/// Bytes are ordered as strings of numbers are. Keys and digests compare equal, by `==` and by their
+/// order, exactly where their bytes are the same.
+#[tactic(auto, using(crate::proofs::PathOrder::part_cmp_total, crate::proofs::PathOrder::part_cmp_equal, crate::proofs::PathOrder::part_eq_decides))]
+pub fn order_of_bytes()
+    ensures total { IsTotalOrder part_cmp }
+    ensures tied { (a b : List ℕ) → (part_cmp a b ≡ Equal) ↔ (a ≡ b) }
+    ensures same { (a b : List ℕ) → IsTrue (pointwise nat_eq a b) ↔ (a ≡ b) }
+{}
+
+/// The order of paths is total, and paths compare equal, by `==` and by their order, exactly where they
+/// have the same components.
+#[tactic(auto, using(crate::proofs::PathOrder::path_cmp_total, crate::proofs::PathOrder::path_cmp_equal, crate::proofs::PathOrder::path_eq_decides))]
+pub fn order_of_paths()
+    ensures total { IsTotalOrder path_cmp }
+    ensures tied { (p q : List (List ℕ)) → (path_cmp p q ≡ Equal) ↔ (p ≡ q) }
+    ensures same { (p q : List (List ℕ)) → IsTrue (pointwise (pointwise nat_eq) p q) ↔ (p ≡ q) }
+{}
+
+/// The test for a prefix says that the longer path is the other followed by further components, or by
+/// none. A prefix is never greater than its extensions, and what stands between two extensions of a path
+/// is an extension of it.
+#[tactic(auto, using(crate::proofs::PathOrder::is_prefix_decides, crate::proofs::PathOrder::prefix_at_most, crate::proofs::PathOrder::prefix_between))]
+pub fn prefixes()
+    ensures means { (path longer : List (List ℕ)) → IsTrue (is_prefix path longer) ↔ IsPrefix path longer }
+    ensures first { (path longer : List (List ℕ)) → IsTrue (is_prefix path longer) → is_gt (path_cmp path longer) ≡ false }
+    ensures between { (path a b c : List (List ℕ)) → IsTrue (is_prefix path a) → IsTrue (is_prefix path c) → is_gt (path_cmp a b) ≡ false → is_gt (path_cmp b c) ≡ false → IsTrue (is_prefix path b) }
+{}
