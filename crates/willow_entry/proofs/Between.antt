@@ -1,10 +1,12 @@
 -- Where an item's place is among rising items, and where a row goes among those that it leaves.
-use Rattle.std.proofs.Common.{◌≡◌, ◌⊎◌, inl, inr, ℕ, zero, suc, ◌≤◌, ◌<◌, Bool, true, false, not, List, [], ◌∷◌, ◌++◌, length, take, drop, map, get_or, filter, sym, refl, ap, ◌∙◌, subst, Ordering, Less, Equal, Greater, is_lt, arith}
-use Rattle.std.specs.List.{AllByRecursion, AllWithin}
+use Rattle.std.proofs.Common.{◌≡◌, ◌⊎◌, inl, inr, ℕ, zero, suc, ◌≤◌, ◌<◌, Bool, true, false, not, List, [], ◌∷◌, ◌++◌, length, take, drop, map, get_or, filter, cond, insert, ap₂, sym, refl, ap, ◌∙◌, subst, Ordering, Less, Equal, Greater, is_lt, arith}
+use Rattle.std.specs.List.{AllByRecursion, AllWithin, take-map, drop-map}
 use Rattle.std.specs.List.Sorted.{IsStrictlySortedBy, IsPartitionPoint, IsPartitionedBy}
 use Rattle.std.specs.Cmp.{IsTotalOrder}
 use Rattle.std.specs.Ordering.{ordering_reverse}
-use Rattle.willow_entry.specs.Pruning.{placed}
+use Rattle.std.proofs.lemmas.List.{map-append, take-append-drop}
+use Rattle.std.proofs.lemmas.List.Kept.{IsStrictlySortedBy-filter}
+use Rattle.willow_entry.specs.Pruning.{placed, pruned}
 use Rattle.willow_entry.specs.Row.{RowValue, is_dominating, place_cmp, live, HasCovering}
 use Rattle.willow_entry.proofs.Members.{Member, contains_from_member, member_append_right, filter_member}
 use Rattle.willow_entry.proofs.Rising.{all_member, all_from_members}
@@ -12,7 +14,7 @@ use Rattle.willow_entry.proofs.Pruning.{IsCovered}
 use Rattle.willow_entry.proofs.Ranks.{place_total}
 use Rattle.willow_entry.proofs.RowLaws.{rows_prune, covered_from_covering, covering_from_covered}
 use Rattle.std.proofs.lemmas.Bool.{not-true, false≢true}
-use Rattle.willow_entry.proofs.Live.{live-uncovered}
+use Rattle.willow_entry.proofs.Live.{live-uncovered, live-rises}
 
 pub less_from_test : (o : Ordering) → is_lt o ≡ true → o ≡ Less
 less_from_test Less e = refl
@@ -73,7 +75,23 @@ module _ {X : Type 0} (cmp : X → X → Ordering) where
   pub all_below_turned : IsTotalOrder cmp → (x : X) (ys : List X) → AllByRecursion (λ y. cmp y x ≡ Less) ys → AllByRecursion (λ y. cmp x y ≡ Greater) ys
   all_below_turned total x ys all = all_from_members cmp (λ y. cmp x y ≡ Greater) ys (λ y m. below_turned total x y (all_member cmp (λ z. cmp z x ≡ Less) ys all y m))
 
+-- ---- lists of what is seen of items
+
+pub map-filter : {X Y : Type 0} (f : X → Y) (p : Y → Bool) (xs : List X) → map f (filter (λ x. p (f x)) xs) ≡ filter p (map f xs)
+map-filter f p [] = refl
+map-filter f p (x ∷ xs) =
+    let P : Bool → Type 0 = λ b. map f (cond b (x ∷ filter (λ z. p (f z)) xs) (filter (λ z. p (f z)) xs)) ≡ cond b (f x ∷ filter p (map f xs)) (filter p (map f xs)) in
+    let each : (b : Bool) → P b = elim [ true ↦ ap (λ l. f x ∷ l) (map-filter f p xs) | false ↦ map-filter f p xs ] in
+    each (p (f x))
+
+pub map-insert : {X Y : Type 0} (f : X → Y) (xs : List X) (i : ℕ) (x : X) → map f (insert xs i x) ≡ insert (map f xs) i (f x)
+map-insert f xs i x = map-append f (take i xs) (x ∷ drop i xs) ∙ ap₂ (λ a b. a ++ f x ∷ b) (sym (take-map f i xs)) (sym (drop-map f i xs))
+
 -- ---- one more row
+
+pub live-empty : live [] ≡ []
+unfolding pruned
+live-empty = refl
 
 -- the rows that r does not dominate
 abbrev pub left_by_row : RowValue → List RowValue → List RowValue
@@ -113,3 +131,10 @@ module _ (rows : List RowValue) (r : RowValue) (is_live : live rows ≡ rows) (u
       sym (placed-between place_cmp r before after (all_below_turned place_cmp place_total r before below) above)
       ∙ ap (λ l. placed place_cmp r l) (sym parts)
       ∙ live-uncovered rows r is_live uncovered
+
+  pub left_rises : IsStrictlySortedBy place_cmp (left_by_row r rows)
+  left_rises = IsStrictlySortedBy-filter place_cmp (λ s. not (is_dominating r s)) rows (subst (λ l. IsStrictlySortedBy place_cmp l) is_live (live-rises rows))
+
+  -- the same at the place among the rows that it leaves
+  pub live-inserted : (n : ℕ) → IsPlace place_cmp r (left_by_row r rows) n → insert (left_by_row r rows) n r ≡ live (rows ++ r ∷ [])
+  live-inserted n p = live-between (take n (left_by_row r rows)) (drop n (left_by_row r rows)) (sym (take-append-drop n (left_by_row r rows))) p.below p.beyond
