@@ -7,3 +7,5 @@ pub mod RowLaws
 pub mod Live
 pub mod Between
 pub mod Covering
+pub mod Placing
+pub mod Local

@@ -1,11 +1,11 @@
 -- The laws of live rows and of joins, and what one more row does to them.
-use Rattle.std.proofs.Common.{◌≡◌, ◌↔◌, ◌⊎◌, inl, inr, Bool, not, List, [], ◌∷◌, ◌++◌, filter, Contains, IsPermutation, Decides, sym, refl, ap, ◌∙◌, subst, append_assoc}
+use Rattle.std.proofs.Common.{◌≡◌, ◌↔◌, not, List, [], ◌∷◌, ◌++◌, filter, Contains, IsPermutation, sym, ap, ◌∙◌, append_assoc}
 use Rattle.std.proofs.lemmas.List.Sorted.{Contains-permutation, IsPermutation-sym}
-use Rattle.willow_entry.specs.Pruning.{placed, pruned, new_after, Covers}
-use Rattle.willow_entry.specs.Row.{RowValue, is_dominating, is_covering, place_cmp, live, new, join, Dominates, HasCovering, IsUndominatedBy, IsRising, IsLive}
-use Rattle.willow_entry.proofs.Members.{Member, contains_from_member, member_from_contains}
+use Rattle.willow_entry.specs.Pruning.{placed}
+use Rattle.willow_entry.specs.Row.{RowValue, is_dominating, is_covering, place_cmp, live, new, join, HasCovering, IsRising}
+use Rattle.willow_entry.proofs.Members.{contains_from_member, member_from_contains}
 use Rattle.willow_entry.proofs.Pruning.{pruned_alike, pruned_same_members, pruned-pruned, pruned_early, pruned_early_left, pruned_early_right, pruned_swap, pruned_twice, pruned_covers, pruned-rises, covers_front, pruned_covers_front, pruned-covered, pruned-uncovered, pruned-new}
-use Rattle.willow_entry.proofs.RowLaws.{rows_prune, covering_decides, covering_from_covered, covered_from_covering, dominates_decides}
+use Rattle.willow_entry.proofs.RowLaws.{rows_prune, covering_decides, covering_from_covered, covered_from_covering}
 
 -- ---- liveness
 

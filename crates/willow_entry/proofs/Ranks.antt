@@ -1,13 +1,13 @@
 -- The rank of entries and the place of rows as orders, and what it means that two entries are the same.
-use Rattle.std.proofs.Common.{◌≡◌, ◌<◌, ◌⊎◌, inl, inr, ℕ, Bool, true, false, ◌&&◌, nat_eq, List, [], ◌∷◌, sym, refl, ap, ap₂, ◌∙◌, subst, Decides, Ordering, Less, Equal, Greater, nat_cmp, is_lt, is_eq, is_gt, true≢false, eqb-true, eq-eqb, ◌==◌, arith}
-use Rattle.std.specs.Ordering.{ordering_then, ordering_reverse, on, then_cmp, MatchOrdering}
+use Rattle.std.proofs.Common.{◌≡◌, ◌<◌, ◌⊎◌, inl, inr, ℕ, true, false, List, [], ◌∷◌, sym, refl, ap, ap₂, ◌∙◌, subst, Decides, Ordering, Less, Equal, Greater, nat_cmp, is_gt, eqb-true, eq-eqb, ◌==◌, arith}
+use Rattle.std.specs.Ordering.{ordering_then, ordering_reverse, MatchOrdering}
 use Rattle.std.specs.Cmp.{IsTotalOrder}
 use Rattle.std.specs.Cmp.Lexicographic.{slice_cmp, pointwise, bytes_decides, pointwise_decides}
 use Rattle.std.proofs.lemmas.Cmp.{nat_cmp_total, nat_list_cmp_total, lists_total, on_total, then_total, ranked, tied_itself}
 use Rattle.std.proofs.lemmas.Bool.{and_parts, and_from, false≢true}
 use Rattle.willow_path.specs.Path.{path_cmp}
 use Rattle.willow_entry.specs.declared.entry.Entry.{Entry}
-use Rattle.willow_entry.specs.Entry.{bytes_cmp, same_bytes, rank_cmp, is_newer, same_entry, IsNewer, IsAbove}
+use Rattle.willow_entry.specs.Entry.{bytes_cmp, same_bytes, rank_cmp, is_newer, same_entry, IsNewer}
 use Rattle.willow_entry.specs.Row.{RowValue, place_cmp}
 
 -- ---- ties

@@ -1,19 +1,18 @@
 -- Rows: what the tests of domination mean, and that pruning them is pruning as such.
-use Rattle.std.proofs.Common.{◌≡◌, ◌⊎◌, ◌↔◌, inl, inr, ℕ, Bool, true, false, ◌&&◌, ◌||◌, not, List, [], ◌∷◌, ◌++◌, Contains, sym, refl, ap, ap₂, ◌∙◌, subst, Decides, Ordering, Less, Equal, Greater, is_gt}
-use Rattle.std.specs.List.{list_any}
-use Rattle.std.specs.List.Sorted.{IsStrictlySortedBy}
+use Rattle.std.proofs.Common.{◌≡◌, ◌⊎◌, inl, inr, true, false, ◌&&◌, List, sym, ap, ◌∙◌, subst, Decides, Equal, is_gt}
 use Rattle.std.specs.Cmp.Lexicographic.{bytes_decides}
 use Rattle.std.proofs.lemmas.Cmp.{nat_list_cmp_total, tied_back}
 use Rattle.std.proofs.lemmas.Bool.{false≢true, both_ways, and_parts, and_from, or_cases, or_left, or_right, or_parts, and_cases, false_from_ne_true}
 use Rattle.willow_path.specs.Path.{is_prefix, IsPrefix}
 use Rattle.willow_entry.specs.declared.entry.Entry.{Entry}
 use Rattle.willow_entry.specs.Entry.{bytes_cmp, same_bytes, rank_cmp, is_newer, same_entry, IsNewer, IsAbove}
-use Rattle.willow_entry.specs.Pruning.{Covers, HasCover, IsPruning, pruned, is_undominated}
+use Rattle.willow_entry.specs.Pruning.{Covers, IsPruning}
 use Rattle.willow_entry.specs.Row.{RowValue, same_row, is_stronger, is_dominating, is_covering, place_cmp, Dominates, HasCovering, IsUndominatedBy, IsLive, live}
-use Rattle.willow_entry.proofs.Prefixes.{prefix_from_test, prefix_test, prefix_of_itself, prefix_chain}
-use Rattle.willow_entry.proofs.Ranks.{newer_decides, rank_from_newer, newer_from_rank, rank_total, rank_tie, greater_from_test, tie_from_tests, above_chain, not_above_itself, bytes_tie, entry_same, same_entry_decides, same_as_itself, place_total, place_tie}
-use Rattle.willow_entry.proofs.Members.{Member, contains_from_member, member_from_contains}
-use Rattle.willow_entry.proofs.Pruning.{IsUndominated, IsCovered, CoversAll, pruned_member, member_pruned, pruned-rises, pruned-only}
+use Rattle.willow_path.proofs.PathOrder.{is_prefix_decides}
+use Rattle.willow_entry.proofs.Prefixes.{prefix_of_itself, prefix_chain}
+use Rattle.willow_entry.proofs.Ranks.{newer_decides, rank_from_newer, newer_from_rank, rank_total, rank_tie, greater_from_test, tie_from_tests, above_chain, not_above_itself, bytes_tie, entry_same, same_entry_decides, place_total, place_tie}
+use Rattle.willow_entry.proofs.Members.{contains_from_member, member_from_contains}
+use Rattle.willow_entry.proofs.Pruning.{IsUndominated, IsCovered, pruned_member, member_pruned, pruned-rises, pruned-only}
 
 -- ---- stronger
 
@@ -58,7 +57,7 @@ dominates_decides r s = (there, back) where
       record {
         namespace = (bytes_decides r.entry.namespace s.entry.namespace).0 a.0;
         subspace = (bytes_decides r.entry.subspace s.entry.subspace).0 b.0;
-        path = prefix_from_test r.entry.path s.entry.path c.0;
+        path = (is_prefix_decides r.entry.path s.entry.path).0 c.0;
         stronger = (stronger_decides r s).0 c.1;
       }
 
@@ -66,7 +65,7 @@ dominates_decides r s = (there, back) where
   back d =
       and_from (same_bytes r.entry.namespace s.entry.namespace) _ ((bytes_decides r.entry.namespace s.entry.namespace).1 d.namespace)
         (and_from (same_bytes r.entry.subspace s.entry.subspace) _ ((bytes_decides r.entry.subspace s.entry.subspace).1 d.subspace)
-          (and_from (is_prefix r.entry.path s.entry.path) (is_stronger r s) (prefix_test r.entry.path s.entry.path d.path) ((stronger_decides r s).1 d.stronger)))
+          (and_from (is_prefix r.entry.path s.entry.path) (is_stronger r s) ((is_prefix_decides r.entry.path s.entry.path).1 d.path) ((stronger_decides r s).1 d.stronger)))
 
 pub dominates_not_itself : (r : RowValue) → Dominates r r → ⊥
 dominates_not_itself r d = not_stronger_itself r d.stronger
@@ -136,7 +135,7 @@ not_stronger_there r s tie e =
     false_from_ne_true (is_stronger r s) (λ t. both_ways (is_dominating r s) e ((dominates_decides r s).1 (record {
       namespace = at.0;
       subspace = at.1;
-      path = prefix_from_test r.entry.path s.entry.path (subst (λ p. is_prefix r.entry.path p ≡ true) at.2 (prefix_of_itself r.entry.path));
+      path = subst (λ p. IsPrefix r.entry.path p) at.2 (prefix_of_itself r.entry.path);
       stronger = (stronger_decides r s).0 t;
     })))
 
@@ -147,7 +146,7 @@ not_newer_either e f a b = tie_from_tests rank_total e f a b
 back_tie : (r s : RowValue) → place_cmp r s ≡ Equal → place_cmp s r ≡ Equal
 back_tie r s tie = tied_back place_total r s tie
 
-settled_rows : (r s : RowValue) → place_cmp r s ≡ Equal → is_dominating r s ≡ false → is_dominating s r ≡ false → r ≡ s
+pub settled_rows : (r s : RowValue) → place_cmp r s ≡ Equal → is_dominating r s ≡ false → is_dominating s r ≡ false → r ≡ s
 settled_rows r s tie a b =
     let at = place_tie r s tie in
     let x = not_stronger_there r s tie a in

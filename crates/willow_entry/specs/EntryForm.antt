@@ -1,7 +1,6 @@
 -- How entries are spelled.
-use Rattle.std.specs.Prelude.{◌≡◌, ℕ, ◌<◌, ◌^◌, List, ◌++◌, length}
+use Rattle.std.specs.Prelude.{ℕ, ◌<◌, ◌^◌, List, ◌++◌}
 use Rattle.std.specs.Int.{w64, to_be_bytes}
-use Rattle.spelling.specs.Form.{AreBytes}
 use Rattle.spelling.specs.Spelling.{byte_spelling, text_spelling, list_spelling, AreSoManyBytes}
 use Rattle.willow_path.specs.Key.{IsKey}
 use Rattle.willow_path.specs.Path.{IsPath}

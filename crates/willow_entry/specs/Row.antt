@@ -1,5 +1,5 @@
 -- Rows: entries with the bytes of their write tokens; which dominate which, and what a set of rows keeps.
-use Rattle.std.specs.Prelude.{◌≡◌, ℕ, Bool, ◌&&◌, ◌||◌, ◌⊎◌, List, [], ◌∷◌, ◌++◌, ◌<◌, length, slice_index_or, Contains, ◌↔◌}
+use Rattle.std.specs.Prelude.{◌≡◌, ℕ, Bool, ◌&&◌, ◌||◌, ◌⊎◌, List, [], ◌++◌, ◌<◌, length, slice_index_or, Contains, ◌↔◌}
 use Rattle.std.specs.Ordering.{ordering_then, is_gt}
 use Rattle.std.specs.List.Sorted.{IsStrictlySortedBy}
 use Rattle.std.specs.declared.cmp.Ordering.{Ordering}
@@ -27,6 +27,11 @@ is_dominating r s =
     same_bytes r.entry.namespace s.entry.namespace
     && (same_bytes r.entry.subspace s.entry.subspace
     && (is_prefix r.entry.path s.entry.path && is_stronger r s))
+
+-- r stands in the namespace and subspace of s, at a prefix of its path
+unfoldable pub is_at_prefix : RowValue → RowValue → Bool
+is_at_prefix r s =
+    same_bytes r.entry.namespace s.entry.namespace && (same_bytes r.entry.subspace s.entry.subspace && is_prefix r.entry.path s.entry.path)
 
 -- r is s or dominates it
 unfoldable pub is_covering : RowValue → RowValue → Bool

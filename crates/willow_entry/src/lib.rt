@@ -4,7 +4,11 @@
 
 mod entry;
 pub mod laws;
+mod placed;
 mod row;
+mod row_form;
 
 pub use entry::{Entry, newer};
+pub use placed::Placed;
 pub use row::{LogRow, Row, SharedRow, by_place, cover, covers, dominates, same};
+pub use row_form::RowForm;
