@@ -1,13 +1,15 @@
 //! A store as one list of its rows.
 
-ghost use Rattle.std.specs.Prelude.{◌≡◌, ◌+◌, ◌-◌, ◌^◌, ◌<◌, ◌≤◌, [], ◌∷◌, ◌++◌, length, map, filter, not, position, Some, None, OnOk, OnErr, IfOk, vec_len, vec_capacity};
+ghost use Rattle.std.specs.Prelude.{◌≡◌, ◌+◌, ◌-◌, ◌^◌, ◌<◌, ◌≤◌, [], ◌∷◌, ◌++◌, length, map, filter, not, position, Some, None, OnOk, OnErr, IfOk, count_by, vec_len, vec_capacity};
 ghost use Rattle.willow_entry.specs.Row.{RowValue, IsRising, HasCovering, is_dominating, is_covering, place_cmp, live};
-ghost use Rattle.willow_entry.proofs.Between.{IsPlace, left_by_row};
+ghost use Rattle.willow_entry.specs.Placed.{IsPlaced};
+ghost use Rattle.willow_entry.proofs.Local.{left_of};
+ghost use Rattle.willow_entry.proofs.Between.{IsPlace};
 
 use std::alloc::Global;
 use std::cmp::Ordering;
 use std::marker::Model;
-use willow_entry::{Row, by_place, cover, dominates};
+use willow_entry::{Placed, Row, by_place, cover, dominates};
 use willow_path::NoMemory;
 
 // The number of rows that stand below the row's place.
@@ -21,8 +23,9 @@ fn place<R: Row>(rows: &[R], row: &R) -> usize
 
 // Drops the rows that the row dominates, and counts them.
 fn prune<R: Row>(rows: &mut Vec<R>, row: &R) -> usize
-    ensures left { map R.value rows.new.items ≡ left_by_row (R.value row.now) (map R.value rows.old.items) }
-    ensures pruned { result ≡ length (filter (is_dominating (R.value row.now)) (map R.value rows.old.items)) }
+    ensures left { map R.value rows.new.items ≡ left_of (R.value row.now) (map R.value rows.old.items) }
+    ensures pruned { result ≡ count_by (λ s. is_dominating (R.value row.now) s) (map R.value rows.old.items) }
+    ensures fits { result ≤ vec_len rows.old }
     ensures fewer { vec_len rows.new ≤ vec_len rows.old }
     ensures capacity { vec_capacity rows.new ≡ vec_capacity rows.old }
 {
@@ -36,8 +39,10 @@ fn put<R: Row>(rows: &mut Vec<R>, row: R) -> Result<usize, NoMemory>
     requires is_live { live (map R.value rows.old.items) ≡ map R.value rows.old.items }
     requires uncovered { HasCovering (map R.value rows.old.items) (R.value row) → ⊥ }
     ensures rows { OnOk result (map R.value rows.new.items ≡ live (map R.value rows.old.items ++ R.value row ∷ [])) }
-    ensures pruned { IfOk result (λ pruned. pruned ≡ length (filter (is_dominating (R.value row)) (map R.value rows.old.items))) }
+    ensures pruned { IfOk result (λ pruned. pruned ≡ count_by (λ s. is_dominating (R.value row) s) (map R.value rows.old.items)) }
+    ensures fits { IfOk result (λ pruned. pruned ≤ vec_len rows.old) }
     ensures few { vec_len rows.new ≤ vec_len rows.old + 1 }
+    ensures is_live { live (map R.value rows.new.items) ≡ map R.value rows.new.items }
     ensures err { OnErr result (rows.new.items ≡ rows.old.items) }
 {
     rows.reserve(1)?;
@@ -45,6 +50,27 @@ fn put<R: Row>(rows: &mut Vec<R>, row: R) -> Result<usize, NoMemory>
     let at = place(rows, &row);
     rows.insert(at, row)?;
     Ok(pruned)
+}
+
+// Keeps the rows where one of them covers the new row, and else puts it in its place.
+fn offer<R: Row>(rows: &mut Vec<R>, row: R) -> Result<Placed, NoMemory>
+    requires is_live { live (map R.value rows.old.items) ≡ map R.value rows.old.items }
+    requires room { vec_len rows.old < 2 ^ 32 - 1 }
+    ensures rows { OnOk result (map R.value rows.new.items ≡ live (map R.value rows.old.items ++ R.value row ∷ [])) }
+    ensures placed { IfOk result (λ placed. IsPlaced (map R.value rows.old.items) (R.value row) placed) }
+    ensures few { vec_len rows.new ≤ vec_len rows.old + 1 }
+    ensures is_live { live (map R.value rows.new.items) ≡ map R.value rows.new.items }
+    ensures err { OnErr result (rows.new.items ≡ rows.old.items) }
+{
+    match cover(rows, &row) {
+        Some(by) => Ok(Placed::Kept { by: by as u32 }),
+        None => {
+            let pruned = put(rows, row)?;
+            Ok(Placed::Stored {
+                pruned: pruned as u32,
+            })
+        }
+    }
 }
 
 /// The live rows of what was ingested, by rising place. A contract sees the list of the rows.
@@ -81,5 +107,20 @@ impl<R: Row> FlatStore<R> {
         ensures live { live (map R.value self.now) ≡ map R.value self.now }
     {
         &self.rows
+    }
+
+    /// Offers a row. Where a row equals or dominates it, nothing changes and the answer names such a
+    /// row; else the row is stored, and the rows that it dominates go. Either way the rows are then what is
+    /// live of the old rows with the new one added. An error leaves the store as it was.
+    pub fn ingest(&mut self, row: R) -> Result<Placed, NoMemory>
+        requires { length self.old < 2 ^ 32 - 1 }
+        ensures rows { OnOk result (map R.value self.new ≡ live (map R.value self.old ++ R.value row ∷ [])) }
+        ensures placed { IfOk result (λ placed. IsPlaced (map R.value self.old) (R.value row) placed) }
+        ensures few { length self.new ≤ length self.old + 1 }
+        ensures live { live (map R.value self.new) ≡ map R.value self.new }
+        ensures was_live { live (map R.value self.old) ≡ map R.value self.old }
+        ensures err { OnErr result (self.new ≡ self.old) }
+    {
+        offer(&mut self.rows, row)
     }
 }

@@ -4,17 +4,18 @@ use Rattle.std.specs.List.{AllByRecursion, AllWithin, take-map, drop-map}
 use Rattle.std.specs.List.Sorted.{IsStrictlySortedBy, IsPartitionPoint, IsPartitionedBy}
 use Rattle.std.specs.Cmp.{IsTotalOrder}
 use Rattle.std.specs.Ordering.{ordering_reverse}
-use Rattle.std.proofs.lemmas.List.{map-append, take-append-drop}
+use Rattle.std.proofs.lemmas.List.{map-append, take-append-drop, get_or_default}
 use Rattle.std.proofs.lemmas.List.Kept.{IsStrictlySortedBy-filter}
 use Rattle.willow_entry.specs.Pruning.{placed, pruned}
-use Rattle.willow_entry.specs.Row.{RowValue, is_dominating, place_cmp, live, HasCovering}
+use Rattle.willow_entry.specs.Row.{RowValue, is_dominating, place_cmp, live, HasCovering, IsCoveringAt}
 use Rattle.willow_entry.proofs.Members.{Member, contains_from_member, member_append_right, filter_member}
 use Rattle.willow_entry.proofs.Rising.{all_member, all_from_members}
 use Rattle.willow_entry.proofs.Pruning.{IsCovered}
 use Rattle.willow_entry.proofs.Ranks.{place_total}
 use Rattle.willow_entry.proofs.RowLaws.{rows_prune, covered_from_covering, covering_from_covered}
 use Rattle.std.proofs.lemmas.Bool.{not-true, false≢true}
-use Rattle.willow_entry.proofs.Live.{live-uncovered, live-rises}
+use Rattle.willow_entry.proofs.Local.{left_of}
+use Rattle.willow_entry.proofs.Live.{live-uncovered, live-covered, live-rises, live-live}
 
 pub less_from_test : (o : Ordering) → is_lt o ≡ true → o ≡ Less
 less_from_test Less e = refl
@@ -89,27 +90,35 @@ map-insert f xs i x = map-append f (take i xs) (x ∷ drop i xs) ∙ ap₂ (λ a
 
 -- ---- one more row
 
+pub covering_from_at : (rows : List RowValue) (i : ℕ) (r : RowValue) → IsCoveringAt rows i r → HasCovering rows r
+covering_from_at rows i r at = (get_or rows i r, (i, at.within, get_or_default rows i (get_or rows i r) r at.within), at.covers)
+
+-- a row that one of the rows covers changes nothing
+pub live-kept : (rows : List RowValue) (r : RowValue) (i : ℕ) → live rows ≡ rows → IsCoveringAt rows i r → rows ≡ live (rows ++ r ∷ [])
+live-kept rows r i is_live at = sym (live-covered rows r (covering_from_at rows i r at) ∙ is_live)
+
+-- what is live of some rows is live
+pub live-again : (kept rows : List RowValue) → kept ≡ live rows → live kept ≡ kept
+live-again kept rows e = rw e (live-live rows)
+
 pub live-empty : live [] ≡ []
 unfolding pruned
 live-empty = refl
-
--- the rows that r does not dominate
-abbrev pub left_by_row : RowValue → List RowValue → List RowValue
-left_by_row r = filter (λ s. not (is_dominating r s))
 
 -- a row that is not below r, and does not stand at its place, is above it
 above_from : (r s : RowValue) → is_lt (place_cmp s r) ≡ false → (place_cmp r s ≡ Equal → ⊥) → place_cmp r s ≡ Less
 above_from r s not_below apart =
     let P : Ordering → Type 0 = λ o. place_cmp r s ≡ o → place_cmp r s ≡ Less in
     let each : (o : Ordering) → P o = elim [
-        Less ↦ λ e. e
+      | Less ↦ λ e. e
       | Equal ↦ λ e. absurd (apart e)
-      | Greater ↦ λ e. absurd (false≢true (sym not_below ∙ ap is_lt (place_total.antisymm s r ∙ ap ordering_reverse e))) ] in
+      | Greater ↦ λ e. absurd (false≢true (sym not_below ∙ ap is_lt (place_total.antisymm s r ∙ ap ordering_reverse e)))
+    ] in
     each (place_cmp r s) refl
 
 module _ (rows : List RowValue) (r : RowValue) (is_live : live rows ≡ rows) (uncovered : HasCovering rows r → ⊥) where
   -- none of the rows that an uncovered row leaves stands at its place
-  left_apart : (s : RowValue) → Member (left_by_row r rows) s → place_cmp r s ≡ Equal → ⊥
+  left_apart : (s : RowValue) → Member (left_of r rows) s → place_cmp r s ≡ Equal → ⊥
   left_apart s m e =
       let f = filter_member (λ t. not (is_dominating r t)) rows s m in
       uncovered (covering_from_covered rows r (at_one_place s f.0 f.1 e))
@@ -118,23 +127,24 @@ module _ (rows : List RowValue) (r : RowValue) (is_live : live rows ≡ rows) (u
       at_one_place s m n e =
           let P : Bool → Type 0 = λ b. is_dominating s r ≡ b → IsCovered is_dominating rows r in
           let each : (b : Bool) → P b = elim [
-              true ↦ λ d. (s, m, inr d)
-            | false ↦ λ d. (s, m, inl (sym (rows_prune.settled r s e (not-true (is_dominating r s) n) d))) ] in
+            | true ↦ λ d. (s, m, inr d)
+            | false ↦ λ d. (s, m, inl (sym (rows_prune.settled r s e (not-true (is_dominating r s) n) d)))
+          ] in
           each (is_dominating s r) refl
 
   -- An uncovered row goes between the rows that it leaves: those below it, and the others.
-  pub live-between : (before after : List RowValue) → left_by_row r rows ≡ before ++ after → AllByRecursion (λ s. place_cmp s r ≡ Less) before → AllByRecursion (λ s. is_lt (place_cmp s r) ≡ false) after → before ++ r ∷ after ≡ live (rows ++ r ∷ [])
+  pub live-between : (before after : List RowValue) → left_of r rows ≡ before ++ after → AllByRecursion (λ s. place_cmp s r ≡ Less) before → AllByRecursion (λ s. is_lt (place_cmp s r) ≡ false) after → before ++ r ∷ after ≡ live (rows ++ r ∷ [])
   live-between before after parts below beyond =
       let above : AllByRecursion (λ s. place_cmp r s ≡ Less) after = all_from_members place_cmp (λ s. place_cmp r s ≡ Less) after (λ s m.
-          above_from r s (all_member place_cmp (λ t. is_lt (place_cmp t r) ≡ false) after beyond s m)
-            (left_apart s (subst (λ l. Member l s) (sym parts) (member_append_right before after s m)))) in
+      above_from r s (all_member place_cmp (λ t. is_lt (place_cmp t r) ≡ false) after beyond s m)
+      (left_apart s (subst (λ l. Member l s) (sym parts) (member_append_right before after s m)))) in
       sym (placed-between place_cmp r before after (all_below_turned place_cmp place_total r before below) above)
       ∙ ap (λ l. placed place_cmp r l) (sym parts)
       ∙ live-uncovered rows r is_live uncovered
 
-  pub left_rises : IsStrictlySortedBy place_cmp (left_by_row r rows)
+  pub left_rises : IsStrictlySortedBy place_cmp (left_of r rows)
   left_rises = IsStrictlySortedBy-filter place_cmp (λ s. not (is_dominating r s)) rows (subst (λ l. IsStrictlySortedBy place_cmp l) is_live (live-rises rows))
 
   -- the same at the place among the rows that it leaves
-  pub live-inserted : (n : ℕ) → IsPlace place_cmp r (left_by_row r rows) n → insert (left_by_row r rows) n r ≡ live (rows ++ r ∷ [])
-  live-inserted n p = live-between (take n (left_by_row r rows)) (drop n (left_by_row r rows)) (sym (take-append-drop n (left_by_row r rows))) p.below p.beyond
+  pub live-inserted : (n : ℕ) → IsPlace place_cmp r (left_of r rows) n → insert (left_of r rows) n r ≡ live (rows ++ r ∷ [])
+  live-inserted n p = live-between (take n (left_of r rows)) (drop n (left_of r rows)) (sym (take-append-drop n (left_of r rows))) p.below p.beyond

@@ -10,5 +10,5 @@ returns-clause-place g c =
     let value = g.R.Row.value in
     let at = value c.args.row.now in
     place_from_point place_cmp value at c.args.rows.now _
-      (IsPartitionPoint-from_clause (λ s. is_lt (place_cmp (value s) at)) _ _ c.partition_point.ensures.partitioned
-        (rising_partitioned place_cmp place_total value at c.args.rows.now c.requires) (λ a r q k. search rules))
+    (IsPartitionPoint-from_clause (λ s. is_lt (place_cmp (value s) at)) _ _ c.partition_point.ensures.partitioned
+    (rising_partitioned place_cmp place_total value at c.args.rows.now c.requires) (λ a r q k. search rules))

@@ -1,9 +1,10 @@
-use Rattle.std.proofs.Common.{◌≡◌, not, map, length, filter, ap, ◌∙◌, refl, rules, arith}
+use Rattle.std.proofs.Common.{not, map, length, ap, ◌∙◌, refl, rules, arith}
 use Rattle.std.proofs.lemmas.Fn.{filter_same}
 use Rattle.std.proofs.lemmas.List.{length-map}
+use Rattle.std.proofs.lemmas.List.Sums.{length-filter}
 use Rattle.std.proofs.lemmas.List.Filters.{length-filter_both}
 use Rattle.willow_entry.specs.Row.{is_dominating}
-use Rattle.willow_entry.proofs.Between.{left_by_row, map-filter}
+use Rattle.willow_entry.proofs.Between.{map-filter}
 use Rattle.flat_store.proofs.store.prune.Goals as goal
 
 pub returns-clause-left : goal.returns-clause-left
@@ -19,5 +20,11 @@ returns-clause-pruned g c =
     let r = value c.args.row.now in
     let rows = map value c.args.rows.now.items in
     let left = returns-clause-left g c in
-    omega (arith, ap length left, length-map c.retain.new.self.items value, length-map c.args.rows.now.items value,
-      length-filter_both (is_dominating r) (λ s. not (is_dominating r s)) (λ s. refl) rows)
+    omega (
+      arith,
+      ap length left,
+      length-map c.retain.new.self.items value,
+      length-map c.args.rows.now.items value,
+      length-filter_both (is_dominating r) (λ s. not (is_dominating r s)) (λ s. refl) rows,
+      length-filter (is_dominating r) rows,
+    )
