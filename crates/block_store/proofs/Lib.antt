@@ -1,1 +1,4 @@
 mod Fronts
+mod Covered
+mod Extensions
+mod Removing
