@@ -53,7 +53,7 @@ covering_not_below s r k e h below =
     } in
     false≢true (sym (at_prefix_not_above (front r k) s at) ∙ ap is_gt (place_total.antisymm (front r k) s ∙ ap ordering_reverse below))
 
-rising_drop : (n : ℕ) (rows : List RowValue) → IsRising rows → IsRising (drop n rows)
+pub rising_drop : (n : ℕ) (rows : List RowValue) → IsRising rows → IsRising (drop n rows)
 unfolding IsStrictlySortedBy
 rising_drop zero rows up = up
 rising_drop (suc n) [] up = tt

@@ -1,14 +1,15 @@
 //! Where rows stand among rows that rise by place.
 
-ghost use Rattle.std.specs.Prelude.{◌≡◌, ℕ, ◌+◌, ◌-◌, ◌^◌, ◌<◌, ◌≤◌, [], ◌∷◌, ◌++◌, length, map, take, drop, OnOk, OnErr, IfOk, vec_len, vec_capacity};
+ghost use Rattle.std.specs.Prelude.{◌≡◌, ℕ, ◌+◌, ◌-◌, ◌^◌, ◌<◌, ◌≤◌, [], ◌∷◌, ◌++◌, length, map, take, drop, position, slice_index_or, false, IsTrue};
 ghost use Rattle.willow_path.specs.Path.{path_cmp};
-ghost use Rattle.willow_entry.specs.Row.{RowValue, IsRising, place_cmp};
+ghost use Rattle.willow_entry.specs.Row.{RowValue, IsRising, is_at_prefix, is_covering, place_cmp};
+ghost use Rattle.willow_entry.proofs.Local.{left_of};
 ghost use Rattle.willow_entry.proofs.Between.{IsPlace};
 ghost use Rattle.block_store.specs.Front.{front};
 
 use std::cmp::Ordering;
 use std::sync::Arc;
-use willow_entry::Row;
+use willow_entry::{Row, covers};
 use willow_path::Path;
 
 // How a path is ordered against the first components of another, so many as `count` says, or all if it has fewer.
@@ -43,4 +44,47 @@ pub(crate) fn place<R: Row>(rows: &[Arc<R>], row: &R, count: usize) -> usize
     ensures bound { result ≤ length rows.now }
 {
     rows.partition_point(|held| by_front(&**held, row, count) == Ordering::Less)
+}
+
+// Whether the held row stands in the row's namespace and subspace, at an extension of its path or at the path itself.
+#[tactic(auto, unfolding(willow_entry::specs::Row::is_at_prefix))]
+fn extends<R: Row>(held: &R, row: &R) -> bool
+    ensures { result ≡ is_at_prefix (R.value row.now) (R.value held.now) }
+{
+    let (e, f) = (row.entry(), held.entry());
+    e.namespace == f.namespace && e.subspace == f.subspace && e.path.is_prefix_of(&f.path)
+}
+
+// Where the run of rows ends that the row may dominate: it begins at the row's place.
+pub(crate) fn run_end<R: Row>(rows: &[Arc<R>], row: &R, at: usize) -> usize
+    requires rising { IsRising (map (λ a. R.value a.value) rows.now) }
+    requires place { IsPlace place_cmp (R.value row.now) (map (λ a. R.value a.value) rows.now) at }
+    requires within { at ≤ length rows.now }
+    ensures from { at ≤ result }
+    ensures bound { result ≤ length rows.now }
+    ensures stays { left_of (R.value row.now) (drop result (map (λ a. R.value a.value) rows.now)) ≡ drop result (map (λ a. R.value a.value) rows.now) }
+{
+    at + rows[at..].partition_point(|held| extends(&**held, row))
+}
+
+// Whether a row stands at the position that is the row or dominates it.
+fn is_covered_at<R: Row>(rows: &[Arc<R>], row: &R, at: usize) -> bool
+    ensures found { IsTrue result → (at < length (map (λ a. R.value a.value) rows.now)) × IsTrue (is_covering (slice_index_or (map (λ a. R.value a.value) rows.now) at (R.value row.now)) (R.value row.now)) }
+    ensures not_found { result ≡ false → at < length (map (λ a. R.value a.value) rows.now) → is_covering (slice_index_or (map (λ a. R.value a.value) rows.now) at (R.value row.now)) (R.value row.now) ≡ false }
+{
+    at < rows.len() && covers(&*rows[at], row)
+}
+
+// The first position whose row is the row or dominates it. Such rows stand at the fronts of its path.
+pub(crate) fn covered_at<R: Row>(rows: &[Arc<R>], row: &R) -> Option<usize>
+    requires { IsRising (map (λ a. R.value a.value) rows.now) }
+    ensures { result ≡ position (λ s. is_covering s (R.value row.now)) (map (λ a. R.value a.value) rows.now) }
+{
+    for count in 0..=row.entry().path.count() {
+        let at = place(rows, row, count);
+        if is_covered_at(rows, row, at) {
+            return Some(at);
+        }
+    }
+    None
 }

@@ -1,6 +1,58 @@
-//! The store.
+//! The store: live rows by rising place, each behind an `Arc`, so that a snapshot copies no row.
+
+ghost use Rattle.std.specs.Prelude.{◌≡◌, ℕ, ◌+◌, ◌-◌, ◌^◌, ◌<◌, ◌≤◌, [], ◌∷◌, ◌++◌, length, map, take, drop, count_by, position, slice_get, OnOk, OnErr, IfOk, vec_len, vec_capacity};
+ghost use Rattle.willow_entry.specs.Row.{RowValue, IsRising, HasCovering, is_dominating, is_covering, place_cmp, live};
+ghost use Rattle.willow_entry.specs.Placed.{IsPlaced};
+ghost use Rattle.willow_entry.proofs.Local.{left_of};
+ghost use Rattle.willow_entry.proofs.Between.{IsPlace};
+
+use crate::search::{covered_at, place, run_end};
+use std::alloc::Global;
+use std::marker::Model;
 use std::sync::Arc;
-use willow_entry::Row;
+use willow_entry::{Placed, Row, dominates};
+use willow_path::NoMemory;
+
+// Removes the rows from `at` on that the row dominates. From `end` on there are none.
+fn remove_dominated<R: Row>(rows: &mut Vec<Arc<R>>, row: &R, at: usize, end: usize)
+    requires from { at ≤ end }
+    requires within { end ≤ vec_len rows.old }
+    requires stays { left_of (R.value row.now) (drop end (map (λ a. R.value a.value) rows.old.items)) ≡ drop end (map (λ a. R.value a.value) rows.old.items) }
+    ensures left { map (λ a. R.value a.value) rows.new.items ≡ take at (map (λ a. R.value a.value) rows.old.items) ++ left_of (R.value row.now) (drop at (map (λ a. R.value a.value) rows.old.items)) }
+    ensures fewer { vec_len rows.new ≤ vec_len rows.old }
+    ensures enough { at ≤ vec_len rows.new }
+    ensures capacity { vec_capacity rows.new ≡ vec_capacity rows.old }
+{
+    let mut i = end;
+    while i > at {
+        i -= 1;
+        if dominates(row, &*rows[i]) {
+            rows.remove(i);
+        }
+    }
+}
+
+// Puts an uncovered row in its place among the live rows that it does not dominate, and counts the others.
+fn put<R: Row>(rows: &mut Vec<Arc<R>>, row: R) -> Result<usize, NoMemory>
+    requires is_live { live (map (λ a. R.value a.value) rows.old.items) ≡ map (λ a. R.value a.value) rows.old.items }
+    requires uncovered { HasCovering (map (λ a. R.value a.value) rows.old.items) (R.value row) → ⊥ }
+    ensures rows { OnOk result (map (λ a. R.value a.value) rows.new.items ≡ live (map (λ a. R.value a.value) rows.old.items ++ R.value row ∷ [])) }
+    ensures pruned { IfOk result (λ pruned. pruned ≡ count_by (λ s. is_dominating (R.value row) s) (map (λ a. R.value a.value) rows.old.items)) }
+    ensures fits { IfOk result (λ pruned. pruned ≤ vec_len rows.old) }
+    ensures few { vec_len rows.new ≤ vec_len rows.old + 1 }
+    ensures is_live { live (map (λ a. R.value a.value) rows.new.items) ≡ map (λ a. R.value a.value) rows.new.items }
+    ensures err { OnErr result (rows.new.items ≡ rows.old.items) }
+{
+    rows.reserve(1)?;
+    let held = Arc::new(*rows.allocator(), row)?;
+    let before = rows.len();
+    let at = place(rows, &*held, held.entry().path.count());
+    let end = run_end(rows, &*held, at);
+    remove_dominated(rows, &*held, at, end);
+    let pruned = before - rows.len();
+    rows.insert(at, held)?;
+    Ok(pruned)
+}
 
 pub struct BlockStore<R: Row> {
     rows: Vec<Arc<R>>,
