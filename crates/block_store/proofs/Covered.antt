@@ -4,6 +4,7 @@ use Rattle.std.specs.List.{AllByRecursion, position_or_len}
 use Rattle.std.specs.List.Sorted.{IsStrictlySortedBy}
 use Rattle.std.specs.Ordering.{ordering_then, ordering_reverse}
 use Rattle.std.proofs.lemmas.Bool.{false≢true, both_ways, false_from_ne_true, cases_eq, le-ltb}
+use Rattle.std.proofs.Math.Seq.{take-length}
 use Rattle.std.proofs.lemmas.Cmp.{alike_right}
 use Rattle.std.proofs.lemmas.List.{take-take, take-append-drop, get_or-drop, get_or-take, length-take-le, length-drop, get_or_default}
 use Rattle.std.proofs.lemmas.List.Elements.{All-from_recursion}
@@ -19,6 +20,10 @@ use Rattle.willow_entry.proofs.RowLaws.{covering_means}
 use Rattle.willow_entry.proofs.Local.{IsAtPrefix, at_prefix_not_above, IsAtFront, covering_at_front}
 use Rattle.willow_entry.proofs.Between.{IsPlace}
 use Rattle.block_store.specs.Front.{front}
+
+-- a row is its own longest front
+pub front_whole : (r : RowValue) → front r (length r.entry.path) ≡ r
+front_whole r = ap (λ p. record r { entry = record r.entry { path = p } }) (take-length r.entry.path)
 
 same_place : (r s : RowValue) → r.entry.namespace ≡ s.entry.namespace → r.entry.subspace ≡ s.entry.subspace → r.entry.path ≡ s.entry.path → place_cmp r s ≡ Equal
 unfolding place_cmp

@@ -2,7 +2,7 @@
 use Rattle.std.proofs.Common.{◌≡◌, ℕ, zero, suc, ◌+◌, ◌≤◌, ◌<◌, Bool, true, false, not, cond, List, [], ◌∷◌, ◌++◌, length, take, drop, map, get_or, filter, refl, sym, ap, ap₂, ◌∙◌, subst, append_assoc, arith}
 use Rattle.std.specs.List.{remove, take-map, drop-map}
 use Rattle.std.proofs.Math.Seq.{drop-cons, take-suc, drop-append-add, drop-append_seam}
-use Rattle.std.proofs.lemmas.List.{map-append, take-take, take-append-le, length-take-le, get_or_append_left, get_or-take}
+use Rattle.std.proofs.lemmas.List.{map-append, take-take, take-append-le, length-take-le, get_or_append_left, get_or-take, get_or-map}
 
 pub map-remove : {X Y : Type 0} (f : X → Y) (xs : List X) (i : ℕ) → map f (remove xs i) ≡ remove (map f xs) i
 map-remove f xs i = map-append f (take i xs) (drop (suc i) xs) ∙ ap₂ (λ a b. a ++ b) (sym (take-map f i xs)) (sym (drop-map f (suc i) xs))
@@ -37,3 +37,16 @@ module _ {X : Type 0} (p : X → Bool) (xs : List X) where
       ap (λ l. l ++ filter p (drop (suc i) xs)) (take-suc xs i d h)
       ∙ append_assoc (take i xs) (get_or xs i d ∷ []) (filter p (drop (suc i) xs))
       ∙ ap (λ l. take i xs ++ l) (ap (λ b. cond b (get_or xs i d ∷ filter p (drop (suc i) xs)) (filter p (drop (suc i) xs))) (sym e) ∙ ap (filter p) (sym (drop-cons xs i d h)))
+
+  -- the same for a list of items of which only the values are seen
+  module _ {Y : Type 0} (value : Y → X) (items : List Y) (i : ℕ) (item : Y) (left : map value items ≡ filtered_from (suc i)) (inside : i < length xs) (within : i < length items) (is : item ≡ get_or items i item) where
+    seen : get_or xs i (value item) ≡ value item
+    seen =
+        sym (filtered_read i (value item) inside) ∙ ap (λ l. get_or l i (value item)) (sym left)
+        ∙ get_or-map value items i item (value item) within ∙ ap value (sym is)
+
+    pub removing_fails : p (value item) ≡ false → map value (remove items i) ≡ filtered_from i
+    removing_fails e = map-remove value items i ∙ ap (λ l. remove l i) left ∙ filtered_fails i (value item) inside (ap p seen ∙ e)
+
+    pub removing_passes : p (value item) ≡ true → map value items ≡ filtered_from i
+    removing_passes e = left ∙ filtered_passes i (value item) inside (ap p seen ∙ e)

@@ -38,12 +38,21 @@ fn by_front<R: Row>(held: &R, row: &R, count: usize) -> Ordering
 }
 
 // The number of rows that stand below the place of the row's front of so many components.
-pub(crate) fn place<R: Row>(rows: &[Arc<R>], row: &R, count: usize) -> usize
+fn place<R: Row>(rows: &[Arc<R>], row: &R, count: usize) -> usize
     requires { IsRising (map (λ a. R.value a.value) rows.now) }
     ensures place { IsPlace place_cmp (front (R.value row.now) count) (map (λ a. R.value a.value) rows.now) result }
     ensures bound { result ≤ length rows.now }
 {
     rows.partition_point(|held| by_front(&**held, row, count) == Ordering::Less)
+}
+
+// The number of rows that stand below the row's place.
+pub(crate) fn own_place<R: Row>(rows: &[Arc<R>], row: &R) -> usize
+    requires { IsRising (map (λ a. R.value a.value) rows.now) }
+    ensures place { IsPlace place_cmp (R.value row.now) (map (λ a. R.value a.value) rows.now) result }
+    ensures bound { result ≤ length rows.now }
+{
+    place(rows, row, row.entry().path.count())
 }
 
 // Whether the held row stands in the row's namespace and subspace, at an extension of its path or at the path itself.

@@ -6,7 +6,7 @@ ghost use Rattle.willow_entry.specs.Placed.{IsPlaced};
 ghost use Rattle.willow_entry.proofs.Local.{left_of};
 ghost use Rattle.willow_entry.proofs.Between.{IsPlace};
 
-use crate::search::{covered_at, place, run_end};
+use crate::search::{covered_at, own_place, run_end};
 use std::alloc::Global;
 use std::marker::Model;
 use std::sync::Arc;
@@ -32,6 +32,21 @@ fn remove_dominated<R: Row>(rows: &mut Vec<Arc<R>>, row: &R, at: usize, end: usi
     }
 }
 
+// Removes the rows that the row dominates, and answers its place.
+fn make_room<R: Row>(rows: &mut Vec<Arc<R>>, row: &R) -> usize
+    requires { IsRising (map (λ a. R.value a.value) rows.old.items) }
+    ensures place { IsPlace place_cmp (R.value row.now) (map (λ a. R.value a.value) rows.old.items) result }
+    ensures left { map (λ a. R.value a.value) rows.new.items ≡ take result (map (λ a. R.value a.value) rows.old.items) ++ left_of (R.value row.now) (drop result (map (λ a. R.value a.value) rows.old.items)) }
+    ensures fewer { vec_len rows.new ≤ vec_len rows.old }
+    ensures enough { result ≤ vec_len rows.new }
+    ensures capacity { vec_capacity rows.new ≡ vec_capacity rows.old }
+{
+    let at = own_place(rows, row);
+    let end = run_end(rows, row, at);
+    remove_dominated(rows, row, at, end);
+    at
+}
+
 // Puts an uncovered row in its place among the live rows that it does not dominate, and counts the others.
 fn put<R: Row>(rows: &mut Vec<Arc<R>>, row: R) -> Result<usize, NoMemory>
     requires is_live { live (map (λ a. R.value a.value) rows.old.items) ≡ map (λ a. R.value a.value) rows.old.items }
@@ -46,9 +61,7 @@ fn put<R: Row>(rows: &mut Vec<Arc<R>>, row: R) -> Result<usize, NoMemory>
     rows.reserve(1)?;
     let held = Arc::new(*rows.allocator(), row)?;
     let before = rows.len();
-    let at = place(rows, &*held, held.entry().path.count());
-    let end = run_end(rows, &*held, at);
-    remove_dominated(rows, &*held, at, end);
+    let at = make_room(rows, &*held);
     let pruned = before - rows.len();
     rows.insert(at, held)?;
     Ok(pruned)

@@ -97,6 +97,9 @@ covering_from_at rows i r at = (get_or rows i r, (i, at.within, get_or_default r
 pub live-kept : (rows : List RowValue) (r : RowValue) (i : ℕ) → live rows ≡ rows → IsCoveringAt rows i r → rows ≡ live (rows ++ r ∷ [])
 live-kept rows r i is_live at = sym (live-covered rows r (covering_from_at rows i r at) ∙ is_live)
 
+pub rising_live : (rows : List RowValue) → live rows ≡ rows → IsStrictlySortedBy place_cmp rows
+rising_live rows is_live = subst (λ l. IsStrictlySortedBy place_cmp l) is_live (live-rises rows)
+
 -- what is live of some rows is live
 pub live-again : (kept rows : List RowValue) → kept ≡ live rows → live kept ≡ kept
 live-again kept rows e = rw e (live-live rows)
@@ -143,7 +146,7 @@ module _ (rows : List RowValue) (r : RowValue) (is_live : live rows ≡ rows) (u
       ∙ live-uncovered rows r is_live uncovered
 
   pub left_rises : IsStrictlySortedBy place_cmp (left_of r rows)
-  left_rises = IsStrictlySortedBy-filter place_cmp (λ s. not (is_dominating r s)) rows (subst (λ l. IsStrictlySortedBy place_cmp l) is_live (live-rises rows))
+  left_rises = IsStrictlySortedBy-filter place_cmp (λ s. not (is_dominating r s)) rows (rising_live rows is_live)
 
   -- the same at the place among the rows that it leaves
   pub live-inserted : (n : ℕ) → IsPlace place_cmp r (left_of r rows) n → insert (left_of r rows) n r ≡ live (rows ++ r ∷ [])
