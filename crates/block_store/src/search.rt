@@ -1,8 +1,8 @@
 //! Where rows stand among rows that rise by place.
 
-ghost use Rattle.std.specs.Prelude.{◌≡◌, ℕ, ◌+◌, ◌-◌, ◌^◌, ◌<◌, ◌≤◌, [], ◌∷◌, ◌++◌, length, map, take, drop, position, slice_index_or, false, IsTrue};
+ghost use Rattle.std.specs.Prelude.{◌≡◌, ℕ, ◌+◌, ◌-◌, ◌^◌, ◌<◌, ◌≤◌, [], ◌∷◌, ◌++◌, length, map, take, drop, position, slice_index_or, false, IsTrue, IfSome, IfNone};
 ghost use Rattle.willow_path.specs.Path.{path_cmp};
-ghost use Rattle.willow_entry.specs.Row.{RowValue, IsRising, is_at_prefix, is_covering, place_cmp};
+ghost use Rattle.willow_entry.specs.Row.{RowValue, IsRising, HasCovering, IsCoveringAt, is_at_prefix, is_covering, live, place_cmp};
 ghost use Rattle.willow_entry.proofs.Local.{left_of};
 ghost use Rattle.willow_entry.proofs.Between.{IsPlace};
 ghost use Rattle.block_store.specs.Front.{front};
@@ -85,7 +85,7 @@ fn is_covered_at<R: Row>(rows: &[Arc<R>], row: &R, at: usize) -> bool
 }
 
 // The first position whose row is the row or dominates it. Such rows stand at the fronts of its path.
-pub(crate) fn covered_at<R: Row>(rows: &[Arc<R>], row: &R) -> Option<usize>
+fn covered_at<R: Row>(rows: &[Arc<R>], row: &R) -> Option<usize>
     requires { IsRising (map (λ a. R.value a.value) rows.now) }
     ensures { result ≡ position (λ s. is_covering s (R.value row.now)) (map (λ a. R.value a.value) rows.now) }
 {
@@ -96,4 +96,14 @@ pub(crate) fn covered_at<R: Row>(rows: &[Arc<R>], row: &R) -> Option<usize>
         }
     }
     None
+}
+
+// The same among live rows, with what it means.
+pub(crate) fn cover<R: Row>(rows: &[Arc<R>], row: &R) -> Option<usize>
+    requires { live (map (λ a. R.value a.value) rows.now) ≡ map (λ a. R.value a.value) rows.now }
+    ensures first { result ≡ position (λ s. is_covering s (R.value row.now)) (map (λ a. R.value a.value) rows.now) }
+    ensures found { IfSome result (λ i. IsCoveringAt (map (λ a. R.value a.value) rows.now) i (R.value row.now)) }
+    ensures none { IfNone result (HasCovering (map (λ a. R.value a.value) rows.now) (R.value row.now) → ⊥) }
+{
+    covered_at(rows, row)
 }

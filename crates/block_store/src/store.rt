@@ -6,7 +6,7 @@ ghost use Rattle.willow_entry.specs.Placed.{IsPlaced};
 ghost use Rattle.willow_entry.proofs.Local.{left_of};
 ghost use Rattle.willow_entry.proofs.Between.{IsPlace};
 
-use crate::search::{covered_at, own_place, run_end};
+use crate::search::{cover, own_place, run_end};
 use std::alloc::Global;
 use std::marker::Model;
 use std::sync::Arc;
@@ -65,6 +65,27 @@ fn put<R: Row>(rows: &mut Vec<Arc<R>>, row: R) -> Result<usize, NoMemory>
     let pruned = before - rows.len();
     rows.insert(at, held)?;
     Ok(pruned)
+}
+
+// Keeps the rows where one of them covers the new row, and else puts it in its place.
+fn offer<R: Row>(rows: &mut Vec<Arc<R>>, row: R) -> Result<Placed, NoMemory>
+    requires is_live { live (map (λ a. R.value a.value) rows.old.items) ≡ map (λ a. R.value a.value) rows.old.items }
+    requires room { vec_len rows.old < 2 ^ 32 - 1 }
+    ensures rows { OnOk result (map (λ a. R.value a.value) rows.new.items ≡ live (map (λ a. R.value a.value) rows.old.items ++ R.value row ∷ [])) }
+    ensures placed { IfOk result (λ placed. IsPlaced (map (λ a. R.value a.value) rows.old.items) (R.value row) placed) }
+    ensures few { vec_len rows.new ≤ vec_len rows.old + 1 }
+    ensures is_live { live (map (λ a. R.value a.value) rows.new.items) ≡ map (λ a. R.value a.value) rows.new.items }
+    ensures err { OnErr result (rows.new.items ≡ rows.old.items) }
+{
+    match cover(rows, &row) {
+        Some(by) => Ok(Placed::Kept { by: by as u32 }),
+        None => {
+            let pruned = put(rows, row)?;
+            Ok(Placed::Stored {
+                pruned: pruned as u32,
+            })
+        }
+    }
 }
 
 pub struct BlockStore<R: Row> {
