@@ -2,3 +2,4 @@ mod Fronts
 mod Covered
 mod Extensions
 mod Removing
+mod Positions
