@@ -2,25 +2,13 @@
 
 ghost use Rattle.std.specs.Prelude.{◌≡◌, ◌*◌, ◌<◌, ◌^◌, ◌≤◌, length, IsTrue, IfSome};
 ghost use Rattle.lms_core.specs.Bytes.{u32_at};
-ghost use Rattle.lms_core.specs.Tree.{parent_value, climb};
+ghost use Rattle.lms_core.specs.Tree.{climb};
 ghost use Rattle.lms_core.specs.Accepts.{levels, leaves, is_sound, sound_height, signature_length, root_of, lms_accepts};
 
 use crate::bytes::{field_at, number_at};
-use crate::hashing::{inner, leaf};
+use crate::hashing::{leaf, parent};
 use crate::height::{Height, ONE_TIME_TYPE};
 use crate::one_time::told_key;
-
-/// The value of the node above a node.
-#[tactic(auto, unfolding(crate::specs::Tree::parent_value))]
-pub(crate) fn parent(identifier: &[u8; 16], node: u32, value: &[u8; 32], sibling: &[u8; 32]) -> [u8; 32]
-    ensures { result ≡ parent_value identifier.now node value.now sibling.now }
-{
-    if node % 2 == 1 {
-        inner(identifier, node / 2, sibling, value)
-    } else {
-        inner(identifier, node / 2, value, sibling)
-    }
-}
 
 /// The value of the node that stands as many levels above a node as the path has siblings.
 pub(crate) fn climbed(identifier: &[u8; 16], node: u32, value: &[u8; 32], levels: usize, path: &[u8]) -> [u8; 32]

@@ -10,7 +10,7 @@ use Rattle.std.proofs.lemmas.Nat.{be_bytes_2, be_bytes_4, be_bytes_8, from_be_by
 use Rattle.spelling.specs.Front.{Front, Whole, Part, Wrong, ◌>>=◌}
 use Rattle.spelling.specs.Form.{AreBytes}
 use Rattle.spelling.specs.Spelling.{byte_spelling, option_spelling, text_spelling, list_spelling, AreSoManyBytes, AreMany, IsText, IsList}
-use Rattle.spelling.specs.Reading.{guard, byte_at, bytes_at, number_at, many_at, behind_flag, option_at, text_at, list_at}
+use Rattle.spelling.specs.Reading.{guard, holds_at, byte_at, bytes_at, number_at, many_at, behind_flag, option_at, text_at, list_at}
 use Rattle.spelling.proofs.Lists.{All-take, All-drop, byte_below}
 use Rattle.spelling.proofs.Joining.{Takes, Reads, Reads-then, Reads-made, Reads-last, Reads-guard, Reads-is, whole_value, whole_rest}
 
@@ -34,6 +34,26 @@ byte_wrong (b ∷ bytes) tail e = absurd cc
 pub byte-reads : Reads byte_at byte_spelling (λ b. b < 2 ^ 8)
 byte-reads = record { takes = byte_takes; again = λ x rest fits. refl; more = byte_more; wrong = byte_wrong }
 
+-- ---- a test between fields
+
+holds_takes : (test : Bool) (bytes : List ℕ) (x : Unit {0}) (rest : List ℕ) → AreBytes bytes → holds_at test bytes ≡ Whole x rest → Takes bytes [] rest (test ≡ true)
+holds_takes true bytes x rest are e = record { fits = refl; parts = whole_rest tt x bytes rest e; rest_are = subst AreBytes (whole_rest tt x bytes rest e) are }
+holds_takes false bytes x rest are e = absurd cc
+
+holds_again : (test : Bool) (x : Unit {0}) (rest : List ℕ) → test ≡ true → holds_at test ([] ++ rest) ≡ Whole x rest
+holds_again test x rest h = ap (λ (b : Bool). holds_at b rest) h
+
+holds_more : (test : Bool) (bytes : List ℕ) (x : Unit {0}) (rest tail : List ℕ) → holds_at test bytes ≡ Whole x rest → holds_at test (bytes ++ tail) ≡ Whole x (rest ++ tail)
+holds_more true bytes x rest tail e = ap (λ (l : List ℕ). Whole x (l ++ tail)) (whole_rest tt x bytes rest e)
+holds_more false bytes x rest tail e = absurd cc
+
+holds_wrong : (test : Bool) (bytes tail : List ℕ) → holds_at test bytes ≡ Wrong → holds_at test (bytes ++ tail) ≡ Wrong
+holds_wrong true bytes tail e = absurd cc
+holds_wrong false bytes tail e = refl
+
+pub holds-reads : (test : Bool) → Reads (holds_at test) (λ _. []) (λ _. test ≡ true)
+holds-reads test = record { takes = holds_takes test; again = holds_again test; more = holds_more test; wrong = holds_wrong test }
+
 -- ---- so many bytes, and what is made of them
 
 -- what was read of so many bytes: there were as many
@@ -56,23 +76,23 @@ made_reads : {A : Type 0} (n : ℕ) (make : List ℕ → A) (spell : A → List 
     → Reads (made_at n make) spell fits
 made_reads {A} n make spell fits there back = record {
   takes = λ bytes x rest are e.
-    let g = enough (ltb (length bytes) n) (make (take n bytes)) x (drop n bytes) rest e in
-    let long : n ≤ length bytes = ltb-false _ _ g.0 in
-    let t = there (take n bytes) (omega (arith, length-take n bytes)) (All-take _ n bytes are) in
-    record {
-      fits = subst fits g.1 t.0;
-      parts = sym (take-append-drop n bytes) ∙ ap (λ (l : List ℕ). l ++ drop n bytes) (sym t.1) ∙ ap (λ (y : A). spell y ++ drop n bytes) g.1 ∙ ap (λ (l : List ℕ). spell x ++ l) g.2;
-      rest_are = subst AreBytes g.2 (All-drop _ n bytes are);
-    };
+      let g = enough (ltb (length bytes) n) (make (take n bytes)) x (drop n bytes) rest e in
+      let long : n ≤ length bytes = ltb-false _ _ g.0 in
+      let t = there (take n bytes) (omega (arith, length-take n bytes)) (All-take _ n bytes are) in
+      record {
+        fits = subst fits g.1 t.0;
+        parts = sym (take-append-drop n bytes) ∙ ap (λ (l : List ℕ). l ++ drop n bytes) (sym t.1) ∙ ap (λ (y : A). spell y ++ drop n bytes) g.1 ∙ ap (λ (l : List ℕ). spell x ++ l) g.2;
+        rest_are = subst AreBytes g.2 (All-drop _ n bytes are);
+      };
   again = λ x rest f.
-    let b = back x f in
-    let long : ltb (length (spell x ++ rest)) n ≡ false = le-ltb _ _ (omega (arith, length-append (spell x) rest, b.0)) in
-    rw (long, take_at (spell x) rest n b.0, drop_at (spell x) rest n b.0, b.1) refl;
+      let b = back x f in
+      let long : ltb (length (spell x ++ rest)) n ≡ false = le-ltb _ _ (omega (arith, length-append (spell x) rest, b.0)) in
+      rw (long, take_at (spell x) rest n b.0, drop_at (spell x) rest n b.0, b.1) refl;
   more = λ bytes x rest tail e.
-    let g = enough (ltb (length bytes) n) (make (take n bytes)) x (drop n bytes) rest e in
-    let long : n ≤ length bytes = ltb-false _ _ g.0 in
-    let longer : ltb (length (bytes ++ tail)) n ≡ false = le-ltb _ _ (omega (arith, length-append bytes tail, long)) in
-    rw (longer, take-append-le n bytes tail long, drop-append-le n bytes tail long, g.1, g.2) refl;
+      let g = enough (ltb (length bytes) n) (make (take n bytes)) x (drop n bytes) rest e in
+      let long : n ≤ length bytes = ltb-false _ _ g.0 in
+      let longer : ltb (length (bytes ++ tail)) n ≡ false = le-ltb _ _ (omega (arith, length-append bytes tail, long)) in
+      rw (longer, take-append-le n bytes tail long, drop-append-le n bytes tail long, g.1, g.2) refl;
   wrong = λ bytes tail e. absurd (never_wrong (ltb (length bytes) n) (make (take n bytes)) (drop n bytes) e);
 }
 

@@ -11,7 +11,7 @@ use Rattle.spelling.specs.declared.input.Unread.{Unread}
 use Rattle.spelling.specs.declared.input.Unread.TheVariants as unread
 use Rattle.std.specs.Result.{IsErrAnd}
 use Rattle.std.proofs.lemmas.Result.{err_from_is_err_and}
-use Rattle.spelling.proofs.Lists.{take_front, nothing_behind, are_bytes}
+use Rattle.spelling.proofs.Lists.{take_front, are_bytes}
 
 -- what a reader took from the front of bytes
 pub record Takes (bytes text rest : List ℕ) (Fits : Type 0) : Type 0 where
@@ -64,24 +64,24 @@ pub Reads-then : {A T : Type 0} {first : List ℕ → Front A} {spell_first : A 
     → Reads (λ bytes. first bytes >>= next) (λ t. spell_first (field t) ++ spell_next t) (λ t. fits_first (field t) × fits_next (field t) t)
 Reads-then {A} {T} {first} {spell_first} {fits_first} {spell_next} {fits_next} next field one two tells = record {
   takes = λ bytes t rest are e.
-    let b = bind_whole (first bytes) next t rest e in
-    let p = one.takes bytes b.0 b.1 are b.2 in
-    let q = (two b.0).takes b.1 t rest p.rest_are b.3 in
-    let is : b.0 ≡ field t = sym (tells b.0 t q.fits) in
-    record {
-      fits = subst (λ (a : A). fits_first a × fits_next a t) is (p.fits, q.fits);
-      parts = p.parts ∙ ap (λ (l : List ℕ). spell_first b.0 ++ l) q.parts ∙ sym (append_assoc (spell_first b.0) (spell_next t) rest) ∙ ap (λ (a : A). (spell_first a ++ spell_next t) ++ rest) is;
-      rest_are = q.rest_are;
-    };
+      let b = bind_whole (first bytes) next t rest e in
+      let p = one.takes bytes b.0 b.1 are b.2 in
+      let q = (two b.0).takes b.1 t rest p.rest_are b.3 in
+      let is : b.0 ≡ field t = sym (tells b.0 t q.fits) in
+      record {
+        fits = subst (λ (a : A). fits_first a × fits_next a t) is (p.fits, q.fits);
+        parts = p.parts ∙ ap (λ (l : List ℕ). spell_first b.0 ++ l) q.parts ∙ sym (append_assoc (spell_first b.0) (spell_next t) rest) ∙ ap (λ (a : A). (spell_first a ++ spell_next t) ++ rest) is;
+        rest_are = q.rest_are;
+      };
   again = λ t rest fits.
-    ap (λ (l : List ℕ). first l >>= next) (append_assoc (spell_first (field t)) (spell_next t) rest)
+      ap (λ (l : List ℕ). first l >>= next) (append_assoc (spell_first (field t)) (spell_next t) rest)
       ∙ ap (λ (r : Front A). r >>= next) (one.again (field t) (spell_next t ++ rest) fits.0)
       ∙ (two (field t)).again t rest fits.1;
   more = λ bytes t rest tail e.
-    let b = bind_whole (first bytes) next t rest e in
-    ap (λ (r : Front A). r >>= next) (one.more bytes b.0 b.1 tail b.2) ∙ (two b.0).more b.1 t rest tail b.3;
+      let b = bind_whole (first bytes) next t rest e in
+      ap (λ (r : Front A). r >>= next) (one.more bytes b.0 b.1 tail b.2) ∙ (two b.0).more b.1 t rest tail b.3;
   wrong = λ bytes tail e.
-    bind_wrong (first bytes) (first (bytes ++ tail)) next tail (λ a left h. one.more bytes a left tail h) (one.wrong bytes tail) (λ a left h. (two a).wrong left tail h) e;
+      bind_wrong (first bytes) (first (bytes ++ tail)) next tail (λ a left h. one.more bytes a left tail h) (one.wrong bytes tail) (λ a left h. (two a).wrong left tail h) e;
 }
 
 -- nothing more is read: the value is made of the fields
@@ -102,8 +102,8 @@ pub Reads-is : {A : Type 0} {at : List ℕ → Front A} {spell spell' : A → Li
     → ((x : A) → spell x ≡ spell' x) → ((x : A) → fits x → fits' x) → ((x : A) → fits' x → fits x) → Reads at spell' fits'
 Reads-is {A} {at} reads same there back = record {
   takes = λ bytes x rest are e.
-    let t = reads.takes bytes x rest are e in
-    record { fits = there x t.fits; parts = t.parts ∙ ap (λ (l : List ℕ). l ++ rest) (same x); rest_are = t.rest_are };
+      let t = reads.takes bytes x rest are e in
+      record { fits = there x t.fits; parts = t.parts ∙ ap (λ (l : List ℕ). l ++ rest) (same x); rest_are = t.rest_are };
   again = λ x rest f. ap (λ (l : List ℕ). at (l ++ rest)) (sym (same x)) ∙ reads.again x rest (back x f);
   more = reads.more;
   wrong = reads.wrong;
@@ -113,7 +113,7 @@ Reads-is {A} {at} reads same there back = record {
 pub Reads-last : {A T : Type 0} {at : List ℕ → Front A} {spell : A → List ℕ} {fits : A → Type 0} (field : T → A) (make : A → T) → Reads at spell fits
     → ((a : A) → field (make a) ≡ a)
     → Reads (λ bytes. at bytes >>= λ x. Whole (make x.0) x.1) (λ t. spell (field t)) (λ t. fits (field t) × (t ≡ make (field t)))
-Reads-last {A} {T} {at} {spell} {fits} field make reads back = 
+Reads-last {A} {T} {at} {spell} {fits} field make reads back =
     let joined = Reads-then {spell_next = λ _. []} {fits_next = λ a t. t ≡ make a} (λ (x : A × List ℕ). Whole (make x.0) x.1) field reads (λ a. Reads-made (make a)) (λ a t is. ap field is ∙ back a) in
     Reads-is joined (λ t. append-nil (spell (field t))) (λ t f. f) (λ t f. f)
 
@@ -147,26 +147,44 @@ whole_not_part x rest r e f = cc
 whole_not_wrong : {A : Type 0} (x : A) (rest : List ℕ) (r : Front A) → r ≡ Whole x rest → r ≡ Wrong → ⊥
 whole_not_wrong x rest r e f = cc
 
+wrong_not_part : {A : Type 0} (r : Front A) → r ≡ Wrong → r ≡ Part → ⊥
+wrong_not_part r e f = cc
+
 -- a whole value alone
 pub alone : {A : Type 0} {at : List ℕ → Front A} {spell : A → List ℕ} {fits : A → Type 0} → Reads at spell fits → (x : A) → fits x → at (spell x) ≡ Whole x []
 alone {A} {at} {spell} reads x f = ap at (sym (append-nil (spell x))) ∙ reads.again x [] f
 
--- by what its beginning is, where the whole is one value and nothing behind it
-part_of_whole : {A : Type 0} (at : List ℕ → Front A) (x : A) (front tail : List ℕ) (r : Front A) → at (front ++ tail) ≡ Whole x [] → at front ≡ r
-    → ((y : A) (rest : List ℕ) → at front ≡ Whole y rest → at (front ++ tail) ≡ Whole y (rest ++ tail))
+-- by what stands at the front of bytes, where more bytes complete a value and reach into or past its end
+part_by : {A : Type 0} (at : List ℕ → Front A) (x : A) (rest front tail : List ℕ) (r : Front A) → at (front ++ tail) ≡ Whole x rest → at front ≡ r
+    → ((y : A) (left : List ℕ) → at front ≡ Whole y left → at (front ++ tail) ≡ Whole y (left ++ tail))
     → (at front ≡ Wrong → at (front ++ tail) ≡ Wrong)
-    → 0 < length tail → r ≡ Part
-part_of_whole at x front tail (Whole y rest) whole is more wrong some =
-    let none : rest ++ tail ≡ [] = whole_rest y x (rest ++ tail) [] (sym (more y rest is) ∙ whole) in
-    absurd (omega (arith, some, ap length (nothing_behind rest tail none)))
-part_of_whole at x front tail Part whole is more wrong some = refl
-part_of_whole at x front tail Wrong whole is more wrong some = absurd (whole_not_wrong x [] (at (front ++ tail)) whole (wrong is))
+    → length rest < length tail → r ≡ Part
+part_by at x rest front tail (Whole y left) whole is more wrong lt =
+    let same : left ++ tail ≡ rest = whole_rest y x (left ++ tail) rest (sym (more y left is) ∙ whole) in
+    absurd (omega (arith, lt, ap length same, length-append left tail))
+part_by at x rest front tail Part whole is more wrong lt = refl
+part_by at x rest front tail Wrong whole is more wrong lt = absurd (whole_not_wrong x rest (at (front ++ tail)) whole (wrong is))
+
+-- until its last byte is there, a value is a part
+pub part_until : {A : Type 0} {at : List ℕ → Front A} {spell : A → List ℕ} {fits : A → Type 0} → Reads at spell fits → (front tail : List ℕ) (x : A) (rest : List ℕ) → at (front ++ tail) ≡ Whole x rest → length rest < length tail → at front ≡ Part
+part_until {A} {at} reads front tail x rest whole lt =
+    part_by at x rest front tail (at front) whole refl (λ y left e. reads.more front y left tail e) (reads.wrong front tail) lt
 
 -- the beginning of a spelling is a part
 pub part_of : {A : Type 0} {at : List ℕ → Front A} {spell : A → List ℕ} {fits : A → Type 0} → Reads at spell fits → (x : A) (n : ℕ) → fits x → n < length (spell x) → at (take n (spell x)) ≡ Part
 part_of {A} {at} {spell} reads x n f lt =
-    part_of_whole at x (take n (spell x)) (drop n (spell x)) (at (take n (spell x))) (ap at (take-append-drop n (spell x)) ∙ alone reads x f) refl
-      (λ y rest e. reads.more (take n (spell x)) y rest (drop n (spell x)) e) (reads.wrong (take n (spell x)) (drop n (spell x))) (omega (arith, length-drop n (spell x)))
+    part_until reads (take n (spell x)) (drop n (spell x)) x [] (ap at (take-append-drop n (spell x)) ∙ alone reads x f) (omega (arith, length-drop n (spell x)))
+
+part_front : {A : Type 0} (at : List ℕ → Front A) (front tail : List ℕ) (r : Front A) → at (front ++ tail) ≡ Part → at front ≡ r
+    → ((y : A) (left : List ℕ) → at front ≡ Whole y left → at (front ++ tail) ≡ Whole y (left ++ tail))
+    → (at front ≡ Wrong → at (front ++ tail) ≡ Wrong) → r ≡ Part
+part_front at front tail (Whole y left) part is more wrong = absurd (whole_not_part y (left ++ tail) (at (front ++ tail)) (more y left is) part)
+part_front at front tail Part part is more wrong = refl
+part_front at front tail Wrong part is more wrong = absurd (wrong_not_part (at (front ++ tail)) (wrong is) part)
+
+-- what a part begins with is a part
+pub part_before : {A : Type 0} {at : List ℕ → Front A} {spell : A → List ℕ} {fits : A → Type 0} → Reads at spell fits → (front tail : List ℕ) → at (front ++ tail) ≡ Part → at front ≡ Part
+part_before {A} {at} reads front tail part = part_front at front tail (at front) part refl (λ y left e. reads.more front y left tail e) (reads.wrong front tail)
 
 none_here : {A : Type 0} {at : List ℕ → Front A} {spell : A → List ℕ} {fits : A → Type 0} → Reads at spell fits → (bytes : List ℕ) (u : Unread) (e : End NotHere) → Fails u (at bytes) → IsEndOf u e
     → Decodes spell fits bytes (Err e)

@@ -76,8 +76,3 @@ pub take_front : (bytes text rest : List ℕ) → bytes ≡ text ++ rest → tak
 take_front bytes text rest e =
     let n : length text ≡ length bytes - length rest = omega (arith, ap length e, length-append text rest) in
     ap (λ (l : List ℕ). take (length bytes - length rest) l) e ∙ take_at text rest (length bytes - length rest) n
-
--- a list that stays as it is with more behind it
-pub nothing_behind : {X : Type 0} (xs ys : List X) → xs ++ ys ≡ [] → ys ≡ []
-nothing_behind [] ys e = e
-nothing_behind (x ∷ xs) ys e = absurd cc

@@ -2,3 +2,4 @@ pub mod Front
 pub mod Form
 pub mod Spelling
 pub mod Reading
+pub mod Answers

@@ -13,6 +13,11 @@ abbrev pub guard : {A : Type 0} → Bool → Front A → Front A
 guard true front = front
 guard false front = Wrong
 
+-- no byte, where the test holds: a line of its own between the fields
+abbrev pub holds_at : Bool → List ℕ → Front (Unit {0})
+holds_at true bytes = Whole tt bytes
+holds_at false bytes = Wrong
+
 -- one byte
 abbrev pub byte_at : List ℕ → Front ℕ
 byte_at [] = Part
@@ -27,10 +32,10 @@ abbrev pub number_at : Width → List ℕ → Front ℕ
 number_at w bytes = if nat_lt (length bytes) (byte_len w) then Part else Whole (from_be_bytes w (take (byte_len w) bytes)) (drop (byte_len w) bytes)
 
 -- just these bytes; wrong at the first that differs
-unfoldable pub exactly_at : List ℕ → List ℕ → Front (List ℕ)
-exactly_at [] bytes = Whole [] bytes
-exactly_at (m ∷ more) [] = Part
-exactly_at (m ∷ more) (b ∷ bytes) = guard (m == b) (exactly_at more bytes >>= λ x. Whole (m ∷ x.0) x.1)
+unfoldable pub exactly_at : List ℕ → List ℕ → Front (Unit {0})
+exactly_at [] bytes = Whole tt bytes
+exactly_at (b ∷ due) [] = Part
+exactly_at (b ∷ due) (c ∷ bytes) = guard (c == b) (exactly_at due bytes)
 
 -- so many values in a row
 unfoldable pub many_at : {A : Type 0} → (List ℕ → Front A) → ℕ → List ℕ → Front (List A)

@@ -2,7 +2,7 @@
 
 ghost use Rattle.std.specs.Prelude.{◌≡◌, List, ℕ, ◌-◌, length, if◌then◌else◌};
 ghost use Rattle.std.specs.Int.{w16, w32, w64};
-ghost use Rattle.spelling.specs.Reading.{Gives, IsEndOf, byte_at, bytes_at, number_at};
+ghost use Rattle.spelling.specs.Reading.{Gives, IsEndOf, byte_at, bytes_at, exactly_at, number_at};
 ghost use Rattle.spelling.specs.declared.ending.End.TheVariants as ends;
 ghost use Rattle.spelling.specs.declared.input.Unread.TheVariants as unread;
 
@@ -48,6 +48,13 @@ impl<'a> Input<'a> {
         ensures { result ≡ length self.now }
     {
         self.bytes.len()
+    }
+
+    /// The bytes that are left.
+    pub fn front(&self) -> &'a [u8]
+        ensures { result.now ≡ self.now }
+    {
+        self.bytes
     }
 
     /// How many of the whole bytes are taken.
@@ -98,6 +105,21 @@ impl<'a> Input<'a> {
     {
         let front = self.slice(n)?;
         Ok(Vec::from_slice(alloc, front)?)
+    }
+
+    /// Just these few bytes, as a format's first; wrong at the first that differs.
+    #[tactic(auto, unfolding(crate::specs::Reading::exactly_at))]
+    pub fn exactly(&mut self, due: &[u8]) -> Result<(), Unread>
+        ensures { Gives (λ x. x) result self.new (exactly_at due.now self.old) }
+    {
+        match due {
+            [] => Ok(()),
+            [first, others @ ..] => {
+                let byte = self.byte()?;
+                guard(byte == *first)?;
+                self.exactly(others)
+            }
+        }
     }
 
     /// A number of two bytes, the highest first.

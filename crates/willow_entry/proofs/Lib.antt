@@ -9,3 +9,4 @@ pub mod Between
 pub mod Covering
 pub mod Placing
 pub mod Local
+pub mod EntryReads

@@ -1,13 +1,13 @@
--- How entries are spelled.
+-- How entries are spelled, and how they are read.
 use Rattle.std.specs.Prelude.{ℕ, ◌<◌, ◌^◌, List, ◌++◌}
 use Rattle.std.specs.Int.{w64, to_be_bytes}
-use Rattle.spelling.specs.Spelling.{byte_spelling, text_spelling, list_spelling, AreSoManyBytes}
-use Rattle.willow_path.specs.Key.{IsKey}
+use Rattle.spelling.specs.Front.{Front, Whole, ◌>>=◌}
+use Rattle.spelling.specs.Reading.{bytes_at, number_at}
+use Rattle.spelling.specs.Spelling.{AreSoManyBytes}
+use Rattle.willow_path.specs.Key.{IsKey, key_at}
 use Rattle.willow_path.specs.Path.{IsPath}
+use Rattle.willow_path.specs.PathSpelling.{path_spelling, path_at}
 use Rattle.willow_entry.specs.declared.entry.Entry.{Entry}
-
-abbrev pub path_spelling : List (List ℕ) → List ℕ
-path_spelling = list_spelling byte_spelling (text_spelling byte_spelling)
 
 -- namespace key, subspace key, path, timestamp, payload length, digest; the highest byte of a number first
 unfoldable pub entry_spelling : Entry → List ℕ
@@ -22,3 +22,14 @@ pub record IsEntry (e : Entry) : Type 0 where
   pub timestamp : e.timestamp < 2 ^ 64
   pub length_fits : e.length < 2 ^ 64
   pub digest : AreSoManyBytes 32 e.digest.0
+
+-- an entry
+unfoldable pub entry_at : List ℕ → Front Entry
+entry_at bytes = do
+  namespace ← key_at bytes
+  subspace ← key_at namespace.1
+  path ← path_at subspace.1
+  timestamp ← number_at w64 path.1
+  length ← number_at w64 timestamp.1
+  digest ← bytes_at 32 length.1
+  Whole (record { namespace = namespace.0; subspace = subspace.0; path = path.0; timestamp = timestamp.0; length = length.0; digest = record { 0 = digest.0 } }) digest.1

@@ -4,3 +4,4 @@ pub mod EntryForm
 pub mod Row
 pub mod Placed
 pub mod RowBody
+pub mod Frame

@@ -1,5 +1,5 @@
 -- What becomes of a row that is offered to a store.
-use Rattle.std.specs.Prelude.{◌≡◌, ℕ, List, count_by}
+use Rattle.std.specs.Prelude.{◌≡◌, List, count_by}
 use Rattle.willow_entry.specs.declared.placed.Placed.{Placed}
 use Rattle.willow_entry.specs.declared.placed.Placed.TheVariants.{Stored, Kept}
 use Rattle.willow_entry.specs.Row.{RowValue, is_dominating, HasCovering, IsCoveringAt}

@@ -1,5 +1,5 @@
 -- The bodies of rows: an entry, and behind it a token and nothing else.
-use Rattle.std.specs.Prelude.{◌≡◌, List, ℕ, ◌++◌, Option, Some, None, Result, Ok, Err, IfOk, MatchOption}
+use Rattle.std.specs.Prelude.{◌≡◌, List, ℕ, ◌++◌, Option, Some, None}
 use Rattle.willow_entry.specs.EntryForm.{entry_spelling, IsEntry}
 use Rattle.spelling.specs.Form.{AreBytes}
 use Rattle.willow_entry.specs.Row.{RowValue}

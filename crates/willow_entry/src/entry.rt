@@ -1,10 +1,10 @@
 //! Entries, and which of two is newer.
 
-ghost use Rattle.std.specs.Prelude.{◌≡◌};
+ghost use Rattle.std.specs.Prelude.{◌≡◌, IfOk};
 ghost use Rattle.willow_entry.specs.Entry.{is_newer, same_entry};
 
 use std::cmp::Ordering;
-use willow_path::{Digest, NamespaceKey, Path, UserKey};
+use willow_path::{Digest, NamespaceKey, NoMemory, Path, UserKey};
 
 /// An entry of the Willow Data Model: what was written where, when, and by whose leave.
 #[derive(Debug, Drop)]
@@ -21,6 +21,22 @@ pub struct Entry {
     pub length: u64,
     /// The digest of its payload.
     pub digest: Digest,
+}
+
+impl Entry {
+    /// An equal entry.
+    pub fn copy(&self) -> Result<Entry, NoMemory>
+        ensures { IfOk result (λ entry. entry ≡ self.now) }
+    {
+        Ok(Entry {
+            namespace: self.namespace,
+            subspace: self.subspace,
+            path: self.path.copy()?,
+            timestamp: self.timestamp,
+            length: self.length,
+            digest: self.digest,
+        })
+    }
 }
 
 /// Whether e is newer than f: its timestamp is greater; or these are equal and its digest is greater;

@@ -31,3 +31,9 @@ pub given-on : (a b c : Option (List ℕ)) (bytes : List ℕ) (at n : ℕ) → A
 given-on a b c bytes at n p q =
     let on : Appends b c (take n (drop at bytes)) = rw take_rest at q in
     rw take-add (Appends-trans a b c (take at bytes) (take n (drop at bytes)) p on)
+
+-- and joins the bytes that were given before
+pub piece-joined : (bytes front rest : List ℕ) (at n : ℕ) → front ≡ take n (drop at bytes) → length front ≡ n → take (at + n) bytes ≡ take at bytes ++ take n (front ++ rest)
+piece-joined bytes front rest at n e size =
+    let seam : take n (front ++ rest) ≡ front = ap (λ k. take k (front ++ rest)) (sym size) ∙ take-append_seam front rest in
+    take-add at n bytes ∙ ap (λ (xs : List ℕ). take at bytes ++ xs) (sym (seam ∙ e))

@@ -3,14 +3,14 @@
 ghost use Rattle.std.specs.Prelude.{◌≡◌, ◌≤◌, Some};
 
 use crate::schedule::Schedule;
-use crate::supply::{count_end, Supply};
+use crate::supply::{Supply, count_end};
 use crate::{Fault, Source};
 use std::alloc::Global;
 
 /// A source of given bytes that fails at given calls.
 #[derive(Drop)]
 pub struct MemSource {
-    left: Supply,
+    supply: Supply,
     most: usize,
     schedule: Schedule,
     faults: u64,
@@ -25,7 +25,7 @@ impl MemSource {
         ensures { ⟦<MemSource as Source>⟧.facts result ≡ record { left = Some left.items; faults = 0; ends = 0 } }
     {
         MemSource {
-            left: Supply::new(left),
+            supply: Supply::new(left),
             most,
             schedule: Schedule::new(fails),
             faults: 0,
@@ -35,14 +35,14 @@ impl MemSource {
 }
 
 impl Source for MemSource {
-    ghost facts = { λ s. record { left = Some s.left; faults = s.faults; ends = s.ends } };
+    ghost facts = { λ s. record { left = Some s.supply.left; faults = s.faults; ends = s.ends } };
 
     fn read(&mut self, buf: &mut [u8]) -> Result<usize, Fault> {
         if self.schedule.next_fails() {
             self.faults = self.faults.saturating_add(1);
             return Err(Fault::Failed);
         }
-        let n = self.left.give(buf, self.most);
+        let n = self.supply.give(buf, self.most);
         count_end(&mut self.ends, n, buf);
         Ok(n)
     }

@@ -32,7 +32,11 @@ fn room(alloc: Global, size: usize) -> Result<Vec<u8>, AllocError>
 
 /// All bytes of `source` up to its end. `Failed` comes only where a read failed, and `TooLong` exactly
 /// where more than `limit` bytes came. What was read is taken off at every answer.
-pub fn read_all<S: Source>(alloc: Global, source: &mut S, limit: u64) -> Result<Vec<u8>, End<ReadEnd>>
+pub fn read_all<S: Source>(
+    alloc: Global,
+    source: &mut S,
+    limit: u64,
+) -> Result<Vec<u8>, End<ReadEnd>>
     ensures bytes { IfOk result (λ v. Consumes (S.facts source.old).left (S.facts source.new).left v.items) }
     ensures all { OnOk result (IsAtEnd (S.facts source.new).left) }
     ensures within { IfOk result (λ v. length v.items ≤ limit) }

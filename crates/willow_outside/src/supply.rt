@@ -2,6 +2,7 @@
 
 ghost use Rattle.std.specs.Prelude.{◌≡◌, ◌<◌, ◌≤◌, ℕ, List, [], ◌++◌, length, take, drop};
 ghost use Rattle.willow_outside.specs.Counts.{CountsEnd};
+ghost use Rattle.willow_outside.specs.Passed.{Passed};
 
 use std::marker::Model;
 
@@ -13,16 +14,16 @@ pub(crate) struct Supply {
 }
 
 impl Model for Supply {
-    ghost Value = { List ℕ };
+    ghost Value = { Passed };
 
-    ghost view = { λ s. drop s.at s.bytes.items };
+    ghost view = { λ s. record { given = take s.at s.bytes.items; left = drop s.at s.bytes.items } };
 
     ghost invariant = { λ s. s.at ≤ length s.bytes.items };
 }
 
 impl Supply {
     pub(crate) fn new(bytes: Vec<u8>) -> Supply
-        ensures { result ≡ bytes.items }
+        ensures { result ≡ record { given = []; left = bytes.items } }
     {
         Supply { bytes, at: 0 }
     }
@@ -31,8 +32,9 @@ impl Supply {
     pub(crate) fn give(&mut self, buf: &mut [u8], most: usize) -> usize
         requires { 1 ≤ most }
         ensures bound { result ≤ length buf.new }
-        ensures bytes { self.old ≡ take result buf.new ++ self.new }
-        ensures none { result ≡ 0 → 0 < length buf.new → self.new ≡ [] }
+        ensures bytes { self.old.left ≡ take result buf.new ++ self.new.left }
+        ensures given { self.new.given ≡ self.old.given ++ take result buf.new }
+        ensures none { result ≡ 0 → 0 < length buf.new → self.new.left ≡ [] }
     {
         let n = buf.len().min(most).min(self.bytes.len() - self.at);
         buf[..n].copy_from_slice(&self.bytes[self.at..self.at + n]);

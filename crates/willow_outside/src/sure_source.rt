@@ -2,14 +2,14 @@
 
 ghost use Rattle.std.specs.Prelude.{◌≡◌, Some};
 
-use crate::supply::{count_end, Supply};
+use crate::supply::{Supply, count_end};
 use crate::{Fault, Source};
 use std::alloc::Global;
 
 /// A source of given bytes without faults.
 #[derive(Drop)]
 pub struct SureSource {
-    left: Supply,
+    supply: Supply,
     ends: u64,
 }
 
@@ -19,17 +19,17 @@ impl SureSource {
         ensures { ⟦<SureSource as Source>⟧.facts result ≡ record { left = Some left.items; faults = 0; ends = 0 } }
     {
         SureSource {
-            left: Supply::new(left),
+            supply: Supply::new(left),
             ends: 0,
         }
     }
 }
 
 impl Source for SureSource {
-    ghost facts = { λ s. record { left = Some s.left; faults = 0; ends = s.ends } };
+    ghost facts = { λ s. record { left = Some s.supply.left; faults = 0; ends = s.ends } };
 
     fn read(&mut self, buf: &mut [u8]) -> Result<usize, Fault> {
-        let n = self.left.give(buf, usize::MAX);
+        let n = self.supply.give(buf, usize::MAX);
         count_end(&mut self.ends, n, buf);
         Ok(n)
     }

@@ -1,3 +1,7 @@
 pub mod PathLimits
 pub mod PathVectors
 pub mod PathOrder
+pub mod PathReading
+pub mod PathReads
+pub mod PartSuccessor
+pub mod PathSuccessor

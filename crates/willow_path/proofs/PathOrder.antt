@@ -15,7 +15,7 @@ part_cmp_total = nat_list_cmp_total
 pub path_cmp_total : IsTotalOrder path_cmp
 path_cmp_total = lists_total nat_list_cmp_total
 
-both_tests : (a b : Bool) → (a && b) ≡ true → (a ≡ true) × (b ≡ true)
+pub both_tests : (a b : Bool) → (a && b) ≡ true → (a ≡ true) × (b ≡ true)
 both_tests true true h = (refl, refl)
 both_tests true false h = absurd cc
 both_tests false b h = absurd cc

@@ -1,5 +1,5 @@
 -- What `push` answers.
-use Rattle.std.specs.Prelude.{ℕ, ◌+◌, List, length, Option, Some, None, nat_lt, nat_le, if◌then◌else◌}
+use Rattle.std.specs.Prelude.{ℕ, ◌+◌, ◌<◌, ◌≤◌, List, length, Option, Some, None, nat_lt, nat_le, if◌then◌else◌}
 use Rattle.willow_path.specs.Path.{total}
 use Rattle.willow_path.specs.declared.limits.TheConstants.{MAX_PART, MAX_PARTS, MAX_TOTAL}
 use Rattle.willow_path.specs.declared.path.PathRefusal.{PathRefusal}
@@ -11,3 +11,9 @@ push_refusal path part =
     if nat_lt MAX_PART (length part) then Some (ComponentTooLong (length part)) else
     if nat_le MAX_PARTS (length path) then Some TooManyComponents else
     if nat_lt MAX_TOTAL (total path + length part) then Some (PathTooLong (total path + length part)) else None
+
+-- there is room for the component behind the path
+pub record HasRoom (path : List (List ℕ)) (part : List ℕ) : Type 0 where
+  pub short : length part ≤ MAX_PART
+  pub few : length path < MAX_PARTS
+  pub within : total path + length part ≤ MAX_TOTAL

@@ -1,12 +1,19 @@
 //! What the definitions mean, and what follows from them. These functions do nothing: each is called,
 //! if at all, for its clauses.
 
-ghost use Rattle.std.specs.Prelude.{◌≡◌, ◌↔◌, ℕ, List, IsTrue, nat_eq, false};
+ghost use Rattle.std.specs.Prelude.{◌≡◌, ◌↔◌, ℕ, ◌-◌, min, List, [], ◌∷◌, ◌++◌, Option, IsTrue, nat_eq, false};
 ghost use Rattle.std.specs.declared.cmp.Ordering.TheVariants.{Equal};
 ghost use Rattle.std.specs.Ordering.{is_gt};
 ghost use Rattle.std.specs.Cmp.{IsTotalOrder};
 ghost use Rattle.std.specs.Cmp.Lexicographic.{pointwise};
-ghost use Rattle.willow_path.specs.Path.{IsPrefix, is_prefix, part_cmp, path_cmp};
+ghost use Rattle.spelling.specs.Form.{IsForm};
+ghost use Rattle.willow_path.specs.Key.{IsKey};
+ghost use Rattle.willow_path.specs.Path.{IsPath, IsPrefix, is_prefix, part_cmp, path_cmp, total};
+ghost use Rattle.willow_path.specs.Successor.{IsAfter, IsBelow, after, part_after};
+ghost use Rattle.std.specs.Option.{option_map, option_or};
+ghost use Rattle.willow_path.specs.PathSpelling.{path_spelling};
+
+use crate::limits::{MAX_PART, MAX_TOTAL};
 
 /// Bytes are ordered as strings of numbers are. Keys and digests compare equal, by `==` and by their
 /// order, exactly where their bytes are the same.
@@ -34,4 +41,23 @@ pub fn prefixes()
     ensures means { (path longer : List (List ℕ)) → IsTrue (is_prefix path longer) ↔ IsPrefix path longer }
     ensures first { (path longer : List (List ℕ)) → IsTrue (is_prefix path longer) → is_gt (path_cmp path longer) ≡ false }
     ensures between { (path a b c : List (List ℕ)) → IsTrue (is_prefix path a) → IsTrue (is_prefix path c) → is_gt (path_cmp a b) ≡ false → is_gt (path_cmp b c) ≡ false → IsTrue (is_prefix path b) }
+{}
+
+/// A path within the limits has one spelling, and no spelling of a path begins another; so for keys, which
+/// are spelled as their bytes.
+#[tactic(auto, using(crate::proofs::PathReads::path_form, crate::proofs::PathReads::key_form))]
+pub fn one_spelling()
+    ensures path { IsForm path_spelling IsPath }
+    ensures key { IsForm (λ key. key) IsKey }
+{}
+
+/// The answer of `after_prefixed` is the only one that is right. At or above a path and below that answer
+/// stand just the path's extensions. The last component decides where it can be added to or raised, and
+/// else the path before it does.
+#[tactic(auto, using(crate::proofs::PathSuccessor::after_is, crate::proofs::PathSuccessor::IsAfter_one, crate::proofs::PathSuccessor::extensions_between, crate::proofs::PathSuccessor::after_last))]
+pub fn successors()
+    ensures right { (path : List (List ℕ)) → IsPath path → IsAfter path (after path) }
+    ensures one { (path : List (List ℕ)) (a b : Option (List (List ℕ))) → IsAfter path a → IsAfter path b → a ≡ b }
+    ensures between { (path q : List (List ℕ)) → IsPath path → IsPath q → IsTrue (is_prefix path q) ↔ ((is_gt (path_cmp path q) ≡ false) × IsBelow q (after path)) }
+    ensures by_last { (path : List (List ℕ)) (part : List ℕ) → after (path ++ part ∷ []) ≡ option_or (option_map (λ next. path ++ next ∷ []) (part_after (min MAX_PART (MAX_TOTAL - total path)) part)) (after path) }
 {}

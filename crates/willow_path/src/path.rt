@@ -7,8 +7,7 @@ ghost use Rattle.std.specs.Cmp.Rules.{comparing};
 ghost use Rattle.std.specs.Cmp.{partial_order_from_own_ties};
 ghost use Rattle.std.proofs.Common.{rules};
 ghost use Rattle.willow_path.specs.Path.{IsPath, total, is_prefix, part_cmp, path_cmp};
-ghost use Rattle.willow_path.specs.PathPush.{push_refusal};
-ghost use Rattle.spelling.specs.Form.{AreBytes};
+ghost use Rattle.willow_path.specs.PathPush.{HasRoom, push_refusal};
 ghost use Rattle.willow_path.specs.Answers.{Answers};
 
 use crate::limits::{MAX_PART, MAX_PARTS, MAX_TOTAL};
@@ -68,6 +67,7 @@ impl Path {
     /// Adds a component at the end. Of several refusals the first is given: a component of more than
     /// `MAX_PART` bytes, `MAX_PARTS` components already, more than `MAX_TOTAL` bytes with this one.
     /// Memory is asked for after these; an error leaves the path as it was.
+    #[tactic(auto, using(crate::proofs::PathLimits::room))]
     pub fn push(&mut self, part: &[u8]) -> Result<(), End<PathRefusal>>
         ensures answer { Answers result (push_refusal self.old part.now) }
         ensures added { OnOk result (self.new ≡ self.old ++ part.now ∷ []) }
@@ -77,6 +77,17 @@ impl Path {
         if let Some(refusal) = self.refusal(part) {
             return Err(End::Refused(refusal));
         }
+        self.add(part)?;
+        Ok(())
+    }
+
+    // Adds a component that there is room for; an error leaves the path as it was.
+    pub(crate) fn add(&mut self, part: &[u8]) -> Result<(), NoMemory>
+        requires { HasRoom self.old part.now }
+        ensures added { OnOk result (self.new ≡ self.old ++ part.now ∷ []) }
+        ensures path { IsPath self.new }
+        ensures err { OnErr result (self.new ≡ self.old) }
+    {
         let added = Vec::from_slice(*self.parts.allocator(), part)?;
         self.parts.push(added)?;
         self.byte_count += part.len();
@@ -87,19 +98,24 @@ impl Path {
     #[tactic(auto, unfolding(crate::specs::PathPush::push_refusal))]
     fn refusal(&self, part: &[u8]) -> Option<PathRefusal>
         ensures cause { result ≡ push_refusal self.now part.now }
-        ensures bytes { AreBytes part.now }
+        ensures path { IsPath self.now }
     {
+        let total = self.byte_count + part.len();
         if part.len() > MAX_PART {
             return Some(PathRefusal::ComponentTooLong { len: part.len() });
         }
         if self.parts.len() >= MAX_PARTS {
             return Some(PathRefusal::TooManyComponents);
         }
-        let total = self.byte_count + part.len();
         if total > MAX_TOTAL {
             return Some(PathRefusal::PathTooLong { total });
         }
         None
+    }
+
+    // The allocator that the path takes its memory from.
+    pub(crate) fn allocator(&self) -> Global {
+        *self.parts.allocator()
     }
 
     /// The number of components.

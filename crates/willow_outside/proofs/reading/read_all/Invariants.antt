@@ -1,4 +1,4 @@
-use Rattle.std.proofs.Common.{◌≡◌, ◌≤◌, length, ℕ, ◌+◌, ◌-◌, ◌*◌, ◌<◌}
+use Rattle.std.proofs.Common.{◌≡◌, ◌≤◌, length, ◌-◌, ◌<◌}
 use Rattle.std.specs.Io.KnownBytes.{Consumes}
 use Rattle.willow_outside.proofs.reading.read_all.Given as goal
 

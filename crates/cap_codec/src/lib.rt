@@ -1,0 +1,14 @@
+//! Capabilities, write tokens and rows as bytes.
+//! The contract: what is read is spelled by just the bytes taken, and nothing that is spelled is refused.
+#![tactic(auto)]
+
+mod capability;
+mod frame;
+pub mod laws;
+mod row;
+mod token;
+
+pub use capability::{decode_capability, read_capability, read_signature};
+pub use frame::{MAX_FRAME, decode_frame, read_frames};
+pub use row::{RawRow, RawRows};
+pub use token::{WriteToken, read_token};

@@ -1,0 +1,132 @@
+//! Rows whose tokens are read out: an entry, by whose leave it was written, and the bytes of both.
+
+ghost use Rattle.std.specs.Prelude.{◌≡◌, IfOk};
+ghost use Rattle.cap_codec.specs.Rows.{RawValue, row_of, raw_spelling, IsRaw, IsRawRow, IsToken, ReadsWhole};
+
+use crate::token::{WriteToken, read_token};
+use spelling::{End, Input, NoMemory, NotHere};
+use std::alloc::Global;
+use std::marker::Model;
+use willow_entry::{Entry, Row, RowForm, read_entry};
+
+/// A row with its token read out. It keeps the bytes that it was read from. A contract sees the entry and
+/// the token; nothing is said of whether it is authorised.
+#[derive(Debug, Drop)]
+pub struct RawRow {
+    entry: Entry,
+    token: WriteToken,
+    entry_bytes: Vec<u8>,
+    token_bytes: Vec<u8>,
+}
+
+impl Model for RawRow {
+    ghost use Rattle.std.specs.Prelude.{◌≡◌};
+    ghost use Rattle.willow_entry.specs.EntryForm.{entry_spelling};
+    ghost use Rattle.cap_codec.specs.Rows.{RawValue, IsRaw, token_spelling};
+
+    ghost Value = { RawValue };
+
+    ghost view = { λ r. record { entry = r.entry; token = r.token } };
+
+    ghost invariant = { λ r. IsRaw (record { entry = r.entry; token = r.token })
+        × (r.entry_bytes.items ≡ entry_spelling r.entry)
+        × (r.token_bytes.items ≡ token_spelling r.token) };
+}
+
+impl RawRow {
+    /// The row of this entry and this token.
+    pub fn new(alloc: Global, entry: Entry, token: WriteToken) -> Result<RawRow, NoMemory>
+        ensures entry { IfOk result (λ row. row.entry ≡ entry) }
+        ensures token { IfOk result (λ row. row.token ≡ token) }
+    {
+        let mut entry_bytes = Vec::new(alloc);
+        entry.encode(&mut entry_bytes)?;
+        let mut token_bytes = Vec::new(alloc);
+        token.encode(&mut token_bytes)?;
+        Ok(RawRow {
+            entry,
+            token,
+            entry_bytes,
+            token_bytes,
+        })
+    }
+
+    /// The row that the whole body spells: an entry, a token, and nothing else. It is not here exactly
+    /// where no row is spelled so.
+    pub fn decode(alloc: Global, body: &[u8]) -> Result<RawRow, End<NotHere>>
+        ensures { ReadsWhole body.now result }
+    {
+        let mut input = Input::new(body);
+        let entry = read_entry(alloc, &mut input)?;
+        let entry_len = input.taken_of(body);
+        let token = read_token(alloc, &mut input)?;
+        if input.len() > 0 {
+            return Err(End::Refused(NotHere));
+        }
+        Ok(RawRow {
+            entry,
+            token,
+            entry_bytes: Vec::from_slice(alloc, &body[..entry_len])?,
+            token_bytes: Vec::from_slice(alloc, &body[entry_len..])?,
+        })
+    }
+
+    /// The token.
+    pub fn token(&self) -> &WriteToken
+        ensures token { result.now ≡ self.now.token }
+        ensures fits { IsToken self.now.token }
+    {
+        &self.token
+    }
+
+    /// An equal row.
+    pub fn copy(&self) -> Result<RawRow, NoMemory>
+        ensures { IfOk result (λ row. row ≡ self.now) }
+    {
+        Ok(RawRow {
+            entry: self.entry.copy()?,
+            token: self.token.copy()?,
+            entry_bytes: Vec::from_slice(*self.entry_bytes.allocator(), &self.entry_bytes)?,
+            token_bytes: Vec::from_slice(*self.token_bytes.allocator(), &self.token_bytes)?,
+        })
+    }
+}
+
+impl Row for RawRow {
+    ghost value = { row_of };
+
+    fn entry(&self) -> &Entry {
+        &self.entry
+    }
+
+    fn entry_bytes(&self) -> &[u8] {
+        &self.entry_bytes
+    }
+
+    fn token_bytes(&self) -> &[u8] {
+        &self.token_bytes
+    }
+
+    fn copy(&self) -> Result<RawRow, NoMemory> {
+        self.copy()
+    }
+}
+
+/// The bodies of rows: an entry within its limits, a write token, and nothing else.
+pub struct RawRows;
+
+impl RowForm for RawRows {
+    type R = RawRow;
+
+    ghost IsRow = { IsRawRow };
+
+    fn read(alloc: Global, body: &[u8]) -> Result<Option<RawRow>, NoMemory> {
+        match RawRow::decode(alloc, body) {
+            Ok(row) => Ok(Some(row)),
+            Err(End::Refused(NotHere)) => Ok(None),
+            Err(End::NoMemory) => Err(NoMemory),
+        }
+    }
+
+    ghost entries_fit = { λ r fits. fits.entry_fits };
+}

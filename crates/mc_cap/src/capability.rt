@@ -1,0 +1,83 @@
+//! Capabilities: who they were given to, and for what.
+
+ghost use Rattle.std.specs.Prelude.{◌≡◌, IfOk};
+ghost use Rattle.mc_cap.specs.Grant.{receiver_of, granted, first_grant};
+
+use crate::chain::{Chain, Delegation};
+use crate::signature::Signature;
+use willow_area::Area;
+use willow_path::{NamespaceKey, NoMemory, UserKey};
+
+/// What a capability lets its receiver do.
+#[derive(Clone, Copy, Debug, PartialEq, Eq)]
+pub enum Mode {
+    Read,
+    Write,
+}
+
+/// That a user may read or write an area of a namespace (Meadowcap). It is owned exactly where it has an
+/// initial signature, else communal. Contracts see the fields; whether it is valid, `check` answers.
+#[derive(Debug, Drop)]
+pub struct Capability {
+    /// Whether it is for reading or for writing.
+    pub mode: Mode,
+    /// The namespace.
+    pub namespace: NamespaceKey,
+    /// The user who had it first.
+    pub user: UserKey,
+    /// The namespace's signature of the initial message, where the capability is owned.
+    pub initial: Option<Signature>,
+    /// By which delegations it was handed on.
+    pub chain: Chain,
+}
+
+impl Capability {
+    /// The user who has it now: that of the last delegation, or the first user.
+    pub fn receiver(&self) -> UserKey
+        ensures { result ≡ receiver_of self.now }
+    {
+        match self.chain.as_slice().last() {
+            Some(delegation) => delegation.user,
+            None => self.user,
+        }
+    }
+
+    /// The area that it is good for: that of the last delegation. Without delegations it is the whole
+    /// subspace of the first user where the capability is communal, and everything where it is owned.
+    pub fn granted_area(&self) -> Result<Area, NoMemory>
+        ensures { IfOk result (λ area. area ≡ granted self.now) }
+    {
+        match self.chain.as_slice().last() {
+            Some(delegation) => delegation.area.copy(),
+            None => Ok(self.first_grant()),
+        }
+    }
+
+    // The area that it was good for before any delegation.
+    pub(crate) fn first_grant(&self) -> Area
+        ensures { result ≡ first_grant self.now }
+    {
+        let mut area = Area::full(self.chain.allocator());
+        if self.initial.is_none() {
+            area.subspace = Some(self.user);
+        }
+        area
+    }
+
+    /// An equal capability.
+    pub fn copy(&self) -> Result<Capability, NoMemory>
+        ensures { IfOk result (λ capability. capability ≡ self.now) }
+    {
+        let initial = match &self.initial {
+            Some(signature) => Some(signature.copy()?),
+            None => None,
+        };
+        Ok(Capability {
+            mode: self.mode,
+            namespace: self.namespace,
+            user: self.user,
+            initial,
+            chain: self.chain.copy()?,
+        })
+    }
+}

@@ -1,0 +1,117 @@
+//! Whether a capability is valid.
+
+ghost use Rattle.std.specs.Prelude.{◌≡◌, ◌++◌, ◌∷◌, [], ◌≤◌, length, None, OnErr, OnOk};
+ghost use Rattle.spelling.specs.Answers.{Answers, first_some};
+ghost use Rattle.mc_cap.specs.AreaForm.{area_spelling};
+ghost use Rattle.mc_cap.specs.Forms.{delegation_spelling};
+ghost use Rattle.mc_cap.specs.Valid.{chain_refusal, handing_refusal, start_refusal, step_refusal};
+
+use crate::capability::Capability;
+use crate::chain::Delegation;
+use crate::messages::{initial_message, spell_area, spell_signature};
+use scheme_core::Verify;
+use spelling::{put_byte, put_bytes};
+use willow_area::Area;
+use willow_path::{End, UserKey};
+
+/// The most delegations of a valid capability.
+pub const MAX_DELEGATIONS: usize = 8;
+
+/// Why a capability is not valid. Delegations are counted from 1.
+#[derive(Clone, Copy, Debug, PartialEq, Eq)]
+pub enum ChainRefusal {
+    /// It is communal and its namespace is not.
+    NotCommunal,
+    /// It is owned and its namespace is communal.
+    NotOwned,
+    /// The namespace did not sign the initial message.
+    BadInitial,
+    /// The area of this delegation is not within what was granted before.
+    AreaGrows { at: u8 },
+    /// The receiver before this delegation did not sign its handover.
+    BadSignature { at: u8 },
+    /// There are more than `MAX_DELEGATIONS` delegations.
+    TooManyDelegations,
+}
+
+impl Capability {
+    /// Whether the capability is valid by the rules of the scheme (Meadowcap): it has at most
+    /// `MAX_DELEGATIONS` delegations; it is communal exactly where its namespace is; where it is owned,
+    /// the namespace signed the initial message; and for each delegation the area granted before includes
+    /// its area, and the receiver before it signed the handover. It is refused with the first of these
+    /// that fails, in this order, the delegations one after the other.
+    #[tactic(auto, unfolding(crate::specs::Valid::chain_refusal))]
+    pub fn check<S: Verify>(&self, scheme: &S) -> Result<(), End<ChainRefusal>>
+        ensures { Answers result (chain_refusal S.rules self.now) }
+    {
+        if self.chain.len() > MAX_DELEGATIONS {
+            return Err(End::Refused(ChainRefusal::TooManyDelegations));
+        }
+        if let Some(refusal) = self.start_refusal(scheme) {
+            return Err(End::Refused(refusal));
+        }
+        self.check_chain(scheme)
+    }
+
+    // Why the capability cannot even begin.
+    #[tactic(auto, unfolding(crate::specs::Valid::start_refusal))]
+    fn start_refusal<S: Verify>(&self, scheme: &S) -> Option<ChainRefusal>
+        ensures { result ≡ start_refusal S.rules self.now }
+    {
+        let communal = scheme.is_communal(&self.namespace);
+        match &self.initial {
+            None if communal => None,
+            None => Some(ChainRefusal::NotCommunal),
+            Some(_) if communal => Some(ChainRefusal::NotOwned),
+            Some(signature) => {
+                let message = initial_message(self.mode, &self.user);
+                if scheme.verify_namespace(&self.namespace, &message, signature.as_slice()) {
+                    None
+                } else {
+                    Some(ChainRefusal::BadInitial)
+                }
+            }
+        }
+    }
+
+    // Checks the delegations one after the other. One message grows: before each delegation it is the
+    // letter H and the capability so far, whose number of delegations stands in one byte.
+    fn check_chain<S: Verify>(&self, scheme: &S) -> Result<(), End<ChainRefusal>>
+        requires { length self.now.chain ≤ MAX_DELEGATIONS }
+        ensures { Answers result (first_some (step_refusal S.rules self.now) 0 self.now.chain) }
+    {
+        let mut message = Vec::new(self.chain.allocator());
+        put_byte(&mut message, b'H')?;
+        self.spell_head(&mut message)?;
+        let count_at = message.len();
+        put_byte(&mut message, 0)?;
+        let first = self.first_grant();
+        let (mut grant, mut receiver, mut count) = (&first, &self.user, 0);
+        for next in self.chain.as_slice() {
+            count += 1;
+            check_handing(scheme, grant, receiver, &mut message, count, next)?;
+            message[count_at] = count;
+            grant = &next.area;
+            receiver = &next.user;
+        }
+        Ok(())
+    }
+}
+
+// Checks that the receiver of an area hands it on by a delegation, whose place is `at`. The message so
+// far is the letter H and the capability before it; where all is well, the delegation is appended.
+fn check_handing<S: Verify>(scheme: &S, grant: &Area, receiver: &UserKey, message: &mut Vec<u8>, at: u8, next: &Delegation) -> Result<(), End<ChainRefusal>>
+    ensures answer { Answers result (handing_refusal S.rules grant.now receiver.now (message.old.items ++ (area_spelling next.now.area ++ next.now.user)) at next.now) }
+    ensures grown { OnOk result (message.new.items ≡ message.old.items ++ delegation_spelling next.now) }
+{
+    if !grant.includes_area(&next.area) {
+        return Err(End::Refused(ChainRefusal::AreaGrows { at }));
+    }
+    spell_area(&next.area, message)?;
+    put_bytes(message, &next.user.to_bytes())?;
+    if !scheme.verify_user(receiver, message, next.signature.as_slice()) {
+        return Err(End::Refused(ChainRefusal::BadSignature { at }));
+    }
+    spell_signature(&next.signature, message)?;
+    Ok(())
+}

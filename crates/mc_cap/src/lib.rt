@@ -1,0 +1,15 @@
+//! Capabilities (Meadowcap): who may read or write which part of a namespace, by chains of delegations.
+//! The contract: `check` refuses exactly at the first condition of a valid chain that fails.
+#![tactic(auto)]
+
+mod capability;
+mod chain;
+mod check;
+mod messages;
+mod signature;
+
+pub use capability::{Capability, Mode};
+pub use chain::{Chain, Delegation, MAX_CHAIN};
+pub use check::{ChainRefusal, MAX_DELEGATIONS};
+pub use messages::initial_message;
+pub use signature::Signature;

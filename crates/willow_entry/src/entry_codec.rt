@@ -1,0 +1,103 @@
+//! How entries are spelled as bytes, and read back.
+
+ghost use Rattle.std.specs.Prelude.{◌≡◌, ◌<◌, ◌^◌, ◌++◌, OnOk, OnErr, IfOk};
+ghost use Rattle.std.specs.Int.{w64, to_be_bytes};
+ghost use Rattle.spelling.specs.Form.{Decodes};
+ghost use Rattle.spelling.specs.Reading.{Gives};
+ghost use Rattle.spelling.specs.Spelling.{AreSoManyBytes};
+ghost use Rattle.willow_entry.specs.EntryForm.{entry_at, entry_spelling, IsEntry};
+
+use crate::entry::Entry;
+use spelling::{End, Input, NoMemory, NotHere, Unread};
+use std::alloc::Global;
+use willow_path::{read_digest, read_namespace_key, read_path, read_user_key};
+
+impl Entry {
+    /// Appends the spelling of the entry to `out`: the 33 bytes of the namespace key and of the subspace key,
+    /// the path, the timestamp and the payload length in 8 bytes each, and the 32 bytes of the digest.
+    /// An error leaves `out` as it was.
+    pub fn encode(&self, out: &mut Vec<u8>) -> Result<(), NoMemory>
+        ensures spelled { OnOk result (out.new.items ≡ out.old.items ++ entry_spelling self.now) }
+        ensures err { OnErr result (out.new.items ≡ out.old.items) }
+        ensures fits { IsEntry self.now }
+    {
+        see_limits(self);
+        let text = spelled(*out.allocator(), self)?;
+        out.extend_from_slice(&text)?;
+        Ok(())
+    }
+
+    /// The entry that is spelled at the front of the bytes, with the number of bytes taken. It is not here
+    /// exactly where no front of the bytes is the spelling of an entry.
+    pub fn decode(alloc: Global, bytes: &[u8]) -> Result<(Entry, usize), End<NotHere>>
+        ensures { Decodes entry_spelling IsEntry bytes.now result }
+    {
+        let mut input = Input::new(bytes);
+        let entry = read_entry(alloc, &mut input)?;
+        Ok((entry, bytes.len().saturating_sub(input.len())))
+    }
+}
+
+/// Reads an entry from the front of the input. It is wrong as soon as the bytes read begin none.
+#[tactic(auto, unfolding(crate::specs::EntryForm::entry_at))]
+pub fn read_entry(alloc: Global, input: &mut Input) -> Result<Entry, Unread>
+    ensures { Gives (λ entry. entry) result input.new (entry_at input.old) }
+{
+    Ok(Entry {
+        namespace: read_namespace_key(input)?,
+        subspace: read_user_key(input)?,
+        path: read_path(alloc, input)?,
+        timestamp: input.number_u64()?,
+        length: input.number_u64()?,
+        digest: read_digest(input)?,
+    })
+}
+
+// The fields are within their limits, as their types say.
+fn see_limits(entry: &Entry)
+    ensures { IsEntry entry.now }
+{
+    let _keys = (entry.namespace.to_bytes(), entry.subspace.to_bytes());
+    let _path = entry.path.total();
+    see_number(entry.timestamp);
+    see_number(entry.length);
+    see_digest(&entry.digest.0);
+}
+
+// A number of 8 bytes is within its limit.
+fn see_number(n: u64)
+    ensures { n < 2 ^ 64 }
+{
+    let _ = n;
+}
+
+// A digest has 32 bytes.
+fn see_digest(digest: &[u8; 32])
+    ensures { AreSoManyBytes 32 digest.now }
+{
+    let _first = digest.as_slice()[0];
+}
+
+// The entry's spelling.
+#[tactic(auto, unfolding(crate::specs::EntryForm::entry_spelling))]
+pub(crate) fn spelled(alloc: Global, entry: &Entry) -> Result<Vec<u8>, NoMemory>
+    ensures { IfOk result (λ text. text.items ≡ entry_spelling entry.now) }
+{
+    let numbers = spelled_numbers(alloc, entry)?;
+    let mut text = Vec::from_slice(alloc, &entry.namespace.to_bytes())?;
+    text.extend_from_slice(&entry.subspace.to_bytes())?;
+    entry.path.encode(&mut text)?;
+    text.extend_from_slice(&numbers)?;
+    Ok(text)
+}
+
+// Timestamp, payload length and digest.
+fn spelled_numbers(alloc: Global, entry: &Entry) -> Result<Vec<u8>, NoMemory>
+    ensures { IfOk result (λ text. text.items
+        ≡ to_be_bytes w64 entry.now.timestamp ++ (to_be_bytes w64 entry.now.length ++ entry.now.digest.0)) }
+{
+    let mut text = Vec::from_slice(alloc, &entry.timestamp.to_be_bytes())?;
+    text.extend_from_slice(&entry.length.to_be_bytes())?;
+    text.extend_from_slice(&entry.digest.0)?;
+    Ok(text)
+}

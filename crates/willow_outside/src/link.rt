@@ -1,0 +1,37 @@
+//! What bytes go over in both directions.
+
+ghost use Rattle.std.specs.Prelude.{◌≡◌};
+ghost use Rattle.std.specs.Io.{ReadsAtMost, WritesAtMost};
+ghost use Rattle.std.specs.Io.KnownBytes.{ReadConsumes, WriteAppends};
+ghost use Rattle.willow_outside.specs.Counts.{HasCause, EndHasCause, TakesSome};
+ghost use Rattle.willow_outside.specs.Facts.{LinkFacts};
+
+use crate::Fault;
+
+/// What bytes go over in both directions: a socket, or bytes in memory.
+pub trait Link: Send + Drop {
+    ghost facts: { Self → LinkFacts };
+
+    /// Puts the next bytes at the front of `buf` and answers their number, at most `buf.len()`.
+    /// With a non-empty `buf` an answer of 0 is the end. `Failed` comes only where `read_faults` rose.
+    fn read(&mut self, buf: &mut [u8]) -> Result<usize, Fault>
+        ensures bound { ReadsAtMost result buf.new }
+        ensures bytes { ReadConsumes (facts self.old).left (facts self.new).left result buf.new }
+        ensures taken { WriteAppends (facts self.old).taken (facts self.new).taken result buf.new }
+        ensures cause { HasCause (facts self.old).read_faults (facts self.new).read_faults result }
+        ensures end { EndHasCause (facts self.old).ends (facts self.new).ends result buf.new }
+        ensures held { (facts self.new).held ≡ (facts self.old).held }
+        ensures write_faults { (facts self.new).write_faults ≡ (facts self.old).write_faults };
+
+    /// Takes bytes from the front of `piece` and answers their number, at least 1 of a non-empty `piece`.
+    /// `Failed` comes only where `write_faults` rose; nothing is taken then, nor at want of memory.
+    fn write(&mut self, piece: &[u8]) -> Result<usize, Fault>
+        ensures bound { WritesAtMost result piece.now }
+        ensures moves { TakesSome result piece.now }
+        ensures bytes { WriteAppends (facts self.old).held (facts self.new).held result piece.now }
+        ensures cause { HasCause (facts self.old).write_faults (facts self.new).write_faults result }
+        ensures left { (facts self.new).left ≡ (facts self.old).left }
+        ensures taken { (facts self.new).taken ≡ (facts self.old).taken }
+        ensures read_faults { (facts self.new).read_faults ≡ (facts self.old).read_faults }
+        ensures ends { (facts self.new).ends ≡ (facts self.old).ends };
+}

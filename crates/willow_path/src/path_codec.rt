@@ -1,0 +1,84 @@
+//! How paths are spelled as bytes, and read back.
+
+ghost use Rattle.std.specs.Prelude.{◌≡◌, ℕ, ◌≤◌, ◌++◌, List, length, min, OnOk, OnErr, IfOk};
+ghost use Rattle.spelling.specs.Form.{Decodes};
+ghost use Rattle.spelling.specs.Reading.{Gives};
+ghost use Rattle.willow_path.specs.Path.{IsPath};
+ghost use Rattle.willow_path.specs.PathSpelling.{part_at, part_spelling, parts_at, path_at, path_spelling};
+
+use crate::limits::{MAX_PART, MAX_PARTS, MAX_TOTAL};
+use crate::path::Path;
+use spelling::{End, Input, NoMemory, NotHere, Unread, guard};
+use std::alloc::Global;
+
+impl Path {
+    /// Appends the path's spelling to `out`: a byte for the number of components, and for each a byte for
+    /// its length and its bytes. An error leaves `out` as it was.
+    pub fn encode(&self, out: &mut Vec<u8>) -> Result<(), NoMemory>
+        ensures spelled { OnOk result (out.new.items ≡ out.old.items ++ path_spelling self.now) }
+        ensures err { OnErr result (out.new.items ≡ out.old.items) }
+    {
+        let text = spelled(*out.allocator(), self)?;
+        out.extend_from_slice(&text)?;
+        Ok(())
+    }
+
+    /// The path that is spelled at the front of the bytes, with the number of bytes taken. It is not here
+    /// exactly where no front of the bytes is the spelling of a path within the limits.
+    pub fn decode(alloc: Global, bytes: &[u8]) -> Result<(Path, usize), End<NotHere>>
+        ensures { Decodes path_spelling IsPath bytes.now result }
+    {
+        let mut input = Input::new(bytes);
+        let path = read_path(alloc, &mut input)?;
+        Ok((path, bytes.len().saturating_sub(input.len())))
+    }
+}
+
+/// Reads a path from the front of the input. It is wrong as soon as the bytes read exceed a limit.
+#[tactic(auto, unfolding(crate::specs::PathSpelling::path_at))]
+pub fn read_path(alloc: Global, input: &mut Input) -> Result<Path, Unread>
+    ensures { Gives (λ path. path) result input.new (path_at input.old) }
+{
+    let count = usize::from(input.byte()?);
+    guard(count <= MAX_PARTS)?;
+    read_parts(alloc, input, count)
+}
+
+// Reads so many components.
+fn read_parts(alloc: Global, input: &mut Input, count: usize) -> Result<Path, Unread>
+    requires { count ≤ MAX_PARTS }
+    ensures { Gives (λ path. path) result input.new (parts_at MAX_TOTAL count input.old) }
+{
+    let mut path = Path::empty(alloc);
+    for i in 0..count {
+        let part = read_part(input, MAX_TOTAL - path.total())?;
+        path.add(part)?;
+    }
+    Ok(path)
+}
+
+// Reads a component of a path that has room for so many bytes.
+#[tactic(auto, unfolding(crate::specs::PathSpelling::part_at, spelling::specs::Reading::text_at))]
+fn read_part<'a>(input: &mut Input<'a>, room: usize) -> Result<&'a [u8], Unread>
+    ensures read { Gives (λ part. part.now) result input.new (part_at room input.old) }
+    ensures short { IfOk result (λ part. length part.now ≤ min MAX_PART room) }
+{
+    let len = usize::from(input.byte()?);
+    guard(len <= MAX_PART.min(room))?;
+    input.slice(len)
+}
+
+// The path's spelling.
+fn spelled(alloc: Global, path: &Path) -> Result<Vec<u8>, NoMemory>
+    ensures { IfOk result (λ text. text.items ≡ path_spelling path.now) }
+{
+    let (total, count) = (path.total(), path.count());
+    let mut text = Vec::with_capacity(alloc, 1 + count + total)?;
+    text.push(count as u8)?;
+    for i in 0..count {
+        let part = path.part(i);
+        text.push(part.len() as u8)?;
+        text.extend_from_slice(part)?;
+    }
+    Ok(text)
+}
