@@ -102,7 +102,7 @@ left_of r rows = filter (λ s. not (is_dominating r s)) rows
 abbrev pub run_of : RowValue → List RowValue → ℕ
 run_of r rows = prefix_len (is_at_prefix r) rows
 
-keeps_all : (r : RowValue) (rows : List RowValue) → ((s : RowValue) → Member rows s → is_dominating r s ≡ false) → left_of r rows ≡ rows
+pub keeps_all : (r : RowValue) (rows : List RowValue) → ((s : RowValue) → Member rows s → is_dominating r s ≡ false) → left_of r rows ≡ rows
 keeps_all r [] none = refl
 keeps_all r (s ∷ rows) none = ap (λ b. cond (not b) (s ∷ left_of r rows) (left_of r rows)) (none s (inl refl)) ∙ ap (λ l. s ∷ l) (keeps_all r rows (λ t m. none t (inr m)))
 
@@ -139,7 +139,7 @@ reversed_lt Less = refl
 reversed_lt Equal = refl
 reversed_lt Greater = refl
 
-not_below : (r s : RowValue) → is_lt (place_cmp s r) ≡ false → is_gt (place_cmp r s) ≡ false
+pub not_below : (r s : RowValue) → is_lt (place_cmp s r) ≡ false → is_gt (place_cmp r s) ≡ false
 not_below r s e = ap is_gt (place_total.antisymm r s) ∙ reversed_lt (place_cmp s r) ∙ e
 
 below_from_gt : (r s : RowValue) → is_gt (place_cmp r s) ≡ true → place_cmp s r ≡ Less
