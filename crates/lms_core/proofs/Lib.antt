@@ -1,3 +1,14 @@
 pub mod Chains
 pub mod Climbs
 pub mod Accepting
+pub mod Values
+pub mod Nodes
+pub mod Secrets
+pub mod Digests
+pub mod Completeness
+pub mod Files
+pub mod Given
+pub mod Uses
+pub mod Once
+pub mod Parts
+pub mod Heights

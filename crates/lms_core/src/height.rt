@@ -2,6 +2,7 @@
 
 ghost use Rattle.std.specs.Prelude.{◌≡◌, ◌≤◌};
 ghost use Rattle.lms_core.specs.Accepts.{levels, leaves, type_of, height_of};
+ghost use Rattle.lms_core.specs.Key.{height_at};
 
 /// How many levels a tree has above its leaves: 5 (LMS_SHA256_M32_H5, 32 leaves) or
 /// 10 (LMS_SHA256_M32_H10, 1,024 leaves).
@@ -54,6 +55,17 @@ impl Height {
         match number {
             5 => Some(Height::H5),
             6 => Some(Height::H10),
+            _ => None,
+        }
+    }
+
+    /// The height of so many levels; none where it is not of the profile.
+    pub(crate) fn of_levels(number: u8) -> Option<Height>
+        ensures { result ≡ height_at number }
+    {
+        match number {
+            5 => Some(Height::H5),
+            10 => Some(Height::H10),
             _ => None,
         }
     }

@@ -5,8 +5,23 @@
 mod bytes;
 mod hashing;
 mod height;
+mod key;
+mod laws;
 mod one_time;
+mod one_use;
+mod reserve;
+mod scheme;
+mod signing;
+mod tree;
 mod verify;
 
 pub use height::Height;
+pub use key::LmsKey;
+pub use laws::{indices_are_handed_out_once, made_signatures_are_accepted};
+pub use one_use::OneUse;
+pub use reserve::{KeyRefusal, reserve_keys};
+pub use scheme::PeerScheme;
 pub use verify::lms_verify;
+
+#[cfg(test)]
+mod tests;

@@ -2,28 +2,22 @@
 
 ghost use Rattle.std.specs.Prelude.{◌≡◌, ◌*◌, ◌<◌, ◌^◌, ◌≤◌, length, IsTrue, IfSome};
 ghost use Rattle.lms_core.specs.Bytes.{u32_at};
-ghost use Rattle.lms_core.specs.Tree.{parent_value, climb};
+ghost use Rattle.lms_core.specs.Tree.{climb};
 ghost use Rattle.lms_core.specs.Accepts.{levels, leaves, is_sound, sound_height, signature_length, root_of, lms_accepts};
 
 use crate::bytes::{field_at, number_at};
-use crate::hashing::{inner, leaf};
+use crate::hashing::{leaf, parent};
 use crate::height::{Height, ONE_TIME_TYPE};
 use crate::one_time::told_key;
 
-/// The value of the node above a node.
-#[tactic(auto, unfolding(crate::specs::Tree::parent_value))]
-pub(crate) fn parent(identifier: &[u8; 16], node: u32, value: &[u8; 32], sibling: &[u8; 32]) -> [u8; 32]
-    ensures { result ≡ parent_value identifier.now node value.now sibling.now }
-{
-    if node % 2 == 1 {
-        inner(identifier, node / 2, sibling, value)
-    } else {
-        inner(identifier, node / 2, value, sibling)
-    }
-}
-
 /// The value of the node that stands as many levels above a node as the path has siblings.
-pub(crate) fn climbed(identifier: &[u8; 16], node: u32, value: &[u8; 32], levels: usize, path: &[u8]) -> [u8; 32]
+pub(crate) fn climbed(
+    identifier: &[u8; 16],
+    node: u32,
+    value: &[u8; 32],
+    levels: usize,
+    path: &[u8],
+) -> [u8; 32]
     requires few { levels ≤ 10 }
     requires whole { length path.now ≡ 32 * levels }
     ensures { result ≡ climb identifier.now node value.now levels path.now }
@@ -75,9 +69,21 @@ fn told_root(height: Height, identifier: &[u8; 16], message: &[u8], signature: &
 {
     let index = number_at(signature, 0);
     let randomizer = field_at::<32>(signature, 8);
-    let key = told_key(identifier, index, &randomizer, &signature[40..1128], message);
+    let key = told_key(
+        identifier,
+        index,
+        &randomizer,
+        &signature[40..1128],
+        message,
+    );
     let node = height.leaves() + index;
-    climbed(identifier, node, &leaf(identifier, node, &key), height.levels(), &signature[1132..])
+    climbed(
+        identifier,
+        node,
+        &leaf(identifier, node, &key),
+        height.levels(),
+        &signature[1132..],
+    )
 }
 
 /// Whether `signature` is a signature of `message` under `public` that RFC 8554 accepts, in the profile of

@@ -42,13 +42,12 @@ step_is : (rules : Rules) (c : Capability) (k : ℕ) (x : Delegation) (grant : A
 unfolding step_refusal
 step_is rules c k x grant receiver text le eg er et =
     ap (λ (g : Area). handing_refusal rules g receiver (text ++ (area_spelling x.area ++ x.user)) (k + 1) x) eg
-      ∙ ap (λ (u : List ℕ). handing_refusal rules (granted (cut c k)) u (text ++ (area_spelling x.area ++ x.user)) (k + 1) x) er
-      ∙ ap (λ (m : List ℕ). handing_refusal rules (granted (cut c k)) (receiver_of (cut c k)) m (k + 1) x) (ap (λ (t : List ℕ). t ++ (area_spelling x.area ++ x.user)) et ∙ sym (handover_of c k x.area x.user le))
+    ∙ ap (λ (u : List ℕ). handing_refusal rules (granted (cut c k)) u (text ++ (area_spelling x.area ++ x.user)) (k + 1) x) er
+    ∙ ap (λ (m : List ℕ). handing_refusal rules (granted (cut c k)) (receiver_of (cut c k)) m (k + 1) x) (ap (λ (t : List ℕ). t ++ (area_spelling x.area ++ x.user)) et ∙ sym (handover_of c k x.area x.user le))
 
 -- ---- one delegation further
 
 module _ (rules : Rules) (c : Capability) (items : List Delegation) (k : ℕ) (x : Delegation) (all : items ≡ c.chain) (lt : k < length items) (is : x ≡ get_or items k x) where
-
   within : k < length c.chain
   within = omega (arith, lt, ap length all)
 
@@ -65,8 +64,8 @@ module _ (rules : Rules) (c : Capability) (items : List Delegation) (k : ℕ) (x
   text_on place n old new at nk so_far more =
       let at_front : place ≡ length (72 ∷ head_spelling c) = omega (arith, at) in
       ap (λ (l : List ℕ). set l place (n + 1)) (more ∙ ap (λ (l : List ℕ). l ++ delegation_spelling x) so_far ∙ ap (λ (d : Delegation). text_of c k ++ delegation_spelling d) (sym it_is))
-        ∙ ap (λ (m : ℕ). set (text_of c k ++ delegation_spelling (get_or c.chain k x)) place (m + 1)) nk
-        ∙ grown delegation_spelling (72 ∷ head_spelling c) k (k + 1) place c.chain k x at_front within
+      ∙ ap (λ (m : ℕ). set (text_of c k ++ delegation_spelling (get_or c.chain k x)) place (m + 1)) nk
+      ∙ grown delegation_spelling (72 ∷ head_spelling c) k (k + 1) place c.chain k x at_front within
 
   -- what is left to refuse, from this delegation on
   pub left_here : (n : ℕ) (grant : Area) (receiver text : List ℕ) (total : Option ChainRefusal) → n ≡ k
@@ -76,10 +75,10 @@ module _ (rules : Rules) (c : Capability) (items : List Delegation) (k : ℕ) (x
   left_here n grant receiver text total nk eg er et so_far =
       let rest : drop k c.chain ≡ x ∷ drop (k + 1) c.chain = drop-cons c.chain k x within ∙ ap (λ (y : Delegation). y ∷ drop (suc k) c.chain) it_is ∙ ap (λ (m : ℕ). x ∷ drop m c.chain) (sym (add-one k)) in
       ap (λ (m : ℕ). or_else (handing_refusal rules grant receiver (text ++ (area_spelling x.area ++ x.user)) (m + 1) x) (first_some (step_refusal rules c) (k + 1) (drop (k + 1) c.chain))) nk
-        ∙ ap (λ (o : Option ChainRefusal). or_else o (first_some (step_refusal rules c) (k + 1) (drop (k + 1) c.chain))) (step_is rules c k x grant receiver text (omega (arith, within)) eg er et)
-        ∙ sym (first_some-cons (step_refusal rules c) k x (drop (k + 1) c.chain))
-        ∙ ap (first_some (step_refusal rules c) k) (sym rest)
-        ∙ so_far
+      ∙ ap (λ (o : Option ChainRefusal). or_else o (first_some (step_refusal rules c) (k + 1) (drop (k + 1) c.chain))) (step_is rules c k x grant receiver text (omega (arith, within)) eg er et)
+      ∙ sym (first_some-cons (step_refusal rules c) k x (drop (k + 1) c.chain))
+      ∙ ap (first_some (step_refusal rules c) k) (sym rest)
+      ∙ so_far
 
 -- nothing is left to refuse behind the last delegation
 pub none_left : (rules : Rules) (c : Capability) (items : List Delegation) (k : ℕ) (total : Option ChainRefusal) → items ≡ c.chain → length items ≤ k

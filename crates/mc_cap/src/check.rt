@@ -90,7 +90,13 @@ impl Capability {
 
     // Checks the delegations, of which the first hands on this area. The message is the letter H and the
     // capability without delegations. It grows by each delegation, and their number stands in one byte.
-    fn check_delegations<'a, S: Verify>(&'a self, scheme: &S, first: &'a Area, message: &mut Vec<u8>, count_at: usize) -> Result<(), End<ChainRefusal>>
+    fn check_delegations<'a, S: Verify>(
+        &'a self,
+        scheme: &S,
+        first: &'a Area,
+        message: &mut Vec<u8>,
+        count_at: usize,
+    ) -> Result<(), End<ChainRefusal>>
         requires few { length self.now.chain ≤ MAX_DELEGATIONS }
         requires first { first.now ≡ first_grant self.now }
         requires message { message.old.items ≡ (72 ∷ head_spelling self.now) ++ 0 ∷ [] }
@@ -113,7 +119,14 @@ impl Capability {
 
 // Checks that the receiver of an area hands it on by a delegation, whose place is `at`. The message so
 // far is the letter H and the capability before it; where all is well, the delegation is appended.
-fn check_handing<S: Verify>(scheme: &S, grant: &Area, receiver: &UserKey, message: &mut Vec<u8>, at: u8, next: &Delegation) -> Result<(), End<ChainRefusal>>
+fn check_handing<S: Verify>(
+    scheme: &S,
+    grant: &Area,
+    receiver: &UserKey,
+    message: &mut Vec<u8>,
+    at: u8,
+    next: &Delegation,
+) -> Result<(), End<ChainRefusal>>
     ensures answer { Answers result (handing_refusal S.rules grant.now receiver.now (message.old.items ++ (area_spelling next.now.area ++ next.now.user)) at next.now) }
     ensures grown { OnOk result (message.new.items ≡ message.old.items ++ delegation_spelling next.now) }
 {

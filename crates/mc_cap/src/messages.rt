@@ -54,7 +54,6 @@ impl Capability {
     }
 
     // Appends the spelling.
-    #[tactic(auto, using(crate::proofs::Spellings::head_and_chain))]
     fn spell(&self, text: &mut Vec<u8>) -> Result<(), NoMemory>
         ensures { OnOk result (text.new.items ≡ text.old.items ++ capability_spelling self.now) }
     {

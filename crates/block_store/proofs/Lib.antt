@@ -1,0 +1,5 @@
+mod Fronts
+mod Covered
+mod Extensions
+mod Removing
+mod Positions

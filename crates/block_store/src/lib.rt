@@ -1,0 +1,8 @@
+//! The store of rows that is looked through only where a row's prefixes and extensions stand, and its snapshots.
+//! Its one contract: after an ingest the rows are what is live of the old rows with the new one added.
+#![tactic(auto)]
+
+mod search;
+mod store;
+
+pub use store::BlockStore;

@@ -1,0 +1,97 @@
+//! Indices taken off a key file.
+
+ghost use Rattle.std.specs.Prelude.{◌≡◌, ◌+◌, ◌-◌, ◌<◌, ◌≤◌, ◌++◌, ℕ, IfOk};
+ghost use Rattle.lms_core.specs.Accepts.{leaves};
+ghost use Rattle.lms_core.specs.Key.{raised};
+ghost use Rattle.lms_core.specs.Use.{uses_from};
+ghost use Rattle.lms_core.specs.Reserve.{Reserves};
+
+use crate::key::LmsKey;
+use crate::one_use::OneUse;
+use spelling::{End, NoMemory};
+use std::alloc::Global;
+use willow_outside::{Fault, Shelf};
+
+/// Why no signer was handed out, in the order in which the causes are looked for.
+#[derive(Clone, Copy, Debug, PartialEq, Eq)]
+pub enum KeyRefusal {
+    /// The shelf's read failed, as its count of read faults shows.
+    ShelfRead,
+    /// There is no such name.
+    Missing,
+    /// The name holds no key file.
+    BadKeyFile,
+    /// The key has fewer indices left than were asked for: `next` is the first that is not used.
+    KeySpent { next: u32 },
+    /// The shelf's write failed, as its count of write faults shows; the name holds the old or the new file.
+    ShelfWrite,
+}
+
+impl LmsKey {
+    /// How many indices are not used.
+    fn left(&self) -> u32
+        ensures { result + self.now.next ≡ leaves self.now.height }
+    {
+        self.tree.height.leaves() - self.next
+    }
+
+    /// The key with its next `count` indices used.
+    fn raised(&self, count: u32) -> LmsKey
+        requires { self.now.next + count ≤ leaves self.now.height }
+        ensures { result ≡ raised count self.now }
+    {
+        LmsKey {
+            tree: self.tree,
+            next: self.next + count,
+        }
+    }
+
+    /// Signers of the next `count` indices, in order.
+    fn signers(&self, alloc: Global, count: u32) -> Result<Vec<OneUse>, NoMemory>
+        requires { self.now.next + count ≤ leaves self.now.height }
+        ensures { IfOk result (λ v. v.items ≡ uses_from self.now self.now.next count) }
+    {
+        let mut signers = Vec::new(alloc);
+        for offset in 0..count {
+            signers.push(OneUse::new(self.tree, self.next + offset))?;
+        }
+        Ok(signers)
+    }
+}
+
+/// Takes the next `count` indices off the key file under `name`, and hands out a signer for each, in order.
+///
+/// The file is put back with its next index raised before any signer is handed out, and all other memory is
+/// taken before that; so an index is lost where the write fails, and none is ever handed out twice. Where no
+/// signer is handed out the shelf is as it was, but for a failed write, which may have put the new file.
+pub fn reserve_keys<H: Shelf>(
+    alloc: Global,
+    shelf: &mut H,
+    name: &str,
+    count: u32,
+) -> Result<Vec<OneUse>, End<KeyRefusal>>
+    requires { 0 < count }
+    ensures reserved { Reserves name.now count (H.facts shelf.old) (H.facts shelf.new) result }
+    ensures read_faults { (H.facts shelf.old).read_faults ≤ (H.facts shelf.new).read_faults }
+    ensures write_faults { (H.facts shelf.old).write_faults ≤ (H.facts shelf.new).write_faults }
+{
+    let bytes = match shelf.get(name) {
+        Ok(Some(bytes)) => bytes,
+        Ok(None) => return Err(End::Refused(KeyRefusal::Missing)),
+        Err(Fault::Failed) => return Err(End::Refused(KeyRefusal::ShelfRead)),
+        Err(Fault::NoMemory) => return Err(End::NoMemory),
+    };
+    let Some(key) = LmsKey::decode(&bytes) else {
+        return Err(End::Refused(KeyRefusal::BadKeyFile));
+    };
+    let next = key.next();
+    if count > key.left() {
+        return Err(End::Refused(KeyRefusal::KeySpent { next }));
+    }
+    let signers = key.signers(alloc, count)?;
+    match shelf.put(name, &key.raised(count).file()) {
+        Ok(()) => Ok(signers),
+        Err(Fault::Failed) => Err(End::Refused(KeyRefusal::ShelfWrite)),
+        Err(Fault::NoMemory) => Err(End::NoMemory),
+    }
+}

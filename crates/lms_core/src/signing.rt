@@ -1,0 +1,128 @@
+//! What one leaf of a tree signs.
+
+ghost use Rattle.std.specs.Prelude.{◌≡◌, ◌++◌, ◌+◌, ◌<◌, length, IfOk, OnOk};
+ghost use Rattle.lms_core.specs.Bytes.{u32_str};
+ghost use Rattle.lms_core.specs.Accepts.{one_time_type, levels, leaves, type_of};
+ghost use Rattle.lms_core.specs.Signer.{key_of_leaf, values_at, node_value, root_value, sibling, path_of, randomizer, public_key, signature_of};
+
+use crate::bytes::{four_bytes, join_into};
+use crate::hashing::{D_PBLC, hash_three, input_front, leaf, parent};
+use crate::height::ONE_TIME_TYPE;
+use crate::one_time::{CHAINS, chain_run, digits_of};
+use crate::tree::Tree;
+use sha2::{Digest, Sha256};
+use spelling::NoMemory;
+use std::alloc::Global;
+
+/// The other node below the node above this one.
+#[tactic(auto, unfolding(crate::specs::Signer::sibling))]
+fn sibling_of(node: u32) -> u32
+    ensures { result ≡ sibling node }
+{
+    if node % 2 == 1 { node - 1 } else { node + 1 }
+}
+
+impl Tree {
+    /// The randomizer of a leaf's signature of a message.
+    #[tactic(auto, unfolding(crate::specs::Signer::randomizer))]
+    fn randomizer(&self, index: u32, message: &[u8]) -> [u8; 32]
+        ensures { result ≡ randomizer self.now.seed index message.now }
+    {
+        let mut secret = [0; 36];
+        join_into(&mut secret, &self.seed, &four_bytes(index));
+        hash_three(&[0x43], &secret, message)
+    }
+
+    /// Appends the chain values of a leaf at the digits to `values`, and answers the leaf's one-time public
+    /// key: one pass over the chains serves both.
+    fn sign_chains(
+        &self,
+        index: u32,
+        digits: &[u8; 34],
+        values: &mut Vec<u8>,
+    ) -> Result<[u8; 32], NoMemory>
+        ensures key { IfOk result (λ key. key ≡ key_of_leaf self.now.identifier self.now.seed index) }
+        ensures signed { OnOk result (values.new.items
+            ≡ values.old.items ++ values_at self.now.identifier self.now.seed index 0 digits.now) }
+    {
+        let mut hasher = Sha256::new();
+        hasher.update(input_front(&self.identifier, index, D_PBLC));
+        'chains: for chain in 0..CHAINS {
+            let front = input_front(&self.identifier, index, chain as u16);
+            let value = chain_run(&front, 0, digits[chain], &self.start(&front));
+            values.extend_from_slice(&value)?;
+            hasher.update(chain_run(&front, digits[chain], 255, &value));
+        }
+        Ok(hasher.finalize())
+    }
+
+    /// Appends the siblings on the way from a leaf to the root to `path`, and answers the root's value.
+    fn append_path(
+        &self,
+        index: u32,
+        leaf: &[u8; 32],
+        path: &mut Vec<u8>,
+    ) -> Result<[u8; 32], NoMemory>
+        requires index_in { index < leaves self.now.height }
+        requires leaf_is { leaf.now ≡ node_value self.now.height self.now.identifier self.now.seed 0 (leaves self.now.height + index) }
+        ensures root { IfOk result (λ root. root ≡ root_value self.now.height self.now.identifier self.now.seed) }
+        ensures siblings { OnOk result (path.new.items ≡ path.old.items
+            ++ path_of self.now.height self.now.identifier self.now.seed 0 (leaves self.now.height + index) (levels self.now.height)) }
+    {
+        let mut node = self.height.leaves() + index;
+        let mut reached = *leaf;
+        'levels: for level in 0..self.height.levels() {
+            let other = self.value(level, sibling_of(node));
+            path.extend_from_slice(&other)?;
+            reached = parent(&self.identifier, node, &reached, &other);
+            node /= 2;
+        }
+        Ok(reached)
+    }
+
+    /// The parts of a signature joined, behind the public key.
+    fn joined(
+        &self,
+        alloc: Global,
+        public: &[u8; 56],
+        head: &[u8; 40],
+        values: &[u8],
+        path: &[u8],
+    ) -> Result<Vec<u8>, NoMemory>
+        ensures { IfOk result (λ v. v.items ≡ (((public.now ++ head.now) ++ values.now) ++ u32_str (type_of self.now.height)) ++ path.now) }
+    {
+        let mut bytes = Vec::new(alloc);
+        bytes.extend_from_slice(public)?;
+        bytes.extend_from_slice(head)?;
+        bytes.extend_from_slice(values)?;
+        bytes.extend_from_slice(&four_bytes(self.height.tree_type()))?;
+        bytes.extend_from_slice(path)?;
+        Ok(bytes)
+    }
+
+    /// The public key and a leaf's signature of a message, joined.
+    pub(crate) fn signed(
+        &self,
+        alloc: Global,
+        index: u32,
+        message: &[u8],
+    ) -> Result<Vec<u8>, NoMemory>
+        requires { index < leaves self.now.height }
+        ensures identifier { length self.now.identifier ≡ 16 }
+        ensures signature { IfOk result (λ v. v.items ≡ public_key self.now.height self.now.identifier self.now.seed
+            ++ signature_of self.now.height self.now.identifier self.now.seed index message.now) }
+    {
+        let randomizer = self.randomizer(index, message);
+        let digits = digits_of(&self.identifier, index, &randomizer, message);
+        let mut values = Vec::new(alloc);
+        let key = self.sign_chains(index, &digits, &mut values)?;
+        let leaf = leaf(&self.identifier, self.height.leaves() + index, &key);
+        let mut path = Vec::new(alloc);
+        let root = self.append_path(index, &leaf, &mut path)?;
+        let mut numbers = [0; 8];
+        join_into(&mut numbers, &four_bytes(index), &four_bytes(ONE_TIME_TYPE));
+        let mut head = [0; 40];
+        join_into(&mut head, &numbers, &randomizer);
+        self.joined(alloc, &self.public_of_root(&root), &head, &values, &path)
+    }
+}
