@@ -9,7 +9,6 @@ use Rattle.scheme_core.specs.Rules.{Rules}
 use Rattle.willow_path.specs.Key.{IsKey}
 use Rattle.willow_path.specs.Path.{IsPath, total}
 use Rattle.willow_path.specs.PathSpelling.{part_spelling, path_spelling}
-use Rattle.willow_area.specs.Times.{Times}
 use Rattle.willow_area.specs.TimesSpelling.{times_spelling}
 use Rattle.willow_area.specs.Area.{IsArea}
 use Rattle.willow_area.specs.AreaSpelling.{area_spelling}
@@ -35,8 +34,16 @@ entry_long : (e : Entry) → IsEntry e → length (entry_spelling e) ≤ 1155
 unfolding entry_spelling
 entry_long e fits =
     let numbers = to_be_bytes w64 e.timestamp ++ (to_be_bytes w64 e.length ++ e.digest.0) in
-    omega (arith, length-append e.namespace (e.subspace ++ (path_spelling e.path ++ numbers)), length-append e.subspace (path_spelling e.path ++ numbers), length-append (path_spelling e.path) numbers,
-      fits.namespace.whole, fits.subspace.whole, path_long e.path fits.path, fits.digest.0)
+    omega (
+      arith,
+      length-append e.namespace (e.subspace ++ (path_spelling e.path ++ numbers)),
+      length-append e.subspace (path_spelling e.path ++ numbers),
+      length-append (path_spelling e.path) numbers,
+      fits.namespace.whole,
+      fits.subspace.whole,
+      path_long e.path fits.path,
+      fits.digest.0,
+    )
 
 signature_long : (signature : List ℕ) → IsSignature signature → length (signature_spelling signature) ≤ 1510
 signature_long signature fits = omega (arith, fits.0)
@@ -51,13 +58,26 @@ end_long (Some end) = omega arith
 
 area_long : (a : Area) → IsArea a → length (area_spelling a) ≤ 1092
 area_long a fits =
-    omega (arith, length-append (option_spelling (λ key. key) a.subspace) (path_spelling a.path ++ times_spelling a.times), length-append (path_spelling a.path) (times_spelling a.times),
-      length-append (to_be_bytes w64 a.times.start) (option_spelling (to_be_bytes w64) a.times.end), subspace_long a.subspace fits.subspace_fits, path_long a.path fits.path_fits, end_long a.times.end)
+    omega (
+      arith,
+      length-append (option_spelling (λ key. key) a.subspace) (path_spelling a.path ++ times_spelling a.times),
+      length-append (path_spelling a.path) (times_spelling a.times),
+      length-append (to_be_bytes w64 a.times.start) (option_spelling (to_be_bytes w64) a.times.end),
+      subspace_long a.subspace fits.subspace_fits,
+      path_long a.path fits.path_fits,
+      end_long a.times.end,
+    )
 
 delegation_long : (d : Delegation) → IsDelegation d → length (delegation_spelling d) ≤ 2635
 delegation_long d fits =
-    omega (arith, length-append (area_spelling d.area) (d.user ++ signature_spelling d.signature), length-append d.user (signature_spelling d.signature), area_long d.area fits.area_fits, fits.user_fits.whole,
-      signature_long d.signature fits.signature_fits)
+    omega (
+      arith,
+      length-append (area_spelling d.area) (d.user ++ signature_spelling d.signature),
+      length-append d.user (signature_spelling d.signature),
+      area_long d.area fits.area_fits,
+      fits.user_fits.whole,
+      signature_long d.signature fits.signature_fits,
+    )
 
 delegations_long : (chain : List Delegation) → AllByRecursion IsDelegation chain → length (flat_map delegation_spelling chain) ≤ 2635 * length chain
 delegations_long [] fit = omega arith
@@ -70,13 +90,28 @@ initial_long (Some signature) fits = signature_long signature fits
 capability_long : (c : Capability) → IsCapability c → length c.chain ≤ 8 → length (capability_spelling c) ≤ 22658
 unfolding capability_spelling
 capability_long c fits few =
-    omega (arith, length-append c.namespace (c.user ++ (initial_spelling c.initial ++ chain_spelling c.chain)), length-append c.user (initial_spelling c.initial ++ chain_spelling c.chain),
-      length-append (initial_spelling c.initial) (chain_spelling c.chain), fits.namespace_fits.whole, fits.user_fits.whole, initial_long c.initial fits.initial_fits, delegations_long c.chain fits.chain_fits.1, few)
+    omega (
+      arith,
+      length-append c.namespace (c.user ++ (initial_spelling c.initial ++ chain_spelling c.chain)),
+      length-append c.user (initial_spelling c.initial ++ chain_spelling c.chain),
+      length-append (initial_spelling c.initial) (chain_spelling c.chain),
+      fits.namespace_fits.whole,
+      fits.user_fits.whole,
+      initial_long c.initial fits.initial_fits,
+      delegations_long c.chain fits.chain_fits.1,
+      few,
+    )
 
 raw_long : (r : RawValue) → IsRaw r → length r.token.capability.chain ≤ 8 → length (raw_spelling r) ≤ 25323
 raw_long r fits few =
-    omega (arith, length-append (entry_spelling r.entry) (token_spelling r.token), length-append (capability_spelling r.token.capability) (signature_spelling r.token.signature), entry_long r.entry fits.entry_fits,
-      capability_long r.token.capability fits.token_fits.capability_fits few, signature_long r.token.signature fits.token_fits.signature_fits)
+    omega (
+      arith,
+      length-append (entry_spelling r.entry) (token_spelling r.token),
+      length-append (capability_spelling r.token.capability) (signature_spelling r.token.signature),
+      entry_long r.entry fits.entry_fits,
+      capability_long r.token.capability fits.token_fits.capability_fits few,
+      signature_long r.token.signature fits.token_fits.signature_fits,
+    )
 
 -- an authorised row has at most 25,323 bytes
 pub fits_frame : (rules : Rules) (n : List ℕ) (r : RawValue) → IsRaw r → row_refusal rules n r ≡ None → FitsFrame r
