@@ -20,8 +20,9 @@ use Rattle.willow_entry.specs.RowBody.{row_body}
 use Rattle.willow_entry.specs.Frame.{row_frame}
 use Rattle.willow_entry.proofs.EntryReads.{entry-reads}
 use Rattle.cap_codec.specs.declared.token.WriteToken.{WriteToken}
+use Rattle.cap_codec.specs.declared.frame.TheConstants.{MAX_FRAME}
 use Rattle.cap_codec.specs.Reading.{token_at, raw_at}
-use Rattle.cap_codec.specs.Rows.{RawValue, IsRaw, IsRawRow, IsToken, row_of, token_spelling, raw_spelling, frame, ReadsWhole}
+use Rattle.cap_codec.specs.Rows.{RawValue, IsRaw, IsRawRow, IsToken, row_of, token_spelling, raw_spelling, frame, FitsFrame, ReadsWhole}
 use Rattle.cap_codec.proofs.CapReads.{token-reads}
 
 abbrev raw : Entry → WriteToken → RawValue
@@ -145,3 +146,8 @@ not_read body e why is none = let P : End NotHere → Type 0 = λ d. ReadsWhole 
 pub frame_same : (r : RawValue) → row_frame (row_of r) ≡ frame r
 unfolding row_body
 frame_same r = refl
+
+-- a row that fits a frame has a short body, as a store sees it
+pub body_short : (r : RawValue) → FitsFrame r → length (row_body (row_of r)) ≤ MAX_FRAME
+unfolding row_body
+body_short r fits = fits.short

@@ -1,17 +1,44 @@
 //! Rows in frames, one after the other.
 
-ghost use Rattle.std.specs.Prelude.{◌≡◌, ◌≤◌, length, drop};
+ghost use Rattle.std.specs.Prelude.{◌≡◌, ◌≤◌, ◌++◌, length, drop, OnErr, OnOk};
 ghost use Rattle.std.specs.Int.{w32};
 ghost use Rattle.spelling.specs.Form.{Decodes};
 ghost use Rattle.spelling.specs.Reading.{Gives, number_at, text_at};
+ghost use Rattle.willow_entry.specs.Frame.{row_frame};
+ghost use Rattle.willow_entry.specs.RowBody.{row_body};
 ghost use Rattle.cap_codec.specs.Rows.{frame, FitsFrame, ReadsFrames};
 
 use crate::row::RawRow;
-use spelling::{End, Input, NotHere, Unread, guard};
+use spelling::{End, Input, NoMemory, NotHere, Unread, guard, put_bytes, put_u32};
 use std::alloc::Global;
+use willow_entry::Row;
 
 /// The greatest number of bytes of a frame's body.
 pub const MAX_FRAME: usize = 131_072;
+
+/// Appends the row's frame to `out`: four bytes for the length of the body, and the body, which is the
+/// entry and the token as the row keeps them. Without memory `out` stays as it was.
+pub fn encode_frame<R: Row>(row: &R, out: &mut Vec<u8>) -> Result<(), NoMemory>
+    requires { length (row_body (R.value row.now)) ≤ MAX_FRAME }
+    ensures spelled { OnOk result (out.new.items ≡ out.old.items ++ row_frame (R.value row.now)) }
+    ensures err { OnErr result (out.new.items ≡ out.old.items) }
+{
+    let mut text = Vec::new(*out.allocator());
+    spell_frame(row, &mut text)?;
+    put_bytes(out, &text)
+}
+
+// Appends the frame.
+#[tactic(auto, unfolding(willow_entry::specs::RowBody::row_body))]
+fn spell_frame<R: Row>(row: &R, text: &mut Vec<u8>) -> Result<(), NoMemory>
+    requires { length (row_body (R.value row.now)) ≤ MAX_FRAME }
+    ensures { OnOk result (text.new.items ≡ text.old.items ++ row_frame (R.value row.now)) }
+{
+    let (entry, token) = (row.entry_bytes(), row.token_bytes());
+    put_u32(text, (entry.len() + token.len()) as u32)?;
+    put_bytes(text, entry)?;
+    put_bytes(text, token)
+}
 
 /// The row in the frame at the front of the bytes, with the number of bytes taken: four bytes for the
 /// length of the body, from 1 to `MAX_FRAME`, and the body, which is one row and nothing else. It is not

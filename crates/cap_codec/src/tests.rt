@@ -105,6 +105,15 @@ fn rows_are_read_and_spelled(rt: HostRuntime) -> Result<(), Fail> {
     Ok(())
 }
 
+// The frame of the row in front.
+#[tactic(auto, unfolding(willow_entry::specs::RowBody::row_body))]
+fn spelled_again(alloc: Global, bytes: &[u8]) -> Result<Vec<u8>, Fail> {
+    let (row, _) = decode_frame(alloc, bytes)?;
+    let mut out = Vec::new(alloc);
+    encode_frame(&row, &mut out)?;
+    Ok(out)
+}
+
 #[test]
 fn frames_one_after_the_other(rt: HostRuntime) -> Result<(), Fail> {
     let row = <[u8; 219] as FromHex>::from_hex(ROW)?;
@@ -117,6 +126,8 @@ fn frames_one_after_the_other(rt: HostRuntime) -> Result<(), Fail> {
     assert_eq!(rt; read_frames(rt.alloc(), &stream)?.len(), 2);
     let (_, taken) = decode_frame(rt.alloc(), &stream)?;
     assert_eq!(rt; taken, 223);
+    let spelled = spelled_again(rt.alloc(), &stream)?;
+    assert_eq!(rt; spelled.as_slice(), &stream[..223.min(stream.len())]);
     for length in [[0, 0, 0, 0], [0, 0, 0, 218], [0, 2, 0, 1]] {
         let mut wrong = Vec::from_slice(rt.alloc(), &stream)?;
         wrong.extend_from_slice(&length)?;
