@@ -3,6 +3,9 @@
 #![tactic(auto)]
 
 mod search;
+mod shared;
+mod snapshot;
 mod store;
 
+pub use snapshot::Snapshot;
 pub use store::BlockStore;

@@ -8,6 +8,8 @@ ghost use Rattle.willow_entry.proofs.Between.{IsPlace};
 ghost use Rattle.block_store.specs.Positions.{positions};
 
 use crate::search::{cover, own_place, run_end};
+use crate::shared::row_at;
+use crate::snapshot::{Snapshot, snapshot_of};
 use std::alloc::Global;
 use std::marker::Model;
 use std::sync::Arc;
@@ -121,7 +123,7 @@ impl<R: Row> Model for BlockStore<R> {
 
     ghost use Rattle.willow_entry.specs.Row.{live};
 
-    ghost invariant = { λ s. (live (map (λ a. R.value a.value) s.rows.items) ≡ map (λ a. R.value a.value) s.rows.items) × (vec_len s.rows < 2 ^ 32) };
+    ghost invariant = { λ s. (live (map R.value (map (λ a. a.value) s.rows.items)) ≡ map R.value (map (λ a. a.value) s.rows.items)) × (vec_len s.rows < 2 ^ 32) };
 }
 
 impl<R: Row> BlockStore<R> {
@@ -161,8 +163,7 @@ impl<R: Row> BlockStore<R> {
         ensures row { MatchOption result (length self.now ≤ at) (λ row. slice_get self.now at ≡ Some row.now) }
         ensures live { live (map R.value self.now) ≡ map R.value self.now }
     {
-        let row = self.rows.get(at as usize)?;
-        Some(&**row)
+        row_at(&self.rows, at)
     }
 
     /// The first position whose row equals or dominates the row; None exactly where there is none.
@@ -180,5 +181,13 @@ impl<R: Row> BlockStore<R> {
         ensures { IfOk result (λ found. found.items ≡ positions (is_dominating (R.value row.now)) (map R.value self.now)) }
     {
         dominated(*self.rows.allocator(), &self.rows, row)
+    }
+
+    /// The rows as they are now. No row is copied, and nothing that becomes of the store changes the snapshot.
+    pub fn snapshot(&self) -> Result<Snapshot<R>, NoMemory>
+        ensures equal { IfOk result (λ snapshot. snapshot ≡ self.now) }
+        ensures live { live (map R.value self.now) ≡ map R.value self.now }
+    {
+        snapshot_of(&self.rows)
     }
 }
