@@ -1,3 +1,5 @@
+pub mod Loops
 pub mod FormReads
 pub mod CapReads
 pub mod RowReads
+pub mod Frames
