@@ -1,5 +1,5 @@
 -- Frames: each row has one, and a stream of them has one reading.
-use Rattle.std.proofs.Common.{◌≡◌, ℕ, suc, ◌-◌, ◌+◌, ◌≤◌, ◌<◌, ◌^◌, Bool, false, ltb, List, [], ◌∷◌, ◌++◌, length, take, drop, Result, Ok, Err, refl, sym, ap, subst, ◌∙◌, append_assoc, arith, Fits, w8, get_or}
+use Rattle.std.proofs.Common.{◌≡◌, ℕ, ◌-◌, ◌≤◌, ◌<◌, Bool, false, ltb, List, [], ◌∷◌, ◌++◌, length, take, drop, Result, Ok, Err, refl, sym, ap, subst, ◌∙◌, append_assoc, arith}
 use Rattle.std.specs.List.{AllByRecursion, flat_map}
 use Rattle.std.specs.Int.{w32, to_be_bytes}
 use Rattle.std.specs.Prelude.{nat_le}
@@ -17,12 +17,12 @@ use Rattle.spelling.specs.declared.ending.End.TheVariants.{Refused, NoMemory}
 use Rattle.spelling.specs.declared.ending.NotHere.{NotHere}
 use Rattle.spelling.specs.declared.input.Unread.{Unread}
 use Rattle.spelling.specs.declared.input.Unread.TheVariants as unread
-use Rattle.spelling.proofs.Lists.{All-append, are_bytes, take_front}
+use Rattle.spelling.proofs.Lists.{All-append, take_front}
 use Rattle.spelling.proofs.Joining.{one_spelling, whole_value, whole_rest}
 use Rattle.spelling.proofs.Fields.{u32-reads}
 use Rattle.spelling.proofs.Repeated.{text-reads}
 use Rattle.cap_codec.specs.declared.frame.TheConstants.{MAX_FRAME}
-use Rattle.cap_codec.specs.Rows.{RawValue, IsRaw, raw_spelling, ReadsWhole, FitsFrame, frame, AreFrames, ReadsFrames, HaveOneReading}
+use Rattle.cap_codec.specs.Rows.{RawValue, raw_spelling, ReadsWhole, FitsFrame, frame, AreFrames, ReadsFrames, HaveOneReading}
 use Rattle.cap_codec.proofs.RowReads.{raw-reads}
 
 -- ---- a frame

@@ -13,7 +13,7 @@ use Rattle.spelling.specs.declared.input.Unread.{Unread}
 use Rattle.spelling.specs.declared.input.Unread.TheVariants as unread
 use Rattle.spelling.proofs.Lists.{take_front}
 use Rattle.spelling.proofs.Joining.{Reads, Reads-then, Reads-last, Reads-is, alone, whole_rest}
-use Rattle.willow_entry.specs.EntryForm.{entry_spelling, entry_at, IsEntry}
+use Rattle.willow_entry.specs.EntryForm.{entry_spelling, entry_at}
 use Rattle.willow_entry.specs.declared.entry.Entry.{Entry}
 use Rattle.willow_entry.specs.Row.{RowValue}
 use Rattle.willow_entry.specs.RowBody.{row_body}
@@ -37,7 +37,6 @@ raw-reads =
     Reads-is joined (λ r. refl) (λ r f. record { entry_fits = f.0; token_fits = f.1.0 }) (λ r f. (f.entry_fits, (f.token_fits, refl)))
 
 -- ---- what was not read
-
 
 -- no entry, no row
 no_entry : (u : Unread) (body : List ℕ) → Fails u (entry_at body) → Fails u (raw_at body)
@@ -91,9 +90,9 @@ raw_whole body e rest t left h k = token_next body e rest h ∙ ap (λ (q : Fron
 pub whole_more : (body input : List ℕ) (e : Entry) (rest : List ℕ) (t : WriteToken) (left : List ℕ) (why : NotHere) → input ≡ body → entry_at input ≡ Whole e rest → token_at rest ≡ Whole t left → 0 < length left → ReadsWhole body (Err (Refused why))
 whole_more body input e rest t left why is h k more =
     λ r fits spelled.
-      let whole = raw_whole body e rest t left (ap entry_at (sym is) ∙ h) k in
-      let nothing : left ≡ [] = whole_rest (raw e t) r left [] (sym whole ∙ ap raw_at spelled ∙ alone raw-reads r fits) in
-      omega (arith, more, ap length nothing)
+    let whole = raw_whole body e rest t left (ap entry_at (sym is) ∙ h) k in
+    let nothing : left ≡ [] = whole_rest (raw e t) r left [] (sym whole ∙ ap raw_at spelled ∙ alone raw-reads r fits) in
+    omega (arith, more, ap length nothing)
 
 empty : (left : List ℕ) → length left ≤ 0 → left ≡ []
 empty [] h = refl

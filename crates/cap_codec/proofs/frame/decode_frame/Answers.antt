@@ -1,4 +1,3 @@
-use Rattle.std.proofs.Common.{◌≡◌}
 use Rattle.spelling.proofs.Lists.{are_bytes}
 use Rattle.cap_codec.proofs.Frames.{frame_end, frame_err, frame_whole}
 use Rattle.cap_codec.proofs.frame.decode_frame.Goals as goal

@@ -1,4 +1,3 @@
-use Rattle.std.proofs.Common.{◌≡◌}
 use Rattle.cap_codec.proofs.RowReads.{body_there, body_none, not_read}
 use Rattle.cap_codec.proofs.row.RawRowsRowForm.read.Goals as goal
 
