@@ -1,5 +1,5 @@
 -- The positions of the items that pass a test, part by part.
-use Rattle.std.proofs.Common.{◌≡◌, ℕ, zero, suc, ◌+◌, ◌≤◌, ◌<◌, Bool, true, false, not, cond, List, [], ◌∷◌, ◌++◌, length, take, drop, filter, get_or, sym, refl, ap, ◌∙◌, subst, append-nil, arith}
+use Rattle.std.proofs.Common.{◌≡◌, ℕ, zero, suc, ◌+◌, ◌≤◌, ◌<◌, Bool, true, false, not, cond, List, [], ◌∷◌, ◌++◌, length, take, drop, filter, get_or, sym, refl, ap, ◌∙◌, subst, append-nil, append_assoc, slice_get, Some, arith}
 use Rattle.std.specs.List.{AllByRecursion}
 use Rattle.std.proofs.Math.Seq.{take-suc}
 use Rattle.std.proofs.lemmas.Bool.{not-true}
@@ -38,5 +38,22 @@ module _ {X : Type 0} (test : X → Bool) where
   -- one item more
   pub positions-more : (xs : List X) (i : ℕ) (d : X) → i < length xs → positions test (take (i + 1) xs) ≡ positions test (take i xs) ++ cond (test (get_or xs i d)) (i ∷ []) []
   positions-more xs i d h =
-      ap (λ n. positions test (take n xs)) (omega arith) ∙ ap (positions test) (take-suc xs i d h) ∙ positions_from-append 0 (take i xs) (get_or xs i d ∷ [])
-      ∙ ap (λ n. positions test (take i xs) ++ cond (test (get_or xs i d)) (n ∷ []) []) (omega (arith, length-take-le i xs (omega arith)))
+      let next : i + 1 ≡ suc i = omega arith in
+      let long : 0 + length (take i xs) ≡ i = omega (arith, length-take-le i xs (omega arith)) in
+      ap (λ n. positions test (take n xs)) next ∙ ap (positions test) (take-suc xs i d h) ∙ positions_from-append 0 (take i xs) (get_or xs i d ∷ [])
+      ∙ ap (λ n. positions test (take i xs) ++ cond (test (get_or xs i d)) (n ∷ []) []) long
+
+  -- where so many pass before an item that passes, it is the next
+  pub positions-at : (xs : List X) (i n : ℕ) (d : X) → i < length xs → length (positions test (take i xs)) ≡ n → test (get_or xs i d) ≡ true → slice_get (positions test xs) n ≡ Some i
+  positions-at xs i n d h long e =
+      let before = positions test (take i xs) in
+      let rest = positions_from test (0 + length (take (i + 1) xs)) (drop (i + 1) xs) in
+      let upto : positions test (take (i + 1) xs) ≡ before ++ i ∷ [] = positions-more xs i d h ∙ ap (λ b. before ++ cond b (i ∷ []) []) e in
+      let whole : positions test xs ≡ before ++ i ∷ rest =
+        ap (positions test) (sym (take-append-drop (i + 1) xs)) ∙ positions_from-append 0 (take (i + 1) xs) (drop (i + 1) xs)
+        ∙ ap (λ l. l ++ rest) upto ∙ append_assoc before (i ∷ []) rest in
+      ap (λ l. slice_get l n) whole ∙ ap (λ k. slice_get (before ++ i ∷ rest) k) (sym long) ∙ get_seam before i rest
+    where
+      get_seam : (as : List ℕ) (x : ℕ) (bs : List ℕ) → slice_get (as ++ x ∷ bs) (length as) ≡ Some x
+      get_seam [] x bs = refl
+      get_seam (a ∷ as) x bs = get_seam as x bs

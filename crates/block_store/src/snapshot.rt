@@ -2,10 +2,14 @@
 
 ghost use Rattle.std.specs.Prelude.{◌≡◌, ℕ, ◌+◌, ◌^◌, ◌<◌, ◌≤◌, length, map, Some, slice_get, IfOk, MatchOption, vec_len};
 ghost use Rattle.willow_entry.specs.Row.{live};
+ghost use Rattle.block_store.specs.Positions.{positions};
+ghost use Rattle.block_store.specs.InBox.{is_in, rows_in};
 
+use crate::boxes::{count_in, nth_in};
 use crate::shared::{row_at, share};
 use std::marker::Model;
 use std::sync::Arc;
+use willow_area::Box3;
 use willow_entry::Row;
 use willow_path::NoMemory;
 
@@ -51,6 +55,21 @@ impl<R: Row> Snapshot<R> {
         ensures live { live (map R.value self.now) ≡ map R.value self.now }
     {
         row_at(&self.rows, at)
+    }
+
+    /// The number of rows that the box includes.
+    pub fn count_in(&self, area: &Box3) -> u32
+        ensures { result ≡ length (rows_in area.now (map R.value self.now)) }
+    {
+        count_in(&self.rows, area)
+    }
+
+    /// The position of the n-th row, counted from 0, that the box includes; None exactly where there are
+    /// not so many.
+    pub fn nth_in(&self, area: &Box3, n: u32) -> Option<u32>
+        ensures { result ≡ slice_get (positions (is_in area.now) (map R.value self.now)) n }
+    {
+        nth_in(&self.rows, area, n)
     }
 
     /// An equal snapshot. No row is copied.
