@@ -1,15 +1,15 @@
 -- Nothing refuses a row exactly where it is authorised.
-use Rattle.std.proofs.Common.{◌≡◌, ◌↔◌, ℕ, Bool, true, ◌&&◌, not, List, Option, Some, None, IsTrue, refl, ap, ◌∙◌}
+use Rattle.std.proofs.Common.{◌≡◌, ◌↔◌, ℕ, Bool, ◌&&◌, List, Option, Some, None, refl, ap}
 use Rattle.std.specs.Prelude.{option_map}
 use Rattle.std.specs.Cmp.Lexicographic.{bytes_decides}
 use Rattle.std.proofs.lemmas.Bool.{and_parts, and_from}
-use Rattle.spelling.specs.Answers.{or_else, cause_if}
+use Rattle.spelling.specs.Answers.{or_else}
 use Rattle.spelling.proofs.Causes.{or_else_both}
 use Rattle.scheme_core.specs.Rules.{Rules}
 use Rattle.willow_area.specs.Area.{in_area}
 use Rattle.willow_entry.specs.Entry.{same_bytes}
 use Rattle.mc_cap.specs.Grant.{receiver_of, granted}
-use Rattle.mc_cap.specs.Valid.{chain_refusal, IsValid}
+use Rattle.mc_cap.specs.Valid.{chain_refusal}
 use Rattle.mc_cap.specs.declared.check.ChainRefusal.{ChainRefusal}
 use Rattle.mc_cap.specs.declared.capability.Mode.{Mode}
 use Rattle.mc_cap.specs.declared.capability.Mode.TheVariants.{Read, Write}
@@ -17,7 +17,6 @@ use Rattle.mc_cap.proofs.Causes.{unless_true, neither}
 use Rattle.mc_cap.proofs.Meaning.{valid_means}
 use Rattle.cap_codec.specs.Rows.{RawValue}
 use Rattle.auth_entry.specs.Authorised.{entry_message, namespace_refusal, mode_refusal, capability_refusal, grant_refusal, signature_refusal, claim_refusal, entry_refusal, row_refusal, IsAuthorised}
-use Rattle.auth_entry.specs.declared.refusal.RowRefusal.{RowRefusal}
 use Rattle.auth_entry.specs.declared.refusal.RowRefusal.TheVariants.{WrongNamespace, Chain, OutsideGrant, BadEntrySignature}
 
 mode_writes : (mode : Mode) → mode_refusal mode ≡ None → mode ≡ Write

@@ -1,5 +1,5 @@
 -- Which rows are authorised in a namespace, and which condition is the first that fails.
-use Rattle.std.specs.Prelude.{◌≡◌, ◌↔◌, ℕ, Bool, true, false, ◌&&◌, not, List, ◌∷◌, filter, Option, Some, None, is_some, option_map, Result, Ok, Err, IsTrue}
+use Rattle.std.specs.Prelude.{◌≡◌, ℕ, Bool, ◌&&◌, not, List, ◌∷◌, filter, Option, Some, None, is_some, option_map, Result, Ok, Err, IsTrue}
 use Rattle.spelling.specs.Answers.{or_else, cause_if}
 use Rattle.scheme_core.specs.Rules.{Rules}
 use Rattle.willow_area.specs.Area.{in_area}

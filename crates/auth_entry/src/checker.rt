@@ -3,7 +3,7 @@
 ghost use Rattle.std.specs.Prelude.{◌≡◌, ℕ, List, map, IfOk};
 ghost use Rattle.auth_entry.specs.Authorised.{verdict};
 
-use crate::authorise::{AuthorisedEntry, authorise};
+use crate::authorised::{AuthorisedEntry, authorise};
 use crate::refusal::RowRefusal;
 use cap_codec::RawRow;
 use scheme_core::Verify;

@@ -2,11 +2,14 @@
 //! The contract: a row is refused exactly at the first condition that fails, and an authorised one keeps that none does.
 #![tactic(auto)]
 
-mod authorise;
+mod authorised;
 mod checker;
 pub mod laws;
 mod refusal;
 
-pub use authorise::{AuthorisedEntry, authorise};
+pub use authorised::{AuthorisedEntry, authorise};
 pub use checker::{Checker, PlainChecker};
 pub use refusal::{RowRefusal, check_capability, check_claim, check_entry, check_row};
+
+#[cfg(test)]
+mod tests;

@@ -17,10 +17,11 @@ use Rattle.willow_entry.specs.EntryForm.{entry_spelling, entry_at}
 use Rattle.willow_entry.specs.declared.entry.Entry.{Entry}
 use Rattle.willow_entry.specs.Row.{RowValue}
 use Rattle.willow_entry.specs.RowBody.{row_body}
+use Rattle.willow_entry.specs.Frame.{row_frame}
 use Rattle.willow_entry.proofs.EntryReads.{entry-reads}
 use Rattle.cap_codec.specs.declared.token.WriteToken.{WriteToken}
 use Rattle.cap_codec.specs.Reading.{token_at, raw_at}
-use Rattle.cap_codec.specs.Rows.{RawValue, IsRaw, IsRawRow, IsToken, row_of, token_spelling, raw_spelling, ReadsWhole}
+use Rattle.cap_codec.specs.Rows.{RawValue, IsRaw, IsRawRow, IsToken, row_of, token_spelling, raw_spelling, frame, ReadsWhole}
 use Rattle.cap_codec.proofs.CapReads.{token-reads}
 
 abbrev raw : Entry → WriteToken → RawValue
@@ -139,3 +140,8 @@ body_none body none r fits spelled =
 -- what a refusal says of the body
 pub not_read : (body : List ℕ) (e : End NotHere) (why : NotHere) → e ≡ Refused why → ReadsWhole body (Err e) → (r : RawValue) → IsRaw r → body ≡ raw_spelling r → ⊥
 not_read body e why is none = let P : End NotHere → Type 0 = λ d. ReadsWhole body (Err d) in subst P is none
+
+-- a row's frame is that of the row as a store sees it
+pub frame_same : (r : RawValue) → row_frame (row_of r) ≡ frame r
+unfolding row_body
+frame_same r = refl

@@ -2,7 +2,7 @@
 
 ghost use Rattle.std.specs.Prelude.{◌≡◌, None, IfOk};
 ghost use Rattle.spelling.specs.Answers.{Answers};
-ghost use Rattle.cap_codec.specs.Rows.{row_of};
+ghost use Rattle.cap_codec.specs.Rows.{FitsFrame, row_of};
 ghost use Rattle.auth_entry.specs.Authorised.{AuthorisedValue, row_refusal};
 
 use crate::refusal::{RowRefusal, check_row};
@@ -71,11 +71,14 @@ impl<S: Verify> AuthorisedEntry<S> {
         self.namespace
     }
 
-    /// The row, of which nothing is the refusal.
+    /// The row. Nothing refuses it, and a frame can carry it: it has at most 25,323 bytes.
+    #[tactic(auto, using(crate::proofs::Lengths::fits_frame))]
     pub fn row(&self) -> &RawRow
         ensures row { result.now ≡ self.now.row }
         ensures authorised { row_refusal S.rules self.now.namespace self.now.row ≡ None }
+        ensures fits { FitsFrame self.now.row }
     {
+        self.row.known();
         &self.row
     }
 

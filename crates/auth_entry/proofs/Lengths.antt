@@ -1,0 +1,120 @@
+-- How long a row's body can be: an authorised row fits a frame.
+use Rattle.std.proofs.Common.{◌≡◌, ℕ, ◌+◌, ◌*◌, ◌≤◌, List, [], ◌∷◌, ◌++◌, length, Option, Some, None, refl, arith}
+use Rattle.std.specs.Prelude.{IfSome}
+use Rattle.std.specs.List.{flat_map, AllByRecursion}
+use Rattle.std.specs.Int.{w64, to_be_bytes}
+use Rattle.std.proofs.lemmas.List.{length-append}
+use Rattle.spelling.specs.Spelling.{option_spelling}
+use Rattle.scheme_core.specs.Rules.{Rules}
+use Rattle.willow_path.specs.Key.{IsKey}
+use Rattle.willow_path.specs.Path.{IsPath, total}
+use Rattle.willow_path.specs.PathSpelling.{part_spelling, path_spelling}
+use Rattle.willow_area.specs.TimesSpelling.{times_spelling}
+use Rattle.willow_area.specs.Area.{IsArea}
+use Rattle.willow_area.specs.AreaSpelling.{area_spelling}
+use Rattle.willow_area.specs.declared.area.Area.{Area}
+use Rattle.willow_entry.specs.EntryForm.{entry_spelling, IsEntry}
+use Rattle.willow_entry.specs.declared.entry.Entry.{Entry}
+use Rattle.mc_cap.specs.Signature.{IsSignature, signature_spelling}
+use Rattle.mc_cap.specs.Forms.{delegation_spelling, IsDelegation, chain_spelling, initial_spelling, capability_spelling, IsCapability}
+use Rattle.mc_cap.specs.declared.chain.Delegation.{Delegation}
+use Rattle.mc_cap.specs.declared.capability.Capability.{Capability}
+use Rattle.cap_codec.specs.Rows.{RawValue, IsRaw, FitsFrame, token_spelling, raw_spelling}
+use Rattle.auth_entry.specs.Authorised.{row_refusal}
+use Rattle.auth_entry.proofs.Meaning.{authorised_means}
+
+parts_long : (path : List (List ℕ)) → length (flat_map part_spelling path) ≡ length path + total path
+parts_long [] = refl
+parts_long (part ∷ path) = omega (arith, length-append (part_spelling part) (flat_map part_spelling path), parts_long path)
+
+path_long : (path : List (List ℕ)) → IsPath path → length (path_spelling path) ≤ 1041
+path_long path fits = omega (arith, parts_long path, fits.few, fits.short)
+
+entry_long : (e : Entry) → IsEntry e → length (entry_spelling e) ≤ 1155
+unfolding entry_spelling
+entry_long e fits =
+    let numbers = to_be_bytes w64 e.timestamp ++ (to_be_bytes w64 e.length ++ e.digest.0) in
+    omega (
+      arith,
+      length-append e.namespace (e.subspace ++ (path_spelling e.path ++ numbers)),
+      length-append e.subspace (path_spelling e.path ++ numbers),
+      length-append (path_spelling e.path) numbers,
+      fits.namespace.whole,
+      fits.subspace.whole,
+      path_long e.path fits.path,
+      fits.digest.0,
+    )
+
+signature_long : (signature : List ℕ) → IsSignature signature → length (signature_spelling signature) ≤ 1510
+signature_long signature fits = omega (arith, fits.0)
+
+subspace_long : (o : Option (List ℕ)) → IfSome o IsKey → length (option_spelling (λ key. key) o) ≤ 34
+subspace_long None fits = omega arith
+subspace_long (Some key) fits = omega (arith, fits.whole)
+
+end_long : (o : Option ℕ) → length (option_spelling (to_be_bytes w64) o) ≤ 9
+end_long None = omega arith
+end_long (Some end) = omega arith
+
+area_long : (a : Area) → IsArea a → length (area_spelling a) ≤ 1092
+area_long a fits =
+    omega (
+      arith,
+      length-append (option_spelling (λ key. key) a.subspace) (path_spelling a.path ++ times_spelling a.times),
+      length-append (path_spelling a.path) (times_spelling a.times),
+      length-append (to_be_bytes w64 a.times.start) (option_spelling (to_be_bytes w64) a.times.end),
+      subspace_long a.subspace fits.subspace_fits,
+      path_long a.path fits.path_fits,
+      end_long a.times.end,
+    )
+
+delegation_long : (d : Delegation) → IsDelegation d → length (delegation_spelling d) ≤ 2635
+delegation_long d fits =
+    omega (
+      arith,
+      length-append (area_spelling d.area) (d.user ++ signature_spelling d.signature),
+      length-append d.user (signature_spelling d.signature),
+      area_long d.area fits.area_fits,
+      fits.user_fits.whole,
+      signature_long d.signature fits.signature_fits,
+    )
+
+delegations_long : (chain : List Delegation) → AllByRecursion IsDelegation chain → length (flat_map delegation_spelling chain) ≤ 2635 * length chain
+delegations_long [] fit = omega arith
+delegations_long (d ∷ chain) fit = omega (arith, length-append (delegation_spelling d) (flat_map delegation_spelling chain), delegation_long d fit.0, delegations_long chain fit.1)
+
+initial_long : (o : Option (List ℕ)) → IfSome o IsSignature → length (initial_spelling o) ≤ 1510
+initial_long None fits = omega arith
+initial_long (Some signature) fits = signature_long signature fits
+
+capability_long : (c : Capability) → IsCapability c → length c.chain ≤ 8 → length (capability_spelling c) ≤ 22658
+unfolding capability_spelling
+capability_long c fits few =
+    omega (
+      arith,
+      length-append c.namespace (c.user ++ (initial_spelling c.initial ++ chain_spelling c.chain)),
+      length-append c.user (initial_spelling c.initial ++ chain_spelling c.chain),
+      length-append (initial_spelling c.initial) (chain_spelling c.chain),
+      fits.namespace_fits.whole,
+      fits.user_fits.whole,
+      initial_long c.initial fits.initial_fits,
+      delegations_long c.chain fits.chain_fits.1,
+      few,
+    )
+
+raw_long : (r : RawValue) → IsRaw r → length r.token.capability.chain ≤ 8 → length (raw_spelling r) ≤ 25323
+raw_long r fits few =
+    omega (
+      arith,
+      length-append (entry_spelling r.entry) (token_spelling r.token),
+      length-append (capability_spelling r.token.capability) (signature_spelling r.token.signature),
+      entry_long r.entry fits.entry_fits,
+      capability_long r.token.capability fits.token_fits.capability_fits few,
+      signature_long r.token.signature fits.token_fits.signature_fits,
+    )
+
+-- an authorised row has at most 25,323 bytes
+pub fits_frame : (rules : Rules) (n : List ℕ) (r : RawValue) → IsRaw r → row_refusal rules n r ≡ None → FitsFrame r
+fits_frame rules n r fits none =
+    let few = ((authorised_means rules n r).0 none).valid.few in
+    record { raw = fits; short = omega (arith, raw_long r fits few) }
