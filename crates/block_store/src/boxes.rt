@@ -1,6 +1,6 @@
 //! The rows that a box includes.
 
-ghost use Rattle.std.specs.Prelude.{◌≡◌, ◌^◌, ◌<◌, cond, length, map, slice_get};
+ghost use Rattle.std.specs.Prelude.{◌≡◌, ◌^◌, ◌<◌, ◌≤◌, cond, length, map, slice_get};
 ghost use Rattle.block_store.specs.Positions.{positions};
 ghost use Rattle.block_store.specs.InBox.{is_in, rows_in};
 
@@ -18,7 +18,8 @@ fn is_in<R: Row>(row: &R, area: &Box3) -> bool
 
 // 1 for a row that passes.
 fn one_if(passes: bool) -> u32
-    ensures { result ≡ cond passes 1 0 }
+    ensures value { result ≡ cond passes 1 0 }
+    ensures small { result ≤ 1 }
 {
     if passes { 1 } else { 0 }
 }
@@ -42,11 +43,11 @@ pub(crate) fn nth_in<R: Row>(rows: &[Arc<R>], area: &Box3, n: u32) -> Option<u32
 {
     let mut left = n;
     for at in 0..rows.len() {
-        let passes = is_in(&*rows[at], area);
-        if passes && left == 0 {
+        let one = one_if(is_in(&*rows[at], area));
+        if one > left {
             return Some(at as u32);
         }
-        left -= one_if(passes);
+        left -= one;
     }
     None
 }

@@ -1,4 +1,4 @@
-use Rattle.std.proofs.Common.{◌≡◌, ◌+◌, ◌<◌, ◌∷◌, ◌++◌, [], List, length, map, take, drop, cond, get_or, sym, ap, ap₂, ◌∙◌, subst, Global, arith}
+use Rattle.std.proofs.Common.{◌≡◌, ◌<◌, ◌∷◌, ◌++◌, [], length, map, take, cond, get_or, sym, ap, ap₂, ◌∙◌, Global, arith}
 use Rattle.std.specs.declared.sync.Arc.{Arc}
 use Rattle.std.proofs.lemmas.List.{length-map, get_or-map}
 use Rattle.willow_entry.specs.Row.{RowValue, is_dominating}
@@ -22,7 +22,7 @@ loop-i-preserved g c =
     let inside : i < length rows = omega (arith, length-map c.args.rows.now value) in
     let here : get_or rows i (value held) ≡ value held = get_or-map value c.args.rows.now i held (value held) (omega arith) ∙ ap value (sym c.index-rows-i.is) in
     let passes : c.dominates.result ≡ is_dominating r (get_or rows i (value held)) =
-        c.dominates.ensures ∙ ap (λ x. is_dominating r (g.R.Row.value x)) c.deref.ensures ∙ ap (is_dominating r) (sym here) in
+    c.dominates.ensures ∙ ap (λ x. is_dominating r (g.R.Row.value x)) c.deref.ensures ∙ ap (is_dominating r) (sym here) in
     record {
       found = c.in_ok-note.ensures ∙ ap₂ (λ l b. l ++ cond b (i ∷ []) []) c.loop-i.invariant.found passes ∙ sym (positions-more (is_dominating r) rows i (value held) inside);
     }

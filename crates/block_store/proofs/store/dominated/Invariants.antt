@@ -1,4 +1,4 @@
-use Rattle.std.proofs.Common.{◌≡◌, ◌≤◌, length, map, take}
+use Rattle.std.proofs.Common.{◌≡◌, map, take}
 use Rattle.willow_entry.specs.Row.{is_dominating}
 use Rattle.block_store.specs.Positions.{positions}
 use Rattle.block_store.proofs.store.dominated.Given as goal

@@ -1,4 +1,4 @@
-use Rattle.std.proofs.Common.{◌≡◌, map, sym, ap, ◌∙◌, subst, Global, position, IfSome, IfNone}
+use Rattle.std.proofs.Common.{◌≡◌, map, sym, ap, ◌∙◌, subst, Global, position}
 use Rattle.std.specs.declared.sync.Arc.{Arc}
 use Rattle.std.proofs.lemmas.Simd.{map-map}
 use Rattle.willow_entry.specs.Row.{RowValue, live, is_covering}
@@ -9,7 +9,7 @@ use Rattle.block_store.proofs.store.BlockStore.covered_by.Goals as goal
 pub cover-requires-clause-is_live : goal.cover-requires-clause-is_live
 cover-requires-clause-is_live g c =
     subst (λ l. live (map (λ a. g.R.Row.value a.value) l) ≡ map (λ a. g.R.Row.value a.value) l) (sym c.deref.ensures.value)
-      (subst (λ l. live l ≡ l) (map-map g.R.Row.value (λ a. a.value) c.self.inside.rows.items) c.self.invariant.0)
+    (subst (λ l. live l ≡ l) (map-map g.R.Row.value (λ a. a.value) c.self.inside.rows.items) c.self.invariant.0)
 
 pub returns-clause-first : goal.returns-clause-first
 returns-clause-first g c =

@@ -1,4 +1,4 @@
-use Rattle.std.proofs.Common.{lit≤, arith}
+use Rattle.std.proofs.Common.{arith}
 use Rattle.willow_entry.proofs.Between.{live-empty}
 use Rattle.block_store.proofs.store.BlockStore.new.Goals as goal
 

@@ -11,7 +11,7 @@ pub dominated-requires-clause-rising : goal.dominated-requires-clause-rising
 dominated-requires-clause-rising g c =
     let value : Arc g.row.R.Denot Global → RowValue = λ a. g.R.Row.value a.value in
     subst (λ l. IsRising (map value l)) (sym c.deref.ensures.value)
-      (rising_live (map value c.self.inside.rows.items) (subst (λ l. live l ≡ l) (map-map g.R.Row.value (λ a. a.value) c.self.inside.rows.items) c.self.invariant.0))
+    (rising_live (map value c.self.inside.rows.items) (subst (λ l. live l ≡ l) (map-map g.R.Row.value (λ a. a.value) c.self.inside.rows.items) c.self.invariant.0))
 
 pub returns : goal.returns
 returns g c =
