@@ -1,5 +1,5 @@
 -- A row that covers another is found by a search at the fronts of its path, the shortest first.
-use Rattle.std.proofs.Common.{◌≡◌, ◌⊎◌, inl, inr, ℕ, zero, suc, ◌+◌, ◌≤◌, ◌<◌, Bool, true, false, cond, nat_lt, List, [], ◌∷◌, ◌++◌, length, take, drop, get_or, Option, Some, None, position, refl, sym, ap, ◌∙◌, subst, Ordering, Less, Equal, Greater, is_lt, is_gt, lt-ltb, arith}
+use Rattle.std.proofs.Common.{◌≡◌, ◌⊎◌, inl, inr, ℕ, zero, suc, ◌+◌, ◌≤◌, ◌<◌, true, false, cond, nat_lt, List, [], ◌∷◌, length, take, drop, get_or, Some, None, position, sym, ap, ◌∙◌, subst, Less, Equal, is_lt, is_gt, lt-ltb, arith}
 use Rattle.std.specs.List.{AllByRecursion, position_or_len}
 use Rattle.std.specs.List.Sorted.{IsStrictlySortedBy}
 use Rattle.std.specs.Ordering.{ordering_then, ordering_reverse}
@@ -13,7 +13,7 @@ use Rattle.willow_path.specs.Path.{is_prefix, path_cmp}
 use Rattle.willow_path.proofs.PathOrder.{is_prefix_decides, path_cmp_equal}
 use Rattle.willow_entry.specs.Entry.{bytes_cmp}
 use Rattle.willow_entry.specs.Row.{RowValue, is_covering, place_cmp, IsRising}
-use Rattle.willow_entry.proofs.Members.{Member, contains_from_member, member_from_contains, member_append_cases}
+use Rattle.willow_entry.proofs.Members.{Member, member_from_contains, member_append_cases}
 use Rattle.willow_entry.proofs.Rising.{all_member, Less≢Equal}
 use Rattle.willow_entry.proofs.Ranks.{place_total, bytes_same}
 use Rattle.willow_entry.proofs.RowLaws.{covering_means}
@@ -90,8 +90,8 @@ module _ (rows : List RowValue) (r : RowValue) where
     found_at h e = position_at n h (position_or_len_is (λ s. is_covering s r) rows n r (omega arith) before (λ _. e)) where
       before : (j : ℕ) → j < n → is_covering (get_or rows j r) r ≡ false
       before j lt = false_from_ne_true (is_covering (get_or rows j r) r) (λ t.
-        let below = All-from_recursion (λ s. place_cmp s (front r k) ≡ Less) (take n rows) place.below j r (omega (arith, length-take-le n rows (omega arith))) in
-        covering_not_below (get_or rows j r) r k t
+          let below = All-from_recursion (λ s. place_cmp s (front r k) ≡ Less) (take n rows) place.below j r (omega (arith, length-take-le n rows (omega arith))) in
+          covering_not_below (get_or rows j r) r k t
           (reach.reach (get_or rows j r) (member_from_contains rows (get_or rows j r) (j, omega arith, get_or_default rows j (get_or rows j r) r (omega arith))) t)
           (subst (λ s. place_cmp s (front r k) ≡ Less) (get_or-take n rows j r lt) below))
 
@@ -100,11 +100,12 @@ module _ (rows : List RowValue) (r : RowValue) where
     passed_at up none = record { reach = λ s m e. longer s m e (cases_eq (length s.entry.path) k) } where
       here : (s : RowValue) → Member rows s → is_covering s r ≡ true → place_cmp s (front r k) ≡ Equal → ⊥
       here s m e tie = elim (member_append_cases (take n rows) (drop n rows) s (subst (λ l. Member l s) (sym (take-append-drop n rows)) m)) [
-          inl before ↦ Less≢Equal (sym (all_member place_cmp (λ t. place_cmp t (front r k) ≡ Less) (take n rows) place.below s before) ∙ tie)
+        | inl before ↦ Less≢Equal (sym (all_member place_cmp (λ t. place_cmp t (front r k) ≡ Less) (take n rows) place.below s before) ∙ tie)
         | inr after ↦ (
             let first = first_tied (front r k) (drop n rows) (rising_drop n rows up) place.beyond s after tie r in
             let same : get_or rows n r ≡ s = ap (λ i. get_or rows i r) (omega arith) ∙ sym (get_or-drop n rows 0 r) ∙ first.1 in
-            both_ways (is_covering s r) (subst (λ t. is_covering t r ≡ false) same (none (omega (arith, first.0, length-drop n rows)))) e) ]
+            both_ways (is_covering s r) (subst (λ t. is_covering t r ≡ false) same (none (omega (arith, first.0, length-drop n rows)))) e)
+      ]
 
       longer : (s : RowValue) → Member rows s → is_covering s r ≡ true → (length s.entry.path ≡ k) ⊎ (length s.entry.path ≡ k → ⊥) → k + 1 ≤ length s.entry.path
       longer s m e (inl q) = absurd (here s m e (subst (λ j. place_cmp s (front r j) ≡ Equal) q (covering_place s r e)))
@@ -114,9 +115,9 @@ module _ (rows : List RowValue) (r : RowValue) where
   pub none_left : ReachFrom (length r.entry.path + 1) → position (λ s. is_covering s r) rows ≡ None
   none_left reach =
       let all = position_or_len_is (λ s. is_covering s r) rows (length rows) r (omega arith)
-        (λ j lt. false_from_ne_true (is_covering (get_or rows j r) r) (λ t.
-          let s = get_or rows j r in
-          let long = reach.reach s (member_from_contains rows s (j, lt, get_or_default rows j s r lt)) t in
-          let short = (covering_front s r t).shorter in
-          absurd (omega arith))) (λ h. absurd (omega arith)) in
+      (λ j lt. false_from_ne_true (is_covering (get_or rows j r) r) (λ t.
+      let s = get_or rows j r in
+      let long = reach.reach s (member_from_contains rows s (j, lt, get_or_default rows j s r lt)) t in
+      let short = (covering_front s r t).shorter in
+      absurd (omega arith))) (λ h. absurd (omega arith)) in
       ap (λ k. cond (nat_lt k (length rows)) (Some k) None) all ∙ ap (λ b. cond b (Some (length rows)) None) (le-ltb (length rows) (length rows) (omega arith))

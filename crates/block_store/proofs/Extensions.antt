@@ -1,7 +1,7 @@
 -- The rows that a row dominates stand in one run from its place on.
-use Rattle.std.proofs.Common.{◌≡◌, ℕ, zero, suc, ◌+◌, ◌≤◌, ◌<◌, Bool, true, false, not, List, [], ◌∷◌, ◌++◌, length, take, drop, map, get_or, refl, sym, ap, ◌∙◌, subst, Ordering, Less, Equal, Greater, is_lt, is_gt, arith, ap₂, insert, count_by}
+use Rattle.std.proofs.Common.{◌≡◌, ℕ, zero, suc, ◌+◌, ◌≤◌, false, not, List, [], ◌∷◌, ◌++◌, length, take, drop, map, get_or, refl, sym, ap, ◌∙◌, Less, is_lt, is_gt, arith, ap₂, insert, count_by}
 use Rattle.std.specs.List.{AllByRecursion}
-use Rattle.std.specs.List.Sorted.{IsStrictlySortedBy, IsPartitionPoint, IsPartitionedBy}
+use Rattle.std.specs.List.Sorted.{IsStrictlySortedBy, IsPartitionedBy}
 use Rattle.std.specs.Ordering.{ordering_reverse}
 use Rattle.std.proofs.lemmas.Bool.{false≢true, both_ways, false_from_ne_true}
 use Rattle.std.proofs.Math.Seq.{take-append_seam, drop-append_seam}
@@ -14,7 +14,7 @@ use Rattle.willow_entry.proofs.Members.{filter_member}
 use Rattle.willow_entry.proofs.Rising.{all_member, all_from_members}
 use Rattle.willow_entry.proofs.Ranks.{place_total}
 use Rattle.willow_entry.proofs.Local.{at_prefix, at_prefix_test, dominated_at_prefix, at_prefix_not_above, between_at_prefix, left_of, keeps_all, not_below}
-use Rattle.willow_entry.proofs.Between.{IsPlace, all_from, all_at, live-between}
+use Rattle.willow_entry.proofs.Between.{IsPlace, all_at, live-between}
 
 -- no extension of r comes after what is none
 pub extensions_partitioned : (r : RowValue) {Y : Type 0} (f : Y → RowValue) (ys : List Y) → IsRising (map f ys) → AllByRecursion (λ s. is_lt (place_cmp s r) ≡ false) (map f ys) → IsPartitionedBy (λ y. is_at_prefix r (f y)) ys
@@ -24,7 +24,7 @@ extensions_partitioned r f (y ∷ ys) up beyond zero zero d le lt e = e
 extensions_partitioned r f (y ∷ ys) up beyond zero (suc j) d le lt e =
     let s = f (get_or ys j d) in
     at_prefix_test r (f y) (between_at_prefix r (f y) s (at_prefix r s e) (not_below r (f y) beyond.0)
-      (ap is_gt (all_at f (λ z. place_cmp (f y) z ≡ Less) ys up.0 j d (omega arith))))
+    (ap is_gt (all_at f (λ z. place_cmp (f y) z ≡ Less) ys up.0 j d (omega arith))))
 extensions_partitioned r f (y ∷ ys) up beyond (suc i) zero d le lt e = absurd (omega arith)
 extensions_partitioned r f (y ∷ ys) up beyond (suc i) (suc j) d le lt e = extensions_partitioned r f ys up.1 beyond.1 i j d (omega arith) (omega arith) e
 
@@ -58,8 +58,8 @@ module _ (rows : List RowValue) (r : RowValue) (at : ℕ) (place : IsPlace place
       let long : length (take at rows) ≡ at = length-take-le at rows within in
       let after = left_of r (drop at rows) in
       let beyond : AllByRecursion (λ s. is_lt (place_cmp s r) ≡ false) after = all_from_members place_cmp (λ s. is_lt (place_cmp s r) ≡ false) after (λ s m.
-          all_member place_cmp (λ t. is_lt (place_cmp t r) ≡ false) (drop at rows) place.beyond s (filter_member (λ t. not (is_dominating r t)) (drop at rows) s m).0) in
+      all_member place_cmp (λ t. is_lt (place_cmp t r) ≡ false) (drop at rows) place.beyond s (filter_member (λ t. not (is_dominating r t)) (drop at rows) s m).0) in
       ap₂ (λ a b. a ++ r ∷ b)
-        (ap (λ n. take n (take at rows ++ after)) (sym long) ∙ take-append_seam (take at rows) after)
-        (ap (λ n. drop n (take at rows ++ after)) (sym long) ∙ drop-append_seam (take at rows) after)
+      (ap (λ n. take n (take at rows ++ after)) (sym long) ∙ take-append_seam (take at rows) after)
+      (ap (λ n. drop n (take at rows ++ after)) (sym long) ∙ drop-append_seam (take at rows) after)
       ∙ live-between rows r is_live uncovered (take at rows) after left_parts place.below beyond

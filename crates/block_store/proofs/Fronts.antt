@@ -1,5 +1,5 @@
 -- Comparing a list with the first items of another, item by item.
-use Rattle.std.proofs.Common.{◌≡◌, ℕ, zero, suc, ◌+◌, ◌≤◌, ◌<◌, List, [], ◌∷◌, length, take, drop, get_or, refl, sym, ap, ◌∙◌, Ordering, Less, Equal, Greater, nat_cmp, arith}
+use Rattle.std.proofs.Common.{◌≡◌, ℕ, zero, suc, ◌≤◌, ◌<◌, List, [], ◌∷◌, length, drop, get_or, refl, ◌∙◌, Ordering, Less, Equal, Greater, nat_cmp, arith}
 use Rattle.std.specs.Ordering.{ordering_then, MatchOrdering}
 use Rattle.std.specs.Cmp.Lexicographic.{slice_cmp}
 use Rattle.std.specs.Cmp.{nat_cmp_is}
@@ -10,9 +10,10 @@ nat_step : (x y : ℕ) → nat_cmp x y ≡ nat_cmp (suc x) (suc y)
 nat_step x y =
     let P : Ordering → Type 0 = λ o. MatchOrdering o (x < y) (x ≡ y) (y < x) → o ≡ nat_cmp (suc x) (suc y) in
     let each : (o : Ordering) → P o = elim [
-        Less ↦ λ a. nat_cmp_is (suc x) (suc y) Less (omega arith)
+      | Less ↦ λ a. nat_cmp_is (suc x) (suc y) Less (omega arith)
       | Equal ↦ λ a. nat_cmp_is (suc x) (suc y) Equal (omega arith)
-      | Greater ↦ λ a. nat_cmp_is (suc x) (suc y) Greater (omega arith) ] in
+      | Greater ↦ λ a. nat_cmp_is (suc x) (suc y) Greater (omega arith)
+    ] in
     each (nat_cmp x y) (ranked x y (nat_cmp x y) refl)
 
 module _ {X : Type 0} (cmp : X → X → Ordering) where

@@ -3,3 +3,4 @@ mod Covered
 mod Extensions
 mod Removing
 mod Positions
+mod Copies

@@ -1,7 +1,7 @@
 -- A list whose back half has been filtered, from the end down to a position.
-use Rattle.std.proofs.Common.{◌≡◌, ℕ, zero, suc, ◌+◌, ◌≤◌, ◌<◌, Bool, true, false, not, cond, List, [], ◌∷◌, ◌++◌, length, take, drop, map, get_or, filter, refl, sym, ap, ap₂, ◌∙◌, subst, append_assoc, arith}
+use Rattle.std.proofs.Common.{◌≡◌, ℕ, suc, ◌<◌, Bool, true, false, cond, List, [], ◌∷◌, ◌++◌, length, take, drop, map, get_or, filter, sym, ap, ap₂, ◌∙◌, append_assoc, arith}
 use Rattle.std.specs.List.{remove, take-map, drop-map}
-use Rattle.std.proofs.Math.Seq.{drop-cons, take-suc, drop-append-add, drop-append_seam}
+use Rattle.std.proofs.Math.Seq.{drop-cons, take-suc, drop-append_seam}
 use Rattle.std.proofs.lemmas.List.{map-append, take-take, take-append-le, length-take-le, get_or_append_left, get_or-take, get_or-map}
 
 pub map-remove : {X Y : Type 0} (f : X → Y) (xs : List X) (i : ℕ) → map f (remove xs i) ≡ remove (map f xs) i
@@ -22,8 +22,8 @@ module _ {X : Type 0} (p : X → Bool) (xs : List X) where
   removed i rest h =
       let long : length (take (suc i) xs) ≡ suc i = length-take-le (suc i) xs (omega arith) in
       ap₂ (λ a b. a ++ b)
-        (take-append-le i (take (suc i) xs) rest (omega arith) ∙ take-take i (suc i) xs (omega arith))
-        (ap (λ n. drop n (take (suc i) xs ++ rest)) (sym long) ∙ drop-append_seam (take (suc i) xs) rest)
+      (take-append-le i (take (suc i) xs) rest (omega arith) ∙ take-take i (suc i) xs (omega arith))
+      (ap (λ n. drop n (take (suc i) xs ++ rest)) (sym long) ∙ drop-append_seam (take (suc i) xs) rest)
 
   -- the item at i fails and goes
   pub filtered_fails : (i : ℕ) (d : X) → i < length xs → p (get_or xs i d) ≡ false → remove (filtered_from (suc i)) i ≡ filtered_from i

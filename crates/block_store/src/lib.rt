@@ -2,7 +2,11 @@
 //! Its one contract: after an ingest the rows are what is live of the old rows with the new one added.
 #![tactic(auto)]
 
+mod boxes;
 mod search;
+mod shared;
+mod snapshot;
 mod store;
 
+pub use snapshot::Snapshot;
 pub use store::BlockStore;

@@ -1,5 +1,5 @@
 -- A root that is computed step by step, and what it tells of a signature.
-use Rattle.std.proofs.Common.{◌≡◌, ℕ, ◌+◌, ◌-◌, ◌*◌, Bool, true, false, List, length, take, drop, Option, Some, None, bytes_eq, refl, sym, ap, ◌∙◌}
+use Rattle.std.proofs.Common.{◌≡◌, ℕ, ◌+◌, Bool, false, List, drop, Some, None, bytes_eq, refl, ◌∙◌}
 use Rattle.lms_core.specs.declared.height.Height.{Height}
 use Rattle.lms_core.specs.Bytes.{field, u32_at}
 use Rattle.lms_core.specs.OneTime.{key_told}

@@ -1,5 +1,5 @@
 -- How a climb goes on, one level at a time.
-use Rattle.std.proofs.Common.{◌≡◌, ℕ, zero, suc, ◌+◌, ◌-◌, ◌*◌, ◌/◌, ◌<◌, ◌≤◌, List, [], ◌∷◌, ◌++◌, length, take, drop, refl, sym, ap, ◌∙◌, arith}
+use Rattle.std.proofs.Common.{◌≡◌, ℕ, zero, suc, ◌+◌, ◌-◌, ◌*◌, ◌/◌, ◌<◌, List, drop, refl, arith}
 use Rattle.std.proofs.lemmas.List.{drop-drop}
 use Rattle.lms_core.specs.Bytes.{field}
 use Rattle.lms_core.specs.Tree.{parent_value, climb}

@@ -1,17 +1,16 @@
 -- What the signer makes is accepted.
-use Rattle.std.proofs.Common.{◌≡◌, ℕ, zero, suc, ◌+◌, ◌-◌, ◌*◌, ◌/◌, ◌%◌, ◌^◌, ◌<◌, ◌≤◌, ◌==◌, nat_lt, bytes_eq, Bool, true, false, ◌&&◌, Option, Some, None, List, [], ◌∷◌, ◌++◌, length, take, drop, refl, sym, ap, ◌∙◌, arith, append_assoc, length-append}
+use Rattle.std.proofs.Common.{◌≡◌, ℕ, zero, suc, ◌+◌, ◌*◌, ◌/◌, ◌^◌, ◌<◌, ◌≤◌, bytes_eq, Bool, true, ◌&&◌, Some, List, length, refl, sym, arith, length-append}
 use Rattle.std.proofs.Math.Nat.{pow-suc}
 use Rattle.std.proofs.lemmas.Bool.{eq-eqb, lt-ltb}
-use Rattle.std.proofs.lemmas.List.{append-nil, take_at, drop_at}
+use Rattle.std.proofs.lemmas.List.{take_at, drop_at}
 use Rattle.std.proofs.lemmas.Slice.Eq.{bytes_eq-Decides}
 use Rattle.sha2.proofs.Facts256.{length-sha256}
 use Rattle.lms_core.specs.declared.height.Height.{Height}
-use Rattle.lms_core.specs.declared.height.Height.TheVariants.{H5, H10}
 use Rattle.lms_core.specs.Bytes.{u32_str, u32_at, field}
-use Rattle.lms_core.specs.OneTime.{message_hash, digits, chain_ends, key_told}
-use Rattle.lms_core.specs.Tree.{leaf_value, inner_value, parent_value, climb}
+use Rattle.lms_core.specs.OneTime.{message_hash, digits, key_told}
+use Rattle.lms_core.specs.Tree.{leaf_value, inner_value, climb}
 use Rattle.lms_core.specs.Accepts.{one_time_type, levels, leaves, type_of, height_of, signature_length, is_sound, sound_height, root_of, lms_accepts}
-use Rattle.lms_core.specs.Signer.{values_at, last_digits, key_of_leaf, node_value, root_value, sibling, path_of, randomizer, public_key, signed_values, signature_of}
+use Rattle.lms_core.specs.Signer.{key_of_leaf, node_value, root_value, sibling, path_of, randomizer, public_key, signed_values, signature_of}
 use Rattle.lms_core.proofs.Digests.{length_u32_str, u32_at_by, length_digits, digits_bytes}
 use Rattle.lms_core.proofs.Values.{length_values_at, ends_of_values}
 use Rattle.lms_core.proofs.Secrets.{node_value_parent, leaf_by_index}

@@ -1,14 +1,12 @@
 -- A key file is read as the key that it spells, and every file that is read spells its key.
-use Rattle.std.proofs.Common.{◌≡◌, ℕ, zero, suc, ◌+◌, ◌-◌, ◌*◌, ◌^◌, ◌<◌, ◌≤◌, ◌==◌, nat_le, eqb, bytes_eq, Bool, true, false, ◌&&◌, cond, Option, Some, None, IfSome, MatchOption, List, [], ◌∷◌, ◌++◌, length, take, drop, slice_index, get_or, ◌⊎◌, inl, inr, refl, sym, ap, subst, ◌∙◌, arith, append_assoc, length-append}
-use Rattle.std.specs.Int.{w32, to_be_bytes, from_be_bytes}
-use Rattle.std.proofs.lemmas.Bool.{cases_Bool, and_parts, eq-eqb, le-leb, leb-true, eqb-true}
-use Rattle.std.proofs.lemmas.List.{append-nil, take_at, drop_at, take-append-drop, drop-drop, drop_all, take_all, length-take, length-drop, drop_more}
+use Rattle.std.proofs.Common.{◌≡◌, ℕ, ◌+◌, ◌^◌, ◌<◌, ◌≤◌, ◌==◌, nat_le, bytes_eq, Bool, true, false, ◌&&◌, cond, Option, Some, None, IfSome, MatchOption, List, [], ◌∷◌, ◌++◌, length, take, drop, slice_index, refl, sym, ap, subst, ◌∙◌, arith, append_assoc}
+use Rattle.std.proofs.lemmas.Bool.{and_parts, eq-eqb, le-leb, leb-true, eqb-true}
+use Rattle.std.proofs.lemmas.List.{append-nil, take-append-drop, drop-drop, drop_all, length-take, length-drop, drop_more}
 use Rattle.std.proofs.lemmas.Slice.Eq.{bytes_eq-Decides}
 use Rattle.spelling.specs.Form.{AreBytes}
 use Rattle.spelling.proofs.Lists.{All-take, All-drop}
 use Rattle.spelling.proofs.Fields.{wide32}
 use Rattle.lms_core.specs.declared.height.Height.{Height}
-use Rattle.lms_core.specs.declared.height.Height.TheVariants.{H5, H10}
 use Rattle.lms_core.specs.Bytes.{u32_str, u32_at, field}
 use Rattle.lms_core.specs.Accepts.{levels, leaves}
 use Rattle.lms_core.specs.Key.{Key, IsKey, key_magic, key_file, height_at, key_of_height, key_at}

@@ -1,16 +1,14 @@
 -- A made signature behind its public key is accepted for the tree's user key.
-use Rattle.std.proofs.Common.{◌≡◌, ℕ, zero, suc, ◌+◌, ◌-◌, ◌*◌, ◌^◌, ◌<◌, ◌≤◌, ◌==◌, nat_le, bytes_eq, Bool, true, false, ◌&&◌, cond, List, [], ◌∷◌, ◌++◌, length, take, drop, slice_index, refl, sym, ap, ◌∙◌, arith, length-append}
-use Rattle.std.proofs.lemmas.Bool.{eq-eqb, le-leb, and_from, and_left, and_right}
+use Rattle.std.proofs.Common.{◌≡◌, ℕ, ◌+◌, ◌<◌, ◌≤◌, bytes_eq, Bool, true, false, List, [], ◌∷◌, ◌++◌, length, take, drop, refl, sym, ap, ◌∙◌, arith, length-append}
+use Rattle.std.proofs.lemmas.Bool.{eq-eqb, le-leb, and_from}
 use Rattle.std.proofs.lemmas.List.{take_at, take_all, drop_at}
 use Rattle.std.proofs.lemmas.Slice.Eq.{bytes_eq-Decides}
 use Rattle.sha2.specs.Sha256.{sha256}
 use Rattle.sha2.proofs.Facts256.{length-sha256}
 use Rattle.lms_core.specs.declared.height.Height.{Height}
-use Rattle.lms_core.specs.declared.height.Height.TheVariants.{H5, H10}
-use Rattle.lms_core.specs.Bytes.{u32_at, u32_str, field}
+use Rattle.lms_core.specs.Bytes.{u32_str, field}
 use Rattle.lms_core.specs.Accepts.{levels, leaves, lms_accepts, one_time_type, type_of}
-use Rattle.lms_core.specs.Signer.{public_key, signature_of, root_value, path_of}
-use Rattle.lms_core.specs.Key.{Key, key_magic, key_file}
+use Rattle.lms_core.specs.Signer.{public_key, signature_of, root_value}
 use Rattle.lms_core.specs.Use.{Use, user_key_of, lms_key_accepts, peer_accepts, use_gives, use_signature}
 use Rattle.lms_core.proofs.Digests.{length_u32_str, u32_at_by}
 use Rattle.lms_core.proofs.Completeness.{made_is_accepted, length_root_value, signature_parts, length_path_of}

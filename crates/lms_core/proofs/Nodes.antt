@@ -1,10 +1,8 @@
 -- The numbers of the nodes of a tree: those on the level l above the leaves go from 2 ^ (h - l) to 2 * 2 ^ (h - l).
-use Rattle.std.proofs.Common.{◌≡◌, ℕ, zero, suc, ◌+◌, ◌-◌, ◌*◌, ◌/◌, ◌%◌, ◌^◌, ◌<◌, ◌≤◌, ◌⊎◌, inl, inr, refl, sym, ap, ◌∙◌, arith}
+use Rattle.std.proofs.Common.{◌≡◌, ℕ, suc, ◌+◌, ◌-◌, ◌*◌, ◌/◌, ◌^◌, ◌<◌, ◌≤◌, inl, inr, refl, arith}
 use Rattle.std.proofs.Math.Nat.{pow-suc}
-use Rattle.lms_core.specs.declared.height.Height.{Height}
 use Rattle.lms_core.specs.Signer.{sibling}
 use Rattle.lms_core.proofs.Secrets.{parity, sibling_odd, sibling_even}
-use Rattle.lms_core.specs.Accepts.{levels, leaves}
 
 -- each level has twice as many nodes as the one above it
 pub pow_level : (h l : ℕ) → l < h → 2 ^ (h - l) ≡ 2 * 2 ^ (h - (l + 1))

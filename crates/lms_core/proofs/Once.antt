@@ -1,5 +1,5 @@
 -- Over every list of calls the indices handed out rise.
-use Rattle.std.proofs.Common.{◌≡◌, ℕ, zero, suc, ◌+◌, ◌<◌, ◌≤◌, ◌⊎◌, inl, inr, cond, true, Bool, bytes_eq, List, [], ◌∷◌, ◌++◌, map, length, get_or, Option, Some, None, Result, Ok, Err, refl, sym, ap, subst, ◌∙◌, arith}
+use Rattle.std.proofs.Common.{◌≡◌, ℕ, zero, suc, ◌+◌, ◌<◌, ◌≤◌, inl, inr, cond, true, bytes_eq, List, [], ◌∷◌, ◌++◌, map, length, get_or, Option, Some, None, Result, Ok, Err, refl, sym, ap, ◌∙◌, arith}
 use Rattle.std.specs.List.{AllPairs}
 use Rattle.std.specs.Option.{option_map}
 use Rattle.std.specs.declared.vec.Vec.{Vec}
@@ -14,8 +14,8 @@ use Rattle.lms_core.specs.declared.reserve.KeyRefusal.TheVariants.{ShelfRead, Mi
 use Rattle.lms_core.specs.Accepts.{leaves}
 use Rattle.lms_core.specs.Key.{Key, IsKey, key_file, raised}
 use Rattle.lms_core.specs.Use.{Use, uses_from}
-use Rattle.lms_core.specs.Reserve.{HoldsKey, PutsKey, KeepsNames, HandsOut, IsSpent, FailsToPut, HoldsNoKey, Reserves}
-use Rattle.lms_core.specs.Calls.{Call, IsCall, AreCalls, told_under, indices_of, handed_out}
+use Rattle.lms_core.specs.Reserve.{Reserves}
+use Rattle.lms_core.specs.Calls.{Call, AreCalls, told_under, indices_of, handed_out}
 use Rattle.lms_core.proofs.Files.{file_once}
 
 -- ---- lists that rise

@@ -1,12 +1,12 @@
 -- The values of a signer's nodes and its public key, by the steps that compute them.
-use Rattle.std.proofs.Common.{◌≡◌, ℕ, zero, suc, ◌+◌, ◌-◌, ◌*◌, ◌/◌, ◌%◌, ◌^◌, ◌<◌, ◌≤◌, List, [], ◌∷◌, ◌++◌, length, ◌⊎◌, inl, inr, refl, sym, ap, ◌∙◌, arith, append_assoc}
+use Rattle.std.proofs.Common.{◌≡◌, ℕ, zero, suc, ◌+◌, ◌-◌, ◌*◌, ◌/◌, ◌%◌, ◌<◌, ◌≤◌, List, [], ◌++◌, ◌⊎◌, inl, inr, refl, sym, ap, ◌∙◌, arith, append_assoc}
 use Rattle.std.proofs.lemmas.Bool.{cases_eq}
 use Rattle.std.proofs.lemmas.List.{append-nil}
 use Rattle.lms_core.specs.declared.height.Height.{Height}
 use Rattle.lms_core.specs.Bytes.{u32_str}
 use Rattle.lms_core.specs.OneTime.{front, step, run, message_hash, digits}
 use Rattle.lms_core.specs.Tree.{leaf_value, inner_value, parent_value}
-use Rattle.lms_core.specs.Accepts.{one_time_type, levels, leaves, type_of}
+use Rattle.lms_core.specs.Accepts.{levels, leaves, type_of}
 use Rattle.lms_core.specs.Signer.{chain_start, values_at, key_of_leaf, node_value, root_value, sibling, path_of, randomizer, public_key, signed_values, signature_of}
 use Rattle.lms_core.proofs.Values.{run_end}
 

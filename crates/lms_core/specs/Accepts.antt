@@ -3,7 +3,7 @@
 -- A public key is the tree's type, the one-time type, the identifier I and the root T[1]: 4, 4, 16 and 32
 -- bytes. A signature is q, the one-time type, the randomizer C, 34 chain values, the tree's type and the
 -- path: 4, 4, 32, 1,088, 4 and 32 bytes a level.
-use Rattle.std.specs.Prelude.{ℕ, ◌+◌, ◌*◌, ◌^◌, Bool, true, false, ◌&&◌, List, length, take, drop, Option, Some, None, if◌then◌else◌, ◌==◌, nat_lt, bytes_eq}
+use Rattle.std.specs.Prelude.{ℕ, ◌+◌, ◌*◌, ◌^◌, Bool, false, ◌&&◌, List, length, drop, Option, Some, None, if◌then◌else◌, ◌==◌, nat_lt, bytes_eq}
 use Rattle.lms_core.specs.declared.height.Height.{Height}
 use Rattle.lms_core.specs.declared.height.Height.TheVariants.{H5, H10}
 use Rattle.lms_core.specs.Bytes.{field, u32_at}

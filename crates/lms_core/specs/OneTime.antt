@@ -1,6 +1,6 @@
 -- The one-time signatures LMOTS_SHA256_N32_W8 of RFC 8554: 34 chains of 255 steps, with hashes of 32
 -- bytes. id is the tree's identifier I, q the number of the leaf.
-use Rattle.std.specs.Prelude.{ℕ, zero, suc, ◌+◌, ◌-◌, ◌*◌, List, [], ◌∷◌, ◌++◌, take, drop, sum_by}
+use Rattle.std.specs.Prelude.{ℕ, zero, suc, ◌-◌, List, [], ◌∷◌, ◌++◌, take, drop, sum_by}
 use Rattle.sha2.specs.Sha256.{sha256}
 use Rattle.lms_core.specs.Bytes.{u32_str, u16_str}
 

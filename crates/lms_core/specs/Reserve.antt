@@ -1,12 +1,11 @@
 -- What a call that takes indices off a key file does to the shelf, and what the calls for one name do together.
-use Rattle.std.specs.Prelude.{◌≡◌, ℕ, zero, suc, ◌+◌, ◌<◌, ◌≤◌, ◌⊎◌, List, [], ◌∷◌, ◌++◌, Result, Ok, Err, Some, None}
-use Rattle.std.specs.declared.option.Option.{Option}
+use Rattle.std.specs.Prelude.{◌≡◌, ℕ, ◌+◌, ◌<◌, ◌≤◌, ◌⊎◌, List, Result, Ok, Err, Some, None}
 use Rattle.std.specs.declared.vec.Vec.{Vec}
 use Rattle.std.specs.declared.alloc.Global.{Global}
 use Rattle.spelling.specs.declared.ending.End.{End}
 use Rattle.spelling.specs.declared.ending.End.TheVariants.{Refused, NoMemory}
 use Rattle.willow_outside.specs.Facts.{ShelfFacts}
-use Rattle.willow_outside.specs.Names.{GetsName, PutsName, name_put}
+use Rattle.willow_outside.specs.Names.{GetsName, name_put}
 use Rattle.willow_outside.specs.Counts.{Rose}
 use Rattle.std.specs.Option.{option_map}
 use Rattle.lms_core.specs.declared.reserve.KeyRefusal.{KeyRefusal}

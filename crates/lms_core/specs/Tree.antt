@@ -1,6 +1,6 @@
 -- The tree of RFC 8554's LMS_SHA256_M32: node 1 is the root, nodes 2 n and 2 n + 1 stand below node n,
 -- and leaf q of a tree of height h is node 2 ^ h + q.
-use Rattle.std.specs.Prelude.{ℕ, zero, suc, ◌+◌, ◌*◌, ◌/◌, ◌%◌, List, ◌++◌, take, drop, if◌then◌else◌, ◌==◌}
+use Rattle.std.specs.Prelude.{ℕ, zero, suc, ◌/◌, ◌%◌, List, ◌++◌, take, drop, if◌then◌else◌, ◌==◌}
 use Rattle.sha2.specs.Sha256.{sha256}
 use Rattle.lms_core.specs.OneTime.{front, d_leaf, d_intr}
 

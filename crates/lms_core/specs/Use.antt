@@ -1,5 +1,5 @@
 -- Signers of one index, and the signatures that are accepted for keys of both kinds.
-use Rattle.std.specs.Prelude.{ℕ, zero, suc, ◌+◌, ◌==◌, ◌&&◌, nat_le, bytes_eq, Bool, if◌then◌else◌, List, [], ◌∷◌, ◌++◌, length, take, drop, slice_index}
+use Rattle.std.specs.Prelude.{ℕ, zero, suc, ◌==◌, ◌&&◌, nat_le, bytes_eq, Bool, if◌then◌else◌, List, [], ◌∷◌, ◌++◌, length, take, drop, slice_index}
 use Rattle.sha2.specs.Sha256.{sha256}
 use Rattle.scheme_core.specs.Rules.{Rules}
 use Rattle.scheme_core.specs.Open.{open_accepts, is_communal}

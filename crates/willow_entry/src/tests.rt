@@ -150,9 +150,9 @@ fn reading(rt: HostRuntime) -> Result<(), Fail> {
         .ok()
         .ok_or("an entry")?;
     assert!(rt; !newer(&again, &made) && !newer(&made, &again));
-    assert!(rt; Entry::decode(rt.alloc(), &text[..116]).is_err());
-    text[0] = 2;
+    text.truncate(116);
     assert!(rt; Entry::decode(rt.alloc(), &text).is_err());
+    assert!(rt; Entry::decode(rt.alloc(), &[2; 117]).is_err());
     Ok(())
 }
 
@@ -165,7 +165,7 @@ fn bodies(rt: HostRuntime) -> Result<(), Fail> {
         .ok_or("memory")?
         .ok_or("a row")?;
     assert!(rt; same(&read, &made));
-    let cut = BareRows::read(rt.alloc(), &body[1..]).ok().ok_or("memory")?;
+    let cut = BareRows::read(rt.alloc(), &[2; 117]).ok().ok_or("memory")?;
     assert!(rt; cut.is_none());
     Ok(())
 }

@@ -1,4 +1,4 @@
-use Rattle.std.proofs.Common.{◌≡◌, map}
+use Rattle.std.proofs.Common.{map}
 use Rattle.block_store.proofs.Covered.{ReachFrom}
 use Rattle.block_store.proofs.search.covered_at.Given as goal
 

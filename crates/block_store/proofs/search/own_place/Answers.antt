@@ -1,4 +1,4 @@
-use Rattle.std.proofs.Common.{◌≡◌, length, map, ap, ◌∙◌, subst, Global}
+use Rattle.std.proofs.Common.{length, map, ap, ◌∙◌, subst, Global}
 use Rattle.std.specs.declared.sync.Arc.{Arc}
 use Rattle.willow_entry.specs.Row.{RowValue, place_cmp}
 use Rattle.willow_entry.proofs.Between.{IsPlace}

@@ -1,6 +1,6 @@
-use Rattle.std.proofs.Common.{rules, ◌≡◌, ℕ, ◌≤◌, List, length, take, nat_cmp, sym, ap, ap₂, ◌∙◌, arith, min}
+use Rattle.std.proofs.Common.{◌≡◌, length, take, nat_cmp, sym, ap₂, ◌∙◌, arith}
 use Rattle.std.proofs.lemmas.List.{length-take}
-use Rattle.willow_path.specs.Path.{part_cmp, path_cmp}
+use Rattle.willow_path.specs.Path.{part_cmp}
 use Rattle.block_store.proofs.Fronts.{cmp_ended}
 use Rattle.block_store.proofs.search.path_by_front.Goals as goal
 

@@ -11,5 +11,5 @@ returns-clause-place g c =
     let value = g.R.Row.value in
     let at = front (value c.args.row.now) c.args.count in
     place_from_point place_cmp (λ a. value a.value) at c.args.rows.now _
-      (IsPartitionPoint-from_clause (λ a. is_lt (place_cmp (value a.value) at)) _ _ c.partition_point.ensures.partitioned
-        (rising_partitioned place_cmp place_total (λ a. value a.value) at c.args.rows.now c.requires) (λ a r q k. search rules))
+    (IsPartitionPoint-from_clause (λ a. is_lt (place_cmp (value a.value) at)) _ _ c.partition_point.ensures.partitioned
+    (rising_partitioned place_cmp place_total (λ a. value a.value) at c.args.rows.now c.requires) (λ a r q k. search rules))

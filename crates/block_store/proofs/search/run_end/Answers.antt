@@ -21,10 +21,10 @@ returns-clause-stays g c =
     let whole : rest ≡ drop at c.args.rows.now = take_all _ (drop at c.args.rows.now) (omega (arith, length-drop at c.args.rows.now)) in
     let behind : map value rest ≡ drop at rows = ap (map value) whole ∙ sym (drop-map value at c.args.rows.now) in
     let beyond : AllByRecursion (λ s. is_lt (place_cmp s r) ≡ false) (map value rest) =
-        subst (λ l. AllByRecursion (λ s. is_lt (place_cmp s r) ≡ false) l) (sym behind) c.requires.place.beyond in
+    subst (λ l. AllByRecursion (λ s. is_lt (place_cmp s r) ≡ false) l) (sym behind) c.requires.place.beyond in
     let rises : IsRising (map value rest) = subst IsRising (sym behind) (rising_drop at rows c.requires.rising) in
     let point = IsPartitionPoint-from_clause (λ a. is_at_prefix r (value a)) rest _ c.partition_point.ensures.partitioned
-      (extensions_partitioned r value rest rises beyond) (λ a x q k. search rules) in
+    (extensions_partitioned r value rest rises beyond) (λ a x q k. search rules) in
     let none : AllByRecursion (λ s. is_at_prefix r s ≡ false) (drop n (map value rest)) = all_from value (λ s. is_at_prefix r s ≡ false) rest n point.1 in
     let same : drop n (map value rest) ≡ drop (at + n) rows = ap (drop n) behind ∙ drop-drop n at rows in
     subst (λ l. left_of r l ≡ l) same (others_stay r (drop n (map value rest)) none)

@@ -1,4 +1,4 @@
-use Rattle.std.proofs.Common.{◌≡◌, ◌≤◌, ◌++◌, List, length, map, take, drop, ap, ap₂, ◌∙◌, subst, insert, sym, Global, arith}
+use Rattle.std.proofs.Common.{◌≡◌, ◌≤◌, ◌++◌, length, map, take, drop, ap, ap₂, ◌∙◌, subst, insert, sym, Global, arith}
 use Rattle.std.specs.declared.sync.Arc.{Arc}
 use Rattle.std.proofs.lemmas.List.{length-map}
 use Rattle.willow_entry.specs.Row.{RowValue, place_cmp, IsRising}
@@ -22,9 +22,9 @@ returns-clause-rows g c =
     let held = ap g.R.Row.value c.in_ok-held.ensures.ok in
     let offered = ap g.R.Row.value (c.deref.ensures ∙ c.in_ok-held.ensures.ok) in
     let place : IsPlace place_cmp r rows at =
-        subst (λ t. IsPlace place_cmp t rows at) offered (subst (λ l. IsPlace place_cmp (g.R.Row.value c.deref.result.now) l at) same c.make_room-at.ensures.place) in
+    subst (λ t. IsPlace place_cmp t rows at) offered (subst (λ l. IsPlace place_cmp (g.R.Row.value c.deref.result.now) l at) same c.make_room-at.ensures.place) in
     let left : map value c.make_room-at.new.rows.items ≡ take at rows ++ left_of r (drop at rows) =
-        c.make_room-at.ensures.left ∙ ap₂ (λ l t. take at l ++ left_of t (drop at l)) same offered in
+    c.make_room-at.ensures.left ∙ ap₂ (λ l t. take at l ++ left_of t (drop at l)) same offered in
     let within : at ≤ length rows = omega (arith, length-map c.args.rows.now.items value, ap length c.in_ok-reserve.ensures.items) in
     ap (map value) c.in_ok-insert.ensures.items ∙ map-insert value _ at c.in_ok-held.held ∙ ap₂ (λ l t. insert l at t) left held
     ∙ live-with_room rows r at place c.requires.is_live c.requires.uncovered within
@@ -38,9 +38,9 @@ returns-clause-pruned g c =
     let same = ap (map value) c.in_ok-reserve.ensures.items in
     let offered = ap g.R.Row.value (c.deref.ensures ∙ c.in_ok-held.ensures.ok) in
     let place : IsPlace place_cmp r rows at =
-        subst (λ t. IsPlace place_cmp t rows at) offered (subst (λ l. IsPlace place_cmp (g.R.Row.value c.deref.result.now) l at) same c.make_room-at.ensures.place) in
+    subst (λ t. IsPlace place_cmp t rows at) offered (subst (λ l. IsPlace place_cmp (g.R.Row.value c.deref.result.now) l at) same c.make_room-at.ensures.place) in
     let left : map value c.make_room-at.new.rows.items ≡ take at rows ++ left_of r (drop at rows) =
-        c.make_room-at.ensures.left ∙ ap₂ (λ l t. take at l ++ left_of t (drop at l)) same offered in
+    c.make_room-at.ensures.left ∙ ap₂ (λ l t. take at l ++ left_of t (drop at l)) same offered in
     omega (arith, pruned_count rows r at place, ap length left, length-map c.args.rows.now.items value, length-map c.make_room-at.new.rows.items value, ap length c.in_ok-reserve.ensures.items)
 
 pub returns-clause-is_live : goal.returns-clause-is_live

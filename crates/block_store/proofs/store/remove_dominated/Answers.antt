@@ -1,5 +1,5 @@
 use Rattle.std.proofs.lemmas.List.{length-map}
-use Rattle.std.proofs.Common.{Bool, length, ◌<◌, ◌≡◌, ◌-◌, suc, List, map, not, sym, ap, ◌∙◌, subst, arith, true, false, Global}
+use Rattle.std.proofs.Common.{Bool, length, ◌<◌, ◌≡◌, ◌-◌, suc, map, not, sym, ap, ◌∙◌, arith, true, false, Global}
 use Rattle.std.specs.declared.sync.Arc.{Arc}
 use Rattle.willow_entry.specs.Row.{RowValue, is_dominating}
 use Rattle.block_store.proofs.Removing.{filtered_from, removing_fails, removing_passes}

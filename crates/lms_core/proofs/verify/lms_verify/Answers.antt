@@ -1,6 +1,4 @@
-use Rattle.std.proofs.Common.{◌≡◌, ◌∙◌, sym}
-use Rattle.lms_core.specs.Bytes.{field}
-use Rattle.lms_core.specs.Accepts.{root_of, sound_height}
+use Rattle.std.proofs.Common.{◌∙◌, sym}
 use Rattle.lms_core.proofs.Accepting.{accepts_by_root, refuses_unsound}
 use Rattle.lms_core.proofs.verify.lms_verify.Goals as goal
 

@@ -1,4 +1,3 @@
-use Rattle.std.proofs.Common.{◌≡◌, refl}
 use Rattle.std.proofs.lemmas.List.{take_rest}
 use Rattle.lms_core.proofs.Accepting.{root_by_steps}
 use Rattle.lms_core.proofs.verify.told_root.Goals as goal

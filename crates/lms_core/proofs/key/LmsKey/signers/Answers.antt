@@ -1,4 +1,4 @@
-use Rattle.std.proofs.Common.{◌≡◌, ◌∙◌, sym, ap, refl}
+use Rattle.std.proofs.Common.{◌∙◌, ap}
 use Rattle.lms_core.proofs.Uses.{uses_none, uses_more, use_at}
 use Rattle.lms_core.proofs.key.LmsKey.signers.Goals as goal
 

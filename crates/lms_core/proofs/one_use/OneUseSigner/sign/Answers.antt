@@ -1,5 +1,4 @@
-use Rattle.std.proofs.Common.{◌≡◌, ◌≤◌, List, ℕ, length, true, sym, ◌∙◌, ap, subst}
-use Rattle.lms_core.specs.Use.{Use, use_gives}
+use Rattle.lms_core.specs.Use.{Use}
 use Rattle.lms_core.proofs.Given.{made_is_given, made_is_short, gives_same}
 use Rattle.lms_core.proofs.one_use.OneUseSigner.sign.Goals as goal
 

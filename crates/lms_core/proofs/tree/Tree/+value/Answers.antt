@@ -1,4 +1,4 @@
-use Rattle.std.proofs.Common.{◌≡◌, ◌-◌, ◌*◌, ◌^◌, refl, arith}
+use Rattle.std.proofs.Common.{arith}
 use Rattle.lms_core.specs.Accepts.{levels}
 use Rattle.lms_core.proofs.Nodes.{pow_level_below}
 use Rattle.lms_core.proofs.Secrets.{node_value_leaf, node_value_inner}

@@ -1,6 +1,5 @@
-use Rattle.std.proofs.Common.{◌≡◌, ◌+◌, ◌-◌, ◌≤◌, ◌∙◌, sym, ap, refl, arith}
+use Rattle.std.proofs.Common.{◌≡◌, ◌∙◌, arith}
 use Rattle.lms_core.specs.Accepts.{levels}
-use Rattle.lms_core.specs.Tree.{parent_value}
 use Rattle.lms_core.proofs.Nodes.{sibling_from, sibling_to, half_from, half_to, pow_level_top}
 use Rattle.lms_core.proofs.Secrets.{node_value_parent, path_of_taken, path_of_done, root_reached}
 use Rattle.lms_core.proofs.tree.Tree.append_path.Goals as goal

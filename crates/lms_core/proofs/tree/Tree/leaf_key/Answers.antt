@@ -1,4 +1,4 @@
-use Rattle.std.proofs.Common.{◌≡◌, ◌++◌, [], ◌∙◌, sym, append_assoc, refl, arith}
+use Rattle.std.proofs.Common.{◌≡◌, ◌++◌, [], append_assoc, arith}
 use Rattle.std.proofs.lemmas.List.{append-nil}
 use Rattle.lms_core.specs.OneTime.{front, run, d_pblc, one_time_key}
 use Rattle.lms_core.specs.Signer.{chain_start, values_at, last_digits, key_of_leaf}

@@ -1,4 +1,4 @@
-use Rattle.std.proofs.Common.{◌≡◌, ◌++◌, ◌≤◌, ◌<◌, ◌+◌, [], get_or, take, ◌∙◌, sym, ap, append_assoc, refl, arith}
+use Rattle.std.proofs.Common.{◌≡◌, ◌++◌, [], get_or, take, ◌∙◌, sym, ap, append_assoc, arith}
 use Rattle.std.proofs.lemmas.List.{append-nil, take_all}
 use Rattle.lms_core.specs.OneTime.{front, run, d_pblc, one_time_key}
 use Rattle.lms_core.specs.Signer.{chain_start, values_at, last_digits, key_of_leaf}

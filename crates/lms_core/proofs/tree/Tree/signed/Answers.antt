@@ -1,4 +1,4 @@
-use Rattle.std.proofs.Common.{◌≡◌, ◌∙◌, sym, ap, refl}
+use Rattle.std.proofs.Common.{◌∙◌, refl}
 use Rattle.lms_core.proofs.Secrets.{leaf_by_index, signed_by_steps}
 use Rattle.std.proofs.lemmas.Result.{IfOk-weaker}
 use Rattle.lms_core.proofs.tree.Tree.signed.Goals as goal

@@ -1,0 +1,7 @@
+//! The outside as it really is, in a few lines each: the trusted edge.
+//! Each adapter is proved against the trait of the outside that it serves; it tells no content.
+#![tactic(auto)]
+
+mod streams;
+
+pub use streams::{StdReport, StdSink, StdSource};

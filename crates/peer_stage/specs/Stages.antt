@@ -1,0 +1,52 @@
+-- What the stages that commands share take of the input and give to the output.
+use Rattle.std.specs.Prelude.{◌≡◌, ℕ, ◌≤◌, ◌<◌, List, length, take, Result, Ok, Err}
+use Rattle.std.specs.Global.{Vec}
+use Rattle.std.specs.Io.KnownBytes.{Consumes, Appends, IsAtEnd}
+use Rattle.willow_outside.specs.Counts.{Rose}
+use Rattle.willow_outside.specs.Facts.{SourceFacts, SinkFacts}
+use Rattle.peer_stage.specs.declared.outcome.Stop.{Stop}
+use Rattle.peer_stage.specs.declared.outcome.Stop.TheVariants as stop
+use Rattle.peer_stage.specs.declared.stage.TheConstants.{INPUT_LIMIT}
+
+-- the whole input was read: these bytes up to its end, within the limit
+pub record IsReadWhole (old new : SourceFacts) (bytes : List ℕ) : Type 0 where
+  pub taken : Consumes old.left new.left bytes
+  pub at_end : IsAtEnd new.left
+  pub ended : Rose old.ends new.ends
+  pub within : length bytes ≤ INPUT_LIMIT
+
+-- the bytes taken pass the limit
+pub record IsReadTooFar (old new : SourceFacts) (bytes : List ℕ) : Type 0 where
+  pub taken : Consumes old.left new.left bytes
+  pub beyond : INPUT_LIMIT < length bytes
+
+-- these bytes were taken, within the limit, before a read failed
+pub record IsReadToFault (old new : SourceFacts) (bytes : List ℕ) : Type 0 where
+  pub taken : Consumes old.left new.left bytes
+  pub within : length bytes ≤ INPUT_LIMIT
+  pub fault : Rose old.faults new.faults
+
+-- how the reading of an input ends
+abbrev pub ReadsInput : SourceFacts → SourceFacts → Result (Vec ℕ) Stop → Type 0
+ReadsInput old new (Ok v) = IsReadWhole old new v.items
+ReadsInput old new (Err stop.ReadFault) = (bytes : List ℕ) × IsReadToFault old new bytes
+ReadsInput old new (Err stop.BadInput) = (bytes : List ℕ) × IsReadTooFar old new bytes
+ReadsInput old new (Err stop.NoMemory) = (bytes : List ℕ) × Consumes old.left new.left bytes
+ReadsInput old new (Err e) = ⊥
+
+-- these bytes were written
+abbrev pub IsWritten : SinkFacts → SinkFacts → List ℕ → Type 0
+IsWritten old new bytes = Appends old.held new.held bytes
+
+-- a front of these bytes was written
+pub record IsPartlyWritten (old new : SinkFacts) (bytes : List ℕ) : Type 0 where
+  pub count : ℕ
+  pub within : count ≤ length bytes
+  pub written : Appends old.held new.held (take count bytes)
+
+-- how the writing of some bytes ends
+abbrev pub WritesOutput : SinkFacts → SinkFacts → List ℕ → Result (Unit {0}) Stop → Type 0
+WritesOutput old new bytes (Ok u) = IsWritten old new bytes
+WritesOutput old new bytes (Err stop.WriteFault) = IsPartlyWritten old new bytes × Rose old.faults new.faults
+WritesOutput old new bytes (Err stop.NoMemory) = IsPartlyWritten old new bytes
+WritesOutput old new bytes (Err e) = ⊥

@@ -1,0 +1,34 @@
+//! The stages that commands share: reading the input and writing the output.
+
+ghost use Rattle.peer_stage.specs.Stages.{ReadsInput, WritesOutput};
+
+use crate::outcome::Stop;
+use spelling::End;
+use std::alloc::Global;
+use willow_outside::{Fault, ReadEnd, Sink, Source, read_all, write_whole};
+
+/// The greatest number of bytes that is taken from the input.
+pub const INPUT_LIMIT: u64 = 4_294_967_295;
+
+/// All of the input.
+pub fn read_input<I: Source>(alloc: Global, input: &mut I) -> Result<Vec<u8>, Stop>
+    ensures { ReadsInput (I.facts input.old) (I.facts input.new) result }
+{
+    match read_all(alloc, input, INPUT_LIMIT) {
+        Ok(bytes) => Ok(bytes),
+        Err(End::Refused(ReadEnd::Failed)) => Err(Stop::ReadFault),
+        Err(End::Refused(ReadEnd::TooLong)) => Err(Stop::BadInput),
+        Err(End::NoMemory) => Err(Stop::NoMemory),
+    }
+}
+
+/// Writes all of the bytes.
+pub fn write_output<O: Sink>(output: &mut O, bytes: &[u8]) -> Result<(), Stop>
+    ensures { WritesOutput (O.facts output.old) (O.facts output.new) bytes.now result }
+{
+    match write_whole(output, bytes) {
+        Ok(()) => Ok(()),
+        Err(Fault::Failed) => Err(Stop::WriteFault),
+        Err(Fault::NoMemory) => Err(Stop::NoMemory),
+    }
+}

@@ -1,0 +1,6 @@
+//! Tries the plain store and the store of shared rows beside each other; it has tests alone.
+//! Both keep one contract, so what one answers and holds after each row, the other does too.
+#![tactic(auto)]
+
+#[cfg(test)]
+mod tests;
