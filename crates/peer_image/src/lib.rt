@@ -1,0 +1,3 @@
+//! Images: the rows of a store as bytes, and bytes read back as rows.
+//! The contract: what is written is the image of the rows, and what is read is the one image that the bytes are.
+#![tactic(auto)]
