@@ -1,0 +1,107 @@
+//! Rows that are known to be authorised.
+
+ghost use Rattle.std.specs.Prelude.{◌≡◌, None, IfOk};
+ghost use Rattle.spelling.specs.Answers.{Answers};
+ghost use Rattle.cap_codec.specs.Rows.{row_of};
+ghost use Rattle.auth_entry.specs.Authorised.{AuthorisedValue, row_refusal};
+
+use crate::refusal::{RowRefusal, check_row};
+use cap_codec::RawRow;
+use scheme_core::Verify;
+use spelling::End;
+use std::alloc::Global;
+use std::marker::{Model, PhantomData};
+use willow_entry::{Entry, Row};
+use willow_path::{NamespaceKey, NoMemory};
+
+/// A row that is authorised in a namespace by the rules of S. A contract sees the namespace and the row;
+/// the type keeps that it is authorised.
+#[derive(Drop)]
+pub struct AuthorisedEntry<S: Verify> {
+    namespace: NamespaceKey,
+    row: RawRow,
+    scheme: PhantomData<S>,
+}
+
+impl<S: Verify> Model for AuthorisedEntry<S> {
+    ghost use Rattle.std.specs.Prelude.{◌≡◌, None};
+    ghost use Rattle.auth_entry.specs.Authorised.{AuthorisedValue, row_refusal};
+
+    ghost Value = { AuthorisedValue };
+
+    ghost view = { λ a. record { namespace = a.namespace; row = a.row } };
+
+    ghost invariant = { λ a. row_refusal S.rules a.namespace a.row ≡ None };
+}
+
+/// The row, where it is authorised in the namespace by the rules of the scheme. It is refused exactly with
+/// the first condition that fails, as `RowRefusal` says.
+pub fn authorise<S: Verify>(alloc: Global, scheme: &S, namespace: &NamespaceKey, row: RawRow) -> Result<AuthorisedEntry<S>, End<RowRefusal>>
+    ensures answer { Answers result (row_refusal S.rules namespace.now row) }
+    ensures namespace { IfOk result (λ entry. entry.namespace ≡ namespace.now) }
+    ensures row { IfOk result (λ entry. entry.row ≡ row) }
+{
+    check_row(alloc, scheme, namespace, &row)?;
+    Ok(AuthorisedEntry::new(*namespace, row))
+}
+
+impl<S: Verify> AuthorisedEntry<S> {
+    /// A row that was found to be authorised.
+    pub fn new(namespace: NamespaceKey, row: RawRow) -> AuthorisedEntry<S>
+        requires { row_refusal S.rules namespace row ≡ None }
+        ensures namespace { result.namespace ≡ namespace }
+        ensures row { result.row ≡ row }
+    {
+        AuthorisedEntry {
+            namespace,
+            row,
+            scheme: PhantomData,
+        }
+    }
+
+    /// The namespace in which it is authorised.
+    pub fn namespace(&self) -> NamespaceKey
+        ensures { result ≡ self.now.namespace }
+    {
+        self.namespace
+    }
+
+    /// The row, of which nothing is the refusal.
+    pub fn row(&self) -> &RawRow
+        ensures row { result.now ≡ self.now.row }
+        ensures authorised { row_refusal S.rules self.now.namespace self.now.row ≡ None }
+    {
+        &self.row
+    }
+
+    /// An equal entry.
+    pub fn copy(&self) -> Result<AuthorisedEntry<S>, NoMemory>
+        ensures { IfOk result (λ entry. entry ≡ self.now) }
+    {
+        Ok(AuthorisedEntry {
+            namespace: self.namespace,
+            row: self.row.copy()?,
+            scheme: PhantomData,
+        })
+    }
+}
+
+impl<S: Verify> Row for AuthorisedEntry<S> {
+    ghost value = { λ a. row_of a.row };
+
+    fn entry(&self) -> &Entry {
+        self.row.entry()
+    }
+
+    fn entry_bytes(&self) -> &[u8] {
+        self.row.entry_bytes()
+    }
+
+    fn token_bytes(&self) -> &[u8] {
+        self.row.token_bytes()
+    }
+
+    fn copy(&self) -> Result<AuthorisedEntry<S>, NoMemory> {
+        self.copy()
+    }
+}

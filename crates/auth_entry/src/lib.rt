@@ -1,0 +1,12 @@
+//! Rows that are authorised: whose write token gives leave for their entry (Willow Data Model, Meadowcap).
+//! The contract: a row is refused exactly at the first condition that fails, and an authorised one keeps that none does.
+#![tactic(auto)]
+
+mod authorise;
+mod checker;
+pub mod laws;
+mod refusal;
+
+pub use authorise::{AuthorisedEntry, authorise};
+pub use checker::{Checker, PlainChecker};
+pub use refusal::{RowRefusal, check_capability, check_claim, check_entry, check_row};

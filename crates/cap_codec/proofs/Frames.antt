@@ -1,0 +1,161 @@
+-- Frames: each row has one, and a stream of them has one reading.
+use Rattle.std.proofs.Common.{◌≡◌, ℕ, suc, ◌-◌, ◌+◌, ◌≤◌, ◌<◌, ◌^◌, Bool, false, ltb, List, [], ◌∷◌, ◌++◌, length, take, drop, Result, Ok, Err, refl, sym, ap, subst, ◌∙◌, append_assoc, arith, Fits, w8, get_or}
+use Rattle.std.specs.List.{AllByRecursion, flat_map}
+use Rattle.std.specs.Int.{w32, to_be_bytes}
+use Rattle.std.specs.Prelude.{nat_le}
+use Rattle.std.specs.Result.{IsErrAnd}
+use Rattle.std.proofs.lemmas.Bool.{le-ltb, le-leb}
+use Rattle.std.proofs.lemmas.List.{append-nil, length-append, take_at, drop_at, take-append-drop}
+use Rattle.std.proofs.lemmas.Grind.{flat_map-append}
+use Rattle.std.proofs.lemmas.Result.{err_from_is_err_and}
+use Rattle.spelling.specs.Front.{Front, Whole, Part, Wrong, ◌>>=◌}
+use Rattle.spelling.specs.Form.{AreBytes, IsForm, Decodes}
+use Rattle.spelling.specs.Spelling.{text_spelling}
+use Rattle.spelling.specs.Reading.{guard, bytes_at, number_at, text_at, Fails, IsEndOf}
+use Rattle.spelling.specs.declared.ending.End.{End}
+use Rattle.spelling.specs.declared.ending.End.TheVariants.{Refused, NoMemory}
+use Rattle.spelling.specs.declared.ending.NotHere.{NotHere}
+use Rattle.spelling.specs.declared.input.Unread.{Unread}
+use Rattle.spelling.specs.declared.input.Unread.TheVariants as unread
+use Rattle.spelling.proofs.Lists.{All-append, are_bytes, take_front}
+use Rattle.spelling.proofs.Joining.{one_spelling, whole_value, whole_rest}
+use Rattle.spelling.proofs.Fields.{u32-reads}
+use Rattle.spelling.proofs.Repeated.{text-reads}
+use Rattle.cap_codec.specs.declared.frame.TheConstants.{MAX_FRAME}
+use Rattle.cap_codec.specs.Rows.{RawValue, IsRaw, raw_spelling, ReadsWhole, FitsFrame, frame, AreFrames, ReadsFrames, HaveOneReading}
+use Rattle.cap_codec.proofs.RowReads.{raw-reads}
+
+-- ---- a frame
+
+-- what reads the length of a body, and the body
+abbrev pub body_at : List ℕ → Front (List ℕ)
+body_at = text_at (number_at w32) MAX_FRAME
+
+bytes_again : (x rest : List ℕ) → bytes_at (length x) (x ++ rest) ≡ Whole x rest
+bytes_again x rest =
+    let long : ltb (length (x ++ rest)) (length x) ≡ false = le-ltb _ _ (omega (arith, length-append x rest)) in
+    rw (long, take_at x rest (length x) refl, drop_at x rest (length x) refl) refl
+
+guarded : (x rest : List ℕ) → length x ≤ MAX_FRAME → guard (nat_le (length x) MAX_FRAME) (bytes_at (length x) (x ++ rest)) ≡ Whole x rest
+guarded x rest short = ap (λ (b : Bool). guard b (bytes_at (length x) (x ++ rest))) (le-leb (length x) MAX_FRAME short) ∙ bytes_again x rest
+
+text_again : (x rest : List ℕ) → length x ≤ MAX_FRAME → body_at (text_spelling (to_be_bytes w32) x ++ rest) ≡ Whole x rest
+unfolding text_at
+text_again x rest short =
+    ap body_at (append_assoc (to_be_bytes w32 (length x)) x rest)
+    ∙ ap (λ (q : Front ℕ). q >>= λ n. guard (nat_le n.0 MAX_FRAME) (bytes_at n.0 n.1)) (u32-reads.again (length x) (x ++ rest) (omega (arith, short)))
+    ∙ guarded x rest short
+
+-- in front of anything, a frame gives its row's body
+pub frame_again : (r : RawValue) (rest : List ℕ) → FitsFrame r → body_at (frame r ++ rest) ≡ Whole (raw_spelling r) rest
+frame_again r rest fits = text_again (raw_spelling r) rest fits.short
+
+pub frame_form : IsForm frame FitsFrame
+frame_form r s a b fr fs e =
+    let same = sym (frame_again r a fr) ∙ ap body_at e ∙ frame_again s b fs in
+    let bodies : raw_spelling r ≡ raw_spelling s = whole_value (raw_spelling r) (raw_spelling s) a b same in
+    let both = one_spelling raw-reads r s [] [] fr.raw fs.raw (append-nil (raw_spelling r) ∙ bodies ∙ sym (append-nil (raw_spelling s))) in
+    (both.0, whole_rest (raw_spelling r) (raw_spelling s) a b same)
+
+-- ---- what a decoder of a frame answers
+
+whole_not_part : {A : Type 0} (x : A) (rest : List ℕ) (r : Front A) → r ≡ Whole x rest → r ≡ Part → ⊥
+whole_not_part x rest r e f = cc
+
+whole_not_wrong : {A : Type 0} (x : A) (rest : List ℕ) (r : Front A) → r ≡ Whole x rest → r ≡ Wrong → ⊥
+whole_not_wrong x rest r e f = cc
+
+not_framed : (u : Unread) (e : End NotHere) (bytes : List ℕ) → Fails u (body_at bytes) → IsEndOf u e → Decodes frame FitsFrame bytes (Err e)
+not_framed unread.NoMemory e bytes h is = subst (λ (d : End NotHere). Decodes frame FitsFrame bytes (Err d)) (sym is) tt
+not_framed unread.Part e bytes h is =
+    subst (λ (d : End NotHere). Decodes frame FitsFrame bytes (Err d)) (sym is) (λ r rest fits parts. whole_not_part (raw_spelling r) rest (body_at bytes) (ap body_at parts ∙ frame_again r rest fits) h)
+not_framed unread.Wrong e bytes h is =
+    subst (λ (d : End NotHere). Decodes frame FitsFrame bytes (Err d)) (sym is) (λ r rest fits parts. whole_not_wrong (raw_spelling r) rest (body_at bytes) (ap body_at parts ∙ frame_again r rest fits) h)
+
+-- no body was read
+pub frame_end : (bytes : List ℕ) (u : Unread) (result : Result (RawValue × ℕ) (End NotHere)) → Fails u (body_at bytes) → IsErrAnd result (IsEndOf u) → Decodes frame FitsFrame bytes result
+frame_end bytes u result h err =
+    let p = err_from_is_err_and result err in
+    subst (λ (r : Result (RawValue × ℕ) (End NotHere)). Decodes frame FitsFrame bytes r) (sym p.1) (not_framed u p.0 bytes h p.2)
+
+-- the body that was read is no row's
+pub frame_not : (bytes body left : List ℕ) (e : End NotHere) → body_at bytes ≡ Whole body left → ReadsWhole body (Err e) → Decodes frame FitsFrame bytes (Err e)
+frame_not bytes body left NoMemory h no = tt
+frame_not bytes body left (Refused e) h no =
+    λ r rest fits parts. no r fits.raw (whole_value body (raw_spelling r) left rest (sym h ∙ ap body_at parts ∙ frame_again r rest fits))
+
+-- the body that was read is a row's
+pub frame_whole : (bytes body left : List ℕ) (r : RawValue) (taken : ℕ) → AreBytes bytes → body_at bytes ≡ Whole body left → ReadsWhole body (Ok r) → taken ≡ length bytes - length left
+    → Decodes frame FitsFrame bytes (Ok (r, taken))
+frame_whole bytes body left r taken are h is n =
+    let t = (text-reads MAX_FRAME (omega arith) u32-reads).takes bytes body left are h in
+    let parts : bytes ≡ frame r ++ left = t.parts ∙ ap (λ (l : List ℕ). text_spelling (to_be_bytes w32) l ++ left) is.1 in
+    let short : length (raw_spelling r) ≤ MAX_FRAME = subst (λ (l : List ℕ). length l ≤ MAX_FRAME) is.1 t.fits.0 in
+    (record { raw = is.0; short = short }, omega (arith, n), ap (λ (k : ℕ). take k bytes) n ∙ take_front bytes (frame r) left parts)
+
+-- ---- a stream of frames
+
+frame_long : (r : RawValue) → 4 ≤ length (frame r)
+frame_long r = omega (arith, length-append (to_be_bytes w32 (length (raw_spelling r))) (raw_spelling r))
+
+nothing_is : (r : RawValue) (rest : List ℕ) → [] ≡ frame r ++ rest → ⊥
+nothing_is r rest e = omega (arith, ap length e, length-append (frame r) rest, frame_long r)
+
+pub same_rows : (rows others : List RawValue) → AllByRecursion FitsFrame rows → AllByRecursion FitsFrame others → flat_map frame rows ≡ flat_map frame others → rows ≡ others
+same_rows [] [] f g e = refl
+same_rows [] (s ∷ others) f g e = absurd (nothing_is s (flat_map frame others) e)
+same_rows (r ∷ rows) [] f g e = absurd (nothing_is r (flat_map frame rows) (sym e))
+same_rows (r ∷ rows) (s ∷ others) f g e =
+    let both = frame_form r s (flat_map frame rows) (flat_map frame others) f.0 g.0 e in
+    ap (λ (x : RawValue). x ∷ rows) both.0 ∙ ap (λ (l : List RawValue). s ∷ l) (same_rows rows others f.1 g.1 both.1)
+
+pub one_stream : HaveOneReading
+one_stream bytes rows others f g = same_rows rows others f.fit g.fit (sym f.spelled ∙ g.spelled)
+
+-- the frames of rows behind which bytes are left
+pub record FramesSo (bytes : List ℕ) (rows : List RawValue) (left : List ℕ) : Type 0 where
+  pub fit : AllByRecursion FitsFrame rows
+  pub parts : bytes ≡ flat_map frame rows ++ left
+
+pub no_frames : (bytes : List ℕ) → FramesSo bytes [] bytes
+no_frames bytes = record { fit = tt; parts = refl }
+
+-- one more frame
+pub frame_on : (bytes left : List ℕ) (rows : List RawValue) (r : RawValue) (taken : ℕ) → FramesSo bytes rows left → Decodes frame FitsFrame left (Ok (r, taken)) → FramesSo bytes (rows ++ r ∷ []) (drop taken left)
+frame_on bytes left rows r taken so one =
+    let on : left ≡ frame r ++ drop taken left = sym (take-append-drop taken left) ∙ ap (λ (l : List ℕ). l ++ drop taken left) one.2 in
+    let all : flat_map frame (rows ++ r ∷ []) ≡ flat_map frame rows ++ frame r = flat_map-append frame rows (r ∷ []) ∙ ap (λ (l : List ℕ). flat_map frame rows ++ l) (append-nil (frame r)) in
+    record {
+      fit = All-append FitsFrame rows (r ∷ []) so.fit (one.0, tt);
+      parts = so.parts ∙ ap (λ (l : List ℕ). flat_map frame rows ++ l) on ∙ sym (append_assoc (flat_map frame rows) (frame r) (drop taken left)) ∙ ap (λ (l : List ℕ). l ++ drop taken left) (sym all);
+    }
+
+-- a frame takes bytes
+pub frame_takes : (left : List ℕ) (r : RawValue) (taken : ℕ) → Decodes frame FitsFrame left (Ok (r, taken)) → length (drop taken left) < length left
+frame_takes left r taken one =
+    omega (arith, one.1, frame_long r, ap length one.2, length-append (take taken left) (drop taken left), ap length (take-append-drop taken left))
+
+-- all bytes are read
+pub frames_all : (bytes left : List ℕ) (rows : List RawValue) → FramesSo bytes rows left → left ≡ [] → AreFrames bytes rows
+frames_all bytes left rows so end =
+    record { fit = so.fit; spelled = so.parts ∙ ap (λ (l : List ℕ). flat_map frame rows ++ l) end ∙ append-nil (flat_map frame rows) }
+
+-- what is left behind some rows' frames are frames too, where the whole is frames
+pub left_are : (rows others : List RawValue) (left : List ℕ) → AllByRecursion FitsFrame rows → AllByRecursion FitsFrame others → flat_map frame rows ++ left ≡ flat_map frame others
+    → (more : List RawValue) × AllByRecursion FitsFrame more × (left ≡ flat_map frame more)
+left_are [] others left f g e = (others, g, e)
+left_are (r ∷ rows) [] left f g e = absurd (nothing_is r (flat_map frame rows ++ left) (sym e ∙ append_assoc (frame r) (flat_map frame rows) left))
+left_are (r ∷ rows) (s ∷ others) left f g e =
+    let both = frame_form r s (flat_map frame rows ++ left) (flat_map frame others) f.0 g.0 (sym (append_assoc (frame r) (flat_map frame rows) left) ∙ e) in
+    left_are rows others left f.1 g.1 both.1
+
+no_more : (left : List ℕ) (more : List RawValue) → 0 < length left → AllByRecursion FitsFrame more → left ≡ flat_map frame more
+    → ((r : RawValue) (rest : List ℕ) → FitsFrame r → left ≡ frame r ++ rest → ⊥) → ⊥
+no_more left [] some f e no = omega (arith, some, ap length e)
+no_more left (r ∷ more) some f e no = no r (flat_map frame more) f.0 e
+
+-- no frame stands where bytes are left
+pub frames_end : (bytes left : List ℕ) (rows others : List RawValue) → FramesSo bytes rows left → 0 < length left → ((r : RawValue) (rest : List ℕ) → FitsFrame r → left ≡ frame r ++ rest → ⊥) → AreFrames bytes others → ⊥
+frames_end bytes left rows others so some no are =
+    let more = left_are rows others left so.fit are.fit (sym so.parts ∙ are.spelled) in
+    no_more left more.0 some more.1 more.2 no

@@ -1,0 +1,115 @@
+-- The reader of a row's body goes with its spelling, and what a whole body tells.
+use Rattle.std.proofs.Common.{◌≡◌, ℕ, ◌-◌, ◌≤◌, ◌<◌, List, [], ◌∷◌, ◌++◌, length, take, drop, Result, Ok, Err, refl, sym, ap, subst, ◌∙◌, arith}
+use Rattle.std.proofs.lemmas.List.{append-nil, take-append-drop, append_cancel_left, length-append}
+use Rattle.std.specs.Result.{IsErrAnd}
+use Rattle.std.proofs.lemmas.Result.{err_from_is_err_and}
+use Rattle.spelling.specs.Front.{Front, Whole, Part, Wrong, ◌>>=◌}
+use Rattle.spelling.specs.Form.{AreBytes}
+use Rattle.spelling.specs.Reading.{Fails, IsEndOf}
+use Rattle.spelling.specs.declared.ending.End.{End}
+use Rattle.spelling.specs.declared.ending.End.TheVariants.{Refused}
+use Rattle.spelling.specs.declared.ending.NotHere.{NotHere}
+use Rattle.spelling.specs.declared.input.Unread.{Unread}
+use Rattle.spelling.specs.declared.input.Unread.TheVariants as unread
+use Rattle.spelling.proofs.Lists.{take_front}
+use Rattle.spelling.proofs.Joining.{Reads, Reads-then, Reads-last, Reads-is, alone, whole_rest}
+use Rattle.willow_entry.specs.EntryForm.{entry_spelling, entry_at, IsEntry}
+use Rattle.willow_entry.specs.declared.entry.Entry.{Entry}
+use Rattle.willow_entry.proofs.EntryReads.{entry-reads}
+use Rattle.cap_codec.specs.declared.token.WriteToken.{WriteToken}
+use Rattle.cap_codec.specs.Reading.{token_at, raw_at}
+use Rattle.cap_codec.specs.Rows.{RawValue, IsRaw, IsToken, token_spelling, raw_spelling, ReadsWhole}
+use Rattle.cap_codec.proofs.CapReads.{token-reads}
+
+abbrev raw : Entry → WriteToken → RawValue
+raw entry token = record { entry = entry; token = token }
+
+from_entry : (e : Entry) → Reads (λ bytes. token_at bytes >>= λ t. Whole (raw e t.0) t.1) (λ (r : RawValue). token_spelling r.token)
+    (λ r. IsToken r.token × (r ≡ raw e r.token))
+from_entry e = Reads-last (λ (r : RawValue). r.token) (raw e) token-reads (λ t. refl)
+
+pub raw-reads : Reads raw_at raw_spelling IsRaw
+unfolding raw_at
+raw-reads =
+    let joined = Reads-then (λ (e : Entry × List ℕ). token_at e.1 >>= λ t. Whole (raw e.0 t.0) t.1) (λ (r : RawValue). r.entry) entry-reads from_entry (λ e r f. ap (λ (x : RawValue). x.entry) f.1) in
+    Reads-is joined (λ r. refl) (λ r f. record { entry_fits = f.0; token_fits = f.1.0 }) (λ r f. (f.entry_fits, (f.token_fits, refl)))
+
+-- ---- what was not read
+
+
+-- no entry, no row
+pub fails_entry : (u : Unread) (body : List ℕ) → Fails u (entry_at body) → Fails u (raw_at body)
+unfolding raw_at
+fails_entry unread.NoMemory body h = tt
+fails_entry unread.Part body h = ap (λ (q : Front Entry). q >>= λ e. token_at e.1 >>= λ t. Whole (raw e.0 t.0) t.1) h
+fails_entry unread.Wrong body h = ap (λ (q : Front Entry). q >>= λ e. token_at e.1 >>= λ t. Whole (raw e.0 t.0) t.1) h
+
+token_next : (body : List ℕ) (e : Entry) (rest : List ℕ) → entry_at body ≡ Whole e rest → raw_at body ≡ (token_at rest >>= λ t. Whole (raw e t.0) t.1)
+unfolding raw_at
+token_next body e rest h = ap (λ (q : Front Entry). q >>= λ e. token_at e.1 >>= λ t. Whole (raw e.0 t.0) t.1) h
+
+-- no token behind the entry, no row
+pub fails_token : (u : Unread) (body : List ℕ) (e : Entry) (rest : List ℕ) → entry_at body ≡ Whole e rest → Fails u (token_at rest) → Fails u (raw_at body)
+fails_token unread.NoMemory body e rest h k = tt
+fails_token unread.Part body e rest h k = token_next body e rest h ∙ ap (λ (q : Front WriteToken). q >>= λ t. Whole (raw e t.0) t.1) k
+fails_token unread.Wrong body e rest h k = token_next body e rest h ∙ ap (λ (q : Front WriteToken). q >>= λ t. Whole (raw e t.0) t.1) k
+
+whole_not_part : {A : Type 0} (x : A) (rest : List ℕ) (r : Front A) → r ≡ Whole x rest → r ≡ Part → ⊥
+whole_not_part x rest r e f = cc
+
+whole_not_wrong : {A : Type 0} (x : A) (rest : List ℕ) (r : Front A) → r ≡ Whole x rest → r ≡ Wrong → ⊥
+whole_not_wrong x rest r e f = cc
+
+whole_not : (u : Unread) (e : End NotHere) (body : List ℕ) → Fails u (raw_at body) → IsEndOf u e → ReadsWhole body (Err e)
+whole_not unread.NoMemory e body h is = subst (λ (d : End NotHere). ReadsWhole body (Err d)) (sym is) tt
+whole_not unread.Part e body h is =
+    subst (λ (d : End NotHere). ReadsWhole body (Err d)) (sym is) (λ r fits spelled. whole_not_part r [] (raw_at body) (ap raw_at spelled ∙ alone raw-reads r fits) h)
+whole_not unread.Wrong e body h is =
+    subst (λ (d : End NotHere). ReadsWhole body (Err d)) (sym is) (λ r fits spelled. whole_not_wrong r [] (raw_at body) (ap raw_at spelled ∙ alone raw-reads r fits) h)
+
+-- a body of which no row was read
+pub whole_end : (body : List ℕ) (u : Unread) (result : Result RawValue (End NotHere)) → Fails u (raw_at body) → IsErrAnd result (IsEndOf u) → ReadsWhole body result
+whole_end body u result h err =
+    let p = err_from_is_err_and result err in
+    subst (λ (r : Result RawValue (End NotHere)). ReadsWhole body r) (sym p.1) (whole_not u p.0 body h p.2)
+
+-- ---- what was read
+
+pub raw_whole : (body : List ℕ) (e : Entry) (rest : List ℕ) (t : WriteToken) (left : List ℕ) → entry_at body ≡ Whole e rest → token_at rest ≡ Whole t left → raw_at body ≡ Whole (raw e t) left
+raw_whole body e rest t left h k = token_next body e rest h ∙ ap (λ (q : Front WriteToken). q >>= λ t. Whole (raw e t.0) t.1) k
+
+-- no row is spelled by a body that goes on behind one
+pub whole_more : (body : List ℕ) (e : Entry) (rest : List ℕ) (t : WriteToken) (left : List ℕ) (why : NotHere) → entry_at body ≡ Whole e rest → token_at rest ≡ Whole t left → 0 < length left → ReadsWhole body (Err (Refused why))
+whole_more body e rest t left why h k more =
+    λ r fits spelled.
+      let nothing : left ≡ [] = whole_rest (raw e t) r left [] (sym (raw_whole body e rest t left h k) ∙ ap raw_at spelled ∙ alone raw-reads r fits) in
+      omega (arith, more, ap length nothing)
+
+empty : (left : List ℕ) → length left ≤ 0 → left ≡ []
+empty [] h = refl
+empty (b ∷ left) h = absurd (omega (arith, h))
+
+-- the parts of a body that is a row
+pub record Parts (body : List ℕ) (e : Entry) (t : WriteToken) (n : ℕ) : Type 0 where
+  pub fits : IsRaw (raw e t)
+  pub entry : take n body ≡ entry_spelling e
+  pub token : drop n body ≡ token_spelling t
+  pub spelled : body ≡ raw_spelling (raw e t)
+  pub within : n ≤ length body
+
+-- a body read to its end, of which so many bytes were the entry's
+pub parts : (body : List ℕ) (e : Entry) (rest : List ℕ) (t : WriteToken) (left : List ℕ) (n : ℕ) → AreBytes body → entry_at body ≡ Whole e rest → token_at rest ≡ Whole t left
+    → length left ≤ 0 → n ≡ length body - length rest → Parts body e t n
+parts body e rest t left n are h k end is =
+    let entry = entry-reads.takes body e rest are h in
+    let token = token-reads.takes rest t left entry.rest_are k in
+    let rest_is : rest ≡ token_spelling t = token.parts ∙ ap (λ (l : List ℕ). token_spelling t ++ l) (empty left end) ∙ append-nil (token_spelling t) in
+    let front : take n body ≡ entry_spelling e = ap (λ (i : ℕ). take i body) is ∙ take_front body (entry_spelling e) rest entry.parts in
+    let halves : entry_spelling e ++ drop n body ≡ entry_spelling e ++ rest = ap (λ (l : List ℕ). l ++ drop n body) (sym front) ∙ take-append-drop n body ∙ entry.parts in
+    record {
+      fits = record { entry_fits = entry.fits; token_fits = token.fits };
+      entry = front;
+      token = append_cancel_left (entry_spelling e) (drop n body) rest halves ∙ rest_is;
+      spelled = entry.parts ∙ ap (λ (l : List ℕ). entry_spelling e ++ l) rest_is;
+      within = omega (arith, is);
+    }
