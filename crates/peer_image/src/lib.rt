@@ -1,3 +1,10 @@
 //! Images: the rows of a store as bytes, and bytes read back as rows.
 //! The contract: what is written is the image of the rows, and what is read is the one image that the bytes are.
 #![tactic(auto)]
+
+mod order;
+mod refusal;
+mod write;
+
+pub use refusal::ImageRefusal;
+pub use write::write_rows;

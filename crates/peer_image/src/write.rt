@@ -1,0 +1,50 @@
+//! Images as they are written.
+
+ghost use Rattle.std.specs.Prelude.{◌≡◌, ◌<◌, ◌≤◌, ◌^◌, ◌++◌, length, map, IfOk, OnOk};
+ghost use Rattle.std.specs.List.{AllByRecursion};
+ghost use Rattle.willow_entry.specs.RowBody.{row_body};
+ghost use Rattle.willow_entry.specs.Frame.{row_frame};
+ghost use Rattle.peer_image.specs.Image.{image, magic, trailer};
+
+use spelling::{NoMemory, put_bytes, put_u32};
+use std::alloc::Global;
+use willow_entry::Row;
+use willow_path::NamespaceKey;
+
+/// The image of the rows in their order: the text WIM1 and the namespace key, each row's frame, four bytes 00
+/// and the number of rows. A row's bytes are written as it keeps them. Bodies have at most `MAX_FRAME` bytes.
+#[tactic(auto, unfolding(crate::specs::Image::image))]
+pub fn write_rows<R: Row>(alloc: Global, namespace: &NamespaceKey, rows: &[R]) -> Result<Vec<u8>, NoMemory>
+    requires frames { AllByRecursion (λ r. length (row_body r) ≤ 131072) (map R.value rows.now) }
+    requires count { length rows.now < 2 ^ 32 }
+    ensures { IfOk result (λ v. v.items ≡ image namespace.now (map R.value rows.now)) }
+{
+    let mut out = Vec::new(alloc);
+    put_bytes(&mut out, b"WIM1")?;
+    put_bytes(&mut out, &namespace.to_bytes())?;
+    for row in rows {
+        put_frame(&mut out, row)?;
+    }
+    put_trailer(&mut out, rows.len() as u32)?;
+    Ok(out)
+}
+
+// Appends the length of the row's body, and the body.
+#[tactic(auto, unfolding(willow_entry::specs::RowBody::row_body))]
+fn put_frame<R: Row>(out: &mut Vec<u8>, row: &R) -> Result<(), NoMemory>
+    requires { length (row_body (R.value row.now)) ≤ 131072 }
+    ensures { OnOk result (out.new.items ≡ out.old.items ++ row_frame (R.value row.now)) }
+{
+    let (entry, token) = (row.entry_bytes(), row.token_bytes());
+    put_u32(out, (entry.len() + token.len()) as u32)?;
+    put_bytes(out, entry)?;
+    put_bytes(out, token)
+}
+
+// Appends four bytes 00 and the count.
+fn put_trailer(out: &mut Vec<u8>, count: u32) -> Result<(), NoMemory>
+    ensures { OnOk result (out.new.items ≡ out.old.items ++ trailer count) }
+{
+    put_u32(out, 0)?;
+    put_u32(out, count)
+}
