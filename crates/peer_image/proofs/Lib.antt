@@ -1,0 +1,4 @@
+pub mod Filtered
+pub mod Places
+pub mod KeptFronts
+pub mod Falls

@@ -2,12 +2,17 @@
 use Rattle.std.specs.Prelude.{◌≡◌, ℕ, ◌+◌, List, [], ◌∷◌, Option, Some, None, filter, if◌then◌else◌}
 use Rattle.std.specs.List.{AllByRecursion}
 use Rattle.std.specs.declared.cmp.Ordering.TheVariants.{Less}
+use Rattle.peer_image.specs.declared.order.Front.{Front}
 use Rattle.willow_entry.specs.Row.{RowValue, is_at_prefix, is_dominating, place_cmp}
 
 -- a row and its number
 pub record Seen : Type 0 where
   pub at : ℕ
   pub row : RowValue
+
+-- what is seen of a front: its number, and its row's value
+abbrev pub seen : {R : Type 0} → (R → RowValue) → Front R → Seen
+seen value f = record { at = f.at; row = value f.row.now }
 
 -- the rows, numbered from k on
 unfoldable pub numbered : ℕ → List RowValue → List Seen

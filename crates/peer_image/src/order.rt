@@ -1,17 +1,17 @@
 //! The order of an image's rows: they rise by place, and no row dominates a later one.
 
-ghost use Rattle.std.specs.Prelude.{◌≡◌, ◌+◌, ◌<◌, ◌^◌, length, map, IfOk, IfNone};
+ghost use Rattle.std.specs.Prelude.{◌≡◌, ◌+◌, ◌<◌, ◌^◌, length, map, IfOk};
 ghost use Rattle.willow_entry.specs.Row.{IsRising, is_at_prefix};
-ghost use Rattle.peer_image.specs.Fronts.{first_dominating, fronts_of};
+ghost use Rattle.peer_image.specs.Fronts.{first_dominating, fronts_of, seen};
 ghost use Rattle.peer_image.specs.Order.{fall_after, first_fall, first_pruned, order_refusal};
 
 use crate::refusal::ImageRefusal;
 use spelling::NoMemory;
 use std::alloc::Global;
-use std::cmp::Ordering;
 use willow_entry::{Row, by_place, dominates};
 
 // Why the rows are none of a store: they do not rise, or else a row dominates a later one.
+#[tactic(auto, using(crate::proofs::Falls::rising_from_none))]
 pub(crate) fn order_refusal<R: Row>(alloc: Global, rows: &[R]) -> Result<Option<ImageRefusal>, NoMemory>
     requires { length rows.now < 2 ^ 32 }
     ensures { IfOk result (λ found. found ≡ order_refusal (map R.value rows.now)) }
@@ -26,8 +26,7 @@ pub(crate) fn order_refusal<R: Row>(alloc: Global, rows: &[R]) -> Result<Option<
 #[tactic(auto, unfolding(crate::specs::Order::first_fall))]
 fn first_fall<R: Row>(rows: &[R]) -> Option<ImageRefusal>
     requires { length rows.now < 2 ^ 32 }
-    ensures first { result ≡ first_fall (map R.value rows.now) }
-    ensures rising { IfNone result (IsRising (map R.value rows.now)) }
+    ensures { result ≡ first_fall (map R.value rows.now) }
 {
     match rows {
         [] => None,
@@ -44,7 +43,7 @@ fn fall_after<R: Row>(first: &R, others: &[R]) -> Option<ImageRefusal>
     let mut at = 1;
     for row in others {
         at += 1;
-        if by_place(last, row) != Ordering::Less {
+        if !by_place(last, row).is_lt() {
             return Some(ImageRefusal::NotRising { at });
         }
         last = row;
@@ -70,7 +69,7 @@ fn is_at_prefix<R: Row>(r: &R, s: &R) -> bool
 
 // Leaves those that stand at prefixes of the row.
 fn keep_fronts<R: Row>(fronts: &mut Vec<Front<R>>, row: &R)
-    ensures { map (λ f. record { at = f.at; row = R.value f.row.now }) fronts.new.items ≡ fronts_of (R.value row.now) (map (λ f. record { at = f.at; row = R.value f.row.now }) fronts.old.items) }
+    ensures { map (seen R.value) fronts.new.items ≡ fronts_of (R.value row.now) (map (seen R.value) fronts.old.items) }
 {
     fronts.retain(|front| is_at_prefix(front.row, row));
 }
@@ -78,7 +77,7 @@ fn keep_fronts<R: Row>(fronts: &mut Vec<Front<R>>, row: &R)
 // The number of the first that dominates the row.
 #[tactic(auto, unfolding(crate::specs::Fronts::first_dominating))]
 fn dominating<R: Row>(fronts: &[Front<R>], row: &R) -> Option<u32>
-    ensures { result ≡ first_dominating (R.value row.now) (map (λ f. record { at = f.at; row = R.value f.row.now }) fronts.now) }
+    ensures { result ≡ first_dominating (R.value row.now) (map (seen R.value) fronts.now) }
 {
     match fronts {
         [] => None,
@@ -104,10 +103,10 @@ fn first_pruned<R: Row>(alloc: Global, rows: &[R]) -> Result<Option<ImageRefusal
     for row in rows {
         at += 1;
         keep_fronts(&mut fronts, row);
-        if let Some(by) = dominating(&fronts, row) {
-            return Ok(Some(ImageRefusal::Pruned { at, by }));
+        match dominating(&fronts, row) {
+            Some(by) => return Ok(Some(ImageRefusal::Pruned { at, by })),
+            None => fronts.push(Front { at, row })?,
         }
-        fronts.push(Front { at, row })?;
     }
     Ok(None)
 }

@@ -5,4 +5,4 @@ use Rattle.peer_image.specs.Image.{magic}
 use Rattle.peer_image.proofs.write.write_rows.Given as goal
 
 abbrev pub invariant-loop-row : goal.invariant-loop-row
-invariant-loop-row g l = l.out.items ≡ (magic ++ l.namespace) ++ flat_map row_frame (map g.R.value (take l.row-index l.rows))
+invariant-loop-row g l = l.out.items ≡ (magic ++ l.namespace) ++ flat_map row_frame (map g.R.Row.value (take l.row-index l.rows))
