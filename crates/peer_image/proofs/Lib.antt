@@ -2,3 +2,4 @@ pub mod Filtered
 pub mod Places
 pub mod KeptFronts
 pub mod Falls
+pub mod InOrder

@@ -1,9 +1,9 @@
 -- How the rows of an image are ordered: they rise by place, and none dominates a later one.
-use Rattle.std.specs.Prelude.{ℕ, ◌+◌, List, [], ◌∷◌, ◌++◌, length, Option, Some, None, if◌then◌else◌}
+use Rattle.std.specs.Prelude.{◌≡◌, ◌↔◌, ℕ, ◌+◌, List, [], ◌∷◌, ◌++◌, length, Option, Some, None, if◌then◌else◌}
 use Rattle.std.specs.List.{position_from}
 use Rattle.std.specs.Ordering.{is_lt}
 use Rattle.spelling.specs.Answers.{or_else}
-use Rattle.willow_entry.specs.Row.{RowValue, is_dominating, place_cmp}
+use Rattle.willow_entry.specs.Row.{RowValue, is_dominating, place_cmp, live}
 use Rattle.peer_image.specs.declared.refusal.ImageRefusal.{ImageRefusal}
 use Rattle.peer_image.specs.declared.refusal.ImageRefusal.TheVariants.{NotRising, Pruned}
 
@@ -36,3 +36,7 @@ first_pruned = pruned_after []
 -- why the rows are none of a store: they do not rise, or else one is pruned
 abbrev pub order_refusal : List RowValue → Option ImageRefusal
 order_refusal rows = or_else (first_fall rows) (first_pruned rows)
+
+-- Rows are in order exactly where they are what a store keeps of them.
+abbrev pub IsOrderOfLive : Type 0
+IsOrderOfLive = (rows : List RowValue) → (order_refusal rows ≡ None) ↔ (live rows ≡ rows)

@@ -2,6 +2,7 @@
 //! The contract: what is written is the image of the rows, and what is read is the one image that the bytes are.
 #![tactic(auto)]
 
+pub mod laws;
 mod order;
 mod refusal;
 mod write;

@@ -1,5 +1,5 @@
-use Rattle.std.proofs.Common.{◌≡◌, ◌+◌, false, true, [], map, length, drop, Some, sym, ap, ◌∙◌, arith, is_lt, length-map}
-use Rattle.std.proofs.lemmas.List.{drop_all}
+use Rattle.std.proofs.Common.{◌≡◌, ◌+◌, false, true, [], map, length, drop, Some, sym, ap, ◌∙◌, arith, is_lt}
+use Rattle.std.proofs.lemmas.List.{length-map, drop_all}
 use Rattle.willow_entry.specs.Row.{place_cmp}
 use Rattle.peer_image.specs.declared.refusal.ImageRefusal.TheVariants.{NotRising}
 use Rattle.peer_image.specs.Order.{fall_after}

@@ -1,6 +1,6 @@
-use Rattle.std.proofs.Common.{◌≡◌, ◌+◌, ◌<◌, List, [], ◌∷◌, ◌++◌, map, length, take, drop, Option, Some, None, refl, sym, ap, subst, ◌∙◌, arith, length-map, Less}
+use Rattle.std.proofs.Common.{◌≡◌, ◌+◌, ◌<◌, List, [], ◌∷◌, ◌++◌, map, length, take, drop, Option, Some, None, refl, sym, ap, subst, ◌∙◌, arith, Less}
 use Rattle.std.specs.List.{AllByRecursion, position_from}
-use Rattle.std.proofs.lemmas.List.{drop_all, length-take-le, map-append}
+use Rattle.std.proofs.lemmas.List.{length-map, drop_all, length-take-le, map-append}
 use Rattle.willow_entry.specs.Row.{RowValue, IsRising, is_dominating, place_cmp}
 use Rattle.peer_image.specs.declared.refusal.ImageRefusal.TheVariants.{Pruned}
 use Rattle.peer_image.specs.Fronts.{Seen, Suffices, seen, first_dominating}
@@ -56,7 +56,7 @@ loop-row-preserved g c =
       ∙ found_is earlier next fronts kept below c.loop-row.invariant.fronts c.keep_fronts.ensures in
     let mark : Seen = record { at = c.loop-row.at + 1; row = next } in
     let items : map (seen value) c.push.new.self.items ≡ kept ++ mark ∷ [] =
-      ap (map (seen value)) c.in_ok-push.ensures.items ∙ map-append (seen value) c.keep_fronts.new.fronts.items _ in
+      ap (map (seen value)) c.in_ok-push-in-None.ensures.items ∙ map-append (seen value) c.keep_fronts.new.fronts.items _ in
     let passed = passed_is value c.args.rows.now k c.row-item.result within c.row-item.is in
     record {
       counted = omega (arith, c.loop-row.invariant.counted);
