@@ -15,7 +15,9 @@ use Rattle.lms_core.specs.Signer.{values_at, last_digits, key_of_leaf, node_valu
 use Rattle.lms_core.proofs.Digests.{length_u32_str, u32_at_by, length_digits, digits_bytes}
 use Rattle.lms_core.proofs.Values.{length_values_at, ends_of_values}
 use Rattle.lms_core.proofs.Secrets.{node_value_parent, leaf_by_index}
-use Rattle.lms_core.proofs.Accepting.{accepts_by_root} 
+use Rattle.lms_core.proofs.Accepting.{accepts_by_root}
+use Rattle.lms_core.proofs.Heights.{type_of_height, type_of_below, leaves_below}
+use Rattle.lms_core.proofs.Parts.{Six, six, Four, four}
 
 pub length_node_value : (height : Height) (id seed : List ℕ) (level node : ℕ) → length (node_value height id seed level node) ≡ 32
 unfolding node_value leaf_value inner_value
@@ -48,45 +50,6 @@ climb_of_path height id seed (suc n) level node p q =
     let ih = rw f at (climb_of_path height id seed n (suc level) (node / 2) (omega arith) (omega arith)) in
     rw (t, d, node_value_parent height id seed level node, e) ih
 
--- the parts of a list that is joined of six
-pub record Six (a b c v t p s : List ℕ) : Type 0 where
-  pub first : take 4 s ≡ a
-  pub second : field 4 4 s ≡ b
-  pub third : field 8 32 s ≡ c
-  pub fourth : field 40 1088 s ≡ v
-  pub fifth : field 1128 4 s ≡ t
-  pub last : drop 1132 s ≡ p
-  pub len : length s ≡ 1132 + length p
-
--- the middle of three lists
-pub field_of : (x y z s : List ℕ) (n m : ℕ) → length x ≡ n → length y ≡ m → s ≡ x ++ (y ++ z) → take m (drop n s) ≡ y
-field_of x y z s n m hx hy hs = rw (hs, drop_at x (y ++ z) n hx) (take_at y z m hy)
-
-pub len_two : (x y : List ℕ) (n m k : ℕ) → length x ≡ n → length y ≡ m → n + m ≡ k → length (x ++ y) ≡ k
-len_two x y n m k hx hy hk = omega (arith, length-append x y)
-
-pub six : (a b c v t p : List ℕ) → length a ≡ 4 → length b ≡ 4 → length c ≡ 32 → length v ≡ 1088 → length t ≡ 4 → Six a b c v t p (((((a ++ b) ++ c) ++ v) ++ t) ++ p)
-six a b c v t p ha hb hc hv ht =
-    let s = ((((a ++ b) ++ c) ++ v) ++ t) ++ p in
-    let ab : length (a ++ b) ≡ 8 = len_two a b 4 4 8 ha hb refl in
-    let abc : length ((a ++ b) ++ c) ≡ 40 = len_two (a ++ b) c 8 32 40 ab hc refl in
-    let abcv : length (((a ++ b) ++ c) ++ v) ≡ 1128 = len_two ((a ++ b) ++ c) v 40 1088 1128 abc hv refl in
-    let abcvt : length ((((a ++ b) ++ c) ++ v) ++ t) ≡ 1132 = len_two (((a ++ b) ++ c) ++ v) t 1128 4 1132 abcv ht refl in
-    let e0 : s ≡ a ++ (b ++ (c ++ (v ++ (t ++ p)))) = simp append_assoc in
-    let e1 : s ≡ a ++ (b ++ (c ++ (v ++ (t ++ p)))) = simp append_assoc in
-    let e2 : s ≡ (a ++ b) ++ (c ++ (v ++ (t ++ p))) = simp append_assoc in
-    let e3 : s ≡ ((a ++ b) ++ c) ++ (v ++ (t ++ p)) = simp append_assoc in
-    let e4 : s ≡ (((a ++ b) ++ c) ++ v) ++ (t ++ p) = simp append_assoc in
-    record {
-      first = rw e0 (take_at a (b ++ (c ++ (v ++ (t ++ p)))) 4 ha);
-      second = field_of a b (c ++ (v ++ (t ++ p))) s 4 4 ha hb e1;
-      third = field_of (a ++ b) c (v ++ (t ++ p)) s 8 32 ab hc e2;
-      fourth = field_of ((a ++ b) ++ c) v (t ++ p) s 40 1088 abc hv e3;
-      fifth = field_of (((a ++ b) ++ c) ++ v) t p s 1128 4 abcv ht e4;
-      last = drop_at ((((a ++ b) ++ c) ++ v) ++ t) p 1132 abcvt;
-      len = omega (arith, length-append ((((a ++ b) ++ c) ++ v) ++ t) p);
-    }
-
 length_signed_values : (id seed : List ℕ) (q : ℕ) (message : List ℕ) → length (signed_values id seed q message) ≡ 1088
 unfolding signed_values
 length_signed_values id seed q message =
@@ -101,29 +64,7 @@ pub signature_parts : (height : Height) (id seed : List ℕ) (q : ℕ) (message 
 unfolding signature_of
 signature_parts height id seed q message =
     six (u32_str q) (u32_str one_time_type) (randomizer seed q message) (signed_values id seed q message) (u32_str (type_of height)) (path_of height id seed 0 (leaves height + q) (levels height))
-        (length_u32_str q) (length_u32_str one_time_type) (length_randomizer seed q message) (length_signed_values id seed q message) (length_u32_str (type_of height))
-
--- the parts of a public key
-pub record Four (a b c d s : List ℕ) : Type 0 where
-  pub first : take 4 s ≡ a
-  pub second : field 4 4 s ≡ b
-  pub third : field 8 16 s ≡ c
-  pub last : field 24 32 s ≡ d
-
-pub four : (a b c d : List ℕ) → length a ≡ 4 → length b ≡ 4 → length c ≡ 16 → length d ≡ 32 → Four a b c d (((a ++ b) ++ c) ++ d)
-four a b c d ha hb hc hd =
-    let s = ((a ++ b) ++ c) ++ d in
-    let ab : length (a ++ b) ≡ 8 = len_two a b 4 4 8 ha hb refl in
-    let abc : length ((a ++ b) ++ c) ≡ 24 = len_two (a ++ b) c 8 16 24 ab hc refl in
-    let e1 : s ≡ a ++ (b ++ (c ++ d)) = simp append_assoc in
-    let e2 : s ≡ (a ++ b) ++ (c ++ d) = simp append_assoc in
-    let e3 : s ≡ ((a ++ b) ++ c) ++ (d ++ []) = simp append-nil in
-    record {
-      first = rw e1 (take_at a (b ++ (c ++ d)) 4 ha);
-      second = field_of a b (c ++ d) s 4 4 ha hb e1;
-      third = field_of (a ++ b) c d s 8 16 ab hc e2;
-      last = field_of ((a ++ b) ++ c) d [] s 24 32 abc hd e3;
-    }
+    (length_u32_str q) (length_u32_str one_time_type) (length_randomizer seed q message) (length_signed_values id seed q message) (length_u32_str (type_of height))
 
 pub length_root_value : (height : Height) (id seed : List ℕ) → length (root_value height id seed) ≡ 32
 unfolding root_value
@@ -133,18 +74,6 @@ pub public_parts : (height : Height) (id seed : List ℕ) → length id ≡ 16 �
 unfolding public_key
 public_parts height id seed h =
     four (u32_str (type_of height)) (u32_str one_time_type) id (root_value height id seed) (length_u32_str (type_of height)) (length_u32_str one_time_type) h (length_root_value height id seed)
-
-type_of_height : (height : Height) → height_of (type_of height) ≡ Some height
-type_of_height H5 = refl
-type_of_height H10 = refl
-
-type_of_below : (height : Height) → type_of height < 2 ^ 32
-type_of_below H5 = omega arith
-type_of_below H10 = omega arith
-
-leaves_below : (height : Height) → leaves height ≤ 1024
-leaves_below H5 = omega arith
-leaves_below H10 = omega arith
 
 all_of : (a b c d e : Bool) → a ≡ true → b ≡ true → c ≡ true → d ≡ true → e ≡ true → (a && b && c && d && e) ≡ true
 all_of a b c d e ha hb hc hd he = rw (ha, hb, hc, hd, he) refl
@@ -200,5 +129,5 @@ made_is_accepted height id seed q message h p =
     let kp = public_parts height id seed h in
     let r = made_root height id seed q message p in
     let same : true ≡ bytes_eq (root_of height (field 8 16 (public_key height id seed)) message (signature_of height id seed q message)) (field 24 32 (public_key height id seed)) =
-      rw (kp.third, kp.last, r) (sym ((bytes_eq-Decides (root_value height id seed) (root_value height id seed)).1 refl)) in
+    rw (kp.third, kp.last, r) (sym ((bytes_eq-Decides (root_value height id seed) (root_value height id seed)).1 refl)) in
     sym (accepts_by_root (public_key height id seed) message (signature_of height id seed q message) height true (made_sound_height height id seed q message h p) same)

@@ -13,49 +13,14 @@ use Rattle.lms_core.specs.Bytes.{u32_str, u32_at, field}
 use Rattle.lms_core.specs.Accepts.{levels, leaves}
 use Rattle.lms_core.specs.Key.{Key, IsKey, key_magic, key_file, height_at, key_of_height, key_at}
 use Rattle.lms_core.proofs.Digests.{length_u32_str, u32_at_by}
-use Rattle.lms_core.proofs.Completeness.{field_of, len_two}
-
--- the parts of a list that is joined of five
-pub record Five (a b c d e s : List ℕ) : Type 0 where
-  pub first : take 4 s ≡ a
-  pub second : field 4 1 s ≡ b
-  pub third : field 5 16 s ≡ c
-  pub fourth : field 21 32 s ≡ d
-  pub last : field 53 4 s ≡ e
-  pub len : length s ≡ 57
-
-pub five : (a b c d e : List ℕ) → length a ≡ 4 → length b ≡ 1 → length c ≡ 16 → length d ≡ 32 → length e ≡ 4 → Five a b c d e ((((a ++ b) ++ c) ++ d) ++ e)
-five a b c d e ha hb hc hd he =
-    let s = (((a ++ b) ++ c) ++ d) ++ e in
-    let ab : length (a ++ b) ≡ 5 = len_two a b 4 1 5 ha hb refl in
-    let abc : length ((a ++ b) ++ c) ≡ 21 = len_two (a ++ b) c 5 16 21 ab hc refl in
-    let abcd : length (((a ++ b) ++ c) ++ d) ≡ 53 = len_two ((a ++ b) ++ c) d 21 32 53 abc hd refl in
-    let e1 : s ≡ a ++ (b ++ (c ++ (d ++ e))) = simp append_assoc in
-    let e2 : s ≡ (a ++ b) ++ (c ++ (d ++ e)) = simp append_assoc in
-    let e3 : s ≡ ((a ++ b) ++ c) ++ (d ++ e) = simp append_assoc in
-    let e4 : s ≡ (((a ++ b) ++ c) ++ d) ++ (e ++ []) = simp append-nil in
-    record {
-      first = rw e1 (take_at a (b ++ (c ++ (d ++ e))) 4 ha);
-      second = field_of a b (c ++ (d ++ e)) s 4 1 ha hb e1;
-      third = field_of (a ++ b) c (d ++ e) s 5 16 ab hc e2;
-      fourth = field_of ((a ++ b) ++ c) d e s 21 32 abc hd e3;
-      last = field_of (((a ++ b) ++ c) ++ d) e [] s 53 4 abcd he e4;
-      len = omega (arith, length-append (((a ++ b) ++ c) ++ d) e);
-    }
+use Rattle.lms_core.proofs.Heights.{leaves_below, height_at_levels, height_at_back}
+use Rattle.lms_core.proofs.Parts.{Five, five}
 
 pub file_parts : (k : Key) → IsKey k → Five key_magic (levels k.height ∷ []) k.identifier k.seed (u32_str k.next) (key_file k)
 unfolding key_file
 file_parts k h = five key_magic (levels k.height ∷ []) k.identifier k.seed (u32_str k.next) refl refl h.identifier.0 h.seed.0 (length_u32_str k.next)
 
 -- ---- from a key to its file and back
-
-height_at_levels : (height : Height) → height_at (levels height) ≡ Some height
-height_at_levels H5 = refl
-height_at_levels H10 = refl
-
-leaves_below : (height : Height) → leaves height ≤ 1024
-leaves_below H5 = omega arith
-leaves_below H10 = omega arith
 
 -- the byte that a field of one byte holds
 byte_of_field : (s : List ℕ) (at b : ℕ) → at < length s → field at 1 s ≡ b ∷ [] → slice_index s at ≡ b
@@ -94,23 +59,6 @@ file_once k l hk hl e =
 chosen : (t : Bool) (o : Option Key) (k : Key) → cond t o None ≡ Some k → (t ≡ true) × (o ≡ Some k)
 chosen true o k e = (refl, e)
 chosen false o k e = absurd cc
-
-height_at_back : (n : ℕ) (height : Height) → height_at n ≡ Some height → n ≡ levels height
-height_at_back n height e =
-    elim (cases_Bool (eqb n 5)) [
-      inl t ↦
-        let f : Some H5 ≡ Some height = rw t at e in
-        let g : H5 ≡ height = cc in
-        eqb-true n 5 t ∙ ap levels g
-      | inr t ↦
-        elim (cases_Bool (eqb n 10)) [
-          inl u ↦
-            let f : Some H10 ≡ Some height = rw (t, u) at e in
-            let g : H10 ≡ height = cc in
-            eqb-true n 10 u ∙ ap levels g
-          | inr u ↦ let f : None ≡ Some height = rw (t, u) at e in absurd cc
-        ]
-    ]
 
 abbrev key_in : List ℕ → Height → Key
 key_in bytes height = record { height = height; identifier = field 5 16 bytes; seed = field 21 32 bytes; next = u32_at 53 bytes }
@@ -183,3 +131,8 @@ decoded_file bytes (Some k) b e = (key_back bytes k b (sym e)).file
 pub decoded_key : (bytes : List ℕ) (o : Option Key) → AreBytes bytes → o ≡ key_at bytes → IfSome o IsKey
 decoded_key bytes None b e = tt
 decoded_key bytes (Some k) b e = (key_back bytes k b (sym e)).key
+
+-- a key's file, by its steps
+pub file_by_steps : (k : Key) (front named seeded number file : List ℕ) (count : ℕ) → count ≡ levels k.height → front ≡ key_magic ++ count ∷ [] → named ≡ front ++ k.identifier → seeded ≡ named ++ k.seed → number ≡ u32_str k.next → file ≡ seeded ++ number → file ≡ key_file k
+unfolding key_file
+file_by_steps k front named seeded number file count hc hf hn hs hu hw = hw ∙ rw (hs, hn, hf, hc, hu) refl

@@ -13,7 +13,9 @@ use Rattle.lms_core.specs.Signer.{public_key, signature_of, root_value, path_of}
 use Rattle.lms_core.specs.Key.{Key, key_magic, key_file}
 use Rattle.lms_core.specs.Use.{Use, user_key_of, lms_key_accepts, peer_accepts, use_gives, use_signature}
 use Rattle.lms_core.proofs.Digests.{length_u32_str, u32_at_by}
-use Rattle.lms_core.proofs.Completeness.{made_is_accepted, length_root_value, len_two, signature_parts, length_path_of}
+use Rattle.lms_core.proofs.Completeness.{made_is_accepted, length_root_value, signature_parts, length_path_of}
+use Rattle.lms_core.proofs.Heights.{leaves_below, levels_below}
+use Rattle.lms_core.proofs.Parts.{len_two}
 
 -- a key's verdict by its steps: the front and the rest of a signature
 pub key_accepts_by : (key message s p r : List ℕ) (b : Bool) → 56 ≤ length s → p ≡ take 56 s → r ≡ drop 56 s → bytes_eq (sha256 p) (field 1 32 key) ≡ true → b ≡ lms_accepts p message r → b ≡ lms_key_accepts key message s
@@ -49,14 +51,6 @@ own_digest : (height : Height) (id seed : List ℕ) → bytes_eq (sha256 (public
 unfolding user_key_of
 own_digest height id seed = (bytes_eq-Decides (sha256 (public_key height id seed)) (take 32 (sha256 (public_key height id seed)))).1 (sym (take_all 32 (sha256 (public_key height id seed)) (omega (arith, length-sha256 (public_key height id seed)))))
 
-leaves_below : (height : Height) → leaves height ≤ 1024
-leaves_below H5 = omega arith
-leaves_below H10 = omega arith
-
-levels_below : (height : Height) → levels height ≤ 10
-levels_below H5 = omega arith
-levels_below H10 = omega arith
-
 pub made_is_given : (s : Use) (message : List ℕ) → length s.identifier ≡ 16 → s.index < leaves s.height → use_gives s message (use_signature s message) ≡ true
 unfolding use_gives
 made_is_given s message h i =
@@ -84,7 +78,3 @@ made_is_short s message h =
 pub gives_same : (s : Use) (n : ℕ) → use_gives (record s { left = n }) ≡ use_gives s
 unfolding use_gives
 gives_same s n = refl
-
-pub file_by_steps : (k : Key) (front named seeded number file : List ℕ) (count : ℕ) → count ≡ levels k.height → front ≡ key_magic ++ count ∷ [] → named ≡ front ++ k.identifier → seeded ≡ named ++ k.seed → number ≡ u32_str k.next → file ≡ seeded ++ number → file ≡ key_file k
-unfolding key_file
-file_by_steps k front named seeded number file count hc hf hn hs hu hw = hw ∙ rw (hs, hn, hf, hc, hu) refl

@@ -9,3 +9,6 @@ pub mod Completeness
 pub mod Files
 pub mod Given
 pub mod Uses
+pub mod Once
+pub mod Parts
+pub mod Heights

@@ -1,5 +1,5 @@
 -- The values of a signer's nodes and its public key, by the steps that compute them.
-use Rattle.std.proofs.Common.{◌≡◌, ℕ, zero, suc, ◌+◌, ◌-◌, ◌*◌, ◌/◌, ◌%◌, ◌^◌, ◌<◌, ◌≤◌, List, [], ◌∷◌, ◌++◌, length, ◌⊎◌, inl, inr, refl, sym, ap, ◌∙◌, arith, append_assoc, Result, Ok, Err, IfOk, Vec, Global}
+use Rattle.std.proofs.Common.{◌≡◌, ℕ, zero, suc, ◌+◌, ◌-◌, ◌*◌, ◌/◌, ◌%◌, ◌^◌, ◌<◌, ◌≤◌, List, [], ◌∷◌, ◌++◌, length, ◌⊎◌, inl, inr, refl, sym, ap, ◌∙◌, arith, append_assoc}
 use Rattle.std.proofs.lemmas.Bool.{cases_eq}
 use Rattle.std.proofs.lemmas.List.{append-nil}
 use Rattle.lms_core.specs.declared.height.Height.{Height}
@@ -69,14 +69,14 @@ node_value_parent height id seed level node =
     let above : ℕ → ℕ → List ℕ = λ m n. inner_value id (node / 2) (value m) (value n) in
     let up = node_value_above height id seed level (node / 2) in
     elim (parity node) [
-      inl odd ↦
-        let a : node - 1 ≡ 2 * (node / 2) = omega arith in
-        let b : node ≡ 2 * (node / 2) + 1 = omega arith in
-        parent_value_odd id node (value node) (value (sibling node)) odd ∙ ap (λ n. above n node) (sibling_odd node odd ∙ a) ∙ ap (λ n. above (2 * (node / 2)) n) b ∙ sym up
+      | inl odd ↦
+          let a : node - 1 ≡ 2 * (node / 2) = omega arith in
+          let b : node ≡ 2 * (node / 2) + 1 = omega arith in
+          parent_value_odd id node (value node) (value (sibling node)) odd ∙ ap (λ n. above n node) (sibling_odd node odd ∙ a) ∙ ap (λ n. above (2 * (node / 2)) n) b ∙ sym up
       | inr even ↦
-        let a : node + 1 ≡ 2 * (node / 2) + 1 = omega arith in
-        let b : node ≡ 2 * (node / 2) = omega arith in
-        parent_value_even id node (value node) (value (sibling node)) even ∙ ap (λ n. above node n) (sibling_even node even ∙ a) ∙ ap (λ n. above n (2 * (node / 2) + 1)) b ∙ sym up
+          let a : node + 1 ≡ 2 * (node / 2) + 1 = omega arith in
+          let b : node ≡ 2 * (node / 2) = omega arith in
+          parent_value_even id node (value node) (value (sibling node)) even ∙ ap (λ n. above node n) (sibling_even node even ∙ a) ∙ ap (λ n. above n (2 * (node / 2) + 1)) b ∙ sym up
     ]
 
 -- a path from a node on, with its first sibling taken
@@ -123,8 +123,3 @@ unfolding signature_of signed_values
 signed_by_steps height id seed q message public qs once numbers c head values types path whole hp hq ho hn hc hh hv ht hs hw =
     let e : (((public ++ head) ++ values) ++ types) ++ path ≡ public ++ (((head ++ values) ++ types) ++ path) = simp append_assoc in
     hw ∙ e ∙ rw (hp, hh, hn, hq, ho, hv, hc, ht, hs) refl
-
--- a result's items by an equal list
-pub items_by : {E : Type 0} (r : Result (Vec ℕ Global) E) (xs ys : List ℕ) → xs ≡ ys → IfOk r (λ v. v.items ≡ xs) → IfOk r (λ v. v.items ≡ ys)
-items_by (Ok v) xs ys e h = h ∙ e
-items_by (Err r) xs ys e h = tt

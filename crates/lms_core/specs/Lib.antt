@@ -6,3 +6,4 @@ pub mod Signer
 pub mod Key
 pub mod Use
 pub mod Reserve
+pub mod Calls

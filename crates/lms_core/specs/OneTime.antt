@@ -11,10 +11,13 @@ front id n x = (id ++ u32_str n) ++ u16_str x
 -- D_PBLC, D_MESG, D_LEAF and D_INTR, which tell the hash inputs of different use apart
 abbrev pub d_pblc : ℕ
 d_pblc = 0x8080
+
 abbrev pub d_mesg : ℕ
 d_mesg = 0x8181
+
 abbrev pub d_leaf : ℕ
 d_leaf = 0x8282
+
 abbrev pub d_intr : ℕ
 d_intr = 0x8383
 

@@ -62,4 +62,4 @@ signed_values id seed q message = values_at id seed q 0 (digits (message_hash id
 unfoldable pub signature_of : Height → List ℕ → List ℕ → ℕ → List ℕ → List ℕ
 signature_of height id seed q message =
     ((((u32_str q ++ u32_str one_time_type) ++ randomizer seed q message) ++ signed_values id seed q message)
-        ++ u32_str (type_of height)) ++ path_of height id seed 0 (leaves height + q) (levels height)
+    ++ u32_str (type_of height)) ++ path_of height id seed 0 (leaves height + q) (levels height)

@@ -9,8 +9,11 @@ use crate::bytes::{four_bytes, join_into, two_bytes};
 use sha2::{Digest, Sha256};
 
 pub(crate) const D_PBLC: u16 = 0x8080;
+
 pub(crate) const D_MESG: u16 = 0x8181;
+
 const D_LEAF: u16 = 0x8282;
+
 const D_INTR: u16 = 0x8383;
 
 /// What a hash input begins with.
@@ -71,7 +74,12 @@ pub(crate) fn inner(identifier: &[u8; 16], node: u32, left: &[u8; 32], right: &[
 
 /// The value of the node above a node.
 #[tactic(auto, unfolding(crate::specs::Tree::parent_value))]
-pub(crate) fn parent(identifier: &[u8; 16], node: u32, value: &[u8; 32], sibling: &[u8; 32]) -> [u8; 32]
+pub(crate) fn parent(
+    identifier: &[u8; 16],
+    node: u32,
+    value: &[u8; 32],
+    sibling: &[u8; 32],
+) -> [u8; 32]
     ensures { result ≡ parent_value identifier.now node value.now sibling.now }
 {
     if node % 2 == 1 {

@@ -41,7 +41,11 @@ impl LmsKey {
     pub fn make(height: Height, identifier: [u8; 16], seed: [u8; 32]) -> LmsKey
         ensures { result ≡ record { height = height; identifier = identifier; seed = seed; next = 0 } }
     {
-        let tree = Tree { height, identifier, seed };
+        let tree = Tree {
+            height,
+            identifier,
+            seed,
+        };
         LmsKey { tree, next: 0 }
     }
 

@@ -17,8 +17,11 @@ mod verify;
 
 pub use height::Height;
 pub use key::LmsKey;
-pub use laws::made_signatures_are_accepted;
+pub use laws::{indices_are_handed_out_once, made_signatures_are_accepted};
 pub use one_use::OneUse;
-pub use reserve::{reserve_keys, KeyRefusal};
+pub use reserve::{KeyRefusal, reserve_keys};
 pub use scheme::PeerScheme;
 pub use verify::lms_verify;
+
+#[cfg(test)]
+mod tests;

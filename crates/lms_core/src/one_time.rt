@@ -4,7 +4,7 @@ ghost use Rattle.std.specs.Prelude.{◌≡◌, ◌-◌, ◌≤◌, length};
 ghost use Rattle.lms_core.specs.OneTime.{run, message_hash, checksum, digits, chain_ends, one_time_key, key_told};
 
 use crate::bytes::{field_at, join_into, two_bytes};
-use crate::hashing::{chain_step, hash_three, input_front, D_MESG, D_PBLC};
+use crate::hashing::{D_MESG, D_PBLC, chain_step, hash_three, input_front};
 use sha2::{Digest, Sha256};
 
 /// How many chains a one-time key has: one for each byte of a hash and two for its checksum.
@@ -51,12 +51,7 @@ pub(crate) fn digits_of(
 }
 
 /// The one-time public key of the chains that have these values at these digits.
-fn key_of_values(
-    identifier: &[u8; 16],
-    index: u32,
-    digits: &[u8; 34],
-    values: &[u8],
-) -> [u8; 32]
+fn key_of_values(identifier: &[u8; 16], index: u32, digits: &[u8; 34], values: &[u8]) -> [u8; 32]
     requires { length values.now ≡ 1088 }
     ensures { result ≡ one_time_key identifier.now index (chain_ends identifier.now index 0 digits.now values.now) }
 {

@@ -40,7 +40,11 @@ impl OneUse {
         requires { index < leaves tree.height }
         ensures { result ≡ record { height = tree.height; identifier = tree.identifier; seed = tree.seed; index = index; left = 1 } }
     {
-        OneUse { tree, index, left: 1 }
+        OneUse {
+            tree,
+            index,
+            left: 1,
+        }
     }
 
     /// The key for which the signature is accepted. It hashes the whole tree, as `LmsKey::public` does.

@@ -15,7 +15,8 @@ fn accepts_lms(key: &[u8; 33], message: &[u8], signature: &[u8]) -> bool
 {
     match signature.split_first_chunk::<56>() {
         Some((public, rest)) => {
-            Sha256::digest(public.as_slice()).as_slice() == &key[1..] && lms_verify(public, message, rest)
+            Sha256::digest(public.as_slice()).as_slice() == &key[1..]
+                && lms_verify(public, message, rest)
         }
         None => false,
     }

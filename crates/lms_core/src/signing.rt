@@ -6,9 +6,9 @@ ghost use Rattle.lms_core.specs.Accepts.{one_time_type, levels, leaves, type_of}
 ghost use Rattle.lms_core.specs.Signer.{key_of_leaf, values_at, node_value, root_value, sibling, path_of, randomizer, public_key, signature_of};
 
 use crate::bytes::{four_bytes, join_into};
-use crate::hashing::{hash_three, input_front, leaf, parent, D_PBLC};
+use crate::hashing::{D_PBLC, hash_three, input_front, leaf, parent};
 use crate::height::ONE_TIME_TYPE;
-use crate::one_time::{chain_run, digits_of, CHAINS};
+use crate::one_time::{CHAINS, chain_run, digits_of};
 use crate::tree::Tree;
 use sha2::{Digest, Sha256};
 use spelling::NoMemory;
@@ -101,7 +101,12 @@ impl Tree {
     }
 
     /// The public key and a leaf's signature of a message, joined.
-    pub(crate) fn signed(&self, alloc: Global, index: u32, message: &[u8]) -> Result<Vec<u8>, NoMemory>
+    pub(crate) fn signed(
+        &self,
+        alloc: Global,
+        index: u32,
+        message: &[u8],
+    ) -> Result<Vec<u8>, NoMemory>
         requires { index < leaves self.now.height }
         ensures identifier { length self.now.identifier ≡ 16 }
         ensures signature { IfOk result (λ v. v.items ≡ public_key self.now.height self.now.identifier self.now.seed

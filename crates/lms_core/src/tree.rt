@@ -7,9 +7,9 @@ ghost use Rattle.lms_core.specs.Signer.{chain_start, key_of_leaf, node_value, ro
 ghost use Rattle.lms_core.specs.Use.{user_key_of};
 
 use crate::bytes::{four_bytes, join_into};
-use crate::hashing::{chain_step, inner, input_front, leaf, D_PBLC};
+use crate::hashing::{D_PBLC, chain_step, inner, input_front, leaf};
 use crate::height::{Height, ONE_TIME_TYPE};
-use crate::one_time::{chain_run, CHAINS};
+use crate::one_time::{CHAINS, chain_run};
 use sha2::{Digest, Sha256};
 use willow_path::UserKey;
 
@@ -71,7 +71,11 @@ impl Tree {
         ensures { result ≡ public_key self.now.height self.now.identifier self.now.seed }
     {
         let mut types = [0; 8];
-        join_into(&mut types, &four_bytes(self.height.tree_type()), &four_bytes(ONE_TIME_TYPE));
+        join_into(
+            &mut types,
+            &four_bytes(self.height.tree_type()),
+            &four_bytes(ONE_TIME_TYPE),
+        );
         let mut front = [0; 24];
         join_into(&mut front, &types, &self.identifier);
         let mut key = [0; 56];

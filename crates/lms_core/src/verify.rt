@@ -11,7 +11,13 @@ use crate::height::{Height, ONE_TIME_TYPE};
 use crate::one_time::told_key;
 
 /// The value of the node that stands as many levels above a node as the path has siblings.
-pub(crate) fn climbed(identifier: &[u8; 16], node: u32, value: &[u8; 32], levels: usize, path: &[u8]) -> [u8; 32]
+pub(crate) fn climbed(
+    identifier: &[u8; 16],
+    node: u32,
+    value: &[u8; 32],
+    levels: usize,
+    path: &[u8],
+) -> [u8; 32]
     requires few { levels ≤ 10 }
     requires whole { length path.now ≡ 32 * levels }
     ensures { result ≡ climb identifier.now node value.now levels path.now }
@@ -63,9 +69,21 @@ fn told_root(height: Height, identifier: &[u8; 16], message: &[u8], signature: &
 {
     let index = number_at(signature, 0);
     let randomizer = field_at::<32>(signature, 8);
-    let key = told_key(identifier, index, &randomizer, &signature[40..1128], message);
+    let key = told_key(
+        identifier,
+        index,
+        &randomizer,
+        &signature[40..1128],
+        message,
+    );
     let node = height.leaves() + index;
-    climbed(identifier, node, &leaf(identifier, node, &key), height.levels(), &signature[1132..])
+    climbed(
+        identifier,
+        node,
+        &leaf(identifier, node, &key),
+        height.levels(),
+        &signature[1132..],
+    )
 }
 
 /// Whether `signature` is a signature of `message` under `public` that RFC 8554 accepts, in the profile of

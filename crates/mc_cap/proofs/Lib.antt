@@ -1,1 +1,5 @@
 pub mod Spellings
+pub mod Growing
+pub mod Handing
+pub mod Causes
+pub mod Meaning

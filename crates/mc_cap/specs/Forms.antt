@@ -3,7 +3,7 @@ use Rattle.std.specs.Prelude.{◌≡◌, ℕ, Bool, List, [], ◌∷◌, ◌++�
 use Rattle.spelling.specs.Spelling.{byte_spelling, list_spelling, IsList}
 use Rattle.willow_path.specs.Key.{IsKey}
 use Rattle.willow_area.specs.Area.{IsArea}
-use Rattle.mc_cap.specs.AreaForm.{area_spelling}
+use Rattle.willow_area.specs.AreaSpelling.{area_spelling}
 use Rattle.mc_cap.specs.Signature.{IsSignature, signature_spelling}
 use Rattle.mc_cap.specs.declared.chain.TheConstants.{MAX_CHAIN}
 use Rattle.mc_cap.specs.declared.chain.Delegation.{Delegation}

@@ -1,5 +1,5 @@
 -- Who has a capability, and for which area.
-use Rattle.std.specs.Prelude.{ℕ, ◌-◌, List, [], length, take, Option, Some, None, slice_get}
+use Rattle.std.specs.Prelude.{ℕ, ◌-◌, List, [], ◌∷◌, ◌++◌, length, take, Option, Some, None, slice_get}
 use Rattle.willow_area.specs.declared.area.Area.{Area}
 use Rattle.mc_cap.specs.declared.chain.Delegation.{Delegation}
 use Rattle.mc_cap.specs.declared.capability.Capability.{Capability}
@@ -7,6 +7,10 @@ use Rattle.mc_cap.specs.declared.capability.Capability.{Capability}
 -- the capability with its first k delegations
 abbrev pub cut : Capability → ℕ → Capability
 cut c k = record c { chain = take k c.chain }
+
+-- the capability with one delegation more
+abbrev pub extended : Capability → Area → List ℕ → List ℕ → Capability
+extended c area user signature = record c { chain = c.chain ++ record { area = area; user = user; signature = signature } ∷ [] }
 
 -- the last delegation, where there is one
 abbrev pub last_of : List Delegation → Option Delegation

@@ -1,7 +1,7 @@
 -- What is signed. The first byte tells messages of one kind from those of another.
 use Rattle.std.specs.Prelude.{ℕ, List, ◌∷◌, ◌++◌}
 use Rattle.willow_area.specs.declared.area.Area.{Area}
-use Rattle.mc_cap.specs.AreaForm.{area_spelling}
+use Rattle.willow_area.specs.AreaSpelling.{area_spelling}
 use Rattle.mc_cap.specs.Forms.{mode_byte, capability_spelling}
 use Rattle.mc_cap.specs.declared.capability.Capability.{Capability}
 use Rattle.mc_cap.specs.declared.capability.Mode.{Mode}

@@ -35,7 +35,7 @@ abbrev pub start_by : Rules → Capability → Option (List ℕ) → Option Chai
 start_by rules c None = cause_if (not (rules.communal c.namespace)) NotCommunal
 start_by rules c (Some signature) =
     or_else (cause_if (rules.communal c.namespace) NotOwned)
-      (cause_if (not (rules.owner c.namespace (initial_message c.mode c.user) signature)) BadInitial)
+    (cause_if (not (rules.owner c.namespace (initial_message c.mode c.user) signature)) BadInitial)
 
 -- why the capability cannot even begin
 unfoldable pub start_refusal : Rules → Capability → Option ChainRefusal
@@ -46,7 +46,7 @@ start_refusal rules c = start_by rules c c.initial
 abbrev pub handing_refusal : Rules → Area → List ℕ → List ℕ → ℕ → Delegation → Option ChainRefusal
 handing_refusal rules grant receiver message at d =
     or_else (cause_if (not (includes_area grant d.area)) (AreaGrows at))
-      (cause_if (not (rules.user receiver message d.signature)) (BadSignature at))
+    (cause_if (not (rules.user receiver message d.signature)) (BadSignature at))
 
 -- why the delegation d behind the first k does not hand on what those made
 unfoldable pub step_refusal : Rules → Capability → ℕ → Delegation → Option ChainRefusal

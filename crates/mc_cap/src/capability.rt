@@ -1,6 +1,8 @@
 //! Capabilities: who they were given to, and for what.
 
-ghost use Rattle.std.specs.Prelude.{◌≡◌, IfOk};
+ghost use Rattle.std.specs.Prelude.{◌≡◌, IfOk, IfSome};
+ghost use Rattle.mc_cap.specs.Signature.{IsSignature};
+ghost use Rattle.mc_cap.specs.Forms.{IsCapability};
 ghost use Rattle.mc_cap.specs.Grant.{receiver_of, granted, first_grant};
 
 use crate::chain::{Chain, Delegation};
@@ -79,5 +81,24 @@ impl Capability {
             initial,
             chain: self.chain.copy()?,
         })
+    }
+
+    /// Does nothing: it is called for its clause, that each field is within its limits.
+    pub fn known(&self)
+        ensures { IsCapability self.now }
+    {
+        let _namespace = self.namespace.to_bytes();
+        let _user = self.user.to_bytes();
+        known_initial(&self.initial);
+        self.chain.known();
+    }
+}
+
+// The initial signature is within its limits, where there is one.
+fn known_initial(initial: &Option<Signature>)
+    ensures { IfSome initial.now IsSignature }
+{
+    if let Some(signature) = initial {
+        let _bytes = signature.as_slice();
     }
 }

@@ -1,6 +1,7 @@
 //! Delegations, and chains of them.
 
 ghost use Rattle.std.specs.Prelude.{◌≡◌, ◌<◌, ◌≤◌, ◌∷◌, [], ◌++◌, length, IfOk, OnErr, OnOk, MatchOption};
+ghost use Rattle.mc_cap.specs.Forms.{IsChain, IsDelegation};
 
 use crate::signature::Signature;
 use std::alloc::Global;
@@ -32,6 +33,15 @@ impl Delegation {
             user: self.user,
             signature: self.signature.copy()?,
         })
+    }
+
+    /// Does nothing: it is called for its clause, that each field is within its limits.
+    pub fn known(&self)
+        ensures { IsDelegation self.now }
+    {
+        self.area.known();
+        let _user = self.user.to_bytes();
+        let _signature = self.signature.as_slice();
     }
 }
 
@@ -128,5 +138,14 @@ impl Chain {
             delegations.push(delegation.copy()?)?;
         }
         Ok(Chain { delegations })
+    }
+
+    /// Does nothing: it is called for its clause, that each delegation is within its limits.
+    pub fn known(&self)
+        ensures { IsChain self.now }
+    {
+        for delegation in self.as_slice() {
+            delegation.known();
+        }
     }
 }

@@ -1,14 +1,15 @@
 //! Whether a capability is valid.
 
-ghost use Rattle.std.specs.Prelude.{◌≡◌, ◌++◌, ◌∷◌, [], ◌≤◌, length, None, OnErr, OnOk};
+ghost use Rattle.std.specs.Prelude.{◌≡◌, ◌++◌, ◌+◌, ◌∷◌, [], ◌≤◌, length, None, OnErr, OnOk};
 ghost use Rattle.spelling.specs.Answers.{Answers, first_some};
-ghost use Rattle.mc_cap.specs.AreaForm.{area_spelling};
-ghost use Rattle.mc_cap.specs.Forms.{delegation_spelling};
+ghost use Rattle.willow_area.specs.AreaSpelling.{area_spelling};
+ghost use Rattle.mc_cap.specs.Forms.{delegation_spelling, head_spelling};
+ghost use Rattle.mc_cap.specs.Grant.{first_grant};
 ghost use Rattle.mc_cap.specs.Valid.{chain_refusal, handing_refusal, start_refusal, step_refusal};
 
 use crate::capability::Capability;
 use crate::chain::Delegation;
-use crate::messages::{initial_message, spell_area, spell_signature};
+use crate::messages::{initial_message, spell_signature};
 use scheme_core::Verify;
 use spelling::{put_byte, put_bytes};
 use willow_area::Area;
@@ -74,8 +75,7 @@ impl Capability {
         }
     }
 
-    // Checks the delegations one after the other. One message grows: before each delegation it is the
-    // letter H and the capability so far, whose number of delegations stands in one byte.
+    // Checks the delegations one after the other.
     fn check_chain<S: Verify>(&self, scheme: &S) -> Result<(), End<ChainRefusal>>
         requires { length self.now.chain ≤ MAX_DELEGATIONS }
         ensures { Answers result (first_some (step_refusal S.rules self.now) 0 self.now.chain) }
@@ -85,11 +85,30 @@ impl Capability {
         self.spell_head(&mut message)?;
         let count_at = message.len();
         put_byte(&mut message, 0)?;
-        let first = self.first_grant();
-        let (mut grant, mut receiver, mut count) = (&first, &self.user, 0);
+        self.check_delegations(scheme, &self.first_grant(), &mut message, count_at)
+    }
+
+    // Checks the delegations, of which the first hands on this area. The message is the letter H and the
+    // capability without delegations. It grows by each delegation, and their number stands in one byte.
+    fn check_delegations<'a, S: Verify>(
+        &'a self,
+        scheme: &S,
+        first: &'a Area,
+        message: &mut Vec<u8>,
+        count_at: usize,
+    ) -> Result<(), End<ChainRefusal>>
+        requires few { length self.now.chain ≤ MAX_DELEGATIONS }
+        requires first { first.now ≡ first_grant self.now }
+        requires message { message.old.items ≡ (72 ∷ head_spelling self.now) ++ 0 ∷ [] }
+        requires place { count_at ≡ length (head_spelling self.now) + 1 }
+        ensures { Answers result (first_some (step_refusal S.rules self.now) 0 self.now.chain) }
+    {
+        let mut grant = first;
+        let mut receiver = &self.user;
+        let mut count = 0;
         for next in self.chain.as_slice() {
             count += 1;
-            check_handing(scheme, grant, receiver, &mut message, count, next)?;
+            check_handing(scheme, grant, receiver, message, count, next)?;
             message[count_at] = count;
             grant = &next.area;
             receiver = &next.user;
@@ -100,14 +119,21 @@ impl Capability {
 
 // Checks that the receiver of an area hands it on by a delegation, whose place is `at`. The message so
 // far is the letter H and the capability before it; where all is well, the delegation is appended.
-fn check_handing<S: Verify>(scheme: &S, grant: &Area, receiver: &UserKey, message: &mut Vec<u8>, at: u8, next: &Delegation) -> Result<(), End<ChainRefusal>>
+fn check_handing<S: Verify>(
+    scheme: &S,
+    grant: &Area,
+    receiver: &UserKey,
+    message: &mut Vec<u8>,
+    at: u8,
+    next: &Delegation,
+) -> Result<(), End<ChainRefusal>>
     ensures answer { Answers result (handing_refusal S.rules grant.now receiver.now (message.old.items ++ (area_spelling next.now.area ++ next.now.user)) at next.now) }
     ensures grown { OnOk result (message.new.items ≡ message.old.items ++ delegation_spelling next.now) }
 {
     if !grant.includes_area(&next.area) {
         return Err(End::Refused(ChainRefusal::AreaGrows { at }));
     }
-    spell_area(&next.area, message)?;
+    next.area.encode(message)?;
     put_bytes(message, &next.user.to_bytes())?;
     if !scheme.verify_user(receiver, message, next.signature.as_slice()) {
         return Err(End::Refused(ChainRefusal::BadSignature { at }));

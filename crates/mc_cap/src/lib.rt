@@ -5,11 +5,17 @@
 mod capability;
 mod chain;
 mod check;
+mod delegate;
+mod laws;
 mod messages;
 mod signature;
 
 pub use capability::{Capability, Mode};
 pub use chain::{Chain, Delegation, MAX_CHAIN};
 pub use check::{ChainRefusal, MAX_DELEGATIONS};
+pub use laws::validity;
 pub use messages::initial_message;
 pub use signature::Signature;
+
+#[cfg(test)]
+mod tests;

@@ -1,9 +1,6 @@
 //! How capabilities are spelled, and which messages are signed to make them.
 
 ghost use Rattle.std.specs.Prelude.{◌≡◌, ◌++◌, IfOk, OnErr, OnOk};
-ghost use Rattle.std.specs.Int.{w64, to_be_bytes};
-ghost use Rattle.spelling.specs.Spelling.{option_spelling};
-ghost use Rattle.mc_cap.specs.AreaForm.{area_spelling};
 ghost use Rattle.mc_cap.specs.Signature.{signature_spelling};
 ghost use Rattle.mc_cap.specs.Forms.{mode_byte, form_byte, initial_spelling, delegation_spelling, chain_spelling, head_spelling, capability_spelling};
 ghost use Rattle.mc_cap.specs.Messages.{handover, initial_message};
@@ -11,7 +8,7 @@ ghost use Rattle.mc_cap.specs.Messages.{handover, initial_message};
 use crate::capability::{Capability, Mode};
 use crate::chain::{Chain, Delegation};
 use crate::signature::Signature;
-use spelling::{put_byte, put_bytes, put_u16, put_u64};
+use spelling::{put_byte, put_bytes, put_u16};
 use willow_area::Area;
 use willow_path::{NoMemory, UserKey};
 
@@ -51,13 +48,12 @@ impl Capability {
         let mut message = Vec::new(self.chain.allocator());
         put_byte(&mut message, b'H')?;
         self.spell(&mut message)?;
-        spell_area(area, &mut message)?;
+        area.encode(&mut message)?;
         put_bytes(&mut message, &user.to_bytes())?;
         Ok(message)
     }
 
     // Appends the spelling.
-    #[tactic(auto, using(crate::proofs::Spellings::head_and_chain))]
     fn spell(&self, text: &mut Vec<u8>) -> Result<(), NoMemory>
         ensures { OnOk result (text.new.items ≡ text.old.items ++ capability_spelling self.now) }
     {
@@ -133,42 +129,7 @@ fn spell_chain(chain: &Chain, text: &mut Vec<u8>) -> Result<(), NoMemory>
 fn spell_delegation(delegation: &Delegation, text: &mut Vec<u8>) -> Result<(), NoMemory>
     ensures { OnOk result (text.new.items ≡ text.old.items ++ delegation_spelling delegation.now) }
 {
-    spell_area(&delegation.area, text)?;
+    delegation.area.encode(text)?;
     put_bytes(text, &delegation.user.to_bytes())?;
     spell_signature(&delegation.signature, text)
-}
-
-// Appends an area.
-#[tactic(auto, unfolding(crate::specs::AreaForm::area_spelling))]
-pub(crate) fn spell_area(area: &Area, text: &mut Vec<u8>) -> Result<(), NoMemory>
-    ensures { OnOk result (text.new.items ≡ text.old.items ++ area_spelling area.now) }
-{
-    spell_subspace(&area.subspace, text)?;
-    area.path.encode(text)?;
-    put_u64(text, area.times.start())?;
-    spell_end(area.times.end(), text)
-}
-
-fn spell_subspace(subspace: &Option<UserKey>, text: &mut Vec<u8>) -> Result<(), NoMemory>
-    ensures { OnOk result (text.new.items ≡ text.old.items ++ option_spelling (λ key. key) subspace.now) }
-{
-    match subspace {
-        None => put_byte(text, 0),
-        Some(key) => {
-            put_byte(text, 1)?;
-            put_bytes(text, &key.to_bytes())
-        }
-    }
-}
-
-fn spell_end(end: Option<u64>, text: &mut Vec<u8>) -> Result<(), NoMemory>
-    ensures { OnOk result (text.new.items ≡ text.old.items ++ option_spelling (to_be_bytes w64) end) }
-{
-    match end {
-        None => put_byte(text, 0),
-        Some(end) => {
-            put_byte(text, 1)?;
-            put_u64(text, end)
-        }
-    }
 }

@@ -1,6 +1,6 @@
 //! Signatures as fields of capabilities.
 
-ghost use Rattle.std.specs.Prelude.{◌≡◌, ◌<◌, length, IfOk, MatchOption};
+ghost use Rattle.std.specs.Prelude.{◌≡◌, ◌<◌, ◌≤◌, length, IfOk, MatchOption};
 ghost use Rattle.mc_cap.specs.Signature.{IsSignature};
 
 use scheme_core::MAX_SIGNATURE;
@@ -35,12 +35,21 @@ impl Signature {
         Some(Signature { bytes })
     }
 
+    // The signature of these bytes, which are few enough.
+    pub(crate) fn short(bytes: Vec<u8>) -> Signature
+        requires { length bytes.items ≤ MAX_SIGNATURE }
+        ensures { result ≡ bytes.items }
+    {
+        Signature { bytes }
+    }
+
     /// The bytes.
     pub fn as_slice(&self) -> &[u8]
         ensures bytes { result.now ≡ self.now }
         ensures signature { IsSignature self.now }
     {
-        &self.bytes
+        let bytes: &[u8] = &self.bytes;
+        bytes
     }
 
     /// The bytes, taken out.

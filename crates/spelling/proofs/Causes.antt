@@ -35,14 +35,14 @@ first_some-append step k [] ys = ap (λ (n : ℕ). first_some step n ys) (omega 
 first_some-append step k (x ∷ xs) ys =
     let n : k + 1 + length xs ≡ k + suc (length xs) = omega arith in
     ap (λ (o : Option _). or_else (step k x) o) (first_some-append step (k + 1) xs ys)
-      ∙ sym (or_else_assoc (step k x) (first_some step (k + 1) xs) (first_some step (k + 1 + length xs) ys))
-      ∙ ap (λ (m : ℕ). or_else (or_else (step k x) (first_some step (k + 1) xs)) (first_some step m ys)) n
+    ∙ sym (or_else_assoc (step k x) (first_some step (k + 1) xs) (first_some step (k + 1 + length xs) ys))
+    ∙ ap (λ (m : ℕ). or_else (or_else (step k x) (first_some step (k + 1) xs)) (first_some step m ys)) n
 
 -- one more at the end
 pub first_some-push : {X E : Type 0} (step : ℕ → X → Option E) (k : ℕ) (xs : List X) (x : X) → first_some step k (xs ++ x ∷ []) ≡ or_else (first_some step k xs) (step (k + length xs) x)
 first_some-push step k xs x =
     first_some-append step k xs (x ∷ [])
-      ∙ ap (λ (o : Option _). or_else (first_some step k xs) o) (first_some-cons step (k + length xs) x [] ∙ ap (λ (o : Option _). or_else (step (k + length xs) x) o) (first_some-nil step (k + length xs + 1)) ∙ or_else_none (step (k + length xs) x))
+    ∙ ap (λ (o : Option _). or_else (first_some step k xs) o) (first_some-cons step (k + length xs) x [] ∙ ap (λ (o : Option _). or_else (step (k + length xs) x) o) (first_some-nil step (k + length xs + 1)) ∙ or_else_none (step (k + length xs) x))
 
 -- where there is none along the list, there is none at any place
 pub first_some-none : {X E : Type 0} (step : ℕ → X → Option E) (k : ℕ) (xs : List X) (i : ℕ) (d : X) → first_some step k xs ≡ None → i < length xs → step (k + i) (get_or xs i d) ≡ None
@@ -60,4 +60,4 @@ first_some-all step k [] d h = refl
 first_some-all {X} {E} step k (x ∷ xs) d h =
     let here : step k x ≡ None = ap (λ (n : ℕ). step n x) (omega arith) ∙ h 0 (omega arith) in
     ap (λ (o : Option E). or_else o (first_some step (k + 1) xs)) here
-      ∙ first_some-all step (k + 1) xs d (λ i lt. ap (λ (n : ℕ). step n (get_or xs i d)) (omega arith) ∙ h (suc i) (omega (arith, lt)))
+    ∙ first_some-all step (k + 1) xs d (λ i lt. ap (λ (n : ℕ). step n (get_or xs i d)) (omega arith) ∙ h (suc i) (omega (arith, lt)))

@@ -76,23 +76,23 @@ made_reads : {A : Type 0} (n : ℕ) (make : List ℕ → A) (spell : A → List 
     → Reads (made_at n make) spell fits
 made_reads {A} n make spell fits there back = record {
   takes = λ bytes x rest are e.
-    let g = enough (ltb (length bytes) n) (make (take n bytes)) x (drop n bytes) rest e in
-    let long : n ≤ length bytes = ltb-false _ _ g.0 in
-    let t = there (take n bytes) (omega (arith, length-take n bytes)) (All-take _ n bytes are) in
-    record {
-      fits = subst fits g.1 t.0;
-      parts = sym (take-append-drop n bytes) ∙ ap (λ (l : List ℕ). l ++ drop n bytes) (sym t.1) ∙ ap (λ (y : A). spell y ++ drop n bytes) g.1 ∙ ap (λ (l : List ℕ). spell x ++ l) g.2;
-      rest_are = subst AreBytes g.2 (All-drop _ n bytes are);
-    };
+      let g = enough (ltb (length bytes) n) (make (take n bytes)) x (drop n bytes) rest e in
+      let long : n ≤ length bytes = ltb-false _ _ g.0 in
+      let t = there (take n bytes) (omega (arith, length-take n bytes)) (All-take _ n bytes are) in
+      record {
+        fits = subst fits g.1 t.0;
+        parts = sym (take-append-drop n bytes) ∙ ap (λ (l : List ℕ). l ++ drop n bytes) (sym t.1) ∙ ap (λ (y : A). spell y ++ drop n bytes) g.1 ∙ ap (λ (l : List ℕ). spell x ++ l) g.2;
+        rest_are = subst AreBytes g.2 (All-drop _ n bytes are);
+      };
   again = λ x rest f.
-    let b = back x f in
-    let long : ltb (length (spell x ++ rest)) n ≡ false = le-ltb _ _ (omega (arith, length-append (spell x) rest, b.0)) in
-    rw (long, take_at (spell x) rest n b.0, drop_at (spell x) rest n b.0, b.1) refl;
+      let b = back x f in
+      let long : ltb (length (spell x ++ rest)) n ≡ false = le-ltb _ _ (omega (arith, length-append (spell x) rest, b.0)) in
+      rw (long, take_at (spell x) rest n b.0, drop_at (spell x) rest n b.0, b.1) refl;
   more = λ bytes x rest tail e.
-    let g = enough (ltb (length bytes) n) (make (take n bytes)) x (drop n bytes) rest e in
-    let long : n ≤ length bytes = ltb-false _ _ g.0 in
-    let longer : ltb (length (bytes ++ tail)) n ≡ false = le-ltb _ _ (omega (arith, length-append bytes tail, long)) in
-    rw (longer, take-append-le n bytes tail long, drop-append-le n bytes tail long, g.1, g.2) refl;
+      let g = enough (ltb (length bytes) n) (make (take n bytes)) x (drop n bytes) rest e in
+      let long : n ≤ length bytes = ltb-false _ _ g.0 in
+      let longer : ltb (length (bytes ++ tail)) n ≡ false = le-ltb _ _ (omega (arith, length-append bytes tail, long)) in
+      rw (longer, take-append-le n bytes tail long, drop-append-le n bytes tail long, g.1, g.2) refl;
   wrong = λ bytes tail e. absurd (never_wrong (ltb (length bytes) n) (make (take n bytes)) (drop n bytes) e);
 }
 

@@ -64,24 +64,24 @@ pub Reads-then : {A T : Type 0} {first : List ℕ → Front A} {spell_first : A 
     → Reads (λ bytes. first bytes >>= next) (λ t. spell_first (field t) ++ spell_next t) (λ t. fits_first (field t) × fits_next (field t) t)
 Reads-then {A} {T} {first} {spell_first} {fits_first} {spell_next} {fits_next} next field one two tells = record {
   takes = λ bytes t rest are e.
-    let b = bind_whole (first bytes) next t rest e in
-    let p = one.takes bytes b.0 b.1 are b.2 in
-    let q = (two b.0).takes b.1 t rest p.rest_are b.3 in
-    let is : b.0 ≡ field t = sym (tells b.0 t q.fits) in
-    record {
-      fits = subst (λ (a : A). fits_first a × fits_next a t) is (p.fits, q.fits);
-      parts = p.parts ∙ ap (λ (l : List ℕ). spell_first b.0 ++ l) q.parts ∙ sym (append_assoc (spell_first b.0) (spell_next t) rest) ∙ ap (λ (a : A). (spell_first a ++ spell_next t) ++ rest) is;
-      rest_are = q.rest_are;
-    };
+      let b = bind_whole (first bytes) next t rest e in
+      let p = one.takes bytes b.0 b.1 are b.2 in
+      let q = (two b.0).takes b.1 t rest p.rest_are b.3 in
+      let is : b.0 ≡ field t = sym (tells b.0 t q.fits) in
+      record {
+        fits = subst (λ (a : A). fits_first a × fits_next a t) is (p.fits, q.fits);
+        parts = p.parts ∙ ap (λ (l : List ℕ). spell_first b.0 ++ l) q.parts ∙ sym (append_assoc (spell_first b.0) (spell_next t) rest) ∙ ap (λ (a : A). (spell_first a ++ spell_next t) ++ rest) is;
+        rest_are = q.rest_are;
+      };
   again = λ t rest fits.
-    ap (λ (l : List ℕ). first l >>= next) (append_assoc (spell_first (field t)) (spell_next t) rest)
+      ap (λ (l : List ℕ). first l >>= next) (append_assoc (spell_first (field t)) (spell_next t) rest)
       ∙ ap (λ (r : Front A). r >>= next) (one.again (field t) (spell_next t ++ rest) fits.0)
       ∙ (two (field t)).again t rest fits.1;
   more = λ bytes t rest tail e.
-    let b = bind_whole (first bytes) next t rest e in
-    ap (λ (r : Front A). r >>= next) (one.more bytes b.0 b.1 tail b.2) ∙ (two b.0).more b.1 t rest tail b.3;
+      let b = bind_whole (first bytes) next t rest e in
+      ap (λ (r : Front A). r >>= next) (one.more bytes b.0 b.1 tail b.2) ∙ (two b.0).more b.1 t rest tail b.3;
   wrong = λ bytes tail e.
-    bind_wrong (first bytes) (first (bytes ++ tail)) next tail (λ a left h. one.more bytes a left tail h) (one.wrong bytes tail) (λ a left h. (two a).wrong left tail h) e;
+      bind_wrong (first bytes) (first (bytes ++ tail)) next tail (λ a left h. one.more bytes a left tail h) (one.wrong bytes tail) (λ a left h. (two a).wrong left tail h) e;
 }
 
 -- nothing more is read: the value is made of the fields
@@ -102,8 +102,8 @@ pub Reads-is : {A : Type 0} {at : List ℕ → Front A} {spell spell' : A → Li
     → ((x : A) → spell x ≡ spell' x) → ((x : A) → fits x → fits' x) → ((x : A) → fits' x → fits x) → Reads at spell' fits'
 Reads-is {A} {at} reads same there back = record {
   takes = λ bytes x rest are e.
-    let t = reads.takes bytes x rest are e in
-    record { fits = there x t.fits; parts = t.parts ∙ ap (λ (l : List ℕ). l ++ rest) (same x); rest_are = t.rest_are };
+      let t = reads.takes bytes x rest are e in
+      record { fits = there x t.fits; parts = t.parts ∙ ap (λ (l : List ℕ). l ++ rest) (same x); rest_are = t.rest_are };
   again = λ x rest f. ap (λ (l : List ℕ). at (l ++ rest)) (sym (same x)) ∙ reads.again x rest (back x f);
   more = reads.more;
   wrong = reads.wrong;
@@ -113,7 +113,7 @@ Reads-is {A} {at} reads same there back = record {
 pub Reads-last : {A T : Type 0} {at : List ℕ → Front A} {spell : A → List ℕ} {fits : A → Type 0} (field : T → A) (make : A → T) → Reads at spell fits
     → ((a : A) → field (make a) ≡ a)
     → Reads (λ bytes. at bytes >>= λ x. Whole (make x.0) x.1) (λ t. spell (field t)) (λ t. fits (field t) × (t ≡ make (field t)))
-Reads-last {A} {T} {at} {spell} {fits} field make reads back = 
+Reads-last {A} {T} {at} {spell} {fits} field make reads back =
     let joined = Reads-then {spell_next = λ _. []} {fits_next = λ a t. t ≡ make a} (λ (x : A × List ℕ). Whole (make x.0) x.1) field reads (λ a. Reads-made (make a)) (λ a t is. ap field is ∙ back a) in
     Reads-is joined (λ t. append-nil (spell (field t))) (λ t f. f) (λ t f. f)
 

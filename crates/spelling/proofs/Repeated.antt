@@ -18,7 +18,6 @@ abbrev others : {A : Type 0} → (List ℕ → Front A) → ℕ → A × List �
 others at n first = many_at at n first.1 >>= λ more. Whole (first.0 ∷ more.0) more.1
 
 module _ {A : Type 0} (at : List ℕ → Front A) (spell : A → List ℕ) (fits : A → Type 0) (one : Reads at spell fits) where
-
   many_take : (n : ℕ) (bytes : List ℕ) (xs : List A) (rest : List ℕ) → AreBytes bytes → many_at at n bytes ≡ Whole xs rest → Takes bytes (flat_map spell xs) rest (AreMany fits n xs)
   unfolding many_at
   many_take zero bytes xs rest are e =
@@ -47,8 +46,8 @@ module _ {A : Type 0} (at : List ℕ → Front A) (spell : A → List ℕ) (fits
       let grouped : flat_map spell (x ∷ xs) ++ rest ≡ spell x ++ (flat_map spell xs ++ rest) = ap (λ (l : List ℕ). l ++ rest) (flat_map-cons spell x xs) ∙ append_assoc (spell x) (flat_map spell xs) rest in
       let len : length xs ≡ n = omega (arith, f.0) in
       ap (many_at at (suc n)) grouped
-        ∙ ap (λ (r : Front A). r >>= others at n) (one.again x (flat_map spell xs ++ rest) f.1.0)
-        ∙ ap (λ (r : Front (List A)). r >>= λ more. Whole (x ∷ more.0) more.1) (many_again n xs rest (len, f.1.1))
+      ∙ ap (λ (r : Front A). r >>= others at n) (one.again x (flat_map spell xs ++ rest) f.1.0)
+      ∙ ap (λ (r : Front (List A)). r >>= λ more. Whole (x ∷ more.0) more.1) (many_again n xs rest (len, f.1.1))
 
   many_more : (n : ℕ) (bytes : List ℕ) (xs : List A) (rest tail : List ℕ) → many_at at n bytes ≡ Whole xs rest → many_at at n (bytes ++ tail) ≡ Whole xs (rest ++ tail)
   unfolding many_at
@@ -57,16 +56,16 @@ module _ {A : Type 0} (at : List ℕ → Front A) (spell : A → List ℕ) (fits
       let a = bind_whole (at bytes) (others at n) xs rest e in
       let b = bind_whole (many_at at n a.1) (λ more. Whole (a.0 ∷ more.0) more.1) xs rest a.3 in
       ap (λ (r : Front A). r >>= others at n) (one.more bytes a.0 a.1 tail a.2)
-        ∙ ap (λ (r : Front (List A)). r >>= λ more. Whole (a.0 ∷ more.0) more.1) (many_more n a.1 b.0 b.1 tail b.2)
-        ∙ ap (λ (ys : List A). Whole ys (b.1 ++ tail)) (whole_value (a.0 ∷ b.0) xs b.1 rest b.3)
-        ∙ ap (λ (l : List ℕ). Whole xs (l ++ tail)) (whole_rest (a.0 ∷ b.0) xs b.1 rest b.3)
+      ∙ ap (λ (r : Front (List A)). r >>= λ more. Whole (a.0 ∷ more.0) more.1) (many_more n a.1 b.0 b.1 tail b.2)
+      ∙ ap (λ (ys : List A). Whole ys (b.1 ++ tail)) (whole_value (a.0 ∷ b.0) xs b.1 rest b.3)
+      ∙ ap (λ (l : List ℕ). Whole xs (l ++ tail)) (whole_rest (a.0 ∷ b.0) xs b.1 rest b.3)
 
   many_wrong : (n : ℕ) (bytes tail : List ℕ) → many_at at n bytes ≡ Wrong → many_at at n (bytes ++ tail) ≡ Wrong
   unfolding many_at
   many_wrong zero bytes tail e = absurd cc
   many_wrong (suc n) bytes tail e =
       bind_wrong (at bytes) (at (bytes ++ tail)) (others at n) tail (λ x left h. one.more bytes x left tail h) (one.wrong bytes tail)
-        (λ x left h. bind_wrong (many_at at n left) (many_at at n (left ++ tail)) (λ more. Whole (x ∷ more.0) more.1) tail (λ ys l k. many_more n left ys l tail k) (many_wrong n left tail) (λ ys l k. absurd cc) h) e
+      (λ x left h. bind_wrong (many_at at n left) (many_at at n (left ++ tail)) (λ more. Whole (x ∷ more.0) more.1) tail (λ ys l k. many_more n left ys l tail k) (many_wrong n left tail) (λ ys l k. absurd cc) h) e
 
 pub many-reads : {A : Type 0} {at : List ℕ → Front A} {spell : A → List ℕ} {fits : A → Type 0} (n : ℕ) → Reads at spell fits → Reads (many_at at n) (λ xs. flat_map spell xs) (AreMany fits n)
 many-reads {A} {at} {spell} {fits} n one = record {
@@ -94,7 +93,6 @@ some_is : {A : Type 0} (x y : A) → x ≡ y → Some x ≡ Some y
 some_is x y e = cc
 
 module _ {A : Type 0} (at : List ℕ → Front A) (spell : A → List ℕ) (fits : A → Type 0) (one : Reads at spell fits) where
-
   flag_takes : (flag : ℕ) (bytes : List ℕ) (o : Option A) (rest : List ℕ) → AreBytes bytes → behind_flag at flag bytes ≡ Whole o rest → Takes bytes (behind_spelling spell o) rest (Behind fits flag o)
   unfolding behind_flag
   flag_takes zero bytes o rest are e =
@@ -122,8 +120,8 @@ module _ {A : Type 0} (at : List ℕ → Front A) (spell : A → List ℕ) (fits
   flag_more (suc zero) bytes o rest tail e =
       let a = bind_whole (at bytes) (λ x. Whole (Some x.0) x.1) o rest e in
       ap (λ (r : Front A). r >>= λ y. Whole (Some y.0) y.1) (one.more bytes a.0 a.1 tail a.2)
-        ∙ ap (λ (p : Option A). Whole p (a.1 ++ tail)) (whole_value (Some a.0) o a.1 rest a.3)
-        ∙ ap (λ (l : List ℕ). Whole o (l ++ tail)) (whole_rest (Some a.0) o a.1 rest a.3)
+      ∙ ap (λ (p : Option A). Whole p (a.1 ++ tail)) (whole_value (Some a.0) o a.1 rest a.3)
+      ∙ ap (λ (l : List ℕ). Whole o (l ++ tail)) (whole_rest (Some a.0) o a.1 rest a.3)
   flag_more (suc (suc flag)) bytes o rest tail e = absurd cc
 
   flag_wrong : (flag : ℕ) (bytes tail : List ℕ) → behind_flag at flag bytes ≡ Wrong → behind_flag at flag (bytes ++ tail) ≡ Wrong
@@ -161,11 +159,11 @@ pub text-reads : {count_at : List ℕ → Front ℕ} {count : ℕ → List ℕ} 
 unfolding text_at
 text-reads {count_at} {count} {top} limit below counts =
     Reads-is (Reads-then (λ n. guard (nat_le n.0 limit) (bytes_at n.0 n.1)) length counts (λ n. Reads-guard (nat_le n limit) (bytes-reads n)) (λ n bytes f. f.1.0)) (λ bytes. refl)
-      (λ bytes f. (leb-true _ _ f.1.0, f.1.1.1)) (λ bytes f. (omega (arith, f.0, below), (limited _ _ f.0, (refl, f.1))))
+    (λ bytes f. (leb-true _ _ f.1.0, f.1.1.1)) (λ bytes f. (omega (arith, f.0, below), (limited _ _ f.0, (refl, f.1))))
 
 pub list-reads : {A : Type 0} {count_at : List ℕ → Front ℕ} {count : ℕ → List ℕ} {top : ℕ} {at : List ℕ → Front A} {spell : A → List ℕ} {fits : A → Type 0} (limit : ℕ) → limit < top → Reads count_at count (λ n. n < top) → Reads at spell fits
     → Reads (list_at count_at limit at) (list_spelling count spell) (IsList limit fits)
 unfolding list_at
 list-reads {A} {count_at} {count} {top} {at} {spell} {fits} limit below counts one =
     Reads-is (Reads-then (λ n. guard (nat_le n.0 limit) (many_at at n.0 n.1)) length counts (λ n. Reads-guard (nat_le n limit) (many-reads n one)) (λ n xs f. f.1.0)) (λ xs. refl)
-      (λ xs f. (leb-true _ _ f.1.0, f.1.1.1)) (λ xs f. (omega (arith, f.0, below), (limited _ _ f.0, (refl, f.1))))
+    (λ xs f. (leb-true _ _ f.1.0, f.1.1.1)) (λ xs f. (omega (arith, f.0, below), (limited _ _ f.0, (refl, f.1))))

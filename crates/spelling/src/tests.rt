@@ -28,7 +28,10 @@ fn part_and_wrong(rt: HostRuntime) {
     assert_eq!(rt; Input::new(b"WX").exactly(b"WSY"), Err(Unread::Wrong));
     assert_eq!(rt; Input::new(b"").byte(), Err(Unread::Part));
     assert_eq!(rt; Input::new(&[1]).number_u16(), Err(Unread::Part));
-    assert_eq!(rt; Input::new(&[0, 0, 0, 0, 0, 0, 1, 2]).number_u64(), Ok(0x0102));
+    assert_eq!(rt;
+        Input::new(&[0, 0, 0, 0, 0, 0, 1, 2]).number_u64(),
+        Ok(0x0102)
+    );
     assert_eq!(rt; guard(true), Ok(()));
     assert_eq!(rt; guard(false), Err(Unread::Wrong));
 }

@@ -33,7 +33,7 @@ pub area-reads : Reads area_at area_spelling IsArea
 unfolding area_at
 area-reads =
     let joined = Reads-then (λ (subspace : Option (List ℕ) × List ℕ). path_at subspace.1 >>= λ path. times_at path.1 >>= λ times. Whole (made subspace.0 path.0 times.0) times.1) (λ (area : Area). area.subspace)
-      (option-reads key-reads) from_subspace (λ subspace area f. ap (λ (a : Area). a.subspace) f.1.1) in
+    (option-reads key-reads) from_subspace (λ subspace area f. ap (λ (a : Area). a.subspace) f.1.1) in
     Reads-is joined (λ area. refl) (λ area f. record { subspace_fits = f.0; path_fits = f.1.0; times_fit = f.1.1.0 }) (λ area f. (f.subspace_fits, (f.path_fits, (f.times_fit, refl))))
 
 pub area_form : IsForm area_spelling IsArea

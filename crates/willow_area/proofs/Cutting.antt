@@ -17,30 +17,31 @@ use Rattle.willow_area.proofs.Orders.{lt_then_lt, lt_then_le, at_least, not_belo
 -- ---- a range
 
 module _ {A : Type 0} (cmp : A → A → Ordering) (order : IsTotalOrder cmp) where
-
   before_on : (x point : A) (end : Option A) → is_lt (cmp x point) ≡ true → is_before_end cmp point end ≡ true → is_before_end cmp x end ≡ true
   before_on x point None h k = refl
   before_on x point (Some end) h k = lt_then_lt cmp order x point end h k
 
   lower_has : (range : Range A) (point x : A) → is_inside cmp range point ≡ true → (in_range cmp (lower range point) x ≡ true) ↔ ((in_range cmp range x ≡ true) × (is_lt (cmp x point) ≡ true))
   lower_has range point x inside =
-      let i = both_of (is_lt (cmp range.start point)) (is_before_end cmp point range.end) inside in
-      ((λ h.
-          let p = both_of (is_le (cmp range.start x)) (is_lt (cmp x point)) h in
-          (and_of (is_le (cmp range.start x)) (is_before_end cmp x range.end) p.0 (before_on x point range.end p.1 i.1), p.1)),
-       (λ h.
-          let p = both_of (is_le (cmp range.start x)) (is_before_end cmp x range.end) h.0 in
-          and_of (is_le (cmp range.start x)) (is_lt (cmp x point)) p.0 h.1))
+      let i = both_of (is_lt (cmp range.start point)) (is_before_end cmp point range.end) inside in (
+        (λ h.
+            let p = both_of (is_le (cmp range.start x)) (is_lt (cmp x point)) h in
+            (and_of (is_le (cmp range.start x)) (is_before_end cmp x range.end) p.0 (before_on x point range.end p.1 i.1), p.1)),
+        (λ h.
+            let p = both_of (is_le (cmp range.start x)) (is_before_end cmp x range.end) h.0 in
+            and_of (is_le (cmp range.start x)) (is_lt (cmp x point)) p.0 h.1),
+      )
 
   upper_has : (range : Range A) (point x : A) → is_inside cmp range point ≡ true → (in_range cmp (upper range point) x ≡ true) ↔ ((in_range cmp range x ≡ true) × (is_lt (cmp x point) ≡ false))
   upper_has range point x inside =
-      let i = both_of (is_lt (cmp range.start point)) (is_before_end cmp point range.end) inside in
-      ((λ h.
-          let p = both_of (is_le (cmp point x)) (is_before_end cmp x range.end) h in
-          (and_of (is_le (cmp range.start x)) (is_before_end cmp x range.end) (lt_then_le cmp order range.start point x i.0 p.0) p.1, not_below cmp order x point p.0)),
-       (λ h.
-          let p = both_of (is_le (cmp range.start x)) (is_before_end cmp x range.end) h.0 in
-          and_of (is_le (cmp point x)) (is_before_end cmp x range.end) (at_least cmp order x point h.1) p.1))
+      let i = both_of (is_lt (cmp range.start point)) (is_before_end cmp point range.end) inside in (
+        (λ h.
+            let p = both_of (is_le (cmp point x)) (is_before_end cmp x range.end) h in
+            (and_of (is_le (cmp range.start x)) (is_before_end cmp x range.end) (lt_then_le cmp order range.start point x i.0 p.0) p.1, not_below cmp order x point p.0)),
+        (λ h.
+            let p = both_of (is_le (cmp range.start x)) (is_before_end cmp x range.end) h.0 in
+            and_of (is_le (cmp point x)) (is_before_end cmp x range.end) (at_least cmp order x point h.1) p.1),
+      )
 
 -- ---- a box
 
@@ -61,54 +62,60 @@ pub box_passes : (ranges : Ranges) (subspace : List ℕ) (path : List (List ℕ)
 unfolding in_box
 box_passes ranges subspace path time p =
     and_of (in_range part_cmp ranges.keys subspace) (in_range path_cmp ranges.paths path && in_range nat_cmp ranges.times time) p.key_in
-      (and_of (in_range path_cmp ranges.paths path) (in_range nat_cmp ranges.times time) p.path_in p.time_in)
+    (and_of (in_range path_cmp ranges.paths path) (in_range nat_cmp ranges.times time) p.path_in p.time_in)
 
 pub lower_part_has : (ranges : Ranges) (at : CutAt) (subspace : List ℕ) (path : List (List ℕ)) (time : ℕ) → IsTrue (can_cut ranges at)
     → IsTrue (in_box (lower_part ranges at) subspace path time) ↔ (IsTrue (in_box ranges subspace path time) × IsTrue (is_below at subspace path time))
 unfolding can_cut lower_part is_below
 lower_part_has ranges (Subspace key) subspace path time can =
     let m = lower_has part_cmp part_cmp_total ranges.keys key subspace can in
-    let part : Ranges = record { keys = lower ranges.keys key; paths = ranges.paths; times = ranges.times } in
-    ((λ h. let p = passes_box part subspace path time h in let k = m.0 p.key_in in
+    let part : Ranges = record { keys = lower ranges.keys key; paths = ranges.paths; times = ranges.times } in (
+      (λ h. let p = passes_box part subspace path time h in let k = m.0 p.key_in in
           (box_passes ranges subspace path time (record { key_in = k.0; path_in = p.path_in; time_in = p.time_in }), k.1)),
-     (λ h. let p = passes_box ranges subspace path time h.0 in
-          box_passes part subspace path time (record { key_in = m.1 (p.key_in, h.1); path_in = p.path_in; time_in = p.time_in })))
+      (λ h. let p = passes_box ranges subspace path time h.0 in
+          box_passes part subspace path time (record { key_in = m.1 (p.key_in, h.1); path_in = p.path_in; time_in = p.time_in })),
+    )
 lower_part_has ranges (Path point) subspace path time can =
     let m = lower_has path_cmp path_cmp_total ranges.paths point path can in
-    let part : Ranges = record { keys = ranges.keys; paths = lower ranges.paths point; times = ranges.times } in
-    ((λ h. let p = passes_box part subspace path time h in let k = m.0 p.path_in in
+    let part : Ranges = record { keys = ranges.keys; paths = lower ranges.paths point; times = ranges.times } in (
+      (λ h. let p = passes_box part subspace path time h in let k = m.0 p.path_in in
           (box_passes ranges subspace path time (record { key_in = p.key_in; path_in = k.0; time_in = p.time_in }), k.1)),
-     (λ h. let p = passes_box ranges subspace path time h.0 in
-          box_passes part subspace path time (record { key_in = p.key_in; path_in = m.1 (p.path_in, h.1); time_in = p.time_in })))
+      (λ h. let p = passes_box ranges subspace path time h.0 in
+          box_passes part subspace path time (record { key_in = p.key_in; path_in = m.1 (p.path_in, h.1); time_in = p.time_in })),
+    )
 lower_part_has ranges (Time point) subspace path time can =
     let m = lower_has nat_cmp nat_cmp_total ranges.times point time can in
-    let part : Ranges = record { keys = ranges.keys; paths = ranges.paths; times = lower ranges.times point } in
-    ((λ h. let p = passes_box part subspace path time h in let k = m.0 p.time_in in
+    let part : Ranges = record { keys = ranges.keys; paths = ranges.paths; times = lower ranges.times point } in (
+      (λ h. let p = passes_box part subspace path time h in let k = m.0 p.time_in in
           (box_passes ranges subspace path time (record { key_in = p.key_in; path_in = p.path_in; time_in = k.0 }), k.1)),
-     (λ h. let p = passes_box ranges subspace path time h.0 in
-          box_passes part subspace path time (record { key_in = p.key_in; path_in = p.path_in; time_in = m.1 (p.time_in, h.1) })))
+      (λ h. let p = passes_box ranges subspace path time h.0 in
+          box_passes part subspace path time (record { key_in = p.key_in; path_in = p.path_in; time_in = m.1 (p.time_in, h.1) })),
+    )
 
 pub upper_part_has : (ranges : Ranges) (at : CutAt) (subspace : List ℕ) (path : List (List ℕ)) (time : ℕ) → IsTrue (can_cut ranges at)
     → IsTrue (in_box (upper_part ranges at) subspace path time) ↔ (IsTrue (in_box ranges subspace path time) × (is_below at subspace path time ≡ false))
 unfolding can_cut upper_part is_below
 upper_part_has ranges (Subspace key) subspace path time can =
     let m = upper_has part_cmp part_cmp_total ranges.keys key subspace can in
-    let part : Ranges = record { keys = upper ranges.keys key; paths = ranges.paths; times = ranges.times } in
-    ((λ h. let p = passes_box part subspace path time h in let k = m.0 p.key_in in
+    let part : Ranges = record { keys = upper ranges.keys key; paths = ranges.paths; times = ranges.times } in (
+      (λ h. let p = passes_box part subspace path time h in let k = m.0 p.key_in in
           (box_passes ranges subspace path time (record { key_in = k.0; path_in = p.path_in; time_in = p.time_in }), k.1)),
-     (λ h. let p = passes_box ranges subspace path time h.0 in
-          box_passes part subspace path time (record { key_in = m.1 (p.key_in, h.1); path_in = p.path_in; time_in = p.time_in })))
+      (λ h. let p = passes_box ranges subspace path time h.0 in
+          box_passes part subspace path time (record { key_in = m.1 (p.key_in, h.1); path_in = p.path_in; time_in = p.time_in })),
+    )
 upper_part_has ranges (Path point) subspace path time can =
     let m = upper_has path_cmp path_cmp_total ranges.paths point path can in
-    let part : Ranges = record { keys = ranges.keys; paths = upper ranges.paths point; times = ranges.times } in
-    ((λ h. let p = passes_box part subspace path time h in let k = m.0 p.path_in in
+    let part : Ranges = record { keys = ranges.keys; paths = upper ranges.paths point; times = ranges.times } in (
+      (λ h. let p = passes_box part subspace path time h in let k = m.0 p.path_in in
           (box_passes ranges subspace path time (record { key_in = p.key_in; path_in = k.0; time_in = p.time_in }), k.1)),
-     (λ h. let p = passes_box ranges subspace path time h.0 in
-          box_passes part subspace path time (record { key_in = p.key_in; path_in = m.1 (p.path_in, h.1); time_in = p.time_in })))
+      (λ h. let p = passes_box ranges subspace path time h.0 in
+          box_passes part subspace path time (record { key_in = p.key_in; path_in = m.1 (p.path_in, h.1); time_in = p.time_in })),
+    )
 upper_part_has ranges (Time point) subspace path time can =
     let m = upper_has nat_cmp nat_cmp_total ranges.times point time can in
-    let part : Ranges = record { keys = ranges.keys; paths = ranges.paths; times = upper ranges.times point } in
-    ((λ h. let p = passes_box part subspace path time h in let k = m.0 p.time_in in
+    let part : Ranges = record { keys = ranges.keys; paths = ranges.paths; times = upper ranges.times point } in (
+      (λ h. let p = passes_box part subspace path time h in let k = m.0 p.time_in in
           (box_passes ranges subspace path time (record { key_in = p.key_in; path_in = p.path_in; time_in = k.0 }), k.1)),
-     (λ h. let p = passes_box ranges subspace path time h.0 in
-          box_passes part subspace path time (record { key_in = p.key_in; path_in = p.path_in; time_in = m.1 (p.time_in, h.1) })))
+      (λ h. let p = passes_box ranges subspace path time h.0 in
+          box_passes part subspace path time (record { key_in = p.key_in; path_in = p.path_in; time_in = m.1 (p.time_in, h.1) })),
+    )

@@ -95,7 +95,7 @@ last_time times t = let l = last_in times.end times.start t.starts t.ends in in_
 times_tell : (own other : Times) → IsTimes own → in_times own other.start ≡ true → in_times own (last_before other.end) ≡ true → includes_times own other ≡ true
 times_tell own other o h k =
     and_of (nat_le own.start other.start) (ends_later own.end other.end) (not_later_holds own.start other.start (time_in own other.start h).0)
-      (ends_tell own.end other.end (end_limit own.end own.start o.ends) (time_in own (last_before other.end) k).1)
+    (ends_tell own.end other.end (end_limit own.end own.start o.ends) (time_in own (last_before other.end) k).1)
 
 -- ---- inclusion
 
@@ -119,8 +119,8 @@ tried : (area other : Area) (time : ℕ) → Includes area other → IsArea othe
 tried area other time inc fits lt h =
     let key = telling_key area.subspace other.subspace in
     passes_area area key other.path time (inc key other.path time
-      (record { key = telling_fits area.subspace other.subspace fits.subspace_fits; path_fits = fits.path_fits; time_fits = lt })
-      (area_passes other key other.path time (record { subspace_fits = telling_in area.subspace other.subspace; path_fits = prefix_itself other.path; time_fits = h })))
+    (record { key = telling_fits area.subspace other.subspace fits.subspace_fits; path_fits = fits.path_fits; time_fits = lt })
+    (area_passes other key other.path time (record { subspace_fits = telling_in area.subspace other.subspace; path_fits = prefix_itself other.path; time_fits = h })))
 
 only : (area other : Area) → IsArea area → IsArea other → Includes area other → includes_area area other ≡ true
 unfolding includes_area
@@ -129,7 +129,7 @@ only area other own fits inc =
     let a = tried area other other.times.start inc fits fits.times_fit.starts (first_time other.times fits.times_fit) in
     let b = tried area other (last_before other.times.end) inc fits last.2 (last_time other.times fits.times_fit) in
     and_of (includes_subspace area.subspace other.subspace) (is_prefix area.path other.path && includes_times area.times other.times) (telling area.subspace other.subspace a.subspace_fits)
-      (and_of (is_prefix area.path other.path) (includes_times area.times other.times) a.path_fits (times_tell area.times other.times own.times_fit a.time_fits b.time_fits))
+    (and_of (is_prefix area.path other.path) (includes_times area.times other.times) a.path_fits (times_tell area.times other.times own.times_fit a.time_fits b.time_fits))
 
 pub includes_area-means : (area other : Area) → IsArea area → IsArea other → IsTrue (includes_area area other) ↔ Includes area other
 includes_area-means area other own fits = (every area other, only area other own fits)

@@ -47,7 +47,7 @@ subspaces_meet (Some key) (Some same) both subspace h =
     let c = chosen (pointwise nat_eq key same) (Some key) both h in
     let k = key_is key same c.0 in
     subst (λ (b : Option (List ℕ)). IsMeet (Fits b subspace) (Fits (Some key) subspace) (Fits (Some same) subspace)) c.1
-      ((λ f. (f, subst (λ (l : List ℕ). Fits (Some l) subspace) k f)), (λ f _. f))
+    ((λ f. (f, subst (λ (l : List ℕ). Fits (Some l) subspace) k f)), (λ f _. f))
 
 no_subspace : (own other : Option (List ℕ)) (subspace : List ℕ) → meet_subspace own other ≡ None → Fits own subspace → Fits other subspace → ⊥
 no_subspace None other subspace h f g = cc
@@ -82,8 +82,8 @@ Begins path longer = is_prefix path longer ≡ true
 paths_meet : (path other both longer : List (List ℕ)) → meet_path path other ≡ Some both → IsMeet (Begins both longer) (Begins path longer) (Begins other longer)
 paths_meet path other both longer h =
     choices {G = IsMeet (Begins both longer) (Begins path longer) (Begins other longer)} (is_prefix path other) (is_prefix other path) other path both h
-      (λ p e. subst (λ (b : List (List ℕ)). IsMeet (Begins b longer) (Begins path longer) (Begins other longer)) e ((λ f. (prefix_on path other longer p f, f)), (λ _ f. f)))
-      (λ p e. subst (λ (b : List (List ℕ)). IsMeet (Begins b longer) (Begins path longer) (Begins other longer)) e ((λ f. (f, prefix_on other path longer p f)), (λ f _. f)))
+    (λ p e. subst (λ (b : List (List ℕ)). IsMeet (Begins b longer) (Begins path longer) (Begins other longer)) e ((λ f. (prefix_on path other longer p f, f)), (λ _ f. f)))
+    (λ p e. subst (λ (b : List (List ℕ)). IsMeet (Begins b longer) (Begins path longer) (Begins other longer)) e ((λ f. (f, prefix_on other path longer p f)), (λ f _. f)))
 
 no_path : (path other longer : List (List ℕ)) → meet_path path other ≡ None → Begins path longer → Begins other longer → ⊥
 no_path path other longer h f g =
@@ -93,16 +93,17 @@ no_path path other longer h f g =
 path_fits : (path other both : List (List ℕ)) → meet_path path other ≡ Some both → IsPath path → IsPath other → IsPath both
 path_fits path other both h f g =
     choices {G = IsPath both} (is_prefix path other) (is_prefix other path) other path both h
-      (λ _ e. subst (λ (b : List (List ℕ)). IsPath b) e g) (λ _ e. subst (λ (b : List (List ℕ)). IsPath b) e f)
+    (λ _ e. subst (λ (b : List (List ℕ)). IsPath b) e g) (λ _ e. subst (λ (b : List (List ℕ)). IsPath b) e f)
 
 -- ---- times
 
 ends_meet : (own other : Option ℕ) (time : ℕ) → IsMeet (IsBefore time (earlier_end own other)) (IsBefore time own) (IsBefore time other)
 ends_meet None other time = ((λ f. (refl, f)), (λ _ f. f))
 ends_meet (Some end) None time = ((λ f. (f, refl)), (λ f _. f))
-ends_meet (Some end) (Some e) time =
-    ((λ f. let p = below time (min end e) f in (below_holds time end (omega arith), below_holds time e (omega arith))),
-     (λ f g. let p = below time end f in let q = below time e g in below_holds time (min end e) (omega arith)))
+ends_meet (Some end) (Some e) time = (
+  (λ f. let p = below time (min end e) f in (below_holds time end (omega arith), below_holds time e (omega arith))),
+  (λ f g. let p = below time end f in let q = below time e g in below_holds time (min end e) (omega arith)),
+)
 
 not_empty : (empty : Bool) (x y : Times) → (if empty then None else Some x) ≡ Some y → (empty ≡ false) × (x ≡ y)
 not_empty true x y h = absurd cc
@@ -117,21 +118,22 @@ raw_meet times other = record { start = max times.start other.start; end = earli
 
 raw_meets : (times other : Times) (time : ℕ) → IsMeet (in_times (raw_meet times other) time ≡ true) (in_times times time ≡ true) (in_times other time ≡ true)
 raw_meets times other time =
-    let m = ends_meet times.end other.end time in
-    ((λ f.
-        let p = time_in (raw_meet times other) time f in
-        let q = m.0 p.1 in
-        let first : max times.start other.start ≤ time = p.0 in
-        (in_time times time (omega arith) q.0, in_time other time (omega arith) q.1)),
-     (λ f g.
-        let p = time_in times time f in
-        let q = time_in other time g in
-        in_time (raw_meet times other) time (omega (arith, p.0, q.0)) (m.1 p.1 q.1)))
+    let m = ends_meet times.end other.end time in (
+      (λ f.
+          let p = time_in (raw_meet times other) time f in
+          let q = m.0 p.1 in
+          let first : max times.start other.start ≤ time = p.0 in
+          (in_time times time (omega arith) q.0, in_time other time (omega arith) q.1)),
+      (λ f g.
+          let p = time_in times time f in
+          let q = time_in other time g in
+          in_time (raw_meet times other) time (omega (arith, p.0, q.0)) (m.1 p.1 q.1)),
+    )
 
 times_meet : (times other both : Times) (time : ℕ) → meet_times times other ≡ Some both → IsMeet (in_times both time ≡ true) (in_times times time ≡ true) (in_times other time ≡ true)
 times_meet times other both time h =
     subst (λ (b : Times). IsMeet (in_times b time ≡ true) (in_times times time ≡ true) (in_times other time ≡ true))
-      (not_empty (ends_by (earlier_end times.end other.end) (max times.start other.start)) (raw_meet times other) both h).1 (raw_meets times other time)
+    (not_empty (ends_by (earlier_end times.end other.end) (max times.start other.start)) (raw_meet times other) both h).1 (raw_meets times other time)
 
 nothing_before : (end : Option ℕ) (start time : ℕ) → ends_by end start ≡ true → start ≤ time → IsBefore time end → ⊥
 nothing_before None start time h k f = cc
@@ -191,22 +193,24 @@ meet_area-some area other both subspace path time h =
     let p = parts area other both h in
     let s = subspaces_meet area.subspace other.subspace both.subspace subspace p.subspace_is in
     let q = paths_meet area.path other.path both.path path p.path_is in
-    let t = times_meet area.times other.times both.times time p.times_are in
-    ((λ f.
-        let a = passes_area both subspace path time f in
-        let s' = s.0 a.subspace_fits in
-        let q' = q.0 a.path_fits in
-        let t' = t.0 a.time_fits in
-        (area_passes area subspace path time (record { subspace_fits = s'.0; path_fits = q'.0; time_fits = t'.0 }),
-         area_passes other subspace path time (record { subspace_fits = s'.1; path_fits = q'.1; time_fits = t'.1 }))),
-     (λ f.
-        let a = passes_area area subspace path time f.0 in
-        let b = passes_area other subspace path time f.1 in
-        area_passes both subspace path time (record {
-          subspace_fits = s.1 a.subspace_fits b.subspace_fits;
-          path_fits = q.1 a.path_fits b.path_fits;
-          time_fits = t.1 a.time_fits b.time_fits;
-        })))
+    let t = times_meet area.times other.times both.times time p.times_are in (
+      (λ f.
+          let a = passes_area both subspace path time f in
+          let s' = s.0 a.subspace_fits in
+          let q' = q.0 a.path_fits in
+          let t' = t.0 a.time_fits in (
+            area_passes area subspace path time (record { subspace_fits = s'.0; path_fits = q'.0; time_fits = t'.0 }),
+            area_passes other subspace path time (record { subspace_fits = s'.1; path_fits = q'.1; time_fits = t'.1 }),
+          )),
+      (λ f.
+          let a = passes_area area subspace path time f.0 in
+          let b = passes_area other subspace path time f.1 in
+          area_passes both subspace path time (record {
+            subspace_fits = s.1 a.subspace_fits b.subspace_fits;
+            path_fits = q.1 a.path_fits b.path_fits;
+            time_fits = t.1 a.time_fits b.time_fits;
+          })),
+    )
 
 apart : (area other : Area) → meet_area area other ≡ None → AreApart area other
 unfolding meet_area
@@ -214,9 +218,9 @@ apart area other h subspace path time t f g =
     let a = passes_area area subspace path time f in
     let b = passes_area other subspace path time g in
     no_fields {G = ⊥} (meet_subspace area.subspace other.subspace) (meet_path area.path other.path) (meet_times area.times other.times) h
-      (λ e. no_subspace area.subspace other.subspace subspace e a.subspace_fits b.subspace_fits)
-      (λ e. no_path area.path other.path path e a.path_fits b.path_fits)
-      (λ e. no_time area.times other.times time e a.time_fits b.time_fits)
+    (λ e. no_subspace area.subspace other.subspace subspace e a.subspace_fits b.subspace_fits)
+    (λ e. no_path area.path other.path path e a.path_fits b.path_fits)
+    (λ e. no_time area.times other.times time e a.time_fits b.time_fits)
 
 -- the intersection of areas within the limits is within them
 pub meet_area-fits : (area other both : Area) → meet_area area other ≡ Some both → IsArea area → IsArea other → IsArea both
@@ -240,9 +244,13 @@ some_key-fits (Some key) f = (f, is_key key)
 -- an area within the limits has a triple
 pub inhabited : (area : Area) → IsArea area → (subspace : List ℕ) × (path : List (List ℕ)) × (time : ℕ) × IsTriple subspace path time × IsTrue (in_area area subspace path time)
 inhabited area f =
-    let k = some_key-fits area.subspace f.subspace_fits in
-    (some_key area.subspace, area.path, area.times.start, record { key = k.0; path_fits = f.path_fits; time_fits = f.times_fit.starts },
-      area_passes area (some_key area.subspace) area.path area.times.start (record { subspace_fits = k.1; path_fits = prefix_itself area.path; time_fits = first_time area.times f.times_fit }))
+    let k = some_key-fits area.subspace f.subspace_fits in (
+      some_key area.subspace,
+      area.path,
+      area.times.start,
+      record { key = k.0; path_fits = f.path_fits; time_fits = f.times_fit.starts },
+      area_passes area (some_key area.subspace) area.path area.times.start (record { subspace_fits = k.1; path_fits = prefix_itself area.path; time_fits = first_time area.times f.times_fit }),
+    )
 
 nothing : (area other : Area) → IsArea area → IsArea other → AreApart area other → (meet : Option Area) → meet_area area other ≡ meet → meet ≡ None
 nothing area other f g no_triple None h = refl

@@ -131,4 +131,4 @@ pub area_passes : (area : Area) (subspace : List ℕ) (path : List (List ℕ)) (
 unfolding in_area
 area_passes area subspace path time p =
     and_of (fits_subspace area.subspace subspace) (is_prefix area.path path && in_times area.times time) p.subspace_fits
-      (and_of (is_prefix area.path path) (in_times area.times time) p.path_fits p.time_fits)
+    (and_of (is_prefix area.path path) (in_times area.times time) p.path_fits p.time_fits)

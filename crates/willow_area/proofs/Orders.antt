@@ -40,7 +40,6 @@ reversed_lt Equal h = refl
 reversed_lt Greater h = absurd cc
 
 module _ {A : Type 0} (cmp : A → A → Ordering) (order : IsTotalOrder cmp) where
-
   pub lt_then_lt : (x y z : A) → is_lt (cmp x y) ≡ true → is_lt (cmp y z) ≡ true → is_lt (cmp x z) ≡ true
   lt_then_lt x y z h k = is_less (cmp x z) (order.trans x y z (less_is (cmp x y) h) (less_is (cmp y z) k))
 

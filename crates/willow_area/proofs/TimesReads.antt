@@ -90,23 +90,23 @@ pub above-reads : (start : ℕ) → Reads (above_at start) (to_be_bytes w64) (λ
 unfolding above_at
 above-reads start = record {
   takes = λ bytes x rest are e.
-    let g = guarded (nat_lt start (highest bytes)) (number_at w64 bytes) x rest e in
-    let t = u64-reads.takes bytes x rest are g.1 in
-    let is : highest bytes ≡ x = ap highest t.parts ∙ highest_number x rest t.fits in
-    let above : start < x = omega (arith, ltb-true start (highest bytes) g.0) in
-    record { fits = (above, t.fits); parts = t.parts; rest_are = t.rest_are };
+      let g = guarded (nat_lt start (highest bytes)) (number_at w64 bytes) x rest e in
+      let t = u64-reads.takes bytes x rest are g.1 in
+      let is : highest bytes ≡ x = ap highest t.parts ∙ highest_number x rest t.fits in
+      let above : start < x = omega (arith, ltb-true start (highest bytes) g.0) in
+      record { fits = (above, t.fits); parts = t.parts; rest_are = t.rest_are };
   again = λ x rest f.
-    guard_passes (nat_lt start (highest (to_be_bytes w64 x ++ rest))) (number_at w64 (to_be_bytes w64 x ++ rest))
-        (lt-ltb start (highest (to_be_bytes w64 x ++ rest)) (omega (arith, highest_number x rest f.1, f.0)))
+      guard_passes (nat_lt start (highest (to_be_bytes w64 x ++ rest))) (number_at w64 (to_be_bytes w64 x ++ rest))
+      (lt-ltb start (highest (to_be_bytes w64 x ++ rest)) (omega (arith, highest_number x rest f.1, f.0)))
       ∙ u64-reads.again x rest f.1;
   more = λ bytes x rest tail e.
-    let g = guarded (nat_lt start (highest bytes)) (number_at w64 bytes) x rest e in
-    let long : 8 ≤ length bytes = ltb-false (length bytes) 8 (is_long (nat_lt (length bytes) 8) (from_be_bytes w64 (take 8 bytes)) x (drop 8 bytes) rest g.1) in
-    guard_passes (nat_lt start (highest (bytes ++ tail))) (number_at w64 (bytes ++ tail)) (ap (nat_lt start) (highest_stays bytes tail long) ∙ g.0)
+      let g = guarded (nat_lt start (highest bytes)) (number_at w64 bytes) x rest e in
+      let long : 8 ≤ length bytes = ltb-false (length bytes) 8 (is_long (nat_lt (length bytes) 8) (from_be_bytes w64 (take 8 bytes)) x (drop 8 bytes) rest g.1) in
+      guard_passes (nat_lt start (highest (bytes ++ tail))) (number_at w64 (bytes ++ tail)) (ap (nat_lt start) (highest_stays bytes tail long) ∙ g.0)
       ∙ u64-reads.more bytes x rest tail g.1;
   wrong = λ bytes tail e.
-    let low = test_fails (nat_lt start (highest bytes)) (number_at w64 bytes) (never_wrong (nat_lt (length bytes) 8) (from_be_bytes w64 (take 8 bytes)) (drop 8 bytes)) e in
-    guard_fails (nat_lt start (highest (bytes ++ tail))) (number_at w64 (bytes ++ tail))
+      let low = test_fails (nat_lt start (highest bytes)) (number_at w64 bytes) (never_wrong (nat_lt (length bytes) 8) (from_be_bytes w64 (take 8 bytes)) (drop 8 bytes)) e in
+      guard_fails (nat_lt start (highest (bytes ++ tail))) (number_at w64 (bytes ++ tail))
       (le-ltb start (highest (bytes ++ tail)) (omega (arith, highest_falls bytes tail, ltb-false start (highest bytes) low)));
 }
 
@@ -133,5 +133,5 @@ pub times-reads : Reads times_at times_spelling IsTimes
 unfolding times_at
 times-reads =
     let joined = Reads-then (λ (start : ℕ × List ℕ). option_at (above_at start.0) start.1 >>= λ end. Whole (record { start = start.0; end = end.0 }) end.1) (λ (t : Times). t.start)
-      u64-reads from_start (λ start t f. ap (λ (s : Times). s.start) f.1) in
+    u64-reads from_start (λ start t f. ap (λ (s : Times). s.start) f.1) in
     Reads-is joined (λ t. refl) (λ t f. record { starts = f.0; ends = f.1.0 }) (λ t f. (f.starts, (f.ends, refl)))

@@ -10,7 +10,7 @@ use willow_path::{NoMemory, Path, UserKey};
 
 /// A part of a namespace: one subspace or any, the entries whose path begins with a path, and a range of
 /// times.
-#[derive(Debug, Drop)]
+#[derive(Debug, PartialEq, Eq, Drop)]
 pub struct Area {
     /// The subspace, or None for any.
     pub subspace: Option<UserKey>,
@@ -49,7 +49,9 @@ impl Area {
     pub fn includes(&self, subspace: &UserKey, path: &Path, time: u64) -> bool
         ensures { result ≡ in_area self.now subspace.now path.now time }
     {
-        fits_subspace(&self.subspace, subspace) && self.path.is_prefix_of(path) && self.times.includes(time)
+        fits_subspace(&self.subspace, subspace)
+            && self.path.is_prefix_of(path)
+            && self.times.includes(time)
     }
 
     /// Whether each triple of the other area is in this one.
@@ -57,7 +59,9 @@ impl Area {
     pub fn includes_area(&self, other: &Area) -> bool
         ensures { result ≡ includes_area self.now other.now }
     {
-        includes_subspace(&self.subspace, &other.subspace) && self.path.is_prefix_of(&other.path) && self.times.includes_range(&other.times)
+        includes_subspace(&self.subspace, &other.subspace)
+            && self.path.is_prefix_of(&other.path)
+            && self.times.includes_range(&other.times)
     }
 
     /// The area of the triples that are in both areas; None exactly where no triple is in both.
@@ -75,7 +79,11 @@ impl Area {
             return Ok(None);
         };
         let path = path.copy()?;
-        Ok(Some(Area { subspace, path, times }))
+        Ok(Some(Area {
+            subspace,
+            path,
+            times,
+        }))
     }
 
     /// Does nothing: it is called for its clause, that each field is within its limits.
@@ -125,13 +133,7 @@ fn meet_subspace(own: &Option<UserKey>, other: &Option<UserKey>) -> Option<Optio
     match (own, other) {
         (None, _) => Some(*other),
         (Some(_), None) => Some(*own),
-        (Some(key), Some(same)) => {
-            if key == same {
-                Some(*own)
-            } else {
-                None
-            }
-        }
+        (Some(key), Some(same)) => { if key == same { Some(*own) } else { None } }
     }
 }
 

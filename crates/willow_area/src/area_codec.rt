@@ -11,9 +11,9 @@ ghost use Rattle.willow_area.specs.AreaSpelling.{area_at, area_spelling};
 
 use crate::area::Area;
 use crate::times_codec::read_times;
-use spelling::{put_byte, put_bytes, put_u64, End, Input, NoMemory, NotHere, Unread};
+use spelling::{End, Input, NoMemory, NotHere, Unread, put_byte, put_bytes, put_u64};
 use std::alloc::Global;
-use willow_path::{read_path, read_user_key, UserKey};
+use willow_path::{UserKey, read_path, read_user_key};
 
 impl Area {
     /// Appends the area's spelling to `out`: a byte 00 for any subspace or a byte 01 and its key, the path,
@@ -47,7 +47,11 @@ pub fn read_area(alloc: Global, input: &mut Input) -> Result<Area, Unread>
     let subspace = read_subspace(input)?;
     let path = read_path(alloc, input)?;
     let times = read_times(input)?;
-    Ok(Area { subspace, path, times })
+    Ok(Area {
+        subspace,
+        path,
+        times,
+    })
 }
 
 // Reads any subspace, or one.

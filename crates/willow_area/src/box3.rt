@@ -6,9 +6,11 @@ ghost use Rattle.spelling.specs.Answers.{Answers, cause_if};
 ghost use Rattle.willow_path.specs.Path.{part_cmp, path_cmp};
 ghost use Rattle.willow_area.specs.Range.{is_before_end, in_range, is_inside, IsRising, lower, upper};
 ghost use Rattle.willow_area.specs.Times.{IsTimes};
+ghost use Rattle.willow_area.specs.AreaBox.{HasTriplesOf, area_box, key_range};
 ghost use Rattle.willow_area.specs.Boxes.{IsBox, in_box};
 ghost use Rattle.willow_area.specs.Cuts.{can_cut, cut_refusal, lower_part, upper_part};
 
+use crate::area::Area;
 use crate::cut::{CutAt, CutOutside};
 use crate::times::TimeRange;
 use std::marker::Model;
@@ -252,5 +254,36 @@ fn copy_end(end: &Option<Path>) -> Result<Option<Path>, NoMemory>
     match end {
         None => Ok(None),
         Some(path) => Ok(Some(path.copy()?)),
+    }
+}
+
+/// The box of an area: it includes an entry exactly where the area does. Its keys are all, or just the
+/// area's; its paths are the extensions of the area's path; its times are the area's.
+pub fn box_of(area: &Area) -> Result<Box3, NoMemory>
+    ensures ranges { IfOk result (λ b. b ≡ area_box area.now) }
+    ensures same { IfOk result (λ b. HasTriplesOf b area.now) }
+{
+    area.known();
+    let (key_start, key_end) = key_range(&area.subspace);
+    let path_end = area.path.after_prefixed()?;
+    Ok(Box3 {
+        key_start,
+        key_end,
+        path_start: area.path.copy()?,
+        path_end,
+        times: area.times,
+    })
+}
+
+// The least key of a subspace, or of any, and the first key that is too great, where there is one.
+#[tactic(auto, using(crate::proofs::Boxing::key_rises))]
+fn key_range(subspace: &Option<UserKey>) -> (UserKey, Option<UserKey>)
+    ensures start { result.0 ≡ (key_range subspace.now).start }
+    ensures end { result.1 ≡ (key_range subspace.now).end }
+    ensures rising { IsRising part_cmp (record { start = result.0; end = result.1 }) }
+{
+    match subspace {
+        None => (UserKey::least(), None),
+        Some(key) => (*key, key.after()),
     }
 }

@@ -16,45 +16,34 @@ ghost use Rattle.willow_area.specs.declared.cut.CutAt.{CutAt};
 /// within the limits and a time of 64 bits.
 pub fn inclusion()
     ensures means { (area other : Area) → IsArea area → IsArea other → IsTrue (includes_area area other) ↔ Includes area other }
-{
-}
+{}
 
 /// The intersection of two areas has exactly the triples that both have, and there is none exactly
 /// where no triple is in both.
 pub fn intersection()
-    ensures some {
-        (area other both : Area) (subspace : List ℕ) (path : List (List ℕ)) (time : ℕ) → meet_area area other ≡ Some both
-          → IsTrue (in_area both subspace path time) ↔ IsTrue (in_area area subspace path time) × IsTrue (in_area other subspace path time)
-    }
+    ensures some { (area other both : Area) (subspace : List ℕ) (path : List (List ℕ)) (time : ℕ) → meet_area area other ≡ Some both
+        → IsTrue (in_area both subspace path time) ↔ IsTrue (in_area area subspace path time) × IsTrue (in_area other subspace path time) }
     ensures none { (area other : Area) → IsArea area → IsArea other → (meet_area area other ≡ None) ↔ AreApart area other }
-{
-}
+{}
 
 /// An area within the limits has one spelling, and no spelling of an area begins another.
 #[tactic(auto, using(crate::proofs::AreaReads::area_form))]
 pub fn one_spelling()
     ensures area { IsForm area_spelling IsArea }
-{
-}
+{}
 
 /// The two parts of a cut have the triples of the box: the lower part those below the point, the upper part
 /// the rest.
 #[tactic(auto, using(crate::proofs::Cutting::lower_part_has, crate::proofs::Cutting::upper_part_has))]
 pub fn cuts()
-    ensures lower {
-        (ranges : Ranges) (at : CutAt) (subspace : List ℕ) (path : List (List ℕ)) (time : ℕ) → IsTrue (can_cut ranges at)
-          → IsTrue (in_box (lower_part ranges at) subspace path time) ↔ (IsTrue (in_box ranges subspace path time) × IsTrue (is_below at subspace path time))
-    }
-    ensures upper {
-        (ranges : Ranges) (at : CutAt) (subspace : List ℕ) (path : List (List ℕ)) (time : ℕ) → IsTrue (can_cut ranges at)
-          → IsTrue (in_box (upper_part ranges at) subspace path time) ↔ (IsTrue (in_box ranges subspace path time) × (is_below at subspace path time ≡ false))
-    }
-{
-}
+    ensures lower { (ranges : Ranges) (at : CutAt) (subspace : List ℕ) (path : List (List ℕ)) (time : ℕ) → IsTrue (can_cut ranges at)
+        → IsTrue (in_box (lower_part ranges at) subspace path time) ↔ (IsTrue (in_box ranges subspace path time) × IsTrue (is_below at subspace path time)) }
+    ensures upper { (ranges : Ranges) (at : CutAt) (subspace : List ℕ) (path : List (List ℕ)) (time : ℕ) → IsTrue (can_cut ranges at)
+        → IsTrue (in_box (upper_part ranges at) subspace path time) ↔ (IsTrue (in_box ranges subspace path time) × (is_below at subspace path time ≡ false)) }
+{}
 
 /// The box of an area includes a triple exactly where the area does.
 #[tactic(auto, using(crate::proofs::Boxing::area_box_means))]
 pub fn boxes()
     ensures same { (area : Area) → IsArea area → HasTriplesOf (area_box area) area }
-{
-}
+{}

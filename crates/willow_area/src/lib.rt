@@ -12,8 +12,10 @@ mod times_codec;
 
 pub use area::Area;
 pub use area_codec::read_area;
-pub use box3::Box3;
+pub use box3::{Box3, box_of};
 pub use cut::{CutAt, CutOutside};
 pub use laws::{boxes, cuts, inclusion, intersection, one_spelling};
 pub use times::TimeRange;
-pub use times_codec::read_times;
+
+#[cfg(test)]
+mod tests;

@@ -66,7 +66,10 @@ impl TimeRange {
         ensures all { result ≡ record { start = 0; end = None } }
         ensures times { IsTimes result }
     {
-        TimeRange { start: 0, end: None }
+        TimeRange {
+            start: 0,
+            end: None,
+        }
     }
 
     // Whether each time of the other range is in this one.
@@ -101,7 +104,10 @@ impl TimeRange {
     pub(crate) fn intersect(&self, other: &TimeRange) -> Option<TimeRange>
         ensures { result ≡ meet_times self.now other.now }
     {
-        TimeRange::new(self.start.max(other.start), earlier_end(self.end, other.end))
+        TimeRange::new(
+            self.start.max(other.start),
+            earlier_end(self.end, other.end),
+        )
     }
 }
 

@@ -6,12 +6,12 @@ ghost use Rattle.spelling.specs.Reading.{Gives, option_at};
 ghost use Rattle.willow_area.specs.TimesSpelling.{above_at, byte_or_ff, highest, times_at, times_spelling};
 
 use crate::times::TimeRange;
-use spelling::{guard, Input, Unread};
+use spelling::{Input, Unread, guard};
 
-/// Reads a range of times: its start, and a byte 00 or a byte 01 and its end. It is wrong as soon as no end
-/// above the start begins with the bytes read.
+// Reads a range of times: its start, and a byte 00 or a byte 01 and its end. It is wrong as soon as no end
+// above the start begins with the bytes read.
 #[tactic(auto, unfolding(crate::specs::TimesSpelling::times_at))]
-pub fn read_times(input: &mut Input) -> Result<TimeRange, Unread>
+pub(crate) fn read_times(input: &mut Input) -> Result<TimeRange, Unread>
     ensures { Gives (λ times. times) result input.new (times_at input.old) }
 {
     let start = input.number_u64()?;

@@ -14,10 +14,12 @@ module _ {X : Type 0} (p : X → Bool) where
   place_within (w ∷ xs) x m t =
       let P : Bool → Type 0 = λ b. p w ≡ b → cond (not b) (1 + position_or_len p xs) 0 < suc (length xs) in
       let each : (b : Bool) → P b = elim [
-          true ↦ λ e. omega arith
+        | true ↦ λ e. omega arith
         | false ↦ λ e. elim m [
-            inl q ↦ absurd (false≢true (sym e ∙ ap p q ∙ t))
-          | inr n ↦ (let more = place_within xs x n t in omega arith) ] ] in
+          | inl q ↦ absurd (false≢true (sym e ∙ ap p q ∙ t))
+          | inr n ↦ (let more = place_within xs x n t in omega arith)
+        ]
+      ] in
       each (p w) refl
 
   pub none_passes : (xs : List X) → position p xs ≡ None → (x : X) → Member xs x → p x ≡ false

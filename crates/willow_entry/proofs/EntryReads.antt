@@ -66,8 +66,8 @@ unfolding entry_at entry_spelling
 entry-reads =
     let joined = Reads-then (λ (n : List ℕ × List ℕ). owned_at n.0 n.1) (λ (e : Entry). e.namespace) key-reads from_namespace (λ n e f. ap (λ (x : Entry). x.namespace) f.1.1.1.1.1) in
     Reads-is joined (λ e. refl)
-      (λ e f. record { namespace = f.0; subspace = f.1.0; path = f.1.1.0; timestamp = f.1.1.1.0; length_fits = f.1.1.1.1.0; digest = f.1.1.1.1.1.0 })
-      (λ e f. (f.namespace, (f.subspace, (f.path, (f.timestamp, (f.length_fits, (f.digest, refl)))))))
+    (λ e f. record { namespace = f.0; subspace = f.1.0; path = f.1.1.0; timestamp = f.1.1.1.0; length_fits = f.1.1.1.1.0; digest = f.1.1.1.1.1.0 })
+    (λ e f. (f.namespace, (f.subspace, (f.path, (f.timestamp, (f.length_fits, (f.digest, refl)))))))
 
 -- an entry within its limits has one spelling, and none begins another
 pub entry_form : IsForm entry_spelling IsEntry
@@ -88,6 +88,7 @@ pub body_from_front : (body : List ℕ) (e : Entry) (taken : ℕ) (r : RowValue)
     → r.entry ≡ e → r.token ≡ take (length body - taken) (drop taken body) → IsBareRow r × (body ≡ row_body r)
 unfolding row_body
 body_from_front body e taken r are fits front is behind =
-    let token : r.token ≡ drop taken body = behind ∙ take_all (length body - taken) (drop taken body) (omega (arith, length-drop taken body)) in
-    ((subst IsEntry (sym is) fits, subst AreBytes (sym token) (are_bytes-drop taken body are)),
-      sym (take-append-drop taken body) ∙ ap₂ (λ (a b : List ℕ). a ++ b) (front ∙ ap entry_spelling (sym is)) (sym token))
+    let token : r.token ≡ drop taken body = behind ∙ take_all (length body - taken) (drop taken body) (omega (arith, length-drop taken body)) in (
+      (subst IsEntry (sym is) fits, subst AreBytes (sym token) (are_bytes-drop taken body are)),
+      sym (take-append-drop taken body) ∙ ap₂ (λ (a b : List ℕ). a ++ b) (front ∙ ap entry_spelling (sym is)) (sym token),
+    )

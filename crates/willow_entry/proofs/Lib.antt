@@ -5,6 +5,7 @@ pub mod Prefixes
 pub mod Ranks
 pub mod RowLaws
 pub mod Live
+pub mod Between
 pub mod Covering
 pub mod Placing
 pub mod Local

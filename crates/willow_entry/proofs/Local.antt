@@ -36,7 +36,7 @@ pub at_prefix_test : (r s : RowValue) → IsAtPrefix r s → is_at_prefix r s �
 unfolding is_at_prefix
 at_prefix_test r s p =
     and_from (same_bytes r.entry.namespace s.entry.namespace) (same_bytes r.entry.subspace s.entry.subspace && is_prefix r.entry.path s.entry.path) ((bytes_decides r.entry.namespace s.entry.namespace).1 p.namespace)
-      (and_from (same_bytes r.entry.subspace s.entry.subspace) (is_prefix r.entry.path s.entry.path) ((bytes_decides r.entry.subspace s.entry.subspace).1 p.subspace) p.path)
+    (and_from (same_bytes r.entry.subspace s.entry.subspace) (is_prefix r.entry.path s.entry.path) ((bytes_decides r.entry.subspace s.entry.subspace).1 p.subspace) p.path)
 
 -- a row dominates only at its prefix
 pub dominated_at_prefix : (r s : RowValue) → is_dominating r s ≡ true → is_at_prefix r s ≡ true
@@ -62,8 +62,8 @@ pub at_prefix_not_above : (r s : RowValue) → IsAtPrefix r s → is_gt (place_c
 unfolding place_cmp
 at_prefix_not_above r s p =
     tied_then (bytes_cmp r.entry.namespace s.entry.namespace) (ordering_then (bytes_cmp r.entry.subspace s.entry.subspace) (path_cmp r.entry.path s.entry.path)) (bytes_same r.entry.namespace s.entry.namespace p.namespace)
-      (tied_then (bytes_cmp r.entry.subspace s.entry.subspace) (path_cmp r.entry.path s.entry.path) (bytes_same r.entry.subspace s.entry.subspace p.subspace)
-        (prefix_at_most r.entry.path s.entry.path p.path))
+    (tied_then (bytes_cmp r.entry.subspace s.entry.subspace) (path_cmp r.entry.path s.entry.path) (bytes_same r.entry.subspace s.entry.subspace p.subspace)
+    (prefix_at_most r.entry.path s.entry.path p.path))
 
 -- a byte string between two equal ones is equal to both
 bytes_between : (a b c : List ℕ) → a ≡ c → is_gt (bytes_cmp a b) ≡ false → is_gt (bytes_cmp b c) ≡ false → bytes_cmp a b ≡ Equal
@@ -74,22 +74,22 @@ pub between_at_prefix : (r b c : RowValue) → IsAtPrefix r c → is_gt (place_c
 unfolding place_cmp
 between_at_prefix r b c p h k =
     let in_space : bytes_cmp r.entry.namespace b.entry.namespace ≡ Equal = bytes_between r.entry.namespace b.entry.namespace c.entry.namespace p.namespace
-          (then_not_above (bytes_cmp r.entry.namespace b.entry.namespace) (ordering_then (bytes_cmp r.entry.subspace b.entry.subspace) (path_cmp r.entry.path b.entry.path)) h)
-          (then_not_above (bytes_cmp b.entry.namespace c.entry.namespace) (ordering_then (bytes_cmp b.entry.subspace c.entry.subspace) (path_cmp b.entry.path c.entry.path)) k) in
+    (then_not_above (bytes_cmp r.entry.namespace b.entry.namespace) (ordering_then (bytes_cmp r.entry.subspace b.entry.subspace) (path_cmp r.entry.path b.entry.path)) h)
+    (then_not_above (bytes_cmp b.entry.namespace c.entry.namespace) (ordering_then (bytes_cmp b.entry.subspace c.entry.subspace) (path_cmp b.entry.path c.entry.path)) k) in
     let same_space = bytes_tie r.entry.namespace b.entry.namespace in_space in
     let h' = then_tied (bytes_cmp r.entry.namespace b.entry.namespace) (ordering_then (bytes_cmp r.entry.subspace b.entry.subspace) (path_cmp r.entry.path b.entry.path)) in_space h in
     let k' = then_tied (bytes_cmp b.entry.namespace c.entry.namespace) (ordering_then (bytes_cmp b.entry.subspace c.entry.subspace) (path_cmp b.entry.path c.entry.path)) (bytes_same b.entry.namespace c.entry.namespace (sym same_space ∙ p.namespace)) k in
     let in_sub : bytes_cmp r.entry.subspace b.entry.subspace ≡ Equal = bytes_between r.entry.subspace b.entry.subspace c.entry.subspace p.subspace
-          (then_not_above (bytes_cmp r.entry.subspace b.entry.subspace) (path_cmp r.entry.path b.entry.path) h')
-          (then_not_above (bytes_cmp b.entry.subspace c.entry.subspace) (path_cmp b.entry.path c.entry.path) k') in
+    (then_not_above (bytes_cmp r.entry.subspace b.entry.subspace) (path_cmp r.entry.path b.entry.path) h')
+    (then_not_above (bytes_cmp b.entry.subspace c.entry.subspace) (path_cmp b.entry.path c.entry.path) k') in
     let same_sub = bytes_tie r.entry.subspace b.entry.subspace in_sub in
     record {
       namespace = same_space;
       subspace = same_sub;
       path = prefix_between r.entry.path r.entry.path b.entry.path c.entry.path
-        ((is_prefix_decides r.entry.path r.entry.path).1 (prefix_of_itself r.entry.path)) p.path
-        (then_tied (bytes_cmp r.entry.subspace b.entry.subspace) (path_cmp r.entry.path b.entry.path) in_sub h')
-        (then_tied (bytes_cmp b.entry.subspace c.entry.subspace) (path_cmp b.entry.path c.entry.path) (bytes_same b.entry.subspace c.entry.subspace (sym same_sub ∙ p.subspace)) k');
+          ((is_prefix_decides r.entry.path r.entry.path).1 (prefix_of_itself r.entry.path)) p.path
+          (then_tied (bytes_cmp r.entry.subspace b.entry.subspace) (path_cmp r.entry.path b.entry.path) in_sub h')
+          (then_tied (bytes_cmp b.entry.subspace c.entry.subspace) (path_cmp b.entry.path c.entry.path) (bytes_same b.entry.subspace c.entry.subspace (sym same_sub ∙ p.subspace)) k');
     }
 
 -- ---- the run of what a row may dominate
@@ -102,7 +102,7 @@ left_of r rows = filter (λ s. not (is_dominating r s)) rows
 abbrev pub run_of : RowValue → List RowValue → ℕ
 run_of r rows = prefix_len (is_at_prefix r) rows
 
-keeps_all : (r : RowValue) (rows : List RowValue) → ((s : RowValue) → Member rows s → is_dominating r s ≡ false) → left_of r rows ≡ rows
+pub keeps_all : (r : RowValue) (rows : List RowValue) → ((s : RowValue) → Member rows s → is_dominating r s ≡ false) → left_of r rows ≡ rows
 keeps_all r [] none = refl
 keeps_all r (s ∷ rows) none = ap (λ b. cond (not b) (s ∷ left_of r rows) (left_of r rows)) (none s (inl refl)) ∙ ap (λ l. s ∷ l) (keeps_all r rows (λ t m. none t (inr m)))
 
@@ -120,14 +120,16 @@ left_in_run r [] up above = refl
 left_in_run r (s ∷ rows) up above =
     let P : Bool → Type 0 = λ b. is_at_prefix r s ≡ b → left_of r (s ∷ rows) ≡ left_of r (take (cond b (1 + run_of r rows) 0) (s ∷ rows)) ++ drop (cond b (1 + run_of r rows) 0) (s ∷ rows) in
     let each : (b : Bool) → P b = elim [
-        true ↦ λ e.
+      | true ↦ λ e.
           ap (λ l. cond (not (is_dominating r s)) (s ∷ l) l) (left_in_run r rows up.1 (λ t m. above t (inr m)))
-            ∙ cond_append (not (is_dominating r s)) s (left_of r (take (run_of r rows) rows)) (drop (run_of r rows) rows)
-            ∙ ap (λ n. left_of r (take n (s ∷ rows)) ++ drop n (s ∷ rows)) (sym (one-add (run_of r rows)))
+          ∙ cond_append (not (is_dominating r s)) s (left_of r (take (run_of r rows) rows)) (drop (run_of r rows) rows)
+          ∙ ap (λ n. left_of r (take n (s ∷ rows)) ++ drop n (s ∷ rows)) (sym (one-add (run_of r rows)))
       | false ↦ λ e. keeps_all r (s ∷ rows) (λ t m. false_from_ne_true (is_dominating r t) (λ d.
           both_ways (is_at_prefix r s) e (at_prefix_test r s (elim m [
-              inl q ↦ subst (λ w. IsAtPrefix r w) (sym q) (at_prefix r t (dominated_at_prefix r t d))
-            | inr n ↦ between_at_prefix r s t (at_prefix r t (dominated_at_prefix r t d)) (above s (inl refl)) (not_gt_from_less (place_cmp s t) (all_member place_cmp (λ w. place_cmp s w ≡ Less) rows up.0 t n)) ])))) ] in
+            | inl q ↦ subst (λ w. IsAtPrefix r w) (sym q) (at_prefix r t (dominated_at_prefix r t d))
+            | inr n ↦ between_at_prefix r s t (at_prefix r t (dominated_at_prefix r t d)) (above s (inl refl)) (not_gt_from_less (place_cmp s t) (all_member place_cmp (λ w. place_cmp s w ≡ Less) rows up.0 t n))
+          ]))))
+    ] in
     each (is_at_prefix r s) refl
 
 -- ---- one more row
@@ -137,7 +139,7 @@ reversed_lt Less = refl
 reversed_lt Equal = refl
 reversed_lt Greater = refl
 
-not_below : (r s : RowValue) → is_lt (place_cmp s r) ≡ false → is_gt (place_cmp r s) ≡ false
+pub not_below : (r s : RowValue) → is_lt (place_cmp s r) ≡ false → is_gt (place_cmp r s) ≡ false
 not_below r s e = ap is_gt (place_total.antisymm r s) ∙ reversed_lt (place_cmp s r) ∙ e
 
 below_from_gt : (r s : RowValue) → is_gt (place_cmp r s) ≡ true → place_cmp s r ≡ Less
@@ -157,10 +159,15 @@ left_above r rows uncovered above y m =
     let f = filter_member (λ s. not (is_dominating r s)) rows y m in
     let P : Ordering → Type 0 = λ o. place_cmp r y ≡ o → o ≡ Less in
     let each : (o : Ordering) → P o = elim [
-        Less ↦ λ e. refl
-      | Equal ↦ λ e. absurd (uncovered (y, contains_from_member rows y f.0, inl (sym (settled_rows r y e (not-true (is_dominating r y) f.1)
-          (false_from_ne_true (is_dominating y r) (λ d. uncovered (y, contains_from_member rows y f.0, inr ((dominates_decides y r).0 d))))))))
-      | Greater ↦ λ e. absurd (false≢true (sym (above y f.0) ∙ ap is_gt e)) ] in
+      | Less ↦ λ e. refl
+      | Equal ↦ λ e. absurd (uncovered (
+        y,
+        contains_from_member rows y f.0,
+        inl (sym (settled_rows r y e (not-true (is_dominating r y) f.1)
+            (false_from_ne_true (is_dominating y r) (λ d. uncovered (y, contains_from_member rows y f.0, inr ((dominates_decides y r).0 d)))))),
+      ))
+      | Greater ↦ λ e. absurd (false≢true (sym (above y f.0) ∙ ap is_gt e))
+    ] in
     each (place_cmp r y) refl
 
 weaker : (r s : RowValue) (rows : List RowValue) → (HasCovering (s ∷ rows) r → ⊥) → HasCovering rows r → ⊥
@@ -182,17 +189,18 @@ placed-in_run r (s ∷ rows) up uncovered =
     let after : ℕ → List RowValue = λ k. take k (s ∷ rows) ++ (r ∷ (left_of r (take (run_of r (drop k (s ∷ rows))) (drop k (s ∷ rows))) ++ drop (run_of r (drop k (s ∷ rows))) (drop k (s ∷ rows)))) in
     let P : Bool → Type 0 = λ b. is_lt (place_cmp s r) ≡ b → placed place_cmp r (left_of r (s ∷ rows)) ≡ after (cond b (1 + place_of place_cmp r rows) 0) in
     let each : (b : Bool) → P b = elim [
-        true ↦ λ e.
+      | true ↦ λ e.
           let greater : place_cmp r s ≡ Greater = turned_less s r e in
           let stays : is_dominating r s ≡ false = false_from_ne_true (is_dominating r s) (λ d. false≢true (sym (at_prefix_not_above r s (at_prefix r s (dominated_at_prefix r s d))) ∙ ap is_gt greater)) in
           ap (λ b. placed place_cmp r (cond (not b) (s ∷ left_of r rows) (left_of r rows))) stays
-            ∙ ap (λ o. match_ordering o (r ∷ s ∷ left_of r rows) (s ∷ left_of r rows) (s ∷ placed place_cmp r (left_of r rows))) greater
-            ∙ ap (λ l. s ∷ l) (placed-in_run r rows up.1 (weaker r s rows uncovered))
-            ∙ ap after (sym (one-add (place_of place_cmp r rows)))
+          ∙ ap (λ o. match_ordering o (r ∷ s ∷ left_of r rows) (s ∷ left_of r rows) (s ∷ placed place_cmp r (left_of r rows))) greater
+          ∙ ap (λ l. s ∷ l) (placed-in_run r rows up.1 (weaker r s rows uncovered))
+          ∙ ap after (sym (one-add (place_of place_cmp r rows)))
       | false ↦ λ e.
           let above = above_from_rising r s rows up.0 e in
           placed-first place_cmp r (left_of r (s ∷ rows)) (left_above r (s ∷ rows) uncovered above)
-            ∙ ap (λ l. r ∷ l) (left_in_run r (s ∷ rows) up above) ] in
+          ∙ ap (λ l. r ∷ l) (left_in_run r (s ∷ rows) up above)
+    ] in
     each (is_lt (place_cmp s r)) refl
 
 -- ---- where a covering row stands

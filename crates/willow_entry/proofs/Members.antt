@@ -43,8 +43,9 @@ module _ {X : Type 0} where
   member_filter p (w ∷ xs) x h t =
       let P : Bool → Type 0 = λ b. p w ≡ b → Member (cond b (w ∷ filter p xs) (filter p xs)) x in
       let both : (b : Bool) → P b = elim [
-          true ↦ λ e. elim h [ inl q ↦ inl q | inr m ↦ inr (member_filter p xs x m t) ]
-        | false ↦ λ e. elim h [ inl q ↦ absurd (false≢true (sym e ∙ ap p q ∙ t)) | inr m ↦ member_filter p xs x m t ] ] in
+        | true ↦ λ e. elim h [ inl q ↦ inl q | inr m ↦ inr (member_filter p xs x m t) ]
+        | false ↦ λ e. elim h [ inl q ↦ absurd (false≢true (sym e ∙ ap p q ∙ t)) | inr m ↦ member_filter p xs x m t ]
+      ] in
       both (p w) refl
 
   pub filter_member : (p : X → Bool) (xs : List X) (x : X) → Member (filter p xs) x → Member xs x × (p x ≡ true)
@@ -52,8 +53,9 @@ module _ {X : Type 0} where
   filter_member p (w ∷ xs) x h =
       let P : Bool → Type 0 = λ b. p w ≡ b → Member (cond b (w ∷ filter p xs) (filter p xs)) x → Member (w ∷ xs) x × (p x ≡ true) in
       let both : (b : Bool) → P b = elim [
-          true ↦ λ e m. elim m [ inl q ↦ (inl q, sym (ap p q) ∙ e) | inr n ↦ (inr (filter_member p xs x n).0, (filter_member p xs x n).1) ]
-        | false ↦ λ e n. (inr (filter_member p xs x n).0, (filter_member p xs x n).1) ] in
+        | true ↦ λ e m. elim m [ inl q ↦ (inl q, sym (ap p q) ∙ e) | inr n ↦ (inr (filter_member p xs x n).0, (filter_member p xs x n).1) ]
+        | false ↦ λ e n. (inr (filter_member p xs x n).0, (filter_member p xs x n).1)
+      ] in
       both (p w) refl h
 
   pub any_false : (p : X → Bool) (xs : List X) → ((x : X) → Member xs x → p x ≡ false) → list_any p xs ≡ false

@@ -24,9 +24,10 @@ module _ {X : Type 0} (cmp : X → X → Ordering) where
         let at : (b : Bool) → is_lt (cmp y x) ≡ b → insert (y ∷ ys) (cond b (1 + place_of x ys) 0) x ≡ insert (y ∷ ys) (place_of x (y ∷ ys)) x = λ b f. ap (λ t. insert (y ∷ ys) (cond t (1 + place_of x ys) 0) x) (sym f) in
         let back : cmp y x ≡ ordering_reverse (cmp x y) = total.antisymm y x in
         let each : (o : Ordering) → P o = elim [
-            Less ↦ λ e. at false (ap is_lt (back ∙ ap ordering_reverse e))
+          | Less ↦ λ e. at false (ap is_lt (back ∙ ap ordering_reverse e))
           | Equal ↦ λ e. absurd (free y (inl refl) e)
-          | Greater ↦ λ e. ap (λ l. y ∷ l) (placed-insert x ys (λ z m. free z (inr m))) ∙ ap (λ n. insert (y ∷ ys) n x) (sym (one-add (place_of x ys))) ∙ at true (ap is_lt (back ∙ ap ordering_reverse e)) ] in
+          | Greater ↦ λ e. ap (λ l. y ∷ l) (placed-insert x ys (λ z m. free z (inr m))) ∙ ap (λ n. insert (y ∷ ys) n x) (sym (one-add (place_of x ys))) ∙ at true (ap is_lt (back ∙ ap ordering_reverse e))
+        ] in
         each (cmp x y) refl
 
 -- where a test passes up to i and fails from i on, it passes just at the first i
@@ -35,5 +36,5 @@ prefix_len_is p [] i within passes fails = omega arith
 prefix_len_is p (x ∷ xs) zero within passes fails = ap (λ b. cond b (1 + prefix_len p xs) 0) (fails x (omega arith))
 prefix_len_is p (x ∷ xs) (suc i) within passes fails =
     ap (λ b. cond b (1 + prefix_len p xs) 0) (passes 0 x (omega arith))
-      ∙ ap (λ n. 1 + n) (prefix_len_is p xs i (omega arith) (λ k d h. passes (suc k) d (omega arith)) (λ d h. fails d (omega arith)))
-      ∙ one-add i
+    ∙ ap (λ n. 1 + n) (prefix_len_is p xs i (omega arith) (λ k d h. passes (suc k) d (omega arith)) (λ d h. fails d (omega arith)))
+    ∙ one-add i

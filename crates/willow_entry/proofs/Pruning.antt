@@ -44,8 +44,9 @@ module _ {X : Type 0} (dominates : X → X → Bool) where
 
   pub covers_append : (xs ys us vs : List X) → CoversAll xs us → CoversAll ys vs → CoversAll (xs ++ ys) (us ++ vs)
   covers_append xs ys us vs f g = λ z m. elim (member_append_cases us vs z m) [
-      inl p ↦ covered_append_left xs ys z (f z p)
-    | inr q ↦ covered_append_right xs ys z (g z q) ]
+    | inl p ↦ covered_append_left xs ys z (f z p)
+    | inr q ↦ covered_append_right xs ys z (g z q)
+  ]
 
   pub covers_both : (xs us vs : List X) → CoversAll xs us → CoversAll xs vs → CoversAll xs (us ++ vs)
   covers_both xs us vs f g = λ z m. elim (member_append_cases us vs z m) [ inl p ↦ f z p | inr q ↦ g z q ]
@@ -88,10 +89,19 @@ module _ {X : Type 0} (dominates : X → X → Bool) where
         let r = top xs x in
         let P : Bool → Type 0 = λ b. dominates w r.0 ≡ b → (t : X) × IsTop (w ∷ xs) x t in
         let each : (b : Bool) → P b = elim [
-            true ↦ λ e. (w, (inr (inl refl), (λ y m. elim m [
-                inl q ↦ ap (λ v. dominates v w) (sym q) ∙ laws.irreflexive w
-              | inr n ↦ not_dominated y w (λ f. both_ways (dominates y r.0) (r.1.1 y n) (laws.transitive y w r.0 f e)) ]), covers_chain w r.0 x (inr e) r.1.2))
-          | false ↦ λ e. (r.0, (elim r.1.0 [ inl q ↦ inl q | inr n ↦ inr (inr n) ], (λ y m. elim m [ inl q ↦ ap (λ v. dominates v r.0) (sym q) ∙ e | inr n ↦ r.1.1 y n ]), r.1.2)) ] in
+          | true ↦ λ e. (
+            w,
+            (
+              inr (inl refl),
+              (λ y m. elim m [
+                | inl q ↦ ap (λ v. dominates v w) (sym q) ∙ laws.irreflexive w
+                | inr n ↦ not_dominated y w (λ f. both_ways (dominates y r.0) (r.1.1 y n) (laws.transitive y w r.0 f e))
+              ]),
+              covers_chain w r.0 x (inr e) r.1.2,
+            ),
+          )
+          | false ↦ λ e. (r.0, (elim r.1.0 [ inl q ↦ inl q | inr n ↦ inr (inr n) ], (λ y m. elim m [ inl q ↦ ap (λ v. dominates v r.0) (sym q) ∙ e | inr n ↦ r.1.1 y n ]), r.1.2))
+        ] in
         each (dominates w r.0) refl
 
     -- ---- what `pruned` holds
@@ -134,10 +144,11 @@ module _ {X : Type 0} (dominates : X → X → Bool) where
         let b = g z k.0 in
         let a = f b.0 b.1 in
         let same : b.0 ≡ z = elim b.2 [
-            inl e ↦ e
-          | inr e ↦ absurd (both_ways (dominates a.0 z) (k.1 a.0 a.1) (dominates_chain a.0 b.0 z a.2 e)) ] in
+          | inl e ↦ e
+          | inr e ↦ absurd (both_ways (dominates a.0 z) (k.1 a.0 a.1) (dominates_chain a.0 b.0 z a.2 e))
+        ] in
         member_pruned ys z (subst (λ w. Member ys w) same b.1)
-            (λ y n. not_dominated y z (λ e. let c = f y n in both_ways (dominates c.0 z) (k.1 c.0 c.1) (dominates_chain c.0 y z c.2 e)))
+        (λ y n. not_dominated y z (λ e. let c = f y n in both_ways (dominates c.0 z) (k.1 c.0 c.1) (dominates_chain c.0 y z c.2 e)))
 
     pub pruned_alike : (xs ys : List X) → CoversAll xs ys → CoversAll ys xs → pruned dominates cmp xs ≡ pruned dominates cmp ys
     pruned_alike xs ys f g = same_rising cmp laws.total (pruned dominates cmp xs) (pruned dominates cmp ys) (pruned-rises xs) (pruned-rises ys) (kept_by_other xs ys f g) (kept_by_other ys xs g f)
@@ -176,8 +187,9 @@ module _ {X : Type 0} (dominates : X → X → Bool) where
     pruned_swap xs ys = pruned_same_members (xs ++ ys) (ys ++ xs) (other_way xs ys) (other_way ys xs) where
       other_way : (us vs : List X) (z : X) → Member (us ++ vs) z → Member (vs ++ us) z
       other_way us vs z m = elim (member_append_cases us vs z m) [
-          inl p ↦ member_append_right vs us z p
-        | inr q ↦ member_append_left vs us z q ]
+        | inl p ↦ member_append_right vs us z p
+        | inr q ↦ member_append_left vs us z q
+      ]
 
     pub pruned_twice : (xs : List X) → pruned dominates cmp (xs ++ xs) ≡ pruned dominates cmp xs
     pruned_twice xs = pruned_same_members (xs ++ xs) xs
@@ -216,16 +228,25 @@ module _ {X : Type 0} (dominates : X → X → Bool) where
     pruned-uncovered xs x live uncovered = pruned-only (xs ++ x ∷ []) (placed cmp x (left_by x xs))
         (placed-rises cmp laws.total x (left_by x xs) (IsStrictlySortedBy-filter cmp (λ y. not (dominates x y)) xs (subst (λ l. IsStrictlySortedBy cmp l) live (pruned-rises xs))))
         (λ z m. elim (member_from_placed cmp x (left_by x xs) z m) [
-            inl e ↦ (member_append_right xs (x ∷ []) z (inl e), (λ y n. elim (member_append_cases xs (x ∷ []) y n) [
-                inl p ↦ subst (λ w. dominates y w ≡ false) e (not_dominated y x (λ d. uncovered (y, p, inr d)))
-              | inr q ↦ elim q [ inl r ↦ subst (λ w. dominates w z ≡ false) r (subst (λ w. dominates x w ≡ false) e (laws.irreflexive x)) | inr n ↦ absurd n ] ]))
-          | inr k ↦ (let f = filter_member (λ w. not (dominates x w)) xs z k in
-              (member_append_left xs (x ∷ []) z f.0, (λ y n. elim (member_append_cases xs (x ∷ []) y n) [
-                inl p ↦ (pruned_member xs z (subst (λ l. Member l z) (sym live) f.0)).1 y p
-              | inr q ↦ elim q [ inl r ↦ subst (λ w. dominates w z ≡ false) r (not-true (dominates x z) f.1) | inr n ↦ absurd n ] ]))) ])
+          | inl e ↦ (
+            member_append_right xs (x ∷ []) z (inl e),
+            (λ y n. elim (member_append_cases xs (x ∷ []) y n) [
+              | inl p ↦ subst (λ w. dominates y w ≡ false) e (not_dominated y x (λ d. uncovered (y, p, inr d)))
+              | inr q ↦ elim q [ inl r ↦ subst (λ w. dominates w z ≡ false) r (subst (λ w. dominates x w ≡ false) e (laws.irreflexive x)) | inr n ↦ absurd n ]
+            ]),
+          )
+          | inr k ↦ (let f = filter_member (λ w. not (dominates x w)) xs z k in (
+            member_append_left xs (x ∷ []) z f.0,
+            (λ y n. elim (member_append_cases xs (x ∷ []) y n) [
+              | inl p ↦ (pruned_member xs z (subst (λ l. Member l z) (sym live) f.0)).1 y p
+              | inr q ↦ elim q [ inl r ↦ subst (λ w. dominates w z ≡ false) r (not-true (dominates x z) f.1) | inr n ↦ absurd n ]
+            ]),
+          ))
+        ])
         (λ z m u. elim (member_append_cases xs (x ∷ []) z m) [
-            inl p ↦ member_placed_old cmp x (left_by x xs) z (member_filter (λ w. not (dominates x w)) xs z p (not_from_false (dominates x z) (u x (member_append_right xs (x ∷ []) x (inl refl)))))
-          | inr q ↦ elim q [ inl r ↦ subst (λ w. Member (placed cmp x (left_by x xs)) w) r (member_placed_new cmp x (left_by x xs) (left_free xs x uncovered)) | inr n ↦ absurd n ] ])
+          | inl p ↦ member_placed_old cmp x (left_by x xs) z (member_filter (λ w. not (dominates x w)) xs z p (not_from_false (dominates x z) (u x (member_append_right xs (x ∷ []) x (inl refl)))))
+          | inr q ↦ elim q [ inl r ↦ subst (λ w. Member (placed cmp x (left_by x xs)) w) r (member_placed_new cmp x (left_by x xs) (left_free xs x uncovered)) | inr n ↦ absurd n ]
+        ])
 
     -- ---- the new items of a list
 
@@ -240,7 +261,7 @@ module _ {X : Type 0} (dominates : X → X → Bool) where
           let P : Bool → Type 0 = λ b. list_any (λ y. covers y x) earlier ≡ b → CoversAll (base ++ cond b (new_after covers (earlier ++ x ∷ []) xs) (x ∷ new_after covers (earlier ++ x ∷ []) xs)) (x ∷ xs) in
           let rest = new_after covers (earlier ++ x ∷ []) xs in
           let each : (b : Bool) → P b = elim [
-              true ↦ λ e.
+            | true ↦ λ e.
                 let c = any_covers earlier x e in
                 let d = f c.0 c.1 in
                 let here : IsCovered base x = (d.0, d.1, covers_chain d.0 c.0 x d.2 c.2) in
@@ -250,7 +271,8 @@ module _ {X : Type 0} (dominates : X → X → Bool) where
             | false ↦ λ e.
                 let more = new_covers (base ++ x ∷ []) (earlier ++ x ∷ []) xs (covers_append base (x ∷ []) earlier (x ∷ []) f (covers_members (x ∷ []) (x ∷ []) (λ z m. m))) in
                 let shifted : CoversAll (base ++ (x ∷ rest)) xs = subst (λ l. CoversAll l xs) (append_assoc base (x ∷ []) rest) more in
-                λ z m. elim m [ inl q ↦ covered_append_right base (x ∷ rest) z (x, inl refl, inl q) | inr n ↦ shifted z n ] ] in
+                λ z m. elim m [ inl q ↦ covered_append_right base (x ∷ rest) z (x, inl refl, inl q) | inr n ↦ shifted z n ]
+          ] in
           each (list_any (λ y. covers y x) earlier) refl
 
       new_member : (earlier xs : List X) (z : X) → Member (new_after covers earlier xs) z → Member xs z
@@ -259,8 +281,9 @@ module _ {X : Type 0} (dominates : X → X → Bool) where
       new_member earlier (x ∷ xs) z m =
           let P : Bool → Type 0 = λ b. Member (cond b (new_after covers (earlier ++ x ∷ []) xs) (x ∷ new_after covers (earlier ++ x ∷ []) xs)) z → Member (x ∷ xs) z in
           let each : (b : Bool) → P b = elim [
-              true ↦ λ n. inr (new_member (earlier ++ x ∷ []) xs z n)
-            | false ↦ λ n. elim n [ inl q ↦ inl q | inr k ↦ inr (new_member (earlier ++ x ∷ []) xs z k) ] ] in
+            | true ↦ λ n. inr (new_member (earlier ++ x ∷ []) xs z n)
+            | false ↦ λ n. elim n [ inl q ↦ inl q | inr k ↦ inr (new_member (earlier ++ x ∷ []) xs z k) ]
+          ] in
           each (list_any (λ y. covers y x) earlier) m
 
       -- the new items keep what the list keeps

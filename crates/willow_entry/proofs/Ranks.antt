@@ -58,9 +58,10 @@ pub tie_from_tests : {X : Type 0} {cmp : X → X → Ordering} → IsTotalOrder 
 tie_from_tests {X} {cmp} total x y a b =
     let P : Ordering → Type 0 = λ o. cmp x y ≡ o → is_gt o ≡ false → is_gt (ordering_reverse o) ≡ false → o ≡ Equal in
     let each : (o : Ordering) → P o = elim [
-        Less ↦ λ e p q. absurd (false≢true (sym q))
+      | Less ↦ λ e p q. absurd (false≢true (sym q))
       | Equal ↦ λ e p q. refl
-      | Greater ↦ λ e p q. absurd (false≢true (sym p)) ] in
+      | Greater ↦ λ e p q. absurd (false≢true (sym p))
+    ] in
     each (cmp x y) refl a (ap is_gt (sym (total.antisymm y x)) ∙ b)
 
 -- above is a chain
@@ -91,18 +92,21 @@ above_nat : (x y : ℕ) → y < x → nat_cmp x y ≡ Greater
 above_nat x y h =
     let P : Ordering → Type 0 = λ o. MatchOrdering o (x < y) (x ≡ y) (y < x) → o ≡ Greater in
     let each : (o : Ordering) → P o = elim [
-        Less ↦ λ below. absurd (omega arith)
+      | Less ↦ λ below. absurd (omega arith)
       | Equal ↦ λ same. absurd (omega arith)
-      | Greater ↦ λ above. refl ] in
+      | Greater ↦ λ above. refl
+    ] in
     each (nat_cmp x y) (ranked x y (nat_cmp x y) refl)
 
 pub newer_from_rank : (e f : Entry) → rank_cmp e f ≡ Greater → IsNewer e f
 unfolding rank_cmp
 newer_from_rank e f h = elim (then_greater (nat_cmp e.timestamp f.timestamp) (ordering_then (bytes_cmp e.digest.0 f.digest.0) (nat_cmp e.length f.length)) h) [
-    inl a ↦ inl (nat_above e.timestamp f.timestamp a)
+  | inl a ↦ inl (nat_above e.timestamp f.timestamp a)
   | inr t ↦ elim (then_greater (bytes_cmp e.digest.0 f.digest.0) (nat_cmp e.length f.length) t.1) [
-      inl a ↦ inr (inl (nat_tie e.timestamp f.timestamp t.0, a))
-    | inr d ↦ inr (inr (nat_tie e.timestamp f.timestamp t.0, bytes_tie e.digest.0 f.digest.0 d.0, nat_above e.length f.length d.1)) ] ]
+    | inl a ↦ inr (inl (nat_tie e.timestamp f.timestamp t.0, a))
+    | inr d ↦ inr (inr (nat_tie e.timestamp f.timestamp t.0, bytes_tie e.digest.0 f.digest.0 d.0, nat_above e.length f.length d.1))
+  ]
+]
 
 pub rank_from_newer : (e f : Entry) → IsNewer e f → rank_cmp e f ≡ Greater
 unfolding rank_cmp
@@ -128,16 +132,16 @@ same_from_test e f h =
     let d = and_parts (e.timestamp == f.timestamp) _ c.1 in
     let l = and_parts (e.length == f.length) _ d.1 in
     entry_same e f ((bytes_decides _ _).0 a.0) ((bytes_decides _ _).0 b.0) ((pointwise_decides bytes_decides _ _).0 c.0)
-      (eqb-true e.timestamp f.timestamp d.0) (eqb-true e.length f.length l.0) ((bytes_decides _ _).0 l.1)
+    (eqb-true e.timestamp f.timestamp d.0) (eqb-true e.length f.length l.0) ((bytes_decides _ _).0 l.1)
 
 pub same_as_itself : (e : Entry) → same_entry e e ≡ true
 unfolding same_entry
 same_as_itself e =
     and_from _ _ ((bytes_decides e.namespace e.namespace).1 refl)
-      (and_from _ _ ((bytes_decides e.subspace e.subspace).1 refl)
-        (and_from _ _ ((pointwise_decides bytes_decides e.path e.path).1 refl)
-          (and_from _ _ (eq-eqb e.timestamp e.timestamp refl)
-            (and_from _ _ (eq-eqb e.length e.length refl) ((bytes_decides e.digest.0 e.digest.0).1 refl)))))
+    (and_from _ _ ((bytes_decides e.subspace e.subspace).1 refl)
+    (and_from _ _ ((pointwise_decides bytes_decides e.path e.path).1 refl)
+    (and_from _ _ (eq-eqb e.timestamp e.timestamp refl)
+    (and_from _ _ (eq-eqb e.length e.length refl) ((bytes_decides e.digest.0 e.digest.0).1 refl)))))
 
 pub same_entry_decides : (e f : Entry) → Decides (same_entry e f) (e ≡ f)
 same_entry_decides e f = (same_from_test e f, λ h. ap (λ g. same_entry e g) (sym h) ∙ same_as_itself e)

@@ -26,9 +26,10 @@ module _ {X : Type 0} (cmp : X → X → Ordering) where
   member_from_placed x (y ∷ ys) z h =
       let P : Ordering → Type 0 = λ o. Member (match_ordering o (x ∷ y ∷ ys) (y ∷ ys) (y ∷ placed cmp x ys)) z → (x ≡ z) ⊎ Member (y ∷ ys) z in
       let each : (o : Ordering) → P o = elim [
-          Less ↦ λ m. m
+        | Less ↦ λ m. m
         | Equal ↦ λ m. inr m
-        | Greater ↦ λ m. elim m [ inl e ↦ inr (inl e) | inr n ↦ elim (member_from_placed x ys z n) [ inl e ↦ inl e | inr k ↦ inr (inr k) ] ] ] in
+        | Greater ↦ λ m. elim m [ inl e ↦ inr (inl e) | inr n ↦ elim (member_from_placed x ys z n) [ inl e ↦ inl e | inr k ↦ inr (inr k) ] ]
+      ] in
       each (cmp x y) h
 
   pub member_placed_old : (x : X) (ys : List X) (z : X) → Member ys z → Member (placed cmp x ys) z
@@ -36,9 +37,10 @@ module _ {X : Type 0} (cmp : X → X → Ordering) where
   member_placed_old x (y ∷ ys) z h =
       let P : Ordering → Type 0 = λ o. Member (match_ordering o (x ∷ y ∷ ys) (y ∷ ys) (y ∷ placed cmp x ys)) z in
       let each : (o : Ordering) → P o = elim [
-          Less ↦ inr h
+        | Less ↦ inr h
         | Equal ↦ h
-        | Greater ↦ elim h [ inl e ↦ inl e | inr n ↦ inr (member_placed_old x ys z n) ] ] in
+        | Greater ↦ elim h [ inl e ↦ inl e | inr n ↦ inr (member_placed_old x ys z n) ]
+      ] in
       each (cmp x y)
 
   pub member_placed_new : (x : X) (ys : List X) → IsFree x ys → Member (placed cmp x ys) x
@@ -46,9 +48,10 @@ module _ {X : Type 0} (cmp : X → X → Ordering) where
   member_placed_new x (y ∷ ys) free =
       let P : Ordering → Type 0 = λ o. cmp x y ≡ o → Member (match_ordering o (x ∷ y ∷ ys) (y ∷ ys) (y ∷ placed cmp x ys)) x in
       let each : (o : Ordering) → P o = elim [
-          Less ↦ λ e. inl refl
+        | Less ↦ λ e. inl refl
         | Equal ↦ λ e. inl (sym (free y (inl refl) e))
-        | Greater ↦ λ e. inr (member_placed_new x ys (λ z m. free z (inr m))) ] in
+        | Greater ↦ λ e. inr (member_placed_new x ys (λ z m. free z (inr m)))
+      ] in
       each (cmp x y) refl
 
   -- ---- the order of what is placed
@@ -58,9 +61,10 @@ module _ {X : Type 0} (cmp : X → X → Ordering) where
   all_placed P x (y ∷ ys) p all =
       let Q : Ordering → Type 0 = λ o. AllByRecursion P (match_ordering o (x ∷ y ∷ ys) (y ∷ ys) (y ∷ placed cmp x ys)) in
       let each : (o : Ordering) → Q o = elim [
-          Less ↦ (p, all)
+        | Less ↦ (p, all)
         | Equal ↦ all
-        | Greater ↦ (all.0, all_placed P x ys p all.1) ] in
+        | Greater ↦ (all.0, all_placed P x ys p all.1)
+      ] in
       each (cmp x y)
 
   all_weaker : (P Q : X → Type 0) → ((x : X) → P x → Q x) → (ys : List X) → AllByRecursion P ys → AllByRecursion Q ys
@@ -92,9 +96,10 @@ module _ {X : Type 0} (cmp : X → X → Ordering) where
     placed-rises x (y ∷ ys) up =
         let P : Ordering → Type 0 = λ o. cmp x y ≡ o → IsStrictlySortedBy cmp (match_ordering o (x ∷ y ∷ ys) (y ∷ ys) (y ∷ placed cmp x ys)) in
         let each : (o : Ordering) → P o = elim [
-            Less ↦ λ e. ((e, all_weaker (λ z. cmp y z ≡ Less) (λ z. cmp x z ≡ Less) (λ z f. total.trans x y z e f) ys up.0), up)
+          | Less ↦ λ e. ((e, all_weaker (λ z. cmp y z ≡ Less) (λ z. cmp x z ≡ Less) (λ z f. total.trans x y z e f) ys up.0), up)
           | Equal ↦ λ e. up
-          | Greater ↦ λ e. (all_placed (λ z. cmp y z ≡ Less) x ys (turned x y e) up.0, placed-rises x ys up.1) ] in
+          | Greater ↦ λ e. (all_placed (λ z. cmp y z ≡ Less) x ys (turned x y e) up.0, placed-rises x ys up.1)
+        ] in
         each (cmp x y) refl
 
     pub rising-rises : (xs : List X) → IsStrictlySortedBy cmp (rising cmp xs)
@@ -115,10 +120,12 @@ module _ {X : Type 0} (cmp : X → X → Ordering) where
     same_rising (x ∷ xs) [] up vp f g = absurd (f x (inl refl))
     same_rising (x ∷ xs) (y ∷ ys) up vp f g =
         let head : x ≡ y = elim (f x (inl refl)) [
-            inl e ↦ sym e
+          | inl e ↦ sym e
           | inr m ↦ elim (g y (inl refl)) [
-              inl e ↦ e
-            | inr n ↦ absurd (not_both_below x y (all_member (λ z. cmp x z ≡ Less) xs up.0 y n) (all_member (λ z. cmp y z ≡ Less) ys vp.0 x m)) ] ] in
+            | inl e ↦ e
+            | inr n ↦ absurd (not_both_below x y (all_member (λ z. cmp x z ≡ Less) xs up.0 y n) (all_member (λ z. cmp y z ≡ Less) ys vp.0 x m))
+          ]
+        ] in
         let F : (z : X) → Member (x ∷ xs) z → Member (x ∷ ys) z = subst (λ w. (z : X) → Member (x ∷ xs) z → Member (w ∷ ys) z) (sym head) f in
         let G : (z : X) → Member (x ∷ ys) z → Member (x ∷ xs) z = subst (λ w. (z : X) → Member (w ∷ ys) z → Member (x ∷ xs) z) (sym head) g in
         let below : AllByRecursion (λ z. cmp x z ≡ Less) ys = subst (λ w. AllByRecursion (λ z. cmp w z ≡ Less) ys) (sym head) vp.0 in

@@ -25,9 +25,10 @@ unfolding is_stronger
 stronger_decides r s = (there, back) where
   there : is_stronger r s ≡ true → IsStronger r s
   there e = elim (or_cases (is_newer r.entry s.entry) (same_entry r.entry s.entry && is_gt (bytes_cmp r.token s.token)) e) [
-      inl n ↦ inl ((newer_decides r.entry s.entry).0 n)
+    | inl n ↦ inl ((newer_decides r.entry s.entry).0 n)
     | inr t ↦ (let b = and_parts (same_entry r.entry s.entry) (is_gt (bytes_cmp r.token s.token)) t in
-        inr ((same_entry_decides r.entry s.entry).0 b.0, greater_from_test (bytes_cmp r.token s.token) b.1)) ]
+        inr ((same_entry_decides r.entry s.entry).0 b.0, greater_from_test (bytes_cmp r.token s.token) b.1))
+  ]
 
   back : IsStronger r s → is_stronger r s ≡ true
   back (inl n) = or_left (is_newer r.entry s.entry) (same_entry r.entry s.entry && is_gt (bytes_cmp r.token s.token)) ((newer_decides r.entry s.entry).1 n)
@@ -64,8 +65,8 @@ dominates_decides r s = (there, back) where
   back : Dominates r s → is_dominating r s ≡ true
   back d =
       and_from (same_bytes r.entry.namespace s.entry.namespace) _ ((bytes_decides r.entry.namespace s.entry.namespace).1 d.namespace)
-        (and_from (same_bytes r.entry.subspace s.entry.subspace) _ ((bytes_decides r.entry.subspace s.entry.subspace).1 d.subspace)
-          (and_from (is_prefix r.entry.path s.entry.path) (is_stronger r s) ((is_prefix_decides r.entry.path s.entry.path).1 d.path) ((stronger_decides r s).1 d.stronger)))
+      (and_from (same_bytes r.entry.subspace s.entry.subspace) _ ((bytes_decides r.entry.subspace s.entry.subspace).1 d.subspace)
+      (and_from (is_prefix r.entry.path s.entry.path) (is_stronger r s) ((is_prefix_decides r.entry.path s.entry.path).1 d.path) ((stronger_decides r s).1 d.stronger)))
 
 pub dominates_not_itself : (r : RowValue) → Dominates r r → ⊥
 dominates_not_itself r d = not_stronger_itself r d.stronger
@@ -125,8 +126,9 @@ not_stronger_token : (r s : RowValue) → is_stronger r s ≡ false → r.entry 
 unfolding is_stronger
 not_stronger_token r s e same =
     elim (and_cases (same_entry r.entry s.entry) (is_gt (bytes_cmp r.token s.token)) (or_parts (is_newer r.entry s.entry) (same_entry r.entry s.entry && is_gt (bytes_cmp r.token s.token)) e).1) [
-      inl f ↦ absurd (both_ways (same_entry r.entry s.entry) f ((same_entry_decides r.entry s.entry).1 same))
-    | inr t ↦ t ]
+      | inl f ↦ absurd (both_ways (same_entry r.entry s.entry) f ((same_entry_decides r.entry s.entry).1 same))
+      | inr t ↦ t
+    ]
 
 -- at one place only strength decides
 not_stronger_there : (r s : RowValue) → place_cmp r s ≡ Equal → is_dominating r s ≡ false → is_stronger r s ≡ false
@@ -176,8 +178,9 @@ IsLive-live rows = record {
   is_rising = pruned-rises is_dominating place_cmp rows_prune rows;
   members = λ r. (
     (λ c. let k = pruned_member is_dominating place_cmp rows_prune rows r (member_from_contains (live rows) r c) in
-      (contains_from_member rows r k.0, rows_undominated rows r k.1)),
-    (λ k. contains_from_member (live rows) r (member_pruned is_dominating place_cmp rows_prune rows r (member_from_contains rows r k.0) (undominated_rows rows r k.1))));
+        (contains_from_member rows r k.0, rows_undominated rows r k.1)),
+    (λ k. contains_from_member (live rows) r (member_pruned is_dominating place_cmp rows_prune rows r (member_from_contains rows r k.0) (undominated_rows rows r k.1))),
+  );
 }
 
 -- only the live rows are so

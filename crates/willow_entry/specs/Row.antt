@@ -41,7 +41,7 @@ is_covering r s = same_row r s || is_dominating r s
 unfoldable pub place_cmp : RowValue → RowValue → Ordering
 place_cmp r s =
     ordering_then (bytes_cmp r.entry.namespace s.entry.namespace)
-      (ordering_then (bytes_cmp r.entry.subspace s.entry.subspace) (path_cmp r.entry.path s.entry.path))
+    (ordering_then (bytes_cmp r.entry.subspace s.entry.subspace) (path_cmp r.entry.path s.entry.path))
 
 -- the rows that no row of the list dominates, each once, by rising place
 abbrev pub live : List RowValue → List RowValue

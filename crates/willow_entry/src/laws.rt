@@ -17,41 +17,36 @@ pub fn newer()
     ensures means { (e f : Entry) → IsTrue (is_newer e f) ↔ IsNewer e f }
     ensures irreflexive { (e : Entry) → IsNewer e e → ⊥ }
     ensures transitive { (e f g : Entry) → IsNewer e f → IsNewer f g → IsNewer e g }
-{
-}
+{}
 
 /// Domination is a strict order of rows.
 pub fn domination()
     ensures means { (r s : RowValue) → IsTrue (is_dominating r s) ↔ Dominates r s }
     ensures irreflexive { (r : RowValue) → Dominates r r → ⊥ }
     ensures transitive { (r s t : RowValue) → Dominates r s → Dominates s t → Dominates r t }
-{
-}
+{}
 
 /// A row covers itself and what it dominates.
 pub fn covering()
     ensures same { (r s : RowValue) → IsTrue (same_row r s) ↔ (r ≡ s) }
     ensures means { (r s : RowValue) → IsTrue (is_covering r s) ↔ ((r ≡ s) ⊎ Dominates r s) }
     ensures live { (rows : List RowValue) (r : RowValue) → Contains rows r → HasCovering (live rows) r }
-{
-}
+{}
 
 /// Rows are ordered by namespace, subspace and path. Within one namespace that is by subspace and path.
 pub fn places()
     ensures total { IsTotalOrder place_cmp }
     ensures in_one_namespace { (r s : RowValue) → r.entry.namespace ≡ s.entry.namespace
         → place_cmp r s ≡ ordering_then (bytes_cmp r.entry.subspace s.entry.subspace)
-            (path_cmp r.entry.path s.entry.path) }
-{
-}
+        (path_cmp r.entry.path s.entry.path) }
+{}
 
 /// The live rows are just the undominated ones, each once, by strictly rising places; and nothing else is.
 pub fn liveness()
     ensures holds { (rows : List RowValue) → IsLive rows (live rows) }
     ensures only { (rows kept : List RowValue) → IsLive rows kept → kept ≡ live rows }
     ensures settled { (rows : List RowValue) → live (live rows) ≡ live rows }
-{
-}
+{}
 
 /// What is live does not rest on the order of the rows, nor on how often each stands there.
 pub fn order_is_free()
@@ -61,8 +56,7 @@ pub fn order_is_free()
     ensures covering { (xs ys : List RowValue)
         → ((r : RowValue) → Contains ys r → HasCovering xs r)
         → ((r : RowValue) → Contains xs r → HasCovering ys r) → live xs ≡ live ys }
-{
-}
+{}
 
 /// To prune early changes nothing, and what follows a front covers what is live of it.
 pub fn pruning_early()
@@ -72,16 +66,14 @@ pub fn pruning_early()
         → Contains (live front) r → HasCovering (front ++ back) r }
     ensures live_front { (front back : List RowValue) (r : RowValue)
         → Contains (live front) r → HasCovering (live (front ++ back)) r }
-{
-}
+{}
 
 /// A join keeps what is live of two sets of rows.
 pub fn joins()
     ensures commutative { (xs ys : List RowValue) → join xs ys ≡ join ys xs }
     ensures associative { (xs ys zs : List RowValue) → join (join xs ys) zs ≡ join xs (join ys zs) }
     ensures idempotent { (xs : List RowValue) → live xs ≡ xs → join xs xs ≡ xs }
-{
-}
+{}
 
 /// An entry within its limits has one spelling, and no spelling of an entry begins another. A body is that of
 /// one row.
@@ -89,5 +81,4 @@ pub fn one_spelling()
     ensures entry { IsForm entry_spelling IsEntry }
     ensures body { (r s : RowValue) → IsEntry r.entry → IsEntry s.entry
         → row_body r ≡ row_body s → r ≡ s }
-{
-}
+{}

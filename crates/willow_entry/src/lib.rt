@@ -16,3 +16,6 @@ pub use entry_codec::read_entry;
 pub use placed::Placed;
 pub use row::{LogRow, Row, SharedRow, by_place, cover, covers, dominates, same};
 pub use row_form::RowForm;
+
+#[cfg(test)]
+mod tests;

@@ -51,7 +51,9 @@ pub fn dominates<R: Row>(r: &R, s: &R) -> bool
 fn is_stronger<R: Row>(r: &R, s: &R) -> bool
     ensures { result ≡ is_stronger (R.value r.now) (R.value s.now) }
 {
-    newer(r.entry(), s.entry()) || same_entry(r.entry(), s.entry()) && r.token_bytes().cmp(s.token_bytes()) == Ordering::Greater
+    newer(r.entry(), s.entry())
+        || same_entry(r.entry(), s.entry())
+            && r.token_bytes().cmp(s.token_bytes()) == Ordering::Greater
 }
 
 /// Whether r and s have the same entry and the same token.

@@ -13,39 +13,34 @@ fn path_of(alloc: Global, parts: &[&[u8]]) -> Option<Path> {
     Some(path)
 }
 
-// Whether the successor of the path of these components is the path of the others.
-fn leads_to(alloc: Global, parts: &[&[u8]], want: Option<&[&[u8]]>) -> Option<bool> {
-    let found = path_of(alloc, parts)?.after_prefixed().ok()?;
-    match want {
-        Some(parts) => Some(found == Some(path_of(alloc, parts)?)),
-        None => Some(found.is_none()),
+// The path of so many components of 255 bytes 61 and the last one.
+fn behind_long(alloc: Global, count: usize, last: &[u8]) -> Option<Path> {
+    let mut path = Path::empty(alloc);
+    for _ in 0..count {
+        path.push(&[0x61; 255]).ok()?;
     }
+    path.push(last).ok()?;
+    Some(path)
 }
 
 #[test]
-fn successors_of_paths(rt: HostRuntime) {
-    let alloc = rt.alloc();
-    let low = [0x61u8; 255];
-    let full = [0xffu8; 255];
-    let (a, a0, low, full) = (
-        b"a".as_slice(),
-        b"a\0".as_slice(),
-        low.as_slice(),
-        full.as_slice(),
-    );
-    let (last, next) = (b"b\xff\xff\xff".as_slice(), b"c".as_slice());
-    assert_eq!(rt; leads_to(alloc, &[], None), Some(true));
-    assert_eq!(rt; leads_to(alloc, &[a], Some(&[a0])), Some(true));
-    assert_eq!(rt; leads_to(alloc, &[full], None), Some(true));
-    assert_eq!(rt; leads_to(alloc, &[a, full], Some(&[a0])), Some(true));
-    assert_eq!(rt;
-        leads_to(
-            alloc,
-            &[low, low, low, low, last],
-            Some(&[low, low, low, low, next])
-        ),
-        Some(true)
-    );
+fn successors_of_paths(rt: HostRuntime) -> Result<(), Fail> {
+    let mut path = Path::empty(rt.alloc());
+    assert!(rt; path.after_prefixed() == Ok(None));
+    path.push(b"a").ok().ok_or("there is room")?;
+    let raised = behind_long(rt.alloc(), 0, b"a\0").ok_or("a path")?;
+    let found = path.after_prefixed().ok().ok_or("there is memory")?;
+    assert!(rt; found.ok_or("a path")? == raised);
+    path.push(&[0xff; 255]).ok().ok_or("there is room")?;
+    let found = path.after_prefixed().ok().ok_or("there is memory")?;
+    assert!(rt; found.ok_or("a path")? == raised);
+    let greatest = behind_long(rt.alloc(), 0, &[0xff; 255]).ok_or("a path")?;
+    assert!(rt; greatest.after_prefixed() == Ok(None));
+    let longest = behind_long(rt.alloc(), 4, b"b\xff\xff\xff").ok_or("a path")?;
+    let found = longest.after_prefixed().ok().ok_or("there is memory")?;
+    let cut = behind_long(rt.alloc(), 4, b"c").ok_or("a path")?;
+    assert!(rt; found.ok_or("a path")? == cut);
+    Ok(())
 }
 
 #[test]

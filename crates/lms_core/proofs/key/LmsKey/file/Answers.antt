@@ -1,4 +1,4 @@
-use Rattle.lms_core.proofs.Given.{file_by_steps}
+use Rattle.lms_core.proofs.Files.{file_by_steps}
 use Rattle.lms_core.proofs.key.LmsKey.file.Goals as goal
 
 pub returns : goal.returns

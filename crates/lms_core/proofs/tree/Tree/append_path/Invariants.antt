@@ -9,4 +9,5 @@ invariant-levels l = record {
   upto : l.node < 2 * 2 ^ (levels l.self.height - l.level);
   value : l.reached ≡ node_value l.self.height l.self.identifier l.self.seed l.level l.node;
   path : l.path.items ++ path_of l.self.height l.self.identifier l.self.seed l.level l.node (levels l.self.height - l.level)
-      ≡ l.initial.path.items ++ path_of l.self.height l.self.identifier l.self.seed 0 (leaves l.self.height + l.index) (levels l.self.height) }
+      ≡ l.initial.path.items ++ path_of l.self.height l.self.identifier l.self.seed 0 (leaves l.self.height + l.index) (levels l.self.height);
+}

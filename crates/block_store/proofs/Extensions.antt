@@ -1,0 +1,65 @@
+-- The rows that a row dominates stand in one run from its place on.
+use Rattle.std.proofs.Common.{◌≡◌, ℕ, zero, suc, ◌+◌, ◌≤◌, ◌<◌, Bool, true, false, not, List, [], ◌∷◌, ◌++◌, length, take, drop, map, get_or, refl, sym, ap, ◌∙◌, subst, Ordering, Less, Equal, Greater, is_lt, is_gt, arith, ap₂, insert, count_by}
+use Rattle.std.specs.List.{AllByRecursion}
+use Rattle.std.specs.List.Sorted.{IsStrictlySortedBy, IsPartitionPoint, IsPartitionedBy}
+use Rattle.std.specs.Ordering.{ordering_reverse}
+use Rattle.std.proofs.lemmas.Bool.{false≢true, both_ways, false_from_ne_true}
+use Rattle.std.proofs.Math.Seq.{take-append_seam, drop-append_seam}
+use Rattle.std.proofs.lemmas.List.{take-append-drop, length-take-le}
+use Rattle.std.proofs.lemmas.List.Elements.{filter-append}
+use Rattle.std.proofs.lemmas.List.Sums.{length-filter}
+use Rattle.std.proofs.lemmas.List.Filters.{length-filter_both}
+use Rattle.willow_entry.specs.Row.{RowValue, is_at_prefix, is_dominating, place_cmp, IsRising, HasCovering, live}
+use Rattle.willow_entry.proofs.Members.{filter_member}
+use Rattle.willow_entry.proofs.Rising.{all_member, all_from_members}
+use Rattle.willow_entry.proofs.Ranks.{place_total}
+use Rattle.willow_entry.proofs.Local.{at_prefix, at_prefix_test, dominated_at_prefix, at_prefix_not_above, between_at_prefix, left_of, keeps_all, not_below}
+use Rattle.willow_entry.proofs.Between.{IsPlace, all_from, all_at, live-between}
+
+-- no extension of r comes after what is none
+pub extensions_partitioned : (r : RowValue) {Y : Type 0} (f : Y → RowValue) (ys : List Y) → IsRising (map f ys) → AllByRecursion (λ s. is_lt (place_cmp s r) ≡ false) (map f ys) → IsPartitionedBy (λ y. is_at_prefix r (f y)) ys
+unfolding IsStrictlySortedBy
+extensions_partitioned r f [] up beyond i j d le lt e = absurd (omega arith)
+extensions_partitioned r f (y ∷ ys) up beyond zero zero d le lt e = e
+extensions_partitioned r f (y ∷ ys) up beyond zero (suc j) d le lt e =
+    let s = f (get_or ys j d) in
+    at_prefix_test r (f y) (between_at_prefix r (f y) s (at_prefix r s e) (not_below r (f y) beyond.0)
+      (ap is_gt (all_at f (λ z. place_cmp (f y) z ≡ Less) ys up.0 j d (omega arith))))
+extensions_partitioned r f (y ∷ ys) up beyond (suc i) zero d le lt e = absurd (omega arith)
+extensions_partitioned r f (y ∷ ys) up beyond (suc i) (suc j) d le lt e = extensions_partitioned r f ys up.1 beyond.1 i j d (omega arith) (omega arith) e
+
+-- what is no extension of r is not dominated, so it stays
+pub others_stay : (r : RowValue) (rows : List RowValue) → AllByRecursion (λ s. is_at_prefix r s ≡ false) rows → left_of r rows ≡ rows
+others_stay r rows none = keeps_all r rows (λ s m. false_from_ne_true (is_dominating r s) (λ d.
+    both_ways (is_at_prefix r s) (all_member place_cmp (λ t. is_at_prefix r t ≡ false) rows none s m) (dominated_at_prefix r s d)))
+
+-- and so does what is below r
+pub below_stays : (r : RowValue) (rows : List RowValue) → AllByRecursion (λ s. place_cmp s r ≡ Less) rows → left_of r rows ≡ rows
+below_stays r rows below = keeps_all r rows (λ s m. false_from_ne_true (is_dominating r s) (λ d.
+    let less = all_member place_cmp (λ t. place_cmp t r ≡ Less) rows below s m in
+    false≢true (sym (at_prefix_not_above r s (at_prefix r s (dominated_at_prefix r s d))) ∙ ap is_gt (place_total.antisymm r s ∙ ap ordering_reverse less))))
+
+-- ---- one more row
+
+module _ (rows : List RowValue) (r : RowValue) (at : ℕ) (place : IsPlace place_cmp r rows at) where
+  -- what r leaves: the rows below it, and what it leaves of the others
+  left_parts : left_of r rows ≡ take at rows ++ left_of r (drop at rows)
+  left_parts =
+      ap (left_of r) (sym (take-append-drop at rows))
+      ∙ filter-append (λ s. not (is_dominating r s)) (take at rows) (drop at rows)
+      ∙ ap (λ l. l ++ left_of r (drop at rows)) (below_stays r (take at rows) place.below)
+
+  pub pruned_count : length (take at rows ++ left_of r (drop at rows)) + count_by (is_dominating r) rows ≡ length rows
+  pruned_count = omega (arith, ap length left_parts, length-filter (is_dominating r) rows, length-filter_both (is_dominating r) (λ s. not (is_dominating r s)) (λ s. refl) rows)
+
+  -- an uncovered row goes to its place among what it leaves
+  pub live-with_room : live rows ≡ rows → (HasCovering rows r → ⊥) → at ≤ length rows → insert (take at rows ++ left_of r (drop at rows)) at r ≡ live (rows ++ r ∷ [])
+  live-with_room is_live uncovered within =
+      let long : length (take at rows) ≡ at = length-take-le at rows within in
+      let after = left_of r (drop at rows) in
+      let beyond : AllByRecursion (λ s. is_lt (place_cmp s r) ≡ false) after = all_from_members place_cmp (λ s. is_lt (place_cmp s r) ≡ false) after (λ s m.
+          all_member place_cmp (λ t. is_lt (place_cmp t r) ≡ false) (drop at rows) place.beyond s (filter_member (λ t. not (is_dominating r t)) (drop at rows) s m).0) in
+      ap₂ (λ a b. a ++ r ∷ b)
+        (ap (λ n. take n (take at rows ++ after)) (sym long) ∙ take-append_seam (take at rows) after)
+        (ap (λ n. drop n (take at rows ++ after)) (sym long) ∙ drop-append_seam (take at rows) after)
+      ∙ live-between rows r is_live uncovered (take at rows) after left_parts place.below beyond

@@ -1,0 +1,6 @@
+mod Fronts
+mod Covered
+mod Extensions
+mod Removing
+mod Positions
+mod Copies

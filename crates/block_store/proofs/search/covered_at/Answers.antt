@@ -1,0 +1,26 @@
+use Rattle.std.proofs.Common.{rules, ◌≡◌, ◌+◌, length, map, sym, ap, ◌∙◌, subst, arith, Global}
+use Rattle.std.specs.declared.sync.Arc.{Arc}
+use Rattle.willow_entry.specs.Row.{RowValue}
+use Rattle.block_store.proofs.Covered.{ReachFrom, from_start, found_at, passed_at, none_left}
+use Rattle.block_store.proofs.search.covered_at.Goals as goal
+
+pub returns-then-is_covered_at : goal.returns-then-is_covered_at
+returns-then-is_covered_at g c =
+    let r = g.R.Row.value c.args.row.now in
+    let found = c.is_covered_at.ensures.found c.if-is_covered_at.true in
+    sym (found_at _ r c.loop-count.count c.place-at.result c.loop-count.invariant c.place-at.ensures.place found.0 found.1)
+
+pub loop-count-preserved : goal.loop-count-preserved
+loop-count-preserved g c =
+    passed_at _ _ c.loop-count.count c.place-at.result c.loop-count.invariant c.place-at.ensures.place c.requires
+      (c.is_covered_at.ensures.not_found c.if-is_covered_at.false)
+
+pub returns-else-is_covered_at : goal.returns-else-is_covered_at
+returns-else-is_covered_at g c =
+    let value : Arc g.row.R.Denot Global → RowValue = λ a. g.R.Row.value a.value in
+    let rows = map value c.args.rows.now in
+    let r = g.R.Row.value c.args.row.now in
+    let last : c.loop-count.count ≡ length r.entry.path = omega (arith, ap (λ e. length e.path) c.entry.ensures.entry) in
+    let passed = passed_at _ r c.loop-count.count c.place-at.result c.loop-count.invariant c.place-at.ensures.place c.requires
+      (c.is_covered_at.ensures.not_found c.if-is_covered_at.false) in
+    sym (none_left rows r (subst (λ k. ReachFrom rows r (k + 1)) last passed))

@@ -1,0 +1,193 @@
+//! The store: live rows by rising place, each behind an `Arc`, so that a snapshot copies no row.
+
+ghost use Rattle.std.specs.Prelude.{◌≡◌, ℕ, ◌+◌, ◌-◌, ◌^◌, ◌<◌, ◌≤◌, [], ◌∷◌, ◌++◌, length, map, take, drop, count_by, position, slice_get, OnOk, OnErr, IfOk, IfSome, IfNone, MatchOption, vec_len, vec_capacity};
+ghost use Rattle.willow_entry.specs.Row.{RowValue, IsRising, HasCovering, IsCoveringAt, is_dominating, is_covering, place_cmp, live};
+ghost use Rattle.willow_entry.specs.Placed.{IsPlaced};
+ghost use Rattle.willow_entry.proofs.Local.{left_of};
+ghost use Rattle.willow_entry.proofs.Between.{IsPlace};
+ghost use Rattle.block_store.specs.Positions.{positions};
+
+use crate::search::{cover, own_place, run_end};
+use crate::shared::row_at;
+use crate::snapshot::{Snapshot, snapshot_of};
+use std::alloc::Global;
+use std::marker::Model;
+use std::sync::Arc;
+use willow_entry::{Placed, Row, dominates};
+use willow_path::NoMemory;
+
+// Removes the rows from `at` on that the row dominates. From `end` on there are none.
+fn remove_dominated<R: Row>(rows: &mut Vec<Arc<R>>, row: &R, at: usize, end: usize)
+    requires from { at ≤ end }
+    requires within { end ≤ vec_len rows.old }
+    requires stays { left_of (R.value row.now) (drop end (map (λ a. R.value a.value) rows.old.items)) ≡ drop end (map (λ a. R.value a.value) rows.old.items) }
+    ensures left { map (λ a. R.value a.value) rows.new.items ≡ take at (map (λ a. R.value a.value) rows.old.items) ++ left_of (R.value row.now) (drop at (map (λ a. R.value a.value) rows.old.items)) }
+    ensures fewer { vec_len rows.new ≤ vec_len rows.old }
+    ensures enough { at ≤ vec_len rows.new }
+    ensures capacity { vec_capacity rows.new ≡ vec_capacity rows.old }
+{
+    let mut i = end;
+    while i > at {
+        i -= 1;
+        if dominates(row, &*rows[i]) {
+            rows.remove(i);
+        }
+    }
+}
+
+// Removes the rows that the row dominates, and answers its place.
+fn make_room<R: Row>(rows: &mut Vec<Arc<R>>, row: &R) -> usize
+    requires { IsRising (map (λ a. R.value a.value) rows.old.items) }
+    ensures place { IsPlace place_cmp (R.value row.now) (map (λ a. R.value a.value) rows.old.items) result }
+    ensures left { map (λ a. R.value a.value) rows.new.items ≡ take result (map (λ a. R.value a.value) rows.old.items) ++ left_of (R.value row.now) (drop result (map (λ a. R.value a.value) rows.old.items)) }
+    ensures fewer { vec_len rows.new ≤ vec_len rows.old }
+    ensures enough { result ≤ vec_len rows.new }
+    ensures capacity { vec_capacity rows.new ≡ vec_capacity rows.old }
+{
+    let at = own_place(rows, row);
+    let end = run_end(rows, row, at);
+    remove_dominated(rows, row, at, end);
+    at
+}
+
+// Puts an uncovered row in its place among the live rows that it does not dominate, and counts the others.
+fn put<R: Row>(rows: &mut Vec<Arc<R>>, row: R) -> Result<usize, NoMemory>
+    requires is_live { live (map (λ a. R.value a.value) rows.old.items) ≡ map (λ a. R.value a.value) rows.old.items }
+    requires uncovered { HasCovering (map (λ a. R.value a.value) rows.old.items) (R.value row) → ⊥ }
+    ensures rows { OnOk result (map (λ a. R.value a.value) rows.new.items ≡ live (map (λ a. R.value a.value) rows.old.items ++ R.value row ∷ [])) }
+    ensures pruned { IfOk result (λ pruned. pruned ≡ count_by (λ s. is_dominating (R.value row) s) (map (λ a. R.value a.value) rows.old.items)) }
+    ensures fits { IfOk result (λ pruned. pruned ≤ vec_len rows.old) }
+    ensures few { vec_len rows.new ≤ vec_len rows.old + 1 }
+    ensures is_live { live (map (λ a. R.value a.value) rows.new.items) ≡ map (λ a. R.value a.value) rows.new.items }
+    ensures err { OnErr result (rows.new.items ≡ rows.old.items) }
+{
+    rows.reserve(1)?;
+    let held = Arc::new(*rows.allocator(), row)?;
+    let before = rows.len();
+    let at = make_room(rows, &*held);
+    let pruned = before - rows.len();
+    rows.insert(at, held)?;
+    Ok(pruned)
+}
+
+// Keeps the rows where one of them covers the new row, and else puts it in its place.
+fn offer<R: Row>(rows: &mut Vec<Arc<R>>, row: R) -> Result<Placed, NoMemory>
+    requires is_live { live (map (λ a. R.value a.value) rows.old.items) ≡ map (λ a. R.value a.value) rows.old.items }
+    requires room { vec_len rows.old < 2 ^ 32 - 1 }
+    ensures rows { OnOk result (map (λ a. R.value a.value) rows.new.items ≡ live (map (λ a. R.value a.value) rows.old.items ++ R.value row ∷ [])) }
+    ensures placed { IfOk result (λ placed. IsPlaced (map (λ a. R.value a.value) rows.old.items) (R.value row) placed) }
+    ensures few { vec_len rows.new ≤ vec_len rows.old + 1 }
+    ensures is_live { live (map (λ a. R.value a.value) rows.new.items) ≡ map (λ a. R.value a.value) rows.new.items }
+    ensures err { OnErr result (rows.new.items ≡ rows.old.items) }
+{
+    match cover(rows, &row) {
+        Some(by) => Ok(Placed::Kept { by: by as u32 }),
+        None => {
+            let pruned = put(rows, row)?;
+            Ok(Placed::Stored {
+                pruned: pruned as u32,
+            })
+        }
+    }
+}
+
+// The positions, rising, of the rows that the row dominates.
+fn dominated<R: Row>(alloc: Global, rows: &[Arc<R>], row: &R) -> Result<Vec<u32>, NoMemory>
+    requires rising { IsRising (map (λ a. R.value a.value) rows.now) }
+    requires few { length rows.now < 2 ^ 32 }
+    ensures { IfOk result (λ found. found.items ≡ positions (is_dominating (R.value row.now)) (map (λ a. R.value a.value) rows.now)) }
+{
+    let at = own_place(rows, row);
+    let end = run_end(rows, row, at);
+    let mut found = Vec::new(alloc);
+    for i in at..end {
+        if dominates(row, &*rows[i]) {
+            found.push(i as u32)?;
+        }
+    }
+    Ok(found)
+}
+
+/// The live rows of what was ingested, by rising place. A contract sees the list of the rows.
+#[derive(Drop)]
+pub struct BlockStore<R: Row> {
+    rows: Vec<Arc<R>>,
+}
+
+impl<R: Row> Model for BlockStore<R> {
+    ghost use Rattle.std.specs.Prelude.{◌≡◌, ◌<◌, ◌^◌, List, map, vec_len};
+
+    ghost Value = { List R };
+
+    ghost view = { λ s. map (λ a. a.value) s.rows.items };
+
+    ghost use Rattle.willow_entry.specs.Row.{live};
+
+    ghost invariant = { λ s. (live (map R.value (map (λ a. a.value) s.rows.items)) ≡ map R.value (map (λ a. a.value) s.rows.items)) × (vec_len s.rows < 2 ^ 32) };
+}
+
+impl<R: Row> BlockStore<R> {
+    /// The store without rows.
+    pub fn new(alloc: Global) -> BlockStore<R>
+        ensures empty { result ≡ [] }
+    {
+        BlockStore {
+            rows: Vec::new(alloc),
+        }
+    }
+
+    /// Offers a row. Where a row equals or dominates it, nothing changes and the answer names such a
+    /// row; else the row is stored, and the rows that it dominates go. Either way the rows are then what is
+    /// live of the old rows with the new one added. An error leaves the store as it was.
+    pub fn ingest(&mut self, row: R) -> Result<Placed, NoMemory>
+        requires { length self.old < 2 ^ 32 - 1 }
+        ensures rows { OnOk result (map R.value self.new ≡ live (map R.value self.old ++ R.value row ∷ [])) }
+        ensures placed { IfOk result (λ placed. IsPlaced (map R.value self.old) (R.value row) placed) }
+        ensures few { length self.new ≤ length self.old + 1 }
+        ensures live { live (map R.value self.new) ≡ map R.value self.new }
+        ensures was_live { live (map R.value self.old) ≡ map R.value self.old }
+        ensures err { OnErr result (self.new ≡ self.old) }
+    {
+        offer(&mut self.rows, row)
+    }
+
+    /// The number of rows.
+    pub fn len(&self) -> u32
+        ensures { result ≡ length self.now }
+    {
+        self.rows.len() as u32
+    }
+
+    /// The row at this position, counted from 0; None exactly from the length on.
+    pub fn get(&self, at: u32) -> Option<&R>
+        ensures row { MatchOption result (length self.now ≤ at) (λ row. slice_get self.now at ≡ Some row.now) }
+        ensures live { live (map R.value self.now) ≡ map R.value self.now }
+    {
+        row_at(&self.rows, at)
+    }
+
+    /// The first position whose row equals or dominates the row; None exactly where there is none.
+    pub fn covered_by(&self, row: &R) -> Option<u32>
+        ensures first { result ≡ position (λ s. is_covering s (R.value row.now)) (map R.value self.now) }
+        ensures found { IfSome result (λ i. IsCoveringAt (map R.value self.now) i (R.value row.now)) }
+        ensures none { IfNone result (HasCovering (map R.value self.now) (R.value row.now) → ⊥) }
+    {
+        let at = cover(&self.rows, row)?;
+        Some(at as u32)
+    }
+
+    /// The positions, rising, of the rows that the row dominates.
+    pub fn pruned_by(&self, row: &R) -> Result<Vec<u32>, NoMemory>
+        ensures { IfOk result (λ found. found.items ≡ positions (is_dominating (R.value row.now)) (map R.value self.now)) }
+    {
+        dominated(*self.rows.allocator(), &self.rows, row)
+    }
+
+    /// The rows as they are now. No row is copied, and nothing that becomes of the store changes the snapshot.
+    pub fn snapshot(&self) -> Result<Snapshot<R>, NoMemory>
+        ensures equal { IfOk result (λ snapshot. snapshot ≡ self.now) }
+        ensures live { live (map R.value self.now) ≡ map R.value self.now }
+    {
+        snapshot_of(&self.rows)
+    }
+}
