@@ -16,7 +16,6 @@ use Rattle.mc_cap.specs.declared.capability.Mode.{Mode}
 use Rattle.mc_cap.specs.declared.capability.Capability.{Capability}
 use Rattle.mc_cap.specs.declared.chain.Delegation.{Delegation}
 use Rattle.mc_cap.specs.declared.chain.TheConstants.{MAX_CHAIN}
-use Rattle.mc_cap.specs.AreaForm.{area_spelling}
 use Rattle.mc_cap.specs.Signature.{IsSignature, signature_spelling}
 use Rattle.mc_cap.specs.Forms.{delegation_spelling, IsDelegation, chain_spelling, IsChain, initial_spelling, capability_spelling, IsCapability}
 use Rattle.cap_codec.specs.declared.token.WriteToken.{WriteToken}
@@ -44,7 +43,7 @@ from_area : (area : Area) → Reads (handed_at area) (λ (d : Delegation). d.use
 from_area area = Reads-then (λ (user : List ℕ × List ℕ). signed_at area user.0 user.1) (λ (d : Delegation). d.user) key-reads (from_user area) (λ user d f. ap (λ (x : Delegation). x.user) f.1)
 
 pub delegation-reads : Reads delegation_at delegation_spelling IsDelegation
-unfolding delegation_at area_spelling
+unfolding delegation_at
 delegation-reads =
     let joined = Reads-then (λ (area : Area × List ℕ). handed_at area.0 area.1) (λ (d : Delegation). d.area) area-reads from_area (λ area d f. ap (λ (x : Delegation). x.area) f.1.1) in
     Reads-is joined (λ d. refl)

@@ -12,3 +12,6 @@ pub use capability::{decode_capability, read_capability, read_signature};
 pub use frame::{MAX_FRAME, decode_frame, read_frames};
 pub use row::{RawRow, RawRows};
 pub use token::{WriteToken, read_token};
+
+#[cfg(test)]
+mod tests;
