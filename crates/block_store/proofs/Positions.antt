@@ -38,5 +38,7 @@ module _ {X : Type 0} (test : X → Bool) where
   -- one item more
   pub positions-more : (xs : List X) (i : ℕ) (d : X) → i < length xs → positions test (take (i + 1) xs) ≡ positions test (take i xs) ++ cond (test (get_or xs i d)) (i ∷ []) []
   positions-more xs i d h =
-      ap (λ n. positions test (take n xs)) (omega arith) ∙ ap (positions test) (take-suc xs i d h) ∙ positions_from-append 0 (take i xs) (get_or xs i d ∷ [])
-      ∙ ap (λ n. positions test (take i xs) ++ cond (test (get_or xs i d)) (n ∷ []) []) (omega (arith, length-take-le i xs (omega arith)))
+      let next : i + 1 ≡ suc i = omega arith in
+      let long : 0 + length (take i xs) ≡ i = omega (arith, length-take-le i xs (omega arith)) in
+      ap (λ n. positions test (take n xs)) next ∙ ap (positions test) (take-suc xs i d h) ∙ positions_from-append 0 (take i xs) (get_or xs i d ∷ [])
+      ∙ ap (λ n. positions test (take i xs) ++ cond (test (get_or xs i d)) (n ∷ []) []) long

@@ -85,22 +85,24 @@ fn is_covered_at<R: Row>(rows: &[Arc<R>], row: &R, at: usize) -> bool
 }
 
 // The first position whose row is the row or dominates it. Such rows stand at the fronts of its path.
-fn covered_at<R: Row>(rows: &[Arc<R>], row: &R) -> Option<usize>
-    requires { IsRising (map (λ a. R.value a.value) rows.now) }
+fn covered_at<R: Row>(rows: &[Arc<R>], row: &R) -> Option<u32>
+    requires rising { IsRising (map (λ a. R.value a.value) rows.now) }
+    requires few { length rows.now < 2 ^ 32 }
     ensures { result ≡ position (λ s. is_covering s (R.value row.now)) (map (λ a. R.value a.value) rows.now) }
 {
     for count in 0..=row.entry().path.count() {
         let at = place(rows, row, count);
         if is_covered_at(rows, row, at) {
-            return Some(at);
+            return Some(at as u32);
         }
     }
     None
 }
 
 // The same among live rows, with what it means.
-pub(crate) fn cover<R: Row>(rows: &[Arc<R>], row: &R) -> Option<usize>
-    requires { live (map (λ a. R.value a.value) rows.now) ≡ map (λ a. R.value a.value) rows.now }
+pub(crate) fn cover<R: Row>(rows: &[Arc<R>], row: &R) -> Option<u32>
+    requires few { length rows.now < 2 ^ 32 }
+    requires is_live { live (map (λ a. R.value a.value) rows.now) ≡ map (λ a. R.value a.value) rows.now }
     ensures first { result ≡ position (λ s. is_covering s (R.value row.now)) (map (λ a. R.value a.value) rows.now) }
     ensures found { IfSome result (λ i. IsCoveringAt (map (λ a. R.value a.value) rows.now) i (R.value row.now)) }
     ensures none { IfNone result (HasCovering (map (λ a. R.value a.value) rows.now) (R.value row.now) → ⊥) }

@@ -1,6 +1,6 @@
 //! The store: live rows by rising place, each behind an `Arc`, so that a snapshot copies no row.
 
-ghost use Rattle.std.specs.Prelude.{◌≡◌, ℕ, ◌+◌, ◌-◌, ◌^◌, ◌<◌, ◌≤◌, [], ◌∷◌, ◌++◌, length, map, take, drop, count_by, position, slice_get, OnOk, OnErr, IfOk, IfSome, IfNone, MatchOption, vec_len, vec_capacity};
+ghost use Rattle.std.specs.Prelude.{◌≡◌, ℕ, ◌+◌, ◌-◌, ◌^◌, ◌<◌, ◌≤◌, [], ◌∷◌, ◌++◌, length, map, take, drop, count_by, position, slice_get, OnOk, OnErr, IfOk, IfSome, IfNone, MatchOption, if◌then◌else◌, vec_len, vec_capacity};
 ghost use Rattle.willow_entry.specs.Row.{RowValue, IsRising, HasCovering, IsCoveringAt, is_dominating, is_covering, place_cmp, live};
 ghost use Rattle.willow_entry.specs.Placed.{IsPlaced};
 ghost use Rattle.willow_entry.proofs.Local.{left_of};
@@ -81,7 +81,7 @@ fn offer<R: Row>(rows: &mut Vec<Arc<R>>, row: R) -> Result<Placed, NoMemory>
     ensures err { OnErr result (rows.new.items ≡ rows.old.items) }
 {
     match cover(rows, &row) {
-        Some(by) => Ok(Placed::Kept { by: by as u32 }),
+        Some(by) => Ok(Placed::Kept { by }),
         None => {
             let pruned = put(rows, row)?;
             Ok(Placed::Stored {
@@ -89,6 +89,16 @@ fn offer<R: Row>(rows: &mut Vec<Arc<R>>, row: R) -> Result<Placed, NoMemory>
             })
         }
     }
+}
+
+// Adds a position where its row passes.
+fn note(found: &mut Vec<u32>, at: u32, passes: bool) -> Result<(), NoMemory>
+    ensures { OnOk result (found.new.items ≡ found.old.items ++ (if passes then at ∷ [] else [])) }
+{
+    if passes {
+        found.push(at)?;
+    }
+    Ok(())
 }
 
 // The positions, rising, of the rows that the row dominates.
@@ -101,9 +111,7 @@ fn dominated<R: Row>(alloc: Global, rows: &[Arc<R>], row: &R) -> Result<Vec<u32>
     let end = run_end(rows, row, at);
     let mut found = Vec::new(alloc);
     for i in at..end {
-        if dominates(row, &*rows[i]) {
-            found.push(i as u32)?;
-        }
+        note(&mut found, i as u32, dominates(row, &*rows[i]))?;
     }
     Ok(found)
 }
@@ -172,8 +180,7 @@ impl<R: Row> BlockStore<R> {
         ensures found { IfSome result (λ i. IsCoveringAt (map R.value self.now) i (R.value row.now)) }
         ensures none { IfNone result (HasCovering (map R.value self.now) (R.value row.now) → ⊥) }
     {
-        let at = cover(&self.rows, row)?;
-        Some(at as u32)
+        cover(&self.rows, row)
     }
 
     /// The positions, rising, of the rows that the row dominates.

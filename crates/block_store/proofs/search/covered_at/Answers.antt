@@ -12,7 +12,7 @@ returns-then-is_covered_at g c =
 
 pub loop-count-preserved : goal.loop-count-preserved
 loop-count-preserved g c =
-    passed_at _ _ c.loop-count.count c.place-at.result c.loop-count.invariant c.place-at.ensures.place c.requires
+    passed_at _ _ c.loop-count.count c.place-at.result c.loop-count.invariant c.place-at.ensures.place c.requires.rising
       (c.is_covered_at.ensures.not_found c.if-is_covered_at.false)
 
 pub returns-else-is_covered_at : goal.returns-else-is_covered_at
@@ -21,6 +21,6 @@ returns-else-is_covered_at g c =
     let rows = map value c.args.rows.now in
     let r = g.R.Row.value c.args.row.now in
     let last : c.loop-count.count ≡ length r.entry.path = omega (arith, ap (λ e. length e.path) c.entry.ensures.entry) in
-    let passed = passed_at _ r c.loop-count.count c.place-at.result c.loop-count.invariant c.place-at.ensures.place c.requires
+    let passed = passed_at _ r c.loop-count.count c.place-at.result c.loop-count.invariant c.place-at.ensures.place c.requires.rising
       (c.is_covered_at.ensures.not_found c.if-is_covered_at.false) in
     sym (none_left rows r (subst (λ k. ReachFrom rows r (k + 1)) last passed))
