@@ -36,7 +36,12 @@ impl<S: Verify> Model for AuthorisedEntry<S> {
 
 /// The row, where it is authorised in the namespace by the rules of the scheme. It is refused exactly with
 /// the first condition that fails, as `RowRefusal` says.
-pub fn authorise<S: Verify>(alloc: Global, scheme: &S, namespace: &NamespaceKey, row: RawRow) -> Result<AuthorisedEntry<S>, End<RowRefusal>>
+pub fn authorise<S: Verify>(
+    alloc: Global,
+    scheme: &S,
+    namespace: &NamespaceKey,
+    row: RawRow,
+) -> Result<AuthorisedEntry<S>, End<RowRefusal>>
     ensures answer { Answers result (row_refusal S.rules namespace.now row) }
     ensures namespace { IfOk result (λ entry. entry.namespace ≡ namespace.now) }
     ensures row { IfOk result (λ entry. entry.row ≡ row) }

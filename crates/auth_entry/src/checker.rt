@@ -21,7 +21,12 @@ pub trait Checker<S: Verify>: Drop {
         ensures { result ≡ judged_in self.now };
 
     /// What `authorise` answers for each row, in order.
-    fn check_all<R: Threads + Sync>(&mut self, rt: &R, alloc: Global, rows: Vec<RawRow>) -> Result<Vec<Result<AuthorisedEntry<S>, RowRefusal>>, NoMemory>
+    fn check_all<R: Threads + Sync>(
+        &mut self,
+        rt: &R,
+        alloc: Global,
+        rows: Vec<RawRow>,
+    ) -> Result<Vec<Result<AuthorisedEntry<S>, RowRefusal>>, NoMemory>
         ensures verdicts { IfOk result (λ verdicts. verdicts.items ≡ map (verdict S.rules (judged_in self.old)) rows.items) }
         ensures same { judged_in self.new ≡ judged_in self.old };
 }
@@ -49,13 +54,23 @@ impl<S: Verify> Checker<S> for PlainChecker<S> {
         self.namespace
     }
 
-    fn check_all<R: Threads + Sync>(&mut self, rt: &R, alloc: Global, rows: Vec<RawRow>) -> Result<Vec<Result<AuthorisedEntry<S>, RowRefusal>>, NoMemory> {
+    fn check_all<R: Threads + Sync>(
+        &mut self,
+        rt: &R,
+        alloc: Global,
+        rows: Vec<RawRow>,
+    ) -> Result<Vec<Result<AuthorisedEntry<S>, RowRefusal>>, NoMemory> {
         verdicts(alloc, &self.scheme, &self.namespace, rows)
     }
 }
 
 // What `authorise` answers for each row, in order.
-fn verdicts<S: Verify>(alloc: Global, scheme: &S, namespace: &NamespaceKey, rows: Vec<RawRow>) -> Result<Vec<Result<AuthorisedEntry<S>, RowRefusal>>, NoMemory>
+fn verdicts<S: Verify>(
+    alloc: Global,
+    scheme: &S,
+    namespace: &NamespaceKey,
+    rows: Vec<RawRow>,
+) -> Result<Vec<Result<AuthorisedEntry<S>, RowRefusal>>, NoMemory>
     ensures { IfOk result (λ verdicts. verdicts.items ≡ map (verdict S.rules namespace.now) rows.items) }
 {
     let mut verdicts = Vec::with_capacity(alloc, rows.len())?;
@@ -67,7 +82,12 @@ fn verdicts<S: Verify>(alloc: Global, scheme: &S, namespace: &NamespaceKey, rows
 }
 
 // What `authorise` answers, without want of memory.
-fn verdict<S: Verify>(alloc: Global, scheme: &S, namespace: &NamespaceKey, row: RawRow) -> Result<Result<AuthorisedEntry<S>, RowRefusal>, NoMemory>
+fn verdict<S: Verify>(
+    alloc: Global,
+    scheme: &S,
+    namespace: &NamespaceKey,
+    row: RawRow,
+) -> Result<Result<AuthorisedEntry<S>, RowRefusal>, NoMemory>
     ensures { IfOk result (λ answer. answer ≡ verdict S.rules namespace.now row) }
 {
     match authorise(alloc, scheme, namespace, row) {

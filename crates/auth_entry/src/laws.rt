@@ -6,7 +6,7 @@ ghost use Rattle.cap_codec.specs.Rows.{RawValue};
 ghost use Rattle.auth_entry.specs.Authorised.{row_refusal, IsAuthorised};
 
 /// Nothing refuses a row exactly where the five conditions hold.
+#[tactic(auto, using(crate::proofs::Meaning::authorised_means))]
 pub fn authorised_exactly()
-    ensures { (rules : Rules) (n : List ℕ) (r : RawValue) → (row_refusal rules n r ≡ None) ↔ IsAuthorised rules n r }
-{
-}
+    ensures means { (rules : Rules) (n : List ℕ) (r : RawValue) → (row_refusal rules n r ≡ None) ↔ IsAuthorised rules n r }
+{}

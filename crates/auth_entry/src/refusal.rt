@@ -33,7 +33,12 @@ pub enum RowRefusal {
 /// its grant includes the entry; and its receiver signed the letter E and the entry's spelling. It is
 /// refused with the first of these that fails, in this order.
 #[tactic(auto, unfolding(crate::specs::Authorised::row_refusal))]
-pub fn check_row<S: Verify>(alloc: Global, scheme: &S, namespace: &NamespaceKey, row: &RawRow) -> Result<(), End<RowRefusal>>
+pub fn check_row<S: Verify>(
+    alloc: Global,
+    scheme: &S,
+    namespace: &NamespaceKey,
+    row: &RawRow,
+) -> Result<(), End<RowRefusal>>
     ensures { Answers result (row_refusal S.rules namespace.now row.now) }
 {
     check_claim(namespace, row)?;
@@ -58,7 +63,10 @@ pub fn check_claim(namespace: &NamespaceKey, row: &RawRow) -> Result<(), End<Row
 }
 
 /// The third condition: whether the capability is valid.
-pub fn check_capability<S: Verify>(scheme: &S, capability: &Capability) -> Result<(), End<RowRefusal>>
+pub fn check_capability<S: Verify>(
+    scheme: &S,
+    capability: &Capability,
+) -> Result<(), End<RowRefusal>>
     ensures { Answers result (capability_refusal S.rules capability.now) }
 {
     match capability.check(scheme) {
@@ -71,7 +79,11 @@ pub fn check_capability<S: Verify>(scheme: &S, capability: &Capability) -> Resul
 /// The last two conditions, which matter once the capability is valid: whether its grant includes the
 /// entry, and its receiver signed it.
 #[tactic(auto, unfolding(crate::specs::Authorised::entry_refusal))]
-pub fn check_entry<S: Verify>(alloc: Global, scheme: &S, row: &RawRow) -> Result<(), End<RowRefusal>>
+pub fn check_entry<S: Verify>(
+    alloc: Global,
+    scheme: &S,
+    row: &RawRow,
+) -> Result<(), End<RowRefusal>>
     ensures { Answers result (entry_refusal S.rules row.now) }
 {
     let entry = row.entry();

@@ -1,16 +1,13 @@
 -- The readers of capabilities and tokens go with their spellings.
-use Rattle.std.proofs.Common.{◌≡◌, ℕ, Bool, List, [], ◌∷◌, ◌++◌, Option, Some, None, refl, sym, ap, ◌∙◌, arith}
-use Rattle.std.specs.Prelude.{IfSome, is_some}
+use Rattle.std.proofs.Common.{◌≡◌, ℕ, Bool, List, ◌∷◌, ◌++◌, Option, refl, ap, ◌∙◌, arith}
+use Rattle.std.specs.Prelude.{is_some}
 use Rattle.spelling.specs.Front.{Front, Whole, ◌>>=◌}
-use Rattle.spelling.specs.Spelling.{IsList}
 use Rattle.spelling.proofs.Joining.{Reads, Reads-then, Reads-last, Reads-is}
 use Rattle.spelling.proofs.Fields.{byte-reads}
 use Rattle.spelling.proofs.Repeated.{list-reads}
 use Rattle.willow_path.specs.Key.{IsKey, key_at}
 use Rattle.willow_path.proofs.PathReads.{key-reads}
 use Rattle.willow_area.specs.declared.area.Area.{Area}
-use Rattle.willow_area.specs.Area.{IsArea}
-use Rattle.willow_area.specs.AreaSpelling.{area_at}
 use Rattle.willow_area.proofs.AreaReads.{area-reads}
 use Rattle.mc_cap.specs.declared.capability.Mode.{Mode}
 use Rattle.mc_cap.specs.declared.capability.Capability.{Capability}
@@ -19,9 +16,9 @@ use Rattle.mc_cap.specs.declared.chain.TheConstants.{MAX_CHAIN}
 use Rattle.mc_cap.specs.Signature.{IsSignature, signature_spelling}
 use Rattle.mc_cap.specs.Forms.{delegation_spelling, IsDelegation, chain_spelling, IsChain, initial_spelling, capability_spelling, IsCapability}
 use Rattle.cap_codec.specs.declared.token.WriteToken.{WriteToken}
-use Rattle.cap_codec.specs.Reading.{form_at, signature_at, initial_at, delegation_at, chain_at, capability_at, token_at}
+use Rattle.cap_codec.specs.Reading.{signature_at, initial_at, delegation_at, chain_at, capability_at, token_at}
 use Rattle.cap_codec.specs.Rows.{token_spelling, IsToken}
-use Rattle.cap_codec.proofs.FormReads.{form_spelling, form_same, form-reads, signature-reads, IsInitial, initial-reads}
+use Rattle.cap_codec.proofs.FormReads.{form_same, form-reads, signature-reads, IsInitial, initial-reads}
 
 -- ---- delegations
 
@@ -47,8 +44,8 @@ unfolding delegation_at
 delegation-reads =
     let joined = Reads-then (λ (area : Area × List ℕ). handed_at area.0 area.1) (λ (d : Delegation). d.area) area-reads from_area (λ area d f. ap (λ (x : Delegation). x.area) f.1.1) in
     Reads-is joined (λ d. refl)
-      (λ d f. record { area_fits = f.0; user_fits = f.1.0; signature_fits = f.1.1.0 })
-      (λ d f. (f.area_fits, (f.user_fits, (f.signature_fits, refl))))
+    (λ d f. record { area_fits = f.0; user_fits = f.1.0; signature_fits = f.1.1.0 })
+    (λ d f. (f.area_fits, (f.user_fits, (f.signature_fits, refl))))
 
 pub chain-reads : Reads chain_at chain_spelling IsChain
 unfolding chain_at
@@ -110,8 +107,8 @@ unfolding capability_at capability_spelling
 capability-reads =
     let joined = Reads-then (λ (form : (Mode × Bool) × List ℕ). formed_at form.0 form.1) form_of form-reads from_form form_told in
     Reads-is joined (λ c. ap (λ (b : ℕ). b ∷ rest_of c) (form_same c.mode c.initial))
-      (λ c f. record { namespace_fits = f.1.0; user_fits = f.1.1.0; initial_fits = f.1.1.1.0.1; chain_fits = f.1.1.1.1.0 })
-      (λ c f. (tt, (f.namespace_fits, (f.user_fits, ((refl, f.initial_fits), (f.chain_fits, refl))))))
+    (λ c f. record { namespace_fits = f.1.0; user_fits = f.1.1.0; initial_fits = f.1.1.1.0.1; chain_fits = f.1.1.1.1.0 })
+    (λ c f. (tt, (f.namespace_fits, (f.user_fits, ((refl, f.initial_fits), (f.chain_fits, refl))))))
 
 -- ---- tokens
 

@@ -1,7 +1,7 @@
 -- The readers of a capability's first byte and of its initial signature go with their spellings.
-use Rattle.std.proofs.Common.{◌≡◌, ℕ, zero, suc, ◌<◌, ◌^◌, Bool, true, false, List, [], ◌∷◌, ◌++◌, Option, Some, None, refl, sym, ap, subst, ◌∙◌, arith}
+use Rattle.std.proofs.Common.{◌≡◌, ℕ, zero, suc, Bool, true, false, List, [], ◌∷◌, ◌++◌, Option, Some, None, refl, ap, subst, ◌∙◌, arith}
 use Rattle.std.specs.Prelude.{IfSome, is_some}
-use Rattle.spelling.specs.Front.{Front, Whole, Part, Wrong, ◌>>=◌}
+use Rattle.spelling.specs.Front.{Front, Whole, Wrong, ◌>>=◌}
 use Rattle.spelling.specs.Form.{AreBytes}
 use Rattle.spelling.proofs.Joining.{Takes, Reads, whole_value, whole_rest, bind_whole, bind_wrong}
 use Rattle.spelling.proofs.Fields.{u16-reads}

@@ -1,5 +1,5 @@
 -- Frames: each row has one, and a stream of them has one reading.
-use Rattle.std.proofs.Common.{◌≡◌, ℕ, suc, ◌-◌, ◌+◌, ◌≤◌, ◌<◌, ◌^◌, Bool, false, ltb, List, [], ◌∷◌, ◌++◌, length, take, drop, Result, Ok, Err, refl, sym, ap, subst, ◌∙◌, append_assoc, arith, Fits, w8, get_or}
+use Rattle.std.proofs.Common.{◌≡◌, ℕ, ◌-◌, ◌≤◌, ◌<◌, Bool, false, ltb, List, [], ◌∷◌, ◌++◌, length, take, drop, Result, Ok, Err, refl, sym, ap, subst, ◌∙◌, append_assoc, arith}
 use Rattle.std.specs.List.{AllByRecursion, flat_map}
 use Rattle.std.specs.Int.{w32, to_be_bytes}
 use Rattle.std.specs.Prelude.{nat_le}
@@ -17,12 +17,12 @@ use Rattle.spelling.specs.declared.ending.End.TheVariants.{Refused, NoMemory}
 use Rattle.spelling.specs.declared.ending.NotHere.{NotHere}
 use Rattle.spelling.specs.declared.input.Unread.{Unread}
 use Rattle.spelling.specs.declared.input.Unread.TheVariants as unread
-use Rattle.spelling.proofs.Lists.{All-append, are_bytes, take_front}
+use Rattle.spelling.proofs.Lists.{All-append, take_front}
 use Rattle.spelling.proofs.Joining.{one_spelling, whole_value, whole_rest}
 use Rattle.spelling.proofs.Fields.{u32-reads}
 use Rattle.spelling.proofs.Repeated.{text-reads}
 use Rattle.cap_codec.specs.declared.frame.TheConstants.{MAX_FRAME}
-use Rattle.cap_codec.specs.Rows.{RawValue, IsRaw, raw_spelling, ReadsWhole, FitsFrame, frame, AreFrames, ReadsFrames, HaveOneReading}
+use Rattle.cap_codec.specs.Rows.{RawValue, raw_spelling, ReadsWhole, FitsFrame, frame, AreFrames, ReadsFrames, HaveOneReading}
 use Rattle.cap_codec.proofs.RowReads.{raw-reads}
 
 -- ---- a frame
@@ -73,22 +73,22 @@ not_framed unread.Wrong e bytes h is =
     subst (λ (d : End NotHere). Decodes frame FitsFrame bytes (Err d)) (sym is) (λ r rest fits parts. whole_not_wrong (raw_spelling r) rest (body_at bytes) (ap body_at parts ∙ frame_again r rest fits) h)
 
 -- no body was read
-pub frame_end : (bytes : List ℕ) (u : Unread) (result : Result (RawValue × ℕ) (End NotHere)) → Fails u (body_at bytes) → IsErrAnd result (IsEndOf u) → Decodes frame FitsFrame bytes result
-frame_end bytes u result h err =
+pub frame_end : (bytes input : List ℕ) (u : Unread) (result : Result (RawValue × ℕ) (End NotHere)) → input ≡ bytes → Fails u (body_at input) → IsErrAnd result (IsEndOf u) → Decodes frame FitsFrame bytes result
+frame_end bytes input u result is h err =
     let p = err_from_is_err_and result err in
-    subst (λ (r : Result (RawValue × ℕ) (End NotHere)). Decodes frame FitsFrame bytes r) (sym p.1) (not_framed u p.0 bytes h p.2)
+    subst (λ (r : Result (RawValue × ℕ) (End NotHere)). Decodes frame FitsFrame bytes r) (sym p.1) (not_framed u p.0 bytes (subst (λ (l : List ℕ). Fails u (body_at l)) is h) p.2)
 
 -- the body that was read is no row's
 pub frame_not : (bytes body left : List ℕ) (e : End NotHere) → body_at bytes ≡ Whole body left → ReadsWhole body (Err e) → Decodes frame FitsFrame bytes (Err e)
-frame_not bytes body left NoMemory h no = tt
-frame_not bytes body left (Refused e) h no =
-    λ r rest fits parts. no r fits.raw (whole_value body (raw_spelling r) left rest (sym h ∙ ap body_at parts ∙ frame_again r rest fits))
+frame_not bytes body left NoMemory h none = tt
+frame_not bytes body left (Refused e) h none =
+    λ r rest fits parts. none r fits.raw (whole_value body (raw_spelling r) left rest (sym h ∙ ap body_at parts ∙ frame_again r rest fits))
 
 -- the body that was read is a row's
-pub frame_whole : (bytes body left : List ℕ) (r : RawValue) (taken : ℕ) → AreBytes bytes → body_at bytes ≡ Whole body left → ReadsWhole body (Ok r) → taken ≡ length bytes - length left
+pub frame_whole : (bytes input body left : List ℕ) (r : RawValue) (taken : ℕ) → AreBytes bytes → input ≡ bytes → body_at input ≡ Whole body left → ReadsWhole body (Ok r) → taken ≡ length bytes - length left
     → Decodes frame FitsFrame bytes (Ok (r, taken))
-frame_whole bytes body left r taken are h is n =
-    let t = (text-reads MAX_FRAME (omega arith) u32-reads).takes bytes body left are h in
+frame_whole bytes input body left r taken are same h is n =
+    let t = (text-reads MAX_FRAME (omega arith) u32-reads).takes bytes body left are (ap body_at (sym same) ∙ h) in
     let parts : bytes ≡ frame r ++ left = t.parts ∙ ap (λ (l : List ℕ). text_spelling (to_be_bytes w32) l ++ left) is.1 in
     let short : length (raw_spelling r) ≤ MAX_FRAME = subst (λ (l : List ℕ). length l ≤ MAX_FRAME) is.1 t.fits.0 in
     (record { raw = is.0; short = short }, omega (arith, n), ap (λ (k : ℕ). take k bytes) n ∙ take_front bytes (frame r) left parts)
@@ -151,11 +151,31 @@ left_are (r ∷ rows) (s ∷ others) left f g e =
 
 no_more : (left : List ℕ) (more : List RawValue) → 0 < length left → AllByRecursion FitsFrame more → left ≡ flat_map frame more
     → ((r : RawValue) (rest : List ℕ) → FitsFrame r → left ≡ frame r ++ rest → ⊥) → ⊥
-no_more left [] some f e no = omega (arith, some, ap length e)
-no_more left (r ∷ more) some f e no = no r (flat_map frame more) f.0 e
+no_more left [] some f e none = omega (arith, some, ap length e)
+no_more left (r ∷ more) some f e none = none r (flat_map frame more) f.0 e
 
 -- no frame stands where bytes are left
 pub frames_end : (bytes left : List ℕ) (rows others : List RawValue) → FramesSo bytes rows left → 0 < length left → ((r : RawValue) (rest : List ℕ) → FitsFrame r → left ≡ frame r ++ rest → ⊥) → AreFrames bytes others → ⊥
-frames_end bytes left rows others so some no are =
+frames_end bytes left rows others so some none are =
     let more = left_are rows others left so.fit are.fit (sym so.parts ∙ are.spelled) in
-    no_more left more.0 some more.1 more.2 no
+    no_more left more.0 some more.1 more.2 none
+
+-- ---- errors that are handed on
+
+-- the body that was read is no row's, and the decoder hands that on
+pub frame_err : (bytes input body left : List ℕ) (e : End NotHere) (result : Result (RawValue × ℕ) (End NotHere)) → input ≡ bytes → body_at input ≡ Whole body left → ReadsWhole body (Err e) → IsErrAnd result (λ d. d ≡ e)
+    → Decodes frame FitsFrame bytes result
+frame_err bytes input body left e result is h none err =
+    let p = err_from_is_err_and result err in
+    subst (λ (r : Result (RawValue × ℕ) (End NotHere)). Decodes frame FitsFrame bytes r) (ap (λ (d : End NotHere). Err d) (sym p.2) ∙ sym p.1) (frame_not bytes body left e (ap body_at (sym is) ∙ h) none)
+
+frames_by : {X : Type 0} (view : X → List RawValue) (bytes left : List ℕ) (rows : List RawValue) (e : End NotHere) → FramesSo bytes rows left → 0 < length left → Decodes frame FitsFrame left (Err e) → ReadsFrames view bytes (Err e)
+frames_by view bytes left rows NoMemory so some none = tt
+frames_by view bytes left rows (Refused e) so some none = λ others are. frames_end bytes left rows others so some none are
+
+-- no frame was read where bytes are left
+pub frames_err : {X : Type 0} (view : X → List RawValue) (bytes left : List ℕ) (rows : List RawValue) (e : End NotHere) (result : Result X (End NotHere)) → FramesSo bytes rows left → 0 < length left → Decodes frame FitsFrame left (Err e)
+    → IsErrAnd result (λ d. d ≡ e) → ReadsFrames view bytes result
+frames_err {X} view bytes left rows e result so some none err =
+    let p = err_from_is_err_and result err in
+    subst (λ (r : Result X (End NotHere)). ReadsFrames view bytes r) (ap (λ (d : End NotHere). Err d) (sym p.2) ∙ sym p.1) (frames_by view bytes left rows e so some none)

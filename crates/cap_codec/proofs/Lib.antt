@@ -1,3 +1,4 @@
+pub mod Loops
 pub mod FormReads
 pub mod CapReads
 pub mod RowReads

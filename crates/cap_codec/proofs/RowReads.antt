@@ -1,6 +1,6 @@
 -- The reader of a row's body goes with its spelling, and what a whole body tells.
 use Rattle.std.proofs.Common.{◌≡◌, ℕ, ◌-◌, ◌≤◌, ◌<◌, List, [], ◌∷◌, ◌++◌, length, take, drop, Result, Ok, Err, refl, sym, ap, subst, ◌∙◌, arith}
-use Rattle.std.proofs.lemmas.List.{append-nil, take-append-drop, append_cancel_left, length-append}
+use Rattle.std.proofs.lemmas.List.{append-nil, take-append-drop, take_all, append_cancel_left, length-drop}
 use Rattle.std.specs.Result.{IsErrAnd}
 use Rattle.std.proofs.lemmas.Result.{err_from_is_err_and}
 use Rattle.spelling.specs.Front.{Front, Whole, Part, Wrong, ◌>>=◌}
@@ -13,12 +13,14 @@ use Rattle.spelling.specs.declared.input.Unread.{Unread}
 use Rattle.spelling.specs.declared.input.Unread.TheVariants as unread
 use Rattle.spelling.proofs.Lists.{take_front}
 use Rattle.spelling.proofs.Joining.{Reads, Reads-then, Reads-last, Reads-is, alone, whole_rest}
-use Rattle.willow_entry.specs.EntryForm.{entry_spelling, entry_at, IsEntry}
+use Rattle.willow_entry.specs.EntryForm.{entry_spelling, entry_at}
 use Rattle.willow_entry.specs.declared.entry.Entry.{Entry}
+use Rattle.willow_entry.specs.Row.{RowValue}
+use Rattle.willow_entry.specs.RowBody.{row_body}
 use Rattle.willow_entry.proofs.EntryReads.{entry-reads}
 use Rattle.cap_codec.specs.declared.token.WriteToken.{WriteToken}
 use Rattle.cap_codec.specs.Reading.{token_at, raw_at}
-use Rattle.cap_codec.specs.Rows.{RawValue, IsRaw, IsToken, token_spelling, raw_spelling, ReadsWhole}
+use Rattle.cap_codec.specs.Rows.{RawValue, IsRaw, IsRawRow, IsToken, row_of, token_spelling, raw_spelling, ReadsWhole}
 use Rattle.cap_codec.proofs.CapReads.{token-reads}
 
 abbrev raw : Entry → WriteToken → RawValue
@@ -36,23 +38,29 @@ raw-reads =
 
 -- ---- what was not read
 
-
 -- no entry, no row
-pub fails_entry : (u : Unread) (body : List ℕ) → Fails u (entry_at body) → Fails u (raw_at body)
+no_entry : (u : Unread) (body : List ℕ) → Fails u (entry_at body) → Fails u (raw_at body)
 unfolding raw_at
-fails_entry unread.NoMemory body h = tt
-fails_entry unread.Part body h = ap (λ (q : Front Entry). q >>= λ e. token_at e.1 >>= λ t. Whole (raw e.0 t.0) t.1) h
-fails_entry unread.Wrong body h = ap (λ (q : Front Entry). q >>= λ e. token_at e.1 >>= λ t. Whole (raw e.0 t.0) t.1) h
+no_entry unread.NoMemory body h = tt
+no_entry unread.Part body h = ap (λ (q : Front Entry). q >>= λ e. token_at e.1 >>= λ t. Whole (raw e.0 t.0) t.1) h
+no_entry unread.Wrong body h = ap (λ (q : Front Entry). q >>= λ e. token_at e.1 >>= λ t. Whole (raw e.0 t.0) t.1) h
+
+-- the input is the whole body
+pub fails_entry : (u : Unread) (body input : List ℕ) → input ≡ body → Fails u (entry_at input) → Fails u (raw_at body)
+fails_entry u body input is h = no_entry u body (subst (λ (l : List ℕ). Fails u (entry_at l)) is h)
 
 token_next : (body : List ℕ) (e : Entry) (rest : List ℕ) → entry_at body ≡ Whole e rest → raw_at body ≡ (token_at rest >>= λ t. Whole (raw e t.0) t.1)
 unfolding raw_at
 token_next body e rest h = ap (λ (q : Front Entry). q >>= λ e. token_at e.1 >>= λ t. Whole (raw e.0 t.0) t.1) h
 
 -- no token behind the entry, no row
-pub fails_token : (u : Unread) (body : List ℕ) (e : Entry) (rest : List ℕ) → entry_at body ≡ Whole e rest → Fails u (token_at rest) → Fails u (raw_at body)
-fails_token unread.NoMemory body e rest h k = tt
-fails_token unread.Part body e rest h k = token_next body e rest h ∙ ap (λ (q : Front WriteToken). q >>= λ t. Whole (raw e t.0) t.1) k
-fails_token unread.Wrong body e rest h k = token_next body e rest h ∙ ap (λ (q : Front WriteToken). q >>= λ t. Whole (raw e t.0) t.1) k
+no_token : (u : Unread) (body : List ℕ) (e : Entry) (rest : List ℕ) → entry_at body ≡ Whole e rest → Fails u (token_at rest) → Fails u (raw_at body)
+no_token unread.NoMemory body e rest h k = tt
+no_token unread.Part body e rest h k = token_next body e rest h ∙ ap (λ (q : Front WriteToken). q >>= λ t. Whole (raw e t.0) t.1) k
+no_token unread.Wrong body e rest h k = token_next body e rest h ∙ ap (λ (q : Front WriteToken). q >>= λ t. Whole (raw e t.0) t.1) k
+
+pub fails_token : (u : Unread) (body input : List ℕ) (e : Entry) (rest : List ℕ) → input ≡ body → entry_at input ≡ Whole e rest → Fails u (token_at rest) → Fails u (raw_at body)
+fails_token u body input e rest is h k = no_token u body e rest (ap entry_at (sym is) ∙ h) k
 
 whole_not_part : {A : Type 0} (x : A) (rest : List ℕ) (r : Front A) → r ≡ Whole x rest → r ≡ Part → ⊥
 whole_not_part x rest r e f = cc
@@ -79,11 +87,12 @@ pub raw_whole : (body : List ℕ) (e : Entry) (rest : List ℕ) (t : WriteToken)
 raw_whole body e rest t left h k = token_next body e rest h ∙ ap (λ (q : Front WriteToken). q >>= λ t. Whole (raw e t.0) t.1) k
 
 -- no row is spelled by a body that goes on behind one
-pub whole_more : (body : List ℕ) (e : Entry) (rest : List ℕ) (t : WriteToken) (left : List ℕ) (why : NotHere) → entry_at body ≡ Whole e rest → token_at rest ≡ Whole t left → 0 < length left → ReadsWhole body (Err (Refused why))
-whole_more body e rest t left why h k more =
+pub whole_more : (body input : List ℕ) (e : Entry) (rest : List ℕ) (t : WriteToken) (left : List ℕ) (why : NotHere) → input ≡ body → entry_at input ≡ Whole e rest → token_at rest ≡ Whole t left → 0 < length left → ReadsWhole body (Err (Refused why))
+whole_more body input e rest t left why is h k more =
     λ r fits spelled.
-      let nothing : left ≡ [] = whole_rest (raw e t) r left [] (sym (raw_whole body e rest t left h k) ∙ ap raw_at spelled ∙ alone raw-reads r fits) in
-      omega (arith, more, ap length nothing)
+    let whole = raw_whole body e rest t left (ap entry_at (sym is) ∙ h) k in
+    let nothing : left ≡ [] = whole_rest (raw e t) r left [] (sym whole ∙ ap raw_at spelled ∙ alone raw-reads r fits) in
+    omega (arith, more, ap length nothing)
 
 empty : (left : List ℕ) → length left ≤ 0 → left ≡ []
 empty [] h = refl
@@ -93,15 +102,15 @@ empty (b ∷ left) h = absurd (omega (arith, h))
 pub record Parts (body : List ℕ) (e : Entry) (t : WriteToken) (n : ℕ) : Type 0 where
   pub fits : IsRaw (raw e t)
   pub entry : take n body ≡ entry_spelling e
-  pub token : drop n body ≡ token_spelling t
+  pub token : take (length body - n) (drop n body) ≡ token_spelling t
   pub spelled : body ≡ raw_spelling (raw e t)
   pub within : n ≤ length body
 
 -- a body read to its end, of which so many bytes were the entry's
-pub parts : (body : List ℕ) (e : Entry) (rest : List ℕ) (t : WriteToken) (left : List ℕ) (n : ℕ) → AreBytes body → entry_at body ≡ Whole e rest → token_at rest ≡ Whole t left
+pub parts : (body input : List ℕ) (e : Entry) (rest : List ℕ) (t : WriteToken) (left : List ℕ) (n : ℕ) → AreBytes body → input ≡ body → entry_at input ≡ Whole e rest → token_at rest ≡ Whole t left
     → length left ≤ 0 → n ≡ length body - length rest → Parts body e t n
-parts body e rest t left n are h k end is =
-    let entry = entry-reads.takes body e rest are h in
+parts body input e rest t left n are same h k end is =
+    let entry = entry-reads.takes body e rest are (ap entry_at (sym same) ∙ h) in
     let token = token-reads.takes rest t left entry.rest_are k in
     let rest_is : rest ≡ token_spelling t = token.parts ∙ ap (λ (l : List ℕ). token_spelling t ++ l) (empty left end) ∙ append-nil (token_spelling t) in
     let front : take n body ≡ entry_spelling e = ap (λ (i : ℕ). take i body) is ∙ take_front body (entry_spelling e) rest entry.parts in
@@ -109,7 +118,24 @@ parts body e rest t left n are h k end is =
     record {
       fits = record { entry_fits = entry.fits; token_fits = token.fits };
       entry = front;
-      token = append_cancel_left (entry_spelling e) (drop n body) rest halves ∙ rest_is;
+      token = take_all (length body - n) (drop n body) (omega (arith, length-drop n body)) ∙ append_cancel_left (entry_spelling e) (drop n body) rest halves ∙ rest_is;
       spelled = entry.parts ∙ ap (λ (l : List ℕ). entry_spelling e ++ l) rest_is;
       within = omega (arith, is);
     }
+
+-- ---- rows as a store sees them
+
+-- a row that the body spells, as a store sees it
+pub body_there : (body : List ℕ) (r : RawValue) → ReadsWhole body (Ok r) → IsRawRow (row_of r) × (body ≡ row_body (row_of r))
+unfolding row_body
+body_there body r h = (record { entry_fits = h.0.entry_fits; read_out = r.token; token_fits = h.0.token_fits; spelled = refl }, h.1)
+
+-- no row of a store is spelled where none was read
+pub body_none : (body : List ℕ) → ((r : RawValue) → IsRaw r → body ≡ raw_spelling r → ⊥) → (r : RowValue) → IsRawRow r → body ≡ row_body r → ⊥
+unfolding row_body
+body_none body none r fits spelled =
+    none (raw r.entry fits.read_out) (record { entry_fits = fits.entry_fits; token_fits = fits.token_fits }) (spelled ∙ ap (λ (t : List ℕ). entry_spelling r.entry ++ t) fits.spelled)
+
+-- what a refusal says of the body
+pub not_read : (body : List ℕ) (e : End NotHere) (why : NotHere) → e ≡ Refused why → ReadsWhole body (Err e) → (r : RawValue) → IsRaw r → body ≡ raw_spelling r → ⊥
+not_read body e why is none = let P : End NotHere → Type 0 = λ d. ReadsWhole body (Err d) in subst P is none

@@ -99,7 +99,11 @@ fn read_chain(alloc: Global, input: &mut Input) -> Result<Chain, Unread>
 }
 
 // So many delegations.
-fn read_delegations(alloc: Global, input: &mut Input, count: usize) -> Result<Vec<Delegation>, Unread>
+fn read_delegations(
+    alloc: Global,
+    input: &mut Input,
+    count: usize,
+) -> Result<Vec<Delegation>, Unread>
     ensures read { Gives (λ delegations. delegations.items) result input.new (many_at delegation_at count input.old) }
     ensures counted { IfOk result (λ delegations. length delegations.items ≡ count) }
 {

@@ -1,6 +1,6 @@
 //! Rows in frames, one after the other.
 
-ghost use Rattle.std.specs.Prelude.{◌≡◌};
+ghost use Rattle.std.specs.Prelude.{◌≡◌, ◌≤◌, length, drop};
 ghost use Rattle.std.specs.Int.{w32};
 ghost use Rattle.spelling.specs.Form.{Decodes};
 ghost use Rattle.spelling.specs.Reading.{Gives, number_at, text_at};
@@ -42,10 +42,18 @@ pub fn read_frames(alloc: Global, bytes: &[u8]) -> Result<Vec<RawRow>, End<NotHe
 {
     let mut rows = Vec::new(alloc);
     let mut left = bytes;
-    while !left.is_empty() {
+    while left.len() > 0 {
         let (row, taken) = decode_frame(alloc, left)?;
         rows.push(row)?;
-        left = &left[taken..];
+        left = behind(left, taken);
     }
     Ok(rows)
+}
+
+// The bytes behind the first ones.
+fn behind(bytes: &[u8], taken: usize) -> &[u8]
+    requires { taken ≤ length bytes.now }
+    ensures { result.now ≡ drop taken bytes.now }
+{
+    &bytes[taken..]
 }

@@ -7,29 +7,24 @@ ghost use Rattle.cap_codec.specs.Rows.{token_spelling, IsToken, raw_spelling, Is
 /// A capability has one spelling, which begins that of no other.
 pub fn one_capability()
     ensures { IsForm capability_spelling IsCapability }
-{
-}
+{}
 
 /// A write token has one spelling, which begins that of no other.
 pub fn one_token()
     ensures { IsForm token_spelling IsToken }
-{
-}
+{}
 
 /// A row has one body, which begins that of no other.
 pub fn one_body()
     ensures { IsForm raw_spelling IsRaw }
-{
-}
+{}
 
 /// A row has one frame, which begins that of no other.
 pub fn one_frame()
     ensures { IsForm frame FitsFrame }
-{
-}
+{}
 
 /// Bytes are the frames of at most one list of rows.
 pub fn one_stream()
     ensures { HaveOneReading }
-{
-}
+{}

@@ -9,10 +9,12 @@ use willow_entry::{Row, RowForm};
 
 // A communal write capability, handed on once: the number of delegations stands at 67, the area at 68, the
 // signature's length at 145.
-const DELEGATED: &str = "01004e4e4e4e4e4e4e4e4e4e4e4e4e4e4e4e4e4e4e4e4e4e4e4e4e4e4e4e4e4e4e4e005555555555555555555555555555555555555555555555555555555555555555010100555555555555555555555555555555555555555555555555555555555555555500000000000000000000005555555555555555555555555555555555555555555555555555555555555555002076ebc1e082b688463d42c4f84e32363cb8f8d6d1785638fab5d793d00994a1d3";
+const DELEGATED: &str =
+    "01004e4e4e4e4e4e4e4e4e4e4e4e4e4e4e4e4e4e4e4e4e4e4e4e4e4e4e4e4e4e4e4e005555555555555555555555555555555555555555555555555555555555555555010100555555555555555555555555555555555555555555555555555555555555555500000000000000000000005555555555555555555555555555555555555555555555555555555555555555002076ebc1e082b688463d42c4f84e32363cb8f8d6d1785638fab5d793d00994a1d3";
 
 // A row of 219 bytes, of which the entry has 117.
-const ROW: &str = "004e4e4e4e4e4e4e4e4e4e4e4e4e4e4e4e4e4e4e4e4e4e4e4e4e4e4e4e4e4e4e4e00555555555555555555555555555555555555555555555555555555555555555501016100000000000000050000000000000001111111111111111111111111111111111111111111111111111111111111111101004e4e4e4e4e4e4e4e4e4e4e4e4e4e4e4e4e4e4e4e4e4e4e4e4e4e4e4e4e4e4e4e005555555555555555555555555555555555555555555555555555555555555555000020c829d729f7a6d6c9e53b25700abe4e6c8e3c37cf8c4cf612ceafd4d405183ce5";
+const ROW: &str =
+    "004e4e4e4e4e4e4e4e4e4e4e4e4e4e4e4e4e4e4e4e4e4e4e4e4e4e4e4e4e4e4e4e00555555555555555555555555555555555555555555555555555555555555555501016100000000000000050000000000000001111111111111111111111111111111111111111111111111111111111111111101004e4e4e4e4e4e4e4e4e4e4e4e4e4e4e4e4e4e4e4e4e4e4e4e4e4e4e4e4e4e4e4e005555555555555555555555555555555555555555555555555555555555555555000020c829d729f7a6d6c9e53b25700abe4e6c8e3c37cf8c4cf612ceafd4d405183ce5";
 
 // The capability with other bytes in place of those from one place to another.
 fn with(alloc: Global, from: usize, to: usize, bytes: &[u8]) -> Result<Vec<u8>, Fail> {
@@ -39,10 +41,21 @@ fn capabilities_are_read_and_spelled(rt: HostRuntime) -> Result<(), Fail> {
 
 #[test]
 fn loose_capabilities_are_not_here(rt: HostRuntime) -> Result<(), Fail> {
-    let loose = [(0, 4), (1, 2), (67, 2), (68, 2), (102, 17), (111, 2), (145, 6)];
+    let loose = [
+        (0, 4),
+        (1, 2),
+        (67, 2),
+        (68, 2),
+        (102, 17),
+        (111, 2),
+        (145, 6),
+    ];
     for (at, byte) in loose {
         let bytes = with(rt.alloc(), at, at + 1, &[byte])?;
-        let refused = matches!(decode_capability(rt.alloc(), &bytes), Err(End::Refused(NotHere)));
+        let refused = matches!(
+            decode_capability(rt.alloc(), &bytes),
+            Err(End::Refused(NotHere))
+        );
         assert!(rt; refused, "{byte} at {at}");
     }
     Ok(())
@@ -59,7 +72,11 @@ fn limits_of_capabilities(rt: HostRuntime) -> Result<(), Fail> {
         let mut bytes = with(rt.alloc(), 145, 179, &[5, low])?;
         bytes.resize(147 + 1509, 0)?;
         let read = decode_capability(rt.alloc(), &bytes).ok();
-        assert_eq!(rt; read.map(|(_, taken)| taken), taken, "a signature of 5 and {low}");
+        assert_eq!(rt;
+            read.map(|(_, taken)| taken),
+            taken,
+            "a signature of 5 and {low}"
+        );
     }
     Ok(())
 }

@@ -1,14 +1,12 @@
 //! Write tokens: by whose leave an entry was written, and the signature of the entry.
 
-ghost use Rattle.std.specs.Prelude.{◌≡◌, ◌++◌, IfOk, IfSome, OnErr, OnOk};
+ghost use Rattle.std.specs.Prelude.{◌≡◌, ◌++◌, IfOk, OnErr, OnOk};
 ghost use Rattle.spelling.specs.Reading.{Gives};
-ghost use Rattle.mc_cap.specs.Forms.{IsCapability, IsChain, IsDelegation};
-ghost use Rattle.mc_cap.specs.Signature.{IsSignature};
 ghost use Rattle.cap_codec.specs.Reading.{token_at};
 ghost use Rattle.cap_codec.specs.Rows.{token_spelling, IsToken};
 
 use crate::capability::{read_capability, read_signature};
-use mc_cap::{Capability, Chain, Delegation, Signature};
+use mc_cap::{Capability, Signature};
 use spelling::{Input, NoMemory, Unread, put_bytes, put_u16};
 use std::alloc::Global;
 
@@ -29,7 +27,7 @@ impl WriteToken {
         ensures err { OnErr result (out.new.items ≡ out.old.items) }
         ensures fits { IsToken self.now }
     {
-        see_capability(&self.capability);
+        self.capability.known();
         let signature = self.signature.as_slice();
         let mut text = Vec::new(*out.allocator());
         self.capability.encode(&mut text)?;
@@ -58,40 +56,4 @@ pub fn read_token(alloc: Global, input: &mut Input) -> Result<WriteToken, Unread
         capability: read_capability(alloc, input)?,
         signature: read_signature(alloc, input)?,
     })
-}
-
-// The fields of a capability are within their limits, as their types say.
-fn see_capability(capability: &Capability)
-    ensures { IsCapability capability.now }
-{
-    let _keys = (capability.namespace.to_bytes(), capability.user.to_bytes());
-    see_initial(&capability.initial);
-    see_chain(&capability.chain);
-}
-
-// An initial signature is one.
-fn see_initial(initial: &Option<Signature>)
-    ensures { IfSome initial.now IsSignature }
-{
-    if let Some(signature) = initial {
-        let _bytes = signature.as_slice();
-    }
-}
-
-// The delegations of a chain are within their limits.
-fn see_chain(chain: &Chain)
-    ensures { IsChain chain.now }
-{
-    for delegation in chain.as_slice() {
-        see_delegation(delegation);
-    }
-}
-
-// The fields of a delegation are within their limits.
-fn see_delegation(delegation: &Delegation)
-    ensures { IsDelegation delegation.now }
-{
-    delegation.area.known();
-    let _key = delegation.user.to_bytes();
-    let _bytes = delegation.signature.as_slice();
 }

@@ -1,0 +1,33 @@
+use Rattle.std.proofs.Common.{◌∙◌, arith}
+use Rattle.spelling.proofs.Lists.{are_bytes}
+use Rattle.cap_codec.proofs.RowReads.{fails_entry, fails_token, whole_end, whole_more, parts}
+use Rattle.cap_codec.proofs.row.RawRow.decode.Goals as goal
+
+pub returns-in_err-entry : goal.returns-in_err-entry
+returns-in_err-entry c =
+    whole_end c.args.body.now c.in_err-entry.field-0.0 c.from_residual.result
+    (fails_entry c.in_err-entry.field-0.0 c.args.body.now c.new-input.result c.new-input.ensures c.in_err-entry.ensures)
+    c.from_residual.ensures.1
+
+pub returns-in_err-token : goal.returns-in_err-token
+returns-in_err-token c =
+    whole_end c.args.body.now c.in_err-token.field-0.0 c.from_residual-in_err-token.result
+    (fails_token c.in_err-token.field-0.0 c.args.body.now c.new-input.result c.in_ok-entry.entry c.read_entry.new.input c.new-input.ensures c.in_ok-entry.ensures c.in_err-token.ensures)
+    c.from_residual-in_err-token.ensures.1
+
+pub returns-then-len-gt0 : goal.returns-then-len-gt0
+returns-then-len-gt0 c =
+    whole_more c.args.body.now c.new-input.result c.in_ok-entry.entry c.read_entry.new.input c.in_ok-token.token c.read_token.new.input (record {}) c.new-input.ensures c.in_ok-entry.ensures c.in_ok-token.ensures
+    (omega (arith, c.if-len-gt0.true, c.len.ensures))
+
+pub invariant_of-result : goal.invariant_of-result
+invariant_of-result c =
+    let p = parts c.args.body.now c.new-input.result c.in_ok-entry.entry c.read_entry.new.input c.in_ok-token.token c.read_token.new.input c.taken_of-entry_len.result
+    (are_bytes c.args.body.now c.type_inv.body) c.new-input.ensures c.in_ok-entry.ensures c.in_ok-token.ensures (omega (arith, c.if-len-gt0.false, c.len.ensures)) c.taken_of-entry_len.ensures in
+    (p.fits, c.in_ok-from_slice.ensures.items ∙ p.entry, c.in_ok-from_slice-2.ensures.items ∙ p.token)
+
+pub returns : goal.returns
+returns c =
+    let p = parts c.args.body.now c.new-input.result c.in_ok-entry.entry c.read_entry.new.input c.in_ok-token.token c.read_token.new.input c.taken_of-entry_len.result
+    (are_bytes c.args.body.now c.type_inv.body) c.new-input.ensures c.in_ok-entry.ensures c.in_ok-token.ensures (omega (arith, c.if-len-gt0.false, c.len.ensures)) c.taken_of-entry_len.ensures in
+    (p.fits, p.spelled)
