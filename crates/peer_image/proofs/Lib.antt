@@ -3,3 +3,5 @@ pub mod Places
 pub mod KeptFronts
 pub mod Falls
 pub mod InOrder
+pub mod Stops
+pub mod Misordered

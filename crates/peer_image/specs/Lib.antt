@@ -1,3 +1,4 @@
 pub mod Image
 pub mod Order
 pub mod Fronts
+pub mod ImageReading

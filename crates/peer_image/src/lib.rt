@@ -4,8 +4,10 @@
 
 pub mod laws;
 mod order;
+mod read;
 mod refusal;
 mod write;
 
+pub use read::{Image, read_image};
 pub use refusal::ImageRefusal;
 pub use write::write_rows;
