@@ -5,3 +5,4 @@ pub mod Falls
 pub mod InOrder
 pub mod Stops
 pub mod Misordered
+pub mod ReadBack

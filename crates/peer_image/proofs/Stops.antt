@@ -29,6 +29,20 @@ header-reads =
     Reads-is (Reads-then (λ (t : Unit {0} × List ℕ). key_at t.1) (λ (n : List ℕ). tt) (exactly-reads magic) (λ t. key-reads) (λ t n f. refl))
       (λ n. refl) (λ n f. f.1) (λ n f. (tt, f))
 
+whole_not_part : (x rest : List ℕ) (r : Front (List ℕ)) → r ≡ Whole x rest → r ≡ Part → ⊥
+whole_not_part x rest r e f = cc
+
+whole_not_wrong : (x rest : List ℕ) (r : Front (List ℕ)) → r ≡ Whole x rest → r ≡ Wrong → ⊥
+whole_not_wrong x rest r e f = cc
+
+pub headless_part : (bytes input : List ℕ) → input ≡ bytes → header_at input ≡ Part → HasNoHeader bytes
+headless_part bytes input is e n left key parts =
+    whole_not_part n left (header_at bytes) (ap header_at parts ∙ header-reads.again n left key) (ap header_at (sym is) ∙ e)
+
+pub headless_wrong : (bytes input : List ℕ) → input ≡ bytes → header_at input ≡ Wrong → HasNoHeader bytes
+headless_wrong bytes input is e n left key parts =
+    whole_not_wrong n left (header_at bytes) (ap header_at parts ∙ header-reads.again n left key) (ap header_at (sym is) ∙ e)
+
 -- ---- what begins with no frame
 
 behind_key : (a b c : List ℕ) → length a ≡ 33 → [] ≡ (a ++ b) ++ c → ⊥

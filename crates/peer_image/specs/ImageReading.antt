@@ -6,12 +6,12 @@ use Rattle.spelling.specs.Reading.{exactly_at}
 use Rattle.spelling.specs.declared.ending.End.{End}
 use Rattle.spelling.specs.declared.ending.End.TheVariants.{Refused, NoMemory}
 use Rattle.willow_path.specs.Key.{IsKey, key_at}
-use Rattle.willow_entry.specs.Row.{RowValue}
-use Rattle.cap_codec.specs.Rows.{RawValue, row_of, FitsFrame, frame}
+use Rattle.willow_entry.specs.Row.{RowValue, live}
+use Rattle.cap_codec.specs.Rows.{RawValue, row_of, IsRawRow, FitsFrame, frame}
 use Rattle.peer_image.specs.declared.refusal.ImageRefusal.{ImageRefusal}
 use Rattle.peer_image.specs.declared.refusal.ImageRefusal.TheVariants.{BadImage, NotRising, Pruned}
 use Rattle.peer_image.specs.declared.read.Image.{Image}
-use Rattle.peer_image.specs.Image.{image, magic, trailer}
+use Rattle.peer_image.specs.Image.{image, magic, trailer, HasFrame}
 use Rattle.peer_image.specs.Order.{order_refusal}
 
 -- what a store sees of the rows
@@ -86,6 +86,28 @@ ReadsRows bytes (Err (Refused (BadImage at))) = IsWrong bytes at
 ReadsRows bytes (Err (Refused (NotRising at))) = ⊥
 ReadsRows bytes (Err (Refused (Pruned at by))) = ⊥
 ReadsRows bytes (Err NoMemory) = Unit {0}
+
+-- bytes are the image of at most one list of rows, of one namespace
+abbrev pub HaveOneImage : Type 0
+HaveOneImage = (bytes n m : List ℕ) (rows others : List RawValue) → IsImage bytes n rows → IsImage bytes m others → (n ≡ m) × (rows ≡ others)
+
+-- bytes go wrong at one place at most
+abbrev pub HaveOnePlace : Type 0
+HaveOnePlace = (bytes : List ℕ) (at other : ℕ) → IsWrong bytes at → IsWrong bytes other → at ≡ other
+
+-- no bytes both are an image and go wrong
+abbrev pub AreNeverBoth : Type 0
+AreNeverBoth = (bytes n : List ℕ) (rows : List RawValue) (at : ℕ) → IsImage bytes n rows → IsWrong bytes at → ⊥
+
+-- what was read is these rows of this namespace, or there was no memory
+abbrev pub IsBack : List ℕ → List RowValue → Result Image (End ImageRefusal) → Type 0
+IsBack n rows (Ok found) = (found.namespace ≡ n) × (rows_of found.rows.items ≡ rows)
+IsBack n rows (Err e) = e ≡ NoMemory
+
+-- The image of live rows whose tokens can be read, and whose bodies frames may carry, is read back as these.
+abbrev pub ReadsBack : Type 0
+ReadsBack = (n : List ℕ) (rows : List RowValue) (result : Result Image (End ImageRefusal)) → IsKey n → AllByRecursion IsRawRow rows → AllByRecursion HasFrame rows
+    → length rows < 2 ^ 32 → live rows ≡ rows → ReadsImage (image n rows) result → IsBack n rows result
 
 -- all frames in front of what is left
 pub record AreAllFrames (bytes : List ℕ) (rows : List RawValue) (left : List ℕ) : Type 0 where

@@ -10,4 +10,4 @@ mod write;
 
 pub use read::{Image, read_image};
 pub use refusal::ImageRefusal;
-pub use write::write_rows;
+pub use write::{write_image, write_rows};

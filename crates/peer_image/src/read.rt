@@ -1,6 +1,6 @@
 //! Images as they are read.
 
-ghost use Rattle.std.specs.Prelude.{◌≡◌, ◌<◌, ◌^◌, ◌++◌, length, IfOk, MatchBool};
+ghost use Rattle.std.specs.Prelude.{◌≡◌, ◌<◌, ◌^◌, ◌++◌, ◌≤◌, length, drop, IfOk, MatchBool};
 ghost use Rattle.spelling.specs.Reading.{Gives};
 ghost use Rattle.willow_path.specs.Key.{IsKey};
 ghost use Rattle.peer_image.specs.Image.{magic, trailer};
@@ -54,7 +54,8 @@ fn read_rows(alloc: Global, bytes: &[u8]) -> Result<Image, End<ImageRefusal>>
     match read_header(&mut input) {
         Ok(namespace) => read_behind(alloc, bytes, namespace, input.front()),
         Err(Unread::NoMemory) => Err(End::NoMemory),
-        Err(Unread::Part) | Err(Unread::Wrong) => Err(End::Refused(ImageRefusal::BadImage { at: 0 })),
+        Err(Unread::Part) => Err(End::Refused(ImageRefusal::BadImage { at: 0 })),
+        Err(Unread::Wrong) => Err(End::Refused(ImageRefusal::BadImage { at: 0 })),
     }
 }
 
@@ -93,16 +94,23 @@ fn read_frames<'a>(alloc: Global, bytes: &'a [u8]) -> Result<(Vec<RawRow>, &'a [
     let mut rows = Vec::new(alloc);
     let mut left = bytes;
     'frames: while !left.is_empty() {
-        match decode_frame(alloc, left) {
-            Ok((row, taken)) => {
-                rows.push(row)?;
-                left = &left[taken..];
-            }
+        let (row, taken) = match decode_frame(alloc, left) {
+            Ok(read) => read,
             Err(End::Refused(_)) => return Ok((rows, left)),
             Err(End::NoMemory) => return Err(NoMemory),
-        }
+        };
+        rows.push(row)?;
+        left = behind(left, taken);
     }
     Ok((rows, left))
+}
+
+// The bytes behind so many.
+fn behind(bytes: &[u8], taken: usize) -> &[u8]
+    requires { taken ≤ length bytes.now }
+    ensures { result.now ≡ drop taken bytes.now }
+{
+    &bytes[taken..]
 }
 
 // Whether the bytes are the end of an image of so many rows.
