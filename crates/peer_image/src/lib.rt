@@ -11,3 +11,6 @@ mod write;
 pub use read::{Image, read_image};
 pub use refusal::ImageRefusal;
 pub use write::{write_image, write_rows};
+
+#[cfg(test)]
+mod tests;

@@ -35,8 +35,9 @@ pub fn write_image<R: Row>(alloc: Global, namespace: &NamespaceKey, snapshot: &S
 {
     let mut out = begun(alloc, namespace)?;
     for at in 0..snapshot.len() {
-        if let Some(row) = snapshot.get(at) {
-            put_frame(&mut out, row)?;
+        match snapshot.get(at) {
+            Some(row) => put_frame(&mut out, row)?,
+            None => {}
         }
     }
     put_trailer(&mut out, snapshot.len())?;
