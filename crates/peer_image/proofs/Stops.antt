@@ -1,0 +1,146 @@
+-- Bytes have one front of frames that nothing goes on from, so they are one image, or go wrong at one place.
+use Rattle.std.proofs.Common.{◌≡◌, ◌⊎◌, inl, inr, ℕ, zero, suc, ◌+◌, ◌-◌, ◌<◌, ◌≤◌, ◌^◌, List, [], ◌∷◌, ◌++◌, length, map, refl, sym, ap, subst, ◌∙◌, append_assoc, arith}
+use Rattle.std.specs.List.{flat_map, AllByRecursion}
+use Rattle.std.specs.Int.{w32, to_be_bytes}
+use Rattle.std.proofs.lemmas.List.{length-append, length-map}
+use Rattle.std.proofs.lemmas.List.Folds.{flat_map-map}
+use Rattle.spelling.specs.Front.{Front, Whole, Part, Wrong, ◌>>=◌}
+use Rattle.spelling.specs.Reading.{exactly_at}
+use Rattle.spelling.proofs.Joining.{Reads, Reads-then, Reads-is, one_spelling, whole_value}
+use Rattle.spelling.proofs.Exact.{exactly-reads}
+use Rattle.spelling.proofs.Fields.{u32-reads}
+use Rattle.spelling.proofs.Repeated.{text-reads}
+use Rattle.willow_path.specs.Key.{IsKey, key_at}
+use Rattle.willow_path.proofs.PathReads.{key-reads}
+use Rattle.willow_entry.specs.EntryForm.{entry_spelling}
+use Rattle.willow_entry.specs.Frame.{row_frame}
+use Rattle.willow_entry.specs.RowBody.{row_body}
+use Rattle.cap_codec.specs.declared.frame.TheConstants.{MAX_FRAME}
+use Rattle.cap_codec.specs.Rows.{RawValue, IsRaw, row_of, raw_spelling, FitsFrame, frame}
+use Rattle.cap_codec.proofs.Frames.{body_at, frame_again, frame_form}
+use Rattle.peer_image.specs.Image.{image, magic, trailer}
+use Rattle.peer_image.specs.ImageReading.{header_at, rows_of, HasNoFrame, HasNoHeader, IsImage, IsFront, IsStuck, StopsAt, IsWrong, AreAllFrames}
+
+-- ---- the header
+
+pub header-reads : Reads header_at (λ n. magic ++ n) IsKey
+unfolding header_at
+header-reads =
+    Reads-is (Reads-then (λ (t : Unit {0} × List ℕ). key_at t.1) (λ (n : List ℕ). tt) (exactly-reads magic) (λ t. key-reads) (λ t n f. refl))
+      (λ n. refl) (λ n f. f.1) (λ n f. (tt, f))
+
+whole_not_part : (x rest : List ℕ) (r : Front (List ℕ)) → r ≡ Whole x rest → r ≡ Part → ⊥
+whole_not_part x rest r e f = cc
+
+whole_not_wrong : (x rest : List ℕ) (r : Front (List ℕ)) → r ≡ Whole x rest → r ≡ Wrong → ⊥
+whole_not_wrong x rest r e f = cc
+
+pub headless_part : (bytes input : List ℕ) → input ≡ bytes → header_at input ≡ Part → HasNoHeader bytes
+headless_part bytes input is e n left key parts =
+    whole_not_part n left (header_at bytes) (ap header_at parts ∙ header-reads.again n left key) (ap header_at (sym is) ∙ e)
+
+pub headless_wrong : (bytes input : List ℕ) → input ≡ bytes → header_at input ≡ Wrong → HasNoHeader bytes
+headless_wrong bytes input is e n left key parts =
+    whole_not_wrong n left (header_at bytes) (ap header_at parts ∙ header-reads.again n left key) (ap header_at (sym is) ∙ e)
+
+-- ---- what begins with no frame
+
+behind_key : (a b c : List ℕ) → length a ≡ 33 → [] ≡ (a ++ b) ++ c → ⊥
+behind_key a b c h e = omega (arith, h, ap length e, length-append (a ++ b) c, length-append a b)
+
+body_some : (r : RawValue) → IsRaw r → [] ≡ raw_spelling r → ⊥
+unfolding entry_spelling
+body_some r f e = behind_key r.entry.namespace _ _ f.entry_fits.namespace.whole e
+
+-- nothing
+pub nothing_left : HasNoFrame []
+nothing_left r rest f e = omega (arith, ap length e, length-append (frame r) rest, length-append (to_be_bytes w32 (length (raw_spelling r))) (raw_spelling r))
+
+zero_body : (k : ℕ) → body_at (trailer k) ≡ Whole [] (to_be_bytes w32 k)
+zero_body k = (text-reads MAX_FRAME (omega arith) u32-reads).again [] (to_be_bytes w32 k) (omega arith, tt)
+
+-- the end of an image
+pub trailer_left : (k : ℕ) → HasNoFrame (trailer k)
+trailer_left k r rest f e = body_some r f.raw (whole_value [] (raw_spelling r) (to_be_bytes w32 k) rest (sym (zero_body k) ∙ ap body_at e ∙ frame_again r rest f))
+
+-- ---- fronts
+
+same_frames : (rows others : List RawValue) (a b : List ℕ) → AllByRecursion FitsFrame rows → AllByRecursion FitsFrame others → HasNoFrame a → HasNoFrame b
+    → flat_map frame rows ++ a ≡ flat_map frame others ++ b → (rows ≡ others) × (a ≡ b)
+same_frames [] [] a b f g na nb e = (refl, e)
+same_frames [] (s ∷ others) a b f g na nb e = absurd (na s (flat_map frame others ++ b) g.0 (e ∙ append_assoc (frame s) (flat_map frame others) b))
+same_frames (r ∷ rows) [] a b f g na nb e = absurd (nb r (flat_map frame rows ++ a) f.0 (sym e ∙ append_assoc (frame r) (flat_map frame rows) a))
+same_frames (r ∷ rows) (s ∷ others) a b f g na nb e =
+    let both = frame_form r s (flat_map frame rows ++ a) (flat_map frame others ++ b) f.0 g.0
+          (sym (append_assoc (frame r) (flat_map frame rows) a) ∙ e ∙ append_assoc (frame s) (flat_map frame others) b) in
+    let more = same_frames rows others a b f.1 g.1 na nb both.1 in
+    (ap (λ (x : RawValue). x ∷ rows) both.0 ∙ ap (λ (l : List RawValue). s ∷ l) more.0, more.1)
+
+pub record SameFronts (n m : List ℕ) (rows others : List RawValue) (a b : List ℕ) : Type 0 where
+  pub namespace : n ≡ m
+  pub rows_same : rows ≡ others
+  pub left_same : a ≡ b
+
+pub same_fronts : (bytes n m : List ℕ) (rows others : List RawValue) (a b : List ℕ) → IsFront bytes n rows a → IsFront bytes m others b → HasNoFrame a → HasNoFrame b → SameFronts n m rows others a b
+same_fronts bytes n m rows others a b f g na nb =
+    let both = one_spelling header-reads n m (flat_map frame rows ++ a) (flat_map frame others ++ b) f.key g.key (sym f.parts ∙ g.parts) in
+    let more = same_frames rows others a b f.fit g.fit na nb both.1 in
+    record { namespace = both.0; rows_same = more.0; left_same = more.1 }
+
+-- ---- images
+
+framed : (rows : List RawValue) → flat_map row_frame (rows_of rows) ≡ flat_map frame rows
+unfolding row_body
+framed [] = refl
+framed (r ∷ rows) = ap (λ (l : List ℕ). frame r ++ l) (framed rows)
+
+pub image_is : (n : List ℕ) (rows : List RawValue) → image n (rows_of rows) ≡ (magic ++ n) ++ (flat_map frame rows ++ trailer (length rows))
+unfolding image
+image_is n rows =
+    ap (λ (l : List ℕ). (magic ++ n) ++ (l ++ trailer (length (rows_of rows)))) (framed rows)
+    ∙ ap (λ (k : ℕ). (magic ++ n) ++ (flat_map frame rows ++ trailer k)) (length-map rows row_of)
+
+pub front_of_image : (bytes n : List ℕ) (rows : List RawValue) → IsImage bytes n rows → IsFront bytes n rows (trailer (length rows))
+front_of_image bytes n rows i = record { key = i.key; fit = i.fit; parts = i.spelled ∙ image_is n rows }
+
+pub image_of_front : (bytes n : List ℕ) (rows : List RawValue) (left : List ℕ) → IsFront bytes n rows left → length rows < 2 ^ 32 → left ≡ trailer (length rows) → IsImage bytes n rows
+image_of_front bytes n rows left f few is = record {
+  key = f.key;
+  fit = f.fit;
+  count = few;
+  spelled = f.parts ∙ ap (λ (l : List ℕ). (magic ++ n) ++ (flat_map frame rows ++ l)) is ∙ sym (image_is n rows);
+}
+
+-- the frames behind a header
+pub front_behind : (bytes n behind : List ℕ) (rows : List RawValue) (left : List ℕ) → IsKey n → bytes ≡ (magic ++ n) ++ behind → AreAllFrames behind rows left → IsFront bytes n rows left
+front_behind bytes n behind rows left key is all = record { key = key; fit = all.fit; parts = is ∙ ap (λ (l : List ℕ). (magic ++ n) ++ l) all.parts }
+
+-- ---- the laws
+
+pub record SameImage (n m : List ℕ) (rows others : List RawValue) : Type 0 where
+  pub namespace : n ≡ m
+  pub rows_same : rows ≡ others
+
+pub one_image : (bytes n m : List ℕ) (rows others : List RawValue) → IsImage bytes n rows → IsImage bytes m others → (n ≡ m) × (rows ≡ others)
+one_image bytes n m rows others i j =
+    let same = same_fronts bytes n m rows others _ _ (front_of_image bytes n rows i) (front_of_image bytes m others j) (trailer_left (length rows)) (trailer_left (length others)) in
+    (same.namespace, same.rows_same)
+
+-- what stops is no image
+stuck_image : (bytes n : List ℕ) (rows : List RawValue) (at : ℕ) → IsImage bytes n rows → StopsAt bytes at → ⊥
+stuck_image bytes n rows at i s =
+    let same = same_fronts bytes n s.namespace rows s.rows (trailer (length rows)) s.left (front_of_image bytes n rows i) s.front (trailer_left (length rows)) s.stuck.no_frame in
+    s.stuck.no_trailer (subst (λ (l : List RawValue). length l < 2 ^ 32) same.rows_same i.count)
+      (sym same.left_same ∙ ap (λ (l : List RawValue). trailer (length l)) same.rows_same)
+
+pub never_both : (bytes n : List ℕ) (rows : List RawValue) (at : ℕ) → IsImage bytes n rows → IsWrong bytes at → ⊥
+never_both bytes n rows at i (inl w) = w.0 n _ i.key (front_of_image bytes n rows i).parts
+never_both bytes n rows at i (inr s) = stuck_image bytes n rows at i s
+
+pub one_place : (bytes : List ℕ) (at other : ℕ) → IsWrong bytes at → IsWrong bytes other → at ≡ other
+one_place bytes at other (inl w) (inl v) = w.1 ∙ sym v.1
+one_place bytes at other (inl w) (inr s) = absurd (w.0 s.namespace _ s.front.key s.front.parts)
+one_place bytes at other (inr s) (inl v) = absurd (v.0 s.namespace _ s.front.key s.front.parts)
+one_place bytes at other (inr s) (inr t) =
+    let same = same_fronts bytes s.namespace t.namespace s.rows t.rows s.left t.left s.front t.front s.stuck.no_frame t.stuck.no_frame in
+    omega (arith, s.place, t.place, ap length same.left_same)

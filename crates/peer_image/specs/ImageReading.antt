@@ -1,0 +1,116 @@
+-- Bytes that are an image, and where bytes that are none go wrong.
+use Rattle.std.specs.Prelude.{◌≡◌, ℕ, ◌+◌, ◌<◌, ◌^◌, ◌⊎◌, List, ◌++◌, length, map, Option, Some, None, Result, Ok, Err}
+use Rattle.std.specs.List.{flat_map, AllByRecursion}
+use Rattle.spelling.specs.Front.{Front, Whole, ◌>>=◌}
+use Rattle.spelling.specs.Reading.{exactly_at}
+use Rattle.spelling.specs.declared.ending.End.{End}
+use Rattle.spelling.specs.declared.ending.End.TheVariants.{Refused, NoMemory}
+use Rattle.willow_path.specs.Key.{IsKey, key_at}
+use Rattle.willow_entry.specs.Row.{RowValue, live}
+use Rattle.cap_codec.specs.Rows.{RawValue, row_of, IsRawRow, FitsFrame, frame}
+use Rattle.peer_image.specs.declared.refusal.ImageRefusal.{ImageRefusal}
+use Rattle.peer_image.specs.declared.refusal.ImageRefusal.TheVariants.{BadImage, NotRising, Pruned}
+use Rattle.peer_image.specs.declared.read.Image.{Image}
+use Rattle.peer_image.specs.Image.{image, magic, trailer, HasFrame}
+use Rattle.peer_image.specs.Order.{order_refusal}
+
+-- what a store sees of the rows
+abbrev pub rows_of : List RawValue → List RowValue
+rows_of = map row_of
+
+-- the text WIM1 and a key
+unfoldable pub header_at : List ℕ → Front (List ℕ)
+header_at bytes = do
+  text ← exactly_at magic bytes
+  key_at text.1
+
+-- the bytes are the image of rows that frames may carry, fewer than a count of four bytes can tell
+pub record IsImage (bytes n : List ℕ) (rows : List RawValue) : Type 0 where
+  pub key : IsKey n
+  pub fit : AllByRecursion FitsFrame rows
+  pub count : length rows < 2 ^ 32
+  pub spelled : bytes ≡ image n (rows_of rows)
+
+-- the text WIM1, a key and the frames of these rows stand in front of what is left
+pub record IsFront (bytes n : List ℕ) (rows : List RawValue) (left : List ℕ) : Type 0 where
+  pub key : IsKey n
+  pub fit : AllByRecursion FitsFrame rows
+  pub parts : bytes ≡ (magic ++ n) ++ (flat_map frame rows ++ left)
+
+-- no row's frame stands in front
+abbrev pub HasNoFrame : List ℕ → Type 0
+HasNoFrame left = (r : RawValue) (rest : List ℕ) → FitsFrame r → left ≡ frame r ++ rest → ⊥
+
+-- no text WIM1 with a key behind it stands in front
+abbrev pub HasNoHeader : List ℕ → Type 0
+HasNoHeader bytes = (n left : List ℕ) → IsKey n → bytes ≡ (magic ++ n) ++ left → ⊥
+
+-- behind these rows stands neither a further frame nor the end of an image
+pub record IsStuck (rows : List RawValue) (left : List ℕ) : Type 0 where
+  pub no_frame : HasNoFrame left
+  pub no_trailer : length rows < 2 ^ 32 → left ≡ trailer (length rows) → ⊥
+
+-- the bytes go wrong behind their frames, from byte `at` on
+pub record StopsAt (bytes : List ℕ) (at : ℕ) : Type 0 where
+  pub namespace : List ℕ
+  pub rows : List RawValue
+  pub left : List ℕ
+  pub front : IsFront bytes namespace rows left
+  pub stuck : IsStuck rows left
+  pub place : at + length left ≡ length bytes
+
+-- the bytes are no image: they have no header, and go wrong from their first byte on, or they go wrong
+-- behind their frames
+abbrev pub IsWrong : List ℕ → ℕ → Type 0
+IsWrong bytes at = (HasNoHeader bytes × (at ≡ 0)) ⊎ StopsAt bytes at
+
+-- the bytes are an image of rows that are refused for their order
+pub record IsMisordered (bytes : List ℕ) (refusal : ImageRefusal) : Type 0 where
+  pub namespace : List ℕ
+  pub rows : List RawValue
+  pub is_image : IsImage bytes namespace rows
+  pub refused : order_refusal (rows_of rows) ≡ Some refusal
+
+-- the rows of an image in good order, or just why there are none; for want of memory nothing is said
+abbrev pub ReadsImage : List ℕ → Result Image (End ImageRefusal) → Type 0
+ReadsImage bytes (Ok found) = IsImage bytes found.namespace found.rows.items × (order_refusal (rows_of found.rows.items) ≡ None)
+ReadsImage bytes (Err (Refused (BadImage at))) = IsWrong bytes at
+ReadsImage bytes (Err (Refused (NotRising at))) = IsMisordered bytes (NotRising at)
+ReadsImage bytes (Err (Refused (Pruned at by))) = IsMisordered bytes (Pruned at by)
+ReadsImage bytes (Err NoMemory) = Unit {0}
+
+-- the same of bytes whose rows' order is not looked at
+abbrev pub ReadsRows : List ℕ → Result Image (End ImageRefusal) → Type 0
+ReadsRows bytes (Ok found) = IsImage bytes found.namespace found.rows.items
+ReadsRows bytes (Err (Refused (BadImage at))) = IsWrong bytes at
+ReadsRows bytes (Err (Refused (NotRising at))) = ⊥
+ReadsRows bytes (Err (Refused (Pruned at by))) = ⊥
+ReadsRows bytes (Err NoMemory) = Unit {0}
+
+-- bytes are the image of at most one list of rows, of one namespace
+abbrev pub HaveOneImage : Type 0
+HaveOneImage = (bytes n m : List ℕ) (rows others : List RawValue) → IsImage bytes n rows → IsImage bytes m others → (n ≡ m) × (rows ≡ others)
+
+-- bytes go wrong at one place at most
+abbrev pub HaveOnePlace : Type 0
+HaveOnePlace = (bytes : List ℕ) (at other : ℕ) → IsWrong bytes at → IsWrong bytes other → at ≡ other
+
+-- no bytes both are an image and go wrong
+abbrev pub AreNeverBoth : Type 0
+AreNeverBoth = (bytes n : List ℕ) (rows : List RawValue) (at : ℕ) → IsImage bytes n rows → IsWrong bytes at → ⊥
+
+-- what was read is these rows of this namespace, or there was no memory
+abbrev pub IsBack : List ℕ → List RowValue → Result Image (End ImageRefusal) → Type 0
+IsBack n rows (Ok found) = (found.namespace ≡ n) × (rows_of found.rows.items ≡ rows)
+IsBack n rows (Err e) = e ≡ NoMemory
+
+-- The image of live rows whose tokens can be read, and whose bodies frames may carry, is read back as these.
+abbrev pub ReadsBack : Type 0
+ReadsBack = (n : List ℕ) (rows : List RowValue) (result : Result Image (End ImageRefusal)) → IsKey n → AllByRecursion IsRawRow rows → AllByRecursion HasFrame rows
+    → length rows < 2 ^ 32 → live rows ≡ rows → ReadsImage (image n rows) result → IsBack n rows result
+
+-- all frames in front of what is left
+pub record AreAllFrames (bytes : List ℕ) (rows : List RawValue) (left : List ℕ) : Type 0 where
+  pub fit : AllByRecursion FitsFrame rows
+  pub parts : bytes ≡ flat_map frame rows ++ left
+  pub no_frame : HasNoFrame left

@@ -1,0 +1,4 @@
+pub mod Image
+pub mod Order
+pub mod Fronts
+pub mod ImageReading

@@ -1,0 +1,16 @@
+//! Images: the rows of a store as bytes, and bytes read back as rows.
+//! The contract: what is written is the image of the rows, and what is read is the one image that the bytes are.
+#![tactic(auto)]
+
+pub mod laws;
+mod order;
+mod read;
+mod refusal;
+mod write;
+
+pub use read::{Image, read_image};
+pub use refusal::ImageRefusal;
+pub use write::{write_image, write_rows};
+
+#[cfg(test)]
+mod tests;

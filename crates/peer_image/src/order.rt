@@ -1,0 +1,112 @@
+//! The order of an image's rows: they rise by place, and no row dominates a later one.
+
+ghost use Rattle.std.specs.Prelude.{◌≡◌, ◌+◌, ◌<◌, ◌^◌, length, map, IfOk};
+ghost use Rattle.willow_entry.specs.Row.{IsRising, is_at_prefix};
+ghost use Rattle.peer_image.specs.Fronts.{first_dominating, fronts_of, seen};
+ghost use Rattle.peer_image.specs.Order.{fall_after, first_fall, first_pruned, order_refusal};
+
+use crate::refusal::ImageRefusal;
+use spelling::NoMemory;
+use std::alloc::Global;
+use willow_entry::{Row, by_place, dominates};
+
+// Why the rows are none of a store: they do not rise, or else a row dominates a later one.
+#[tactic(auto, using(crate::proofs::Falls::rising_from_none))]
+pub(crate) fn order_refusal<R: Row>(alloc: Global, rows: &[R]) -> Result<Option<ImageRefusal>, NoMemory>
+    requires { length rows.now < 2 ^ 32 }
+    ensures { IfOk result (λ found. found ≡ order_refusal (map R.value rows.now)) }
+{
+    match first_fall(rows) {
+        Some(refusal) => Ok(Some(refusal)),
+        None => first_pruned(alloc, rows),
+    }
+}
+
+// The first row that does not stand above the row before it.
+#[tactic(auto, unfolding(crate::specs::Order::first_fall))]
+fn first_fall<R: Row>(rows: &[R]) -> Option<ImageRefusal>
+    requires { length rows.now < 2 ^ 32 }
+    ensures { result ≡ first_fall (map R.value rows.now) }
+{
+    match rows {
+        [] => None,
+        [first, others @ ..] => fall_after(first, others),
+    }
+}
+
+// The first of the rows that does not stand above the row before it, where `first` stands before all of them.
+fn fall_after<R: Row>(first: &R, others: &[R]) -> Option<ImageRefusal>
+    requires { length others.now + 1 < 2 ^ 32 }
+    ensures { result ≡ fall_after 2 (R.value first.now) (map R.value others.now) }
+{
+    let mut last = first;
+    let mut at = 1;
+    for row in others {
+        at += 1;
+        if !by_place(last, row).is_lt() {
+            return Some(ImageRefusal::NotRising { at });
+        }
+        last = row;
+    }
+    None
+}
+
+// A row with its number, counted from 1.
+#[derive(Drop)]
+struct Front<'a, R> {
+    at: u32,
+    row: &'a R,
+}
+
+// Whether r stands in the namespace and subspace of s, at a prefix of its path.
+#[tactic(auto, unfolding(willow_entry::specs::Row::is_at_prefix))]
+fn is_at_prefix<R: Row>(r: &R, s: &R) -> bool
+    ensures { result ≡ is_at_prefix (R.value r.now) (R.value s.now) }
+{
+    let (e, f) = (r.entry(), s.entry());
+    e.namespace == f.namespace && e.subspace == f.subspace && e.path.is_prefix_of(&f.path)
+}
+
+// Leaves those that stand at prefixes of the row.
+fn keep_fronts<R: Row>(fronts: &mut Vec<Front<R>>, row: &R)
+    ensures { map (seen R.value) fronts.new.items ≡ fronts_of (R.value row.now) (map (seen R.value) fronts.old.items) }
+{
+    fronts.retain(|front| is_at_prefix(front.row, row));
+}
+
+// The number of the first that dominates the row.
+#[tactic(auto, unfolding(crate::specs::Fronts::first_dominating))]
+fn dominating<R: Row>(fronts: &[Front<R>], row: &R) -> Option<u32>
+    ensures { result ≡ first_dominating (R.value row.now) (map (seen R.value) fronts.now) }
+{
+    match fronts {
+        [] => None,
+        [front, others @ ..] => {
+            if dominates(front.row, row) {
+                Some(front.at)
+            } else {
+                dominating(others, row)
+            }
+        }
+    }
+}
+
+// The first row that an earlier one dominates. Such rows stand at prefixes of its path, and as rows rise, what is
+// no prefix of a row is none of a later one: so only the prefixes of the row before are looked at.
+fn first_pruned<R: Row>(alloc: Global, rows: &[R]) -> Result<Option<ImageRefusal>, NoMemory>
+    requires count { length rows.now < 2 ^ 32 }
+    requires rising { IsRising (map R.value rows.now) }
+    ensures { IfOk result (λ found. found ≡ first_pruned (map R.value rows.now)) }
+{
+    let mut fronts = Vec::new(alloc);
+    let mut at = 0;
+    for row in rows {
+        at += 1;
+        keep_fronts(&mut fronts, row);
+        match dominating(&fronts, row) {
+            Some(by) => return Ok(Some(ImageRefusal::Pruned { at, by })),
+            None => fronts.push(Front { at, row })?,
+        }
+    }
+    Ok(None)
+}

@@ -1,0 +1,131 @@
+//! Images as they are read.
+
+ghost use Rattle.std.specs.Prelude.{◌≡◌, ◌<◌, ◌^◌, ◌++◌, ◌≤◌, length, drop, IfOk, MatchBool};
+ghost use Rattle.spelling.specs.Reading.{Gives};
+ghost use Rattle.willow_path.specs.Key.{IsKey};
+ghost use Rattle.peer_image.specs.Image.{magic, trailer};
+ghost use Rattle.peer_image.specs.ImageReading.{header_at, AreAllFrames, ReadsImage, ReadsRows};
+
+use crate::order::order_refusal;
+use crate::refusal::ImageRefusal;
+use cap_codec::{RawRow, decode_frame};
+use spelling::{End, Input, NoMemory, Unread};
+use std::alloc::Global;
+use willow_path::{NamespaceKey, read_namespace_key};
+
+/// The rows of an image, by rising place, and the namespace that it is of. Nothing is said of whether the
+/// rows are of that namespace, or authorised.
+#[derive(Debug, Drop)]
+pub struct Image {
+    pub namespace: NamespaceKey,
+    pub rows: Vec<RawRow>,
+}
+
+/// The rows of the image that the bytes are: the text WIM1, a namespace key, frames of rows, four bytes 00,
+/// the number of rows in four bytes, and nothing else. The rows rise by place, and none dominates a later one.
+/// Bytes that are no image are refused first, then rows that do not rise, then pruned ones, with the places
+/// that `ImageRefusal` tells.
+pub fn read_image(alloc: Global, bytes: &[u8]) -> Result<Image, End<ImageRefusal>>
+    ensures { ReadsImage bytes.now result }
+{
+    match read_rows(alloc, bytes) {
+        Ok(image) => in_order(alloc, bytes, image),
+        Err(end) => Err(end),
+    }
+}
+
+// The image, where its rows are in order.
+fn in_order(alloc: Global, bytes: &[u8], image: Image) -> Result<Image, End<ImageRefusal>>
+    requires { ReadsRows bytes.now (Ok image) }
+    ensures { ReadsImage bytes.now result }
+{
+    match order_refusal(alloc, &image.rows) {
+        Ok(None) => Ok(image),
+        Ok(Some(refusal)) => Err(End::Refused(refusal)),
+        Err(NoMemory) => Err(End::NoMemory),
+    }
+}
+
+// The rows of the image that the bytes are, in any order.
+fn read_rows(alloc: Global, bytes: &[u8]) -> Result<Image, End<ImageRefusal>>
+    ensures { ReadsRows bytes.now result }
+{
+    let mut input = Input::new(bytes);
+    match read_header(&mut input) {
+        Ok(namespace) => read_behind(alloc, bytes, namespace, input.front()),
+        Err(Unread::NoMemory) => Err(End::NoMemory),
+        Err(Unread::Part) => Err(End::Refused(ImageRefusal::BadImage { at: 0 })),
+        Err(Unread::Wrong) => Err(End::Refused(ImageRefusal::BadImage { at: 0 })),
+    }
+}
+
+// The text WIM1, and the key behind it.
+#[tactic(auto, unfolding(crate::specs::ImageReading::header_at))]
+fn read_header(input: &mut Input) -> Result<NamespaceKey, Unread>
+    ensures { Gives (λ key. key) result input.new (header_at input.old) }
+{
+    input.exactly(b"WIM1")?;
+    read_namespace_key(input)
+}
+
+// The rows behind the header of the bytes.
+fn read_behind(alloc: Global, bytes: &[u8], namespace: NamespaceKey, behind: &[u8]) -> Result<Image, End<ImageRefusal>>
+    requires key { IsKey namespace }
+    requires behind { bytes.now ≡ (magic ++ namespace) ++ behind.now }
+    ensures { ReadsRows bytes.now result }
+{
+    match read_frames(alloc, behind) {
+        Ok((rows, left)) => {
+            if is_trailer(left, rows.len()) {
+                Ok(Image { namespace, rows })
+            } else {
+                let at = bytes.len() - left.len();
+                Err(End::Refused(ImageRefusal::BadImage { at: at as u64 }))
+            }
+        }
+        Err(NoMemory) => Err(End::NoMemory),
+    }
+}
+
+// The rows of all frames in front, and the bytes behind them.
+fn read_frames<'a>(alloc: Global, bytes: &'a [u8]) -> Result<(Vec<RawRow>, &'a [u8]), NoMemory>
+    ensures { IfOk result (λ read. AreAllFrames bytes.now read.0.items read.1.now) }
+{
+    let mut rows = Vec::new(alloc);
+    let mut left = bytes;
+    'frames: while !left.is_empty() {
+        let (row, taken) = match decode_frame(alloc, left) {
+            Ok(read) => read,
+            Err(End::Refused(_)) => return Ok((rows, left)),
+            Err(End::NoMemory) => return Err(NoMemory),
+        };
+        rows.push(row)?;
+        left = behind(left, taken);
+    }
+    Ok((rows, left))
+}
+
+// The bytes behind so many.
+fn behind(bytes: &[u8], taken: usize) -> &[u8]
+    requires { taken ≤ length bytes.now }
+    ensures { result.now ≡ drop taken bytes.now }
+{
+    &bytes[taken..]
+}
+
+// Whether the bytes are the end of an image of so many rows.
+fn is_trailer(bytes: &[u8], count: usize) -> bool
+    ensures { MatchBool result ((count < 2 ^ 32) × (bytes.now ≡ trailer count)) (count < 2 ^ 32 → bytes.now ≡ trailer count → ⊥) }
+{
+    match u32::try_from(count) {
+        Ok(count) => is_end(bytes, count),
+        Err(_) => false,
+    }
+}
+
+// Whether the bytes are four bytes 00 and the count.
+fn is_end(bytes: &[u8], count: u32) -> bool
+    ensures { MatchBool result (bytes.now ≡ trailer count) (bytes.now ≡ trailer count → ⊥) }
+{
+    bytes.len() == 8 && &bytes[..4] == [0; 4].as_slice() && &bytes[4..] == count.to_be_bytes().as_slice()
+}

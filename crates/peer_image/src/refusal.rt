@@ -1,0 +1,18 @@
+//! Why bytes are not taken as an image.
+
+use thiserror::Error;
+
+/// Why bytes are not taken as an image. Bad bytes go before rows that do not rise, and these before pruned rows.
+#[derive(Clone, Copy, Debug, PartialEq, Eq, Error)]
+pub enum ImageRefusal {
+    /// The bytes are no image. `at` counts the bytes before the part that is wrong: none where the text WIM1
+    /// and a namespace key do not stand in front, else those before a wrong frame or before the final count.
+    #[error("the image is wrong from byte {at} on")]
+    BadImage { at: u64 },
+    /// The row `at`, counted from 1, is the first that does not stand above the row before it.
+    #[error("row {at} of the image does not stand above the row before it")]
+    NotRising { at: u32 },
+    /// The row `at` is the first that an earlier row dominates, and `by` the first such; both are counted from 1.
+    #[error("row {at} of the image is pruned by row {by}")]
+    Pruned { at: u32, by: u32 },
+}
