@@ -1,8 +1,8 @@
 -- When there is no cause to refuse.
-use Rattle.std.proofs.Common.{◌≡◌, ◌↔◌, ℕ, zero, suc, ◌+◌, ◌<◌, Bool, true, false, not, cond, List, [], ◌∷◌, Option, Some, None, slice_get, refl, sym, ap, ◌∙◌, arith}
+use Rattle.std.proofs.Common.{◌≡◌, ◌↔◌, ℕ, suc, ◌+◌, Bool, true, false, not, cond, List, [], ◌∷◌, Option, Some, None, slice_get, refl, sym, ap, ◌∙◌, arith}
 use Rattle.std.proofs.lemmas.Option.{slice_get_within, get_or_from_slice_get}
 use Rattle.spelling.specs.Answers.{or_else, cause_if, first_some}
-use Rattle.spelling.proofs.Causes.{or_else_both, first_some-none, first_some-nil, first_some-cons}
+use Rattle.spelling.proofs.Causes.{first_some-none, first_some-nil, first_some-cons}
 
 pub unless_true : {E : Type 0} (test : Bool) (cause : E) → (cause_if (not test) cause ≡ None) ↔ (test ≡ true)
 unless_true true cause = (λ e. refl, λ e. refl)

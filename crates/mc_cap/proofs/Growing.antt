@@ -1,5 +1,5 @@
 -- A text that counts its items in one byte and grows by one item at a time.
-use Rattle.std.proofs.Common.{◌≡◌, ℕ, suc, ◌+◌, ◌-◌, ◌<◌, ◌≤◌, List, [], ◌∷◌, ◌++◌, length, take, set, get_or, slice_get, Some, sym, ap, subst, ◌∙◌, append_assoc, add-one, arith}
+use Rattle.std.proofs.Common.{◌≡◌, ℕ, ◌+◌, ◌-◌, ◌<◌, List, [], ◌∷◌, ◌++◌, length, take, set, get_or, slice_get, Some, sym, ap, subst, ◌∙◌, append_assoc, add-one, arith}
 use Rattle.std.specs.List.{flat_map, AllByRecursion}
 use Rattle.spelling.proofs.Lists.{All-append}
 use Rattle.std.proofs.lemmas.List.{append-nil, get_or-take, length-take}

@@ -1,5 +1,5 @@
 -- How the message that grows goes with the handovers, and the delegations that were checked with those left.
-use Rattle.std.proofs.Common.{◌≡◌, ℕ, suc, ◌+◌, ◌-◌, ◌<◌, ◌≤◌, List, [], ◌∷◌, ◌++◌, length, take, drop, set, get_or, Option, Some, None, Result, Ok, Err, refl, sym, ap, subst, ◌∙◌, add-one, arith}
+use Rattle.std.proofs.Common.{◌≡◌, ℕ, suc, ◌+◌, ◌<◌, ◌≤◌, List, ◌∷◌, ◌++◌, length, take, drop, set, get_or, Option, None, Err, sym, ap, ◌∙◌, add-one, arith}
 use Rattle.std.specs.List.{flat_map}
 use Rattle.std.proofs.lemmas.List.{length-take, drop_all}
 use Rattle.std.proofs.Math.Seq.{drop-cons}
@@ -10,7 +10,7 @@ use Rattle.spelling.proofs.Causes.{first_some-cons, first_some-nil}
 use Rattle.scheme_core.specs.Rules.{Rules}
 use Rattle.willow_area.specs.AreaSpelling.{area_spelling}
 use Rattle.willow_area.specs.declared.area.Area.{Area}
-use Rattle.mc_cap.specs.Grant.{cut, receiver_of, granted, user_or, area_or, first_grant, last_of}
+use Rattle.mc_cap.specs.Grant.{cut, receiver_of, granted, user_or, area_or, first_grant}
 use Rattle.mc_cap.specs.Forms.{delegation_spelling, head_spelling}
 use Rattle.mc_cap.specs.Messages.{handover}
 use Rattle.mc_cap.specs.Valid.{step_refusal, handing_refusal}

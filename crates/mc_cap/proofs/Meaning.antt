@@ -1,5 +1,5 @@
 -- There is no cause to refuse a capability exactly where it is valid.
-use Rattle.std.proofs.Common.{◌≡◌, ◌↔◌, ℕ, suc, ◌+◌, ◌<◌, ◌≤◌, Bool, true, false, not, cond, List, length, Option, Some, None, IsTrue, IfSome, nat_lt, slice_get, refl, sym, ap, ◌∙◌, arith}
+use Rattle.std.proofs.Common.{◌≡◌, ◌↔◌, ℕ, ◌+◌, ◌≤◌, Bool, true, false, not, cond, List, length, Option, Some, None, IsTrue, IfSome, nat_lt, refl, sym, ap, ◌∙◌}
 use Rattle.std.proofs.lemmas.Bool.{ltb-false, le-ltb, false≢true}
 use Rattle.spelling.specs.Answers.{or_else, cause_if, first_some}
 use Rattle.spelling.proofs.Causes.{or_else_both}
@@ -11,7 +11,6 @@ use Rattle.mc_cap.specs.Valid.{IsHandedOn, IsValid, start_by, start_refusal, ste
 use Rattle.mc_cap.specs.declared.chain.Delegation.{Delegation}
 use Rattle.mc_cap.specs.declared.capability.Capability.{Capability}
 use Rattle.mc_cap.specs.declared.check.TheConstants.{MAX_DELEGATIONS}
-use Rattle.mc_cap.specs.declared.check.ChainRefusal.{ChainRefusal}
 use Rattle.mc_cap.specs.declared.check.ChainRefusal.TheVariants.{NotCommunal, NotOwned, BadInitial, AreaGrows, BadSignature, TooManyDelegations}
 use Rattle.mc_cap.proofs.Causes.{unless_true, if_false, neither, later, none_at, none_along}
 

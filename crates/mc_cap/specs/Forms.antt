@@ -1,5 +1,5 @@
 -- How capabilities are spelled, and what fits.
-use Rattle.std.specs.Prelude.{◌≡◌, ℕ, Bool, List, [], ◌∷◌, ◌++◌, Option, Some, None, IfSome, is_some}
+use Rattle.std.specs.Prelude.{ℕ, List, [], ◌∷◌, ◌++◌, Option, Some, None, IfSome}
 use Rattle.spelling.specs.Spelling.{byte_spelling, list_spelling, IsList}
 use Rattle.willow_path.specs.Key.{IsKey}
 use Rattle.willow_area.specs.Area.{IsArea}

@@ -1,5 +1,5 @@
 -- When a capability is valid, and which condition is the first that fails.
-use Rattle.std.specs.Prelude.{◌≡◌, ◌↔◌, ℕ, ◌+◌, ◌≤◌, Bool, not, List, length, Option, Some, None, IsTrue, IfSome, nat_lt, slice_get, if◌then◌else◌}
+use Rattle.std.specs.Prelude.{◌≡◌, ◌↔◌, ℕ, ◌+◌, ◌≤◌, not, List, length, Option, Some, None, IsTrue, IfSome, nat_lt, slice_get, if◌then◌else◌}
 use Rattle.spelling.specs.Answers.{or_else, cause_if, first_some}
 use Rattle.scheme_core.specs.Rules.{Rules}
 use Rattle.willow_area.specs.Area.{includes_area}

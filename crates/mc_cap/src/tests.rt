@@ -3,8 +3,8 @@
 ghost use Rattle.std.specs.Prelude.{◌≤◌, length, IfOk};
 
 use crate::{
-    Capability, Chain, ChainRefusal, Delegation, MAX_CHAIN, Mode, Signature, initial_message,
-    validity,
+    Capability, Chain, ChainRefusal, Delegation, MAX_CHAIN, MAX_DELEGATIONS, Mode, Signature,
+    initial_message, validity,
 };
 use scheme_core::{MAX_SIGNATURE, OpenScheme, OpenSigner, Signer};
 use std::alloc::Global;
@@ -36,24 +36,26 @@ fn signed(alloc: Global, byte: u8, message: &[u8]) -> Result<Vec<u8>, Fail>
     Ok(OpenSigner::new(key).sign(alloc, message)?)
 }
 
-// A capability of the first user without delegations.
-fn first(
-    alloc: Global,
-    mode: Mode,
-    namespace_byte: u8,
-    initial: Option<Vec<u8>>,
-) -> Result<Capability, Fail> {
-    let initial = match initial {
-        Some(bytes) => Some(Signature::new(bytes).ok_or("a short signature")?),
+// A capability to write of the first user, without delegations, with an initial signature by this key.
+fn first(alloc: Global, namespace_byte: u8, signer: Option<u8>) -> Result<Capability, Fail> {
+    let initial = match signer {
+        Some(byte) => Some(initial_signature(alloc, byte)?),
         None => None,
     };
     Ok(Capability {
-        mode,
+        mode: Mode::Write,
         namespace: namespace(namespace_byte)?,
         user: user(0x55)?,
         initial,
         chain: Chain::empty(alloc),
     })
+}
+
+// The initial signature of the first user by the key of this byte.
+fn initial_signature(alloc: Global, byte: u8) -> Result<Signature, Fail> {
+    let message = initial_message(Mode::Write, &user(0x55)?);
+    let bytes = signed(alloc, byte, &message)?;
+    Ok(Signature::new(bytes).ok_or("a short signature")?)
 }
 
 // The first user's subspace, at times below the end.
@@ -87,7 +89,7 @@ fn append(
 
 // The communal capability of the first user, handed on from each user to the next for times below an end.
 fn handed_on(alloc: Global, ends: &[u64]) -> Result<Capability, Fail> {
-    let mut capability = first(alloc, Mode::Write, 0x4e, None)?;
+    let mut capability = first(alloc, 0x4e, None)?;
     let mut giver = 0x55u8;
     for end in ends {
         let receiver = giver.wrapping_add(1);
@@ -113,86 +115,89 @@ fn refused(capability: &Capability) -> Result<Option<ChainRefusal>, Fail> {
     }
 }
 
+// The capability handed on for times below these ends, and once more with an empty signature.
+fn forged(alloc: Global, ends: &[u64]) -> Result<Capability, Fail> {
+    let mut capability = handed_on(alloc, ends)?;
+    append(&mut capability, until(alloc, 5)?, 0x60, Vec::new(alloc))?;
+    Ok(capability)
+}
+
 #[test]
-fn each_refusal(rt: HostRuntime) -> Result<(), Fail> {
-    let alloc = rt.alloc();
-    let (communal, owned) = (0x4e, 0x4f);
-    let message = initial_message(Mode::Read, &user(0x55)?);
-    assert_eq!(rt; message[0], 0x49);
-    assert_eq!(rt; message[1], 0);
-    assert_eq!(rt; refused(&first(alloc, Mode::Read, communal, None)?)?, None);
-    assert_eq!(rt;
-        refused(&first(alloc, Mode::Read, owned, None)?)?,
-        Some(ChainRefusal::NotCommunal)
-    );
-    let initial = || signed(alloc, owned, &message);
-    assert_eq!(rt;
-        refused(&first(alloc, Mode::Read, owned, Some(initial()?))?)?,
-        None
-    );
-    assert_eq!(rt;
-        refused(&first(alloc, Mode::Read, communal, Some(initial()?))?)?,
-        Some(ChainRefusal::NotOwned)
-    );
-    assert_eq!(rt;
-        refused(&first(alloc, Mode::Write, owned, Some(initial()?))?)?,
-        Some(ChainRefusal::BadInitial)
-    );
-    let chains: [(&[u64], Option<ChainRefusal>); 4] = [
-        (&[20, 10], None),
-        (&[20, 10, 11], Some(ChainRefusal::AreaGrows { at: 3 })),
-        (&[20; 8], None),
-        (&[20; 9], Some(ChainRefusal::TooManyDelegations)),
-    ];
-    for (ends, refusal) in chains {
-        assert_eq!(rt; refused(&handed_on(alloc, ends)?)?, refusal);
-    }
-    let mut forged = handed_on(alloc, &[20])?;
-    append(&mut forged, until(alloc, 20)?, 0x57, Vec::new(alloc))?;
-    assert_eq!(rt;
-        refused(&forged)?,
-        Some(ChainRefusal::BadSignature { at: 2 })
-    );
+fn beginnings(rt: HostRuntime) -> Result<(), Fail> {
     validity();
+    let (communal, owned) = (0x4e, 0x4f);
+    for (namespace, signer, refusal) in [
+        (communal, None, None),
+        (owned, None, Some(ChainRefusal::NotCommunal)),
+        (owned, Some(owned), None),
+        (communal, Some(communal), Some(ChainRefusal::NotOwned)),
+        (owned, Some(communal), Some(ChainRefusal::BadInitial)),
+    ] {
+        let capability = first(rt.alloc(), namespace, signer)?;
+        assert_eq!(rt; refused(&capability)?, refusal);
+    }
     Ok(())
 }
 
 #[test]
+fn chains(rt: HostRuntime) -> Result<(), Fail> {
+    let chains: [(&[u64], Option<ChainRefusal>); 4] = [
+        (&[20, 10], None),
+        (&[20, 10, 11], Some(ChainRefusal::AreaGrows { at: 3 })),
+        (&[20; MAX_DELEGATIONS], None),
+        (
+            &[20; MAX_DELEGATIONS + 1],
+            Some(ChainRefusal::TooManyDelegations),
+        ),
+    ];
+    for (ends, refusal) in chains {
+        assert_eq!(rt; refused(&handed_on(rt.alloc(), ends)?)?, refusal);
+    }
+    assert_eq!(rt;
+        refused(&forged(rt.alloc(), &[20])?)?,
+        Some(ChainRefusal::BadSignature { at: 2 })
+    );
+    Ok(())
+}
+
+// The number of bytes of the spelling of a copy.
+fn spelled_len(capability: &Capability) -> Result<usize, Fail> {
+    let mut text = Vec::new(capability.chain.allocator());
+    capability.copy()?.encode(&mut text)?;
+    Ok(text.len())
+}
+
+#[test]
 fn spellings(rt: HostRuntime) -> Result<(), Fail> {
-    let alloc = rt.alloc();
-    let mut capability = first(alloc, Mode::Write, 0x4e, None)?;
-    let mut text = Vec::new(alloc);
-    capability.encode(&mut text)?;
-    assert_eq!(rt; text.len(), 68);
-    assert_eq!(rt; text[0], 1);
-    assert_eq!(rt; text[67], 0);
+    let mut capability = first(rt.alloc(), 0x4e, None)?;
+    assert_eq!(rt; spelled_len(&capability)?, 68);
     let area = capability.granted_area()?;
     let message = capability.handover(&area, &user(0x56)?)?;
     assert_eq!(rt; message.len(), 1 + 68 + 44 + 33);
-    assert_eq!(rt; message[0], 0x48);
-    append(&mut capability, area, 0x56, signed(alloc, 0x55, &message)?)?;
-    let mut longer = Vec::new(alloc);
-    capability.copy()?.encode(&mut longer)?;
-    assert_eq!(rt; longer.len(), 179);
-    assert_eq!(rt; longer[67], 1);
+    append(
+        &mut capability,
+        area,
+        0x56,
+        signed(rt.alloc(), 0x55, &message)?,
+    )?;
+    assert_eq!(rt; spelled_len(&capability)?, 179);
     Ok(())
 }
 
 #[test]
 fn handing_on(rt: HostRuntime) -> Result<(), Fail> {
     let alloc = rt.alloc();
-    let mut capability = first(alloc, Mode::Write, 0x4e, None)?;
+    let mut capability = first(alloc, 0x4e, None)?;
     capability.check(&OpenScheme)?;
     let area = until(alloc, 20)?;
     let message = capability.handover(&area, &user(0x56)?)?;
-    let signature = signed(alloc, 0x55, &message)?;
-    capability.delegate(&OpenScheme, area, user(0x56)?, signature)?;
+    capability.delegate(
+        &OpenScheme,
+        area,
+        user(0x56)?,
+        signed(alloc, 0x55, &message)?,
+    )?;
     assert_eq!(rt; capability.receiver(), user(0x56)?);
-    capability.check(&OpenScheme)?;
-    let grown = capability.delegate(&OpenScheme, until(alloc, 21)?, user(0x57)?, Vec::new(alloc));
-    assert_eq!(rt; grown, Err(End::Refused(ChainRefusal::AreaGrows { at: 2 })));
-    assert_eq!(rt; capability.chain.len(), 1);
-    let delegations = capability.chain.into_vec();
-    assert_eq!(rt; Chain::new(delegations).is_some(), true);
+    assert_eq!(rt; Chain::new(capability.chain.into_vec()).is_some(), true);
     Ok(())
 }

@@ -1,4 +1,4 @@
-use Rattle.std.proofs.Common.{◌≡◌, ◌+◌, ◌<◌, length, arith}
+use Rattle.std.proofs.Common.{arith}
 use Rattle.std.proofs.lemmas.Result.{err_from_is_err_and}
 use Rattle.mc_cap.proofs.Handing.{left_here, fails_first, passes_first, none_left, granted_on, receiver_on, text_on}
 use Rattle.mc_cap.proofs.capability.Capability.check_delegations.Goals as goal

@@ -1,4 +1,4 @@
-use Rattle.std.proofs.Common.{◌≡◌, ◌++◌, ◌+◌, ◌∷◌, take, drop, length}
+use Rattle.std.proofs.Common.{◌≡◌, drop}
 use Rattle.spelling.specs.Answers.{first_some}
 use Rattle.mc_cap.specs.Grant.{cut, granted, receiver_of}
 use Rattle.mc_cap.specs.Valid.{step_refusal}

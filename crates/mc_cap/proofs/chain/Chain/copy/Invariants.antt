@@ -1,4 +1,4 @@
-use Rattle.std.proofs.Common.{◌≡◌, take, ℕ}
+use Rattle.std.proofs.Common.{◌≡◌, take}
 use Rattle.mc_cap.proofs.chain.Chain.copy.Given as goal
 
 abbrev pub invariant-loop-delegation : goal.invariant-loop-delegation

@@ -1,4 +1,4 @@
-use Rattle.std.proofs.Common.{◌≡◌, take}
+use Rattle.std.proofs.Common.{take}
 use Rattle.std.specs.List.{AllByRecursion}
 use Rattle.mc_cap.specs.Forms.{IsDelegation}
 use Rattle.mc_cap.proofs.chain.Chain.known.Given as goal
