@@ -1,10 +1,9 @@
 -- The first row that does not stand above the row before it, and that there is none where rows rise.
-use Rattle.std.proofs.Common.{◌≡◌, ℕ, ◌+◌, Bool, true, false, cond, List, [], ◌∷◌, Option, Some, None, refl, sym, ap, ◌∙◌, Ordering, Less, Equal, Greater, is_lt}
+use Rattle.std.proofs.Common.{◌≡◌, ℕ, ◌+◌, Bool, true, false, cond, List, [], ◌∷◌, Some, None, refl, ap, ◌∙◌, Ordering, Less, Equal, Greater, is_lt}
 use Rattle.std.specs.List.{AllByRecursion}
 use Rattle.std.specs.List.Sorted.{IsStrictlySortedBy}
 use Rattle.willow_entry.specs.Row.{RowValue, place_cmp, IsRising}
 use Rattle.willow_entry.proofs.Ranks.{place_total}
-use Rattle.peer_image.specs.declared.refusal.ImageRefusal.{ImageRefusal}
 use Rattle.peer_image.specs.declared.refusal.ImageRefusal.TheVariants.{NotRising}
 use Rattle.peer_image.specs.Order.{fall_after, first_fall}
 
@@ -43,11 +42,12 @@ rising_after k r [] e = (tt, tt)
 rising_after k r (s ∷ rows) e =
     let P : Bool → Type 0 = λ b. is_lt (place_cmp r s) ≡ b → cond b (fall_after (k + 1) s rows) (Some (NotRising k)) ≡ None → IsRising (r ∷ s ∷ rows) in
     let each : (b : Bool) → P b = elim [
-        true ↦ λ q n. (
+      | true ↦ λ q n. (
           let up = rising_after (k + 1) s rows n in
           let less : place_cmp r s ≡ Less = less_from (place_cmp r s) q in
           ((less, all_above r s rows less up.0), up))
-      | false ↦ λ q n. absurd (none_not_some k n) ] in
+      | false ↦ λ q n. absurd (none_not_some k n)
+    ] in
     each (is_lt (place_cmp r s)) refl e
 
 pub rising_from_none : (rows : List RowValue) → first_fall rows ≡ None → IsRising rows

@@ -1,13 +1,13 @@
 -- Rows are not refused for their order exactly where they are live.
-use Rattle.std.proofs.Common.{◌≡◌, ◌⊎◌, inl, inr, ℕ, ◌+◌, Bool, true, false, cond, List, [], ◌∷◌, ◌++◌, length, Option, Some, None, refl, sym, ap, subst, ◌∙◌, append_assoc, Ordering, Less, Greater, is_gt}
+use Rattle.std.proofs.Common.{◌≡◌, inl, inr, ℕ, ◌+◌, Bool, true, false, cond, List, [], ◌∷◌, ◌++◌, length, Option, Some, None, refl, sym, ap, subst, ◌∙◌, append_assoc, Less, is_gt}
 use Rattle.std.specs.List.{AllByRecursion, position_from}
 use Rattle.std.specs.List.Sorted.{IsStrictlySortedBy}
 use Rattle.std.specs.Ordering.{ordering_reverse}
 use Rattle.std.proofs.lemmas.Bool.{false≢true, false_from_ne_true}
 use Rattle.spelling.specs.Answers.{or_else}
-use Rattle.spelling.proofs.Causes.{or_else_both, or_else_none}
+use Rattle.spelling.proofs.Causes.{or_else_both}
 use Rattle.willow_entry.specs.Row.{RowValue, is_dominating, place_cmp, live, IsRising}
-use Rattle.willow_entry.proofs.Members.{Member, member_append_cases, member_append_left, member_append_right}
+use Rattle.willow_entry.proofs.Members.{Member, member_append_cases, member_append_left}
 use Rattle.willow_entry.proofs.Rising.{all_member}
 use Rattle.willow_entry.proofs.Ranks.{place_total}
 use Rattle.willow_entry.proofs.RowLaws.{rows_prune}
@@ -63,14 +63,17 @@ spares_all earlier (r ∷ rest) up e =
     let above = rising_apart earlier r rest up in
     let same = append_assoc earlier (r ∷ []) rest in
     let further : Spares (earlier ++ r ∷ rest) rest =
-      subst (λ l. Spares l rest) same (spares_all (earlier ++ r ∷ []) rest (subst IsRising (sym same) up) parts.1) in
+    subst (λ l. Spares l rest) same (spares_all (earlier ++ r ∷ []) rest (subst IsRising (sym same) up) parts.1) in
     λ z m. elim m [
-        inl q ↦ (λ s n. subst (λ w. is_dominating s w ≡ false) q (elim (member_append_cases earlier (r ∷ rest) s n) [
-            inl i ↦ before s i
-          | inr j ↦ elim j [
-              inl t ↦ subst (λ w. is_dominating w r ≡ false) t (rows_prune.irreflexive r)
-            | inr i ↦ above_spares r s (all_member place_cmp (λ w. place_cmp r w ≡ Less) rest above s i) ] ]))
-      | inr i ↦ further z i ]
+      | inl q ↦ (λ s n. subst (λ w. is_dominating s w ≡ false) q (elim (member_append_cases earlier (r ∷ rest) s n) [
+        | inl i ↦ before s i
+        | inr j ↦ elim j [
+          | inl t ↦ subst (λ w. is_dominating w r ≡ false) t (rows_prune.irreflexive r)
+          | inr i ↦ above_spares r s (all_member place_cmp (λ w. place_cmp r w ≡ Less) rest above s i)
+        ]
+      ]))
+      | inr i ↦ further z i
+    ]
 
 none_pruned : (earlier rows : List RowValue) → Spares (earlier ++ rows) rows → pruned_after earlier rows ≡ None
 unfolding pruned_after

@@ -1,14 +1,13 @@
 -- The rows at prefixes of a row, among rows that rise, are found among those at prefixes of the row before.
-use Rattle.std.proofs.Common.{◌≡◌, ℕ, ◌+◌, Bool, true, false, cond, List, [], ◌∷◌, ◌++◌, length, filter, Option, Some, None, refl, sym, ap, subst, ◌∙◌, append_assoc, arith, Ordering, Less, is_gt}
+use Rattle.std.proofs.Common.{◌≡◌, ℕ, ◌+◌, Bool, true, false, cond, List, [], ◌∷◌, ◌++◌, length, Option, Some, None, refl, sym, ap, ◌∙◌, arith, Less, is_gt}
 use Rattle.std.specs.List.{AllByRecursion, position_from}
 use Rattle.std.specs.List.Sorted.{IsStrictlySortedBy}
-use Rattle.std.proofs.lemmas.Bool.{false≢true, false_from_ne_true}
+use Rattle.std.proofs.lemmas.Bool.{false≢true}
 use Rattle.std.proofs.lemmas.List.Elements.{filter-append}
-use Rattle.spelling.proofs.Lists.{All-left, All-right}
+use Rattle.spelling.proofs.Lists.{All-right}
 use Rattle.spelling.specs.Answers.{or_else}
 use Rattle.willow_entry.specs.Row.{RowValue, is_at_prefix, is_dominating, place_cmp, IsRising}
 use Rattle.willow_entry.proofs.Local.{at_prefix, at_prefix_test, dominated_at_prefix, between_at_prefix}
-use Rattle.peer_image.specs.declared.refusal.ImageRefusal.{ImageRefusal}
 use Rattle.peer_image.specs.Fronts.{Seen, numbered, fronts_of, first_dominating, Suffices}
 use Rattle.peer_image.specs.Order.{pruned_by, pruned_after}
 

@@ -1,5 +1,5 @@
 -- What is refused for its order is not refused for its bytes.
-use Rattle.std.proofs.Common.{◌≡◌, ℕ, ◌+◌, Bool, true, false, cond, List, [], ◌∷◌, ◌++◌, length, Option, Some, None, Result, Ok, Err, subst}
+use Rattle.std.proofs.Common.{◌≡◌, ℕ, ◌+◌, Bool, true, false, cond, List, [], ◌∷◌, ◌++◌, length, Option, Some, None, Err, subst}
 use Rattle.std.specs.List.{position_from}
 use Rattle.std.specs.Ordering.{is_lt}
 use Rattle.spelling.specs.Answers.{or_else}
@@ -44,7 +44,7 @@ unfolding pruned_after
 pruned_for_order earlier [] = tt
 pruned_for_order earlier (r ∷ rows) =
     either (pruned_by (length earlier + 1) (position_from (λ s. is_dominating s r) 1 earlier)) (pruned_after (earlier ++ r ∷ []) rows)
-      (by_for_order (length earlier + 1) (position_from (λ s. is_dominating s r) 1 earlier)) (pruned_for_order (earlier ++ r ∷ []) rows)
+    (by_for_order (length earlier + 1) (position_from (λ s. is_dominating s r) 1 earlier)) (pruned_for_order (earlier ++ r ∷ []) rows)
 
 order_for_order : (rows : List RowValue) → IsForOrder (order_refusal rows)
 order_for_order rows = either (first_fall rows) (pruned_after [] rows) (first_for_order rows) (pruned_for_order [] rows)

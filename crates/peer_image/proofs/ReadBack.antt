@@ -1,5 +1,5 @@
 -- The image of live rows is read back as these.
-use Rattle.std.proofs.Common.{◌≡◌, ℕ, ◌<◌, ◌≤◌, ◌^◌, List, [], ◌∷◌, ◌++◌, length, map, Option, Some, None, Result, Ok, Err, refl, sym, ap, subst, ◌∙◌, arith}
+use Rattle.std.proofs.Common.{◌≡◌, ℕ, ◌<◌, ◌≤◌, ◌^◌, List, [], ◌∷◌, ◌++◌, length, Option, Some, None, Result, Ok, Err, refl, sym, ap, subst, ◌∙◌, arith}
 use Rattle.std.specs.List.{AllByRecursion}
 use Rattle.std.proofs.lemmas.List.{length-map}
 use Rattle.spelling.specs.declared.ending.End.{End}
@@ -9,7 +9,7 @@ use Rattle.willow_entry.specs.EntryForm.{entry_spelling}
 use Rattle.willow_entry.specs.RowBody.{row_body}
 use Rattle.willow_entry.specs.Row.{RowValue, live}
 use Rattle.cap_codec.specs.declared.frame.TheConstants.{MAX_FRAME}
-use Rattle.cap_codec.specs.Rows.{RawValue, row_of, IsRawRow, FitsFrame, raw_spelling}
+use Rattle.cap_codec.specs.Rows.{RawValue, row_of, IsRawRow, FitsFrame}
 use Rattle.peer_image.specs.declared.read.Image.{Image}
 use Rattle.peer_image.specs.declared.refusal.ImageRefusal.{ImageRefusal}
 use Rattle.peer_image.specs.declared.refusal.ImageRefusal.TheVariants.{BadImage, NotRising, Pruned}
@@ -52,6 +52,12 @@ raws_of (r ∷ rows) f g =
       same = ap (λ (x : RowValue). x ∷ rows_of more.raws) (raw_same r f.0) ∙ ap (λ (l : List RowValue). r ∷ l) more.same;
       fit = (raw_fits r f.0 g.0, more.fit);
     }
+
+-- rows in frames are rows that frames may carry
+pub framed_rows : (rows : List RawValue) → AllByRecursion FitsFrame rows → AllByRecursion HasFrame (rows_of rows)
+unfolding row_body
+framed_rows [] f = tt
+framed_rows (r ∷ rows) f = (f.0.short, framed_rows rows f.1)
 
 -- ---- read back
 

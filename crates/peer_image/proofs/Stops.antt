@@ -1,11 +1,9 @@
 -- Bytes have one front of frames that nothing goes on from, so they are one image, or go wrong at one place.
-use Rattle.std.proofs.Common.{◌≡◌, ◌⊎◌, inl, inr, ℕ, zero, suc, ◌+◌, ◌-◌, ◌<◌, ◌≤◌, ◌^◌, List, [], ◌∷◌, ◌++◌, length, map, refl, sym, ap, subst, ◌∙◌, append_assoc, arith}
+use Rattle.std.proofs.Common.{◌≡◌, inl, inr, ℕ, ◌<◌, ◌^◌, List, [], ◌∷◌, ◌++◌, length, refl, sym, ap, subst, ◌∙◌, append_assoc, arith}
 use Rattle.std.specs.List.{flat_map, AllByRecursion}
 use Rattle.std.specs.Int.{w32, to_be_bytes}
 use Rattle.std.proofs.lemmas.List.{length-append, length-map}
-use Rattle.std.proofs.lemmas.List.Folds.{flat_map-map}
-use Rattle.spelling.specs.Front.{Front, Whole, Part, Wrong, ◌>>=◌}
-use Rattle.spelling.specs.Reading.{exactly_at}
+use Rattle.spelling.specs.Front.{Front, Whole, Part, Wrong}
 use Rattle.spelling.proofs.Joining.{Reads, Reads-then, Reads-is, one_spelling, whole_value}
 use Rattle.spelling.proofs.Exact.{exactly-reads}
 use Rattle.spelling.proofs.Fields.{u32-reads}
@@ -19,7 +17,7 @@ use Rattle.cap_codec.specs.declared.frame.TheConstants.{MAX_FRAME}
 use Rattle.cap_codec.specs.Rows.{RawValue, IsRaw, row_of, raw_spelling, FitsFrame, frame}
 use Rattle.cap_codec.proofs.Frames.{body_at, frame_again, frame_form}
 use Rattle.peer_image.specs.Image.{image, magic, trailer}
-use Rattle.peer_image.specs.ImageReading.{header_at, rows_of, HasNoFrame, HasNoHeader, IsImage, IsFront, IsStuck, StopsAt, IsWrong, AreAllFrames}
+use Rattle.peer_image.specs.ImageReading.{header_at, rows_of, HasNoFrame, HasNoHeader, IsImage, IsFront, StopsAt, IsWrong, AreAllFrames}
 
 -- ---- the header
 
@@ -27,7 +25,7 @@ pub header-reads : Reads header_at (λ n. magic ++ n) IsKey
 unfolding header_at
 header-reads =
     Reads-is (Reads-then (λ (t : Unit {0} × List ℕ). key_at t.1) (λ (n : List ℕ). tt) (exactly-reads magic) (λ t. key-reads) (λ t n f. refl))
-      (λ n. refl) (λ n f. f.1) (λ n f. (tt, f))
+    (λ n. refl) (λ n f. f.1) (λ n f. (tt, f))
 
 whole_not_part : (x rest : List ℕ) (r : Front (List ℕ)) → r ≡ Whole x rest → r ≡ Part → ⊥
 whole_not_part x rest r e f = cc
@@ -72,7 +70,7 @@ same_frames [] (s ∷ others) a b f g na nb e = absurd (na s (flat_map frame oth
 same_frames (r ∷ rows) [] a b f g na nb e = absurd (nb r (flat_map frame rows ++ a) f.0 (sym e ∙ append_assoc (frame r) (flat_map frame rows) a))
 same_frames (r ∷ rows) (s ∷ others) a b f g na nb e =
     let both = frame_form r s (flat_map frame rows ++ a) (flat_map frame others ++ b) f.0 g.0
-          (sym (append_assoc (frame r) (flat_map frame rows) a) ∙ e ∙ append_assoc (frame s) (flat_map frame others) b) in
+    (sym (append_assoc (frame r) (flat_map frame rows) a) ∙ e ∙ append_assoc (frame s) (flat_map frame others) b) in
     let more = same_frames rows others a b f.1 g.1 na nb both.1 in
     (ap (λ (x : RawValue). x ∷ rows) both.0 ∙ ap (λ (l : List RawValue). s ∷ l) more.0, more.1)
 
@@ -131,7 +129,7 @@ stuck_image : (bytes n : List ℕ) (rows : List RawValue) (at : ℕ) → IsImage
 stuck_image bytes n rows at i s =
     let same = same_fronts bytes n s.namespace rows s.rows (trailer (length rows)) s.left (front_of_image bytes n rows i) s.front (trailer_left (length rows)) s.stuck.no_frame in
     s.stuck.no_trailer (subst (λ (l : List RawValue). length l < 2 ^ 32) same.rows_same i.count)
-      (sym same.left_same ∙ ap (λ (l : List RawValue). trailer (length l)) same.rows_same)
+    (sym same.left_same ∙ ap (λ (l : List RawValue). trailer (length l)) same.rows_same)
 
 pub never_both : (bytes n : List ℕ) (rows : List RawValue) (at : ℕ) → IsImage bytes n rows → IsWrong bytes at → ⊥
 never_both bytes n rows at i (inl w) = w.0 n _ i.key (front_of_image bytes n rows i).parts

@@ -12,7 +12,10 @@ use willow_entry::{Row, by_place, dominates};
 
 // Why the rows are none of a store: they do not rise, or else a row dominates a later one.
 #[tactic(auto, using(crate::proofs::Falls::rising_from_none))]
-pub(crate) fn order_refusal<R: Row>(alloc: Global, rows: &[R]) -> Result<Option<ImageRefusal>, NoMemory>
+pub(crate) fn order_refusal<R: Row>(
+    alloc: Global,
+    rows: &[R],
+) -> Result<Option<ImageRefusal>, NoMemory>
     requires { length rows.now < 2 ^ 32 }
     ensures { IfOk result (λ found. found ≡ order_refusal (map R.value rows.now)) }
 {

@@ -69,7 +69,12 @@ fn read_header(input: &mut Input) -> Result<NamespaceKey, Unread>
 }
 
 // The rows behind the header of the bytes.
-fn read_behind(alloc: Global, bytes: &[u8], namespace: NamespaceKey, behind: &[u8]) -> Result<Image, End<ImageRefusal>>
+fn read_behind(
+    alloc: Global,
+    bytes: &[u8],
+    namespace: NamespaceKey,
+    behind: &[u8],
+) -> Result<Image, End<ImageRefusal>>
     requires key { IsKey namespace }
     requires behind { bytes.now ≡ (magic ++ namespace) ++ behind.now }
     ensures { ReadsRows bytes.now result }
@@ -127,5 +132,7 @@ fn is_trailer(bytes: &[u8], count: usize) -> bool
 fn is_end(bytes: &[u8], count: u32) -> bool
     ensures { MatchBool result (bytes.now ≡ trailer count) (bytes.now ≡ trailer count → ⊥) }
 {
-    bytes.len() == 8 && &bytes[..4] == [0; 4].as_slice() && &bytes[4..] == count.to_be_bytes().as_slice()
+    bytes.len() == 8
+        && &bytes[..4] == [0; 4].as_slice()
+        && &bytes[4..] == count.to_be_bytes().as_slice()
 }

@@ -4,9 +4,10 @@ use super::*;
 use block_store::BlockStore;
 use cap_codec::RawRow;
 use hex::FromHex;
-use spelling::End;
+use spelling::{End, NoMemory};
 use std::alloc::Global;
 use std::test::Fail;
+use willow_path::NamespaceKey;
 
 // The text WIM1 and a namespace key.
 const HEAD: &str = "57494d31004e4e4e4e4e4e4e4e4e4e4e4e4e4e4e4e4e4e4e4e4e4e4e4e4e4e4e4e4e4e4e4e";
@@ -32,17 +33,29 @@ fn joined(alloc: Global, texts: &[&str]) -> Result<Vec<u8>, Fail> {
     Ok(bytes)
 }
 
+// The image that the bytes are, written again.
+#[tactic(auto, using(crate::proofs::ReadBack::framed_rows))]
+fn again(alloc: Global, bytes: &[u8]) -> Result<Vec<u8>, End<ImageRefusal>> {
+    let image = read_image(alloc, bytes)?;
+    Ok(write_rows(alloc, &image.namespace, &image.rows)?)
+}
+
 #[test]
 fn images_are_read_and_written(rt: HostRuntime) -> Result<(), Fail> {
     let two = joined(rt.alloc(), &[HEAD, FIRST, BELOW, "0000000000000002"])?;
     assert_eq!(rt; two.len(), 493);
     let image = read_image(rt.alloc(), &two).ok().ok_or("an image")?;
     assert_eq!(rt; image.rows.len(), 2);
-    let written = write_rows(rt.alloc(), &image.namespace, &image.rows)
-        .ok()
-        .ok_or("memory")?;
+    let written = again(rt.alloc(), &two).ok().ok_or("an image")?;
     assert_eq!(rt; written.as_slice(), two.as_slice());
     Ok(())
+}
+
+// The image of an empty store.
+fn of_none(alloc: Global, namespace: &NamespaceKey) -> Result<Vec<u8>, NoMemory> {
+    let store = BlockStore::<RawRow>::new(alloc);
+    let snapshot = store.snapshot()?;
+    write_image(alloc, namespace, &snapshot)
 }
 
 #[test]
@@ -51,11 +64,7 @@ fn the_image_of_no_rows(rt: HostRuntime) -> Result<(), Fail> {
     assert_eq!(rt; none.len(), 45);
     let image = read_image(rt.alloc(), &none).ok().ok_or("an image")?;
     assert_eq!(rt; image.rows.len(), 0);
-    let store = BlockStore::<RawRow>::new(rt.alloc());
-    let snapshot = store.snapshot().ok().ok_or("memory")?;
-    let written = write_image(rt.alloc(), &image.namespace, &snapshot)
-        .ok()
-        .ok_or("memory")?;
+    let written = of_none(rt.alloc(), &image.namespace).ok().ok_or("memory")?;
     assert_eq!(rt; written.as_slice(), none.as_slice());
     Ok(())
 }
@@ -63,17 +72,61 @@ fn the_image_of_no_rows(rt: HostRuntime) -> Result<(), Fail> {
 #[test]
 fn refused_images(rt: HostRuntime) -> Result<(), Fail> {
     let refused = [
-        ([HEAD, BELOW, FIRST, "0000000000000002"], 493, ImageRefusal::NotRising { at: 2 }),
-        ([HEAD, FIRST, FIRST, "0000000000000002"], 493, ImageRefusal::NotRising { at: 2 }),
-        ([HEAD, NEWER, BELOW, "0000000000000002"], 493, ImageRefusal::Pruned { at: 2, by: 1 }),
-        ([HEAD, NEWER, BELOW, "0000000000000003"], 493, ImageRefusal::BadImage { at: 485 }),
-        ([HEAD, FIRST, BELOW, "000000000000000200"], 494, ImageRefusal::BadImage { at: 485 }),
-        ([HEAD, FIRST, BELOW, "0000000000000002"], 492, ImageRefusal::BadImage { at: 485 }),
-        ([HEAD, FIRST, BELOW, "0000000000000002"], 485, ImageRefusal::BadImage { at: 485 }),
-        ([HEAD, FIRST, BELOW, "0000000000000002"], 484, ImageRefusal::BadImage { at: 260 }),
-        ([HEAD, FIRST, BELOW, "0000000000000002"], 37, ImageRefusal::BadImage { at: 37 }),
-        ([HEAD, FIRST, BELOW, "0000000000000002"], 36, ImageRefusal::BadImage { at: 0 }),
-        (["57494d32", FIRST, BELOW, "0000000000000002"], 460, ImageRefusal::BadImage { at: 0 }),
+        (
+            [HEAD, BELOW, FIRST, "0000000000000002"],
+            493,
+            ImageRefusal::NotRising { at: 2 },
+        ),
+        (
+            [HEAD, FIRST, FIRST, "0000000000000002"],
+            493,
+            ImageRefusal::NotRising { at: 2 },
+        ),
+        (
+            [HEAD, NEWER, BELOW, "0000000000000002"],
+            493,
+            ImageRefusal::Pruned { at: 2, by: 1 },
+        ),
+        (
+            [HEAD, NEWER, BELOW, "0000000000000003"],
+            493,
+            ImageRefusal::BadImage { at: 485 },
+        ),
+        (
+            [HEAD, FIRST, BELOW, "000000000000000200"],
+            494,
+            ImageRefusal::BadImage { at: 485 },
+        ),
+        (
+            [HEAD, FIRST, BELOW, "0000000000000002"],
+            492,
+            ImageRefusal::BadImage { at: 485 },
+        ),
+        (
+            [HEAD, FIRST, BELOW, "0000000000000002"],
+            485,
+            ImageRefusal::BadImage { at: 485 },
+        ),
+        (
+            [HEAD, FIRST, BELOW, "0000000000000002"],
+            484,
+            ImageRefusal::BadImage { at: 260 },
+        ),
+        (
+            [HEAD, FIRST, BELOW, "0000000000000002"],
+            37,
+            ImageRefusal::BadImage { at: 37 },
+        ),
+        (
+            [HEAD, FIRST, BELOW, "0000000000000002"],
+            36,
+            ImageRefusal::BadImage { at: 0 },
+        ),
+        (
+            ["57494d32", FIRST, BELOW, "0000000000000002"],
+            460,
+            ImageRefusal::BadImage { at: 0 },
+        ),
     ];
     for (texts, len, due) in refused {
         let mut bytes = joined(rt.alloc(), &texts)?;

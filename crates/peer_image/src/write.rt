@@ -14,7 +14,11 @@ use willow_path::NamespaceKey;
 /// The image of the rows in their order: the text WIM1 and the namespace key, each row's frame, four bytes 00
 /// and the number of rows. A row's bytes are written as it keeps them. Bodies have at most `MAX_FRAME` bytes.
 #[tactic(auto, unfolding(crate::specs::Image::image))]
-pub fn write_rows<R: Row>(alloc: Global, namespace: &NamespaceKey, rows: &[R]) -> Result<Vec<u8>, NoMemory>
+pub fn write_rows<R: Row>(
+    alloc: Global,
+    namespace: &NamespaceKey,
+    rows: &[R],
+) -> Result<Vec<u8>, NoMemory>
     requires frames { AllByRecursion HasFrame (map R.value rows.now) }
     requires count { length rows.now < 2 ^ 32 }
     ensures { IfOk result (λ v. v.items ≡ image namespace.now (map R.value rows.now)) }
@@ -29,7 +33,11 @@ pub fn write_rows<R: Row>(alloc: Global, namespace: &NamespaceKey, rows: &[R]) -
 
 /// The image of a snapshot's rows, as `write_rows` makes it.
 #[tactic(auto, unfolding(crate::specs::Image::image))]
-pub fn write_image<R: Row>(alloc: Global, namespace: &NamespaceKey, snapshot: &Snapshot<R>) -> Result<Vec<u8>, NoMemory>
+pub fn write_image<R: Row>(
+    alloc: Global,
+    namespace: &NamespaceKey,
+    snapshot: &Snapshot<R>,
+) -> Result<Vec<u8>, NoMemory>
     requires { AllByRecursion HasFrame (map R.value snapshot.now) }
     ensures { IfOk result (λ v. v.items ≡ image namespace.now (map R.value snapshot.now)) }
 {

@@ -1,4 +1,4 @@
-use Rattle.std.proofs.Common.{◌≡◌, ◌+◌, false, true, [], map, length, drop, Some, sym, ap, ◌∙◌, arith, is_lt}
+use Rattle.std.proofs.Common.{◌≡◌, ◌+◌, false, true, [], map, drop, Some, sym, ap, ◌∙◌, arith, is_lt}
 use Rattle.std.proofs.lemmas.List.{length-map, drop_all}
 use Rattle.willow_entry.specs.Row.{place_cmp}
 use Rattle.peer_image.specs.declared.refusal.ImageRefusal.TheVariants.{NotRising}
@@ -31,10 +31,10 @@ loop-row-preserved g c =
     record {
       counted = omega (arith, c.loop-row.invariant.counted);
       left =
-        ap (λ n. fall_after n next rest) (omega arith)
-        ∙ sym (rises (k + 2) last next rest e)
-        ∙ ap (fall_after (k + 2) last) (sym (left_is value c.args.others.now k c.row-item.result c.loop-row-test.true c.row-item.is))
-        ∙ c.loop-row.invariant.left;
+          ap (λ n. fall_after n next rest) (omega arith)
+          ∙ sym (rises (k + 2) last next rest e)
+          ∙ ap (fall_after (k + 2) last) (sym (left_is value c.args.others.now k c.row-item.result c.loop-row-test.true c.row-item.is))
+          ∙ c.loop-row.invariant.left;
     }
 
 pub returns : goal.returns

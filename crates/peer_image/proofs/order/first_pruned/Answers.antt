@@ -1,10 +1,10 @@
-use Rattle.std.proofs.Common.{◌≡◌, ◌+◌, ◌<◌, List, [], ◌∷◌, ◌++◌, map, length, take, drop, Option, Some, None, refl, sym, ap, subst, ◌∙◌, arith, Less}
-use Rattle.std.specs.List.{AllByRecursion, position_from}
+use Rattle.std.proofs.Common.{◌≡◌, ◌+◌, [], ◌∷◌, ◌++◌, map, length, take, drop, Some, None, refl, sym, ap, subst, ◌∙◌, arith}
+use Rattle.std.specs.List.{position_from}
 use Rattle.std.proofs.lemmas.List.{length-map, drop_all, length-take-le, map-append}
-use Rattle.willow_entry.specs.Row.{RowValue, IsRising, is_dominating, place_cmp}
+use Rattle.willow_entry.specs.Row.{IsRising, is_dominating}
 use Rattle.peer_image.specs.declared.refusal.ImageRefusal.TheVariants.{Pruned}
 use Rattle.peer_image.specs.Fronts.{Seen, Suffices, seen, first_dominating}
-use Rattle.peer_image.specs.Order.{pruned_after, first_pruned}
+use Rattle.peer_image.specs.Order.{pruned_after}
 use Rattle.peer_image.proofs.Places.{left_is, passed_is, split_is}
 use Rattle.peer_image.proofs.KeptFronts.{suffices_none, suffices_on, found_is, below_here, pruned_here, pruned_end}
 use Rattle.peer_image.proofs.order.first_pruned.Goals as goal
@@ -30,8 +30,8 @@ returns-in-Some g c =
     let below = below_here earlier next rest (subst IsRising split c.requires.rising) in
     let kept = map (seen value) c.keep_fronts.new.fronts.items in
     let found : Some c.in-Some.by ≡ position_from (λ s. is_dominating s next) 1 earlier =
-      c.in-Some.ensures ∙ ap (λ l. first_dominating next (map (seen value) l)) c.deref.ensures.value
-      ∙ found_is earlier next (map (seen value) c.loop-row.fronts.items) kept below c.loop-row.invariant.fronts c.keep_fronts.ensures in
+    c.in-Some.ensures ∙ ap (λ l. first_dominating next (map (seen value) l)) c.deref.ensures.value
+    ∙ found_is earlier next (map (seen value) c.loop-row.fronts.items) kept below c.loop-row.invariant.fronts c.keep_fronts.ensures in
     ap (λ n. Some (Pruned n c.in-Some.by)) (omega (arith, long, c.loop-row.invariant.counted))
     ∙ sym (pruned_here earlier rest next (Some c.in-Some.by) found)
     ∙ ap (pruned_after earlier) (sym (left_is value c.args.rows.now k c.row-item.result within c.row-item.is))
@@ -52,21 +52,21 @@ loop-row-preserved g c =
     let fronts = map (seen value) c.loop-row.fronts.items in
     let kept = map (seen value) c.keep_fronts.new.fronts.items in
     let found : None ≡ position_from (λ s. is_dominating s next) 1 earlier =
-      c.in-None.ensures ∙ ap (λ l. first_dominating next (map (seen value) l)) c.deref.ensures.value
-      ∙ found_is earlier next fronts kept below c.loop-row.invariant.fronts c.keep_fronts.ensures in
+    c.in-None.ensures ∙ ap (λ l. first_dominating next (map (seen value) l)) c.deref.ensures.value
+    ∙ found_is earlier next fronts kept below c.loop-row.invariant.fronts c.keep_fronts.ensures in
     let mark : Seen = record { at = c.loop-row.at + 1; row = next } in
     let items : map (seen value) c.push.new.self.items ≡ kept ++ mark ∷ [] =
-      ap (map (seen value)) c.in_ok-push-in-None.ensures.items ∙ map-append (seen value) c.keep_fronts.new.fronts.items _ in
+    ap (map (seen value)) c.in_ok-push-in-None.ensures.items ∙ map-append (seen value) c.keep_fronts.new.fronts.items _ in
     let passed = passed_is value c.args.rows.now k c.row-item.result within c.row-item.is in
     record {
       counted = omega (arith, c.loop-row.invariant.counted);
       fronts = subst (λ l. Suffices l (map (seen value) c.push.new.self.items)) (sym passed) (subst (λ l. Suffices (earlier ++ next ∷ []) l) (sym items)
-        (suffices_on earlier next fronts kept (c.loop-row.at + 1) below c.loop-row.invariant.fronts c.keep_fronts.ensures (omega (arith, long, c.loop-row.invariant.counted))));
+          (suffices_on earlier next fronts kept (c.loop-row.at + 1) below c.loop-row.invariant.fronts c.keep_fronts.ensures (omega (arith, long, c.loop-row.invariant.counted))));
       left =
-        ap (λ l. pruned_after l rest) passed
-        ∙ sym (pruned_here earlier rest next None found)
-        ∙ ap (pruned_after earlier) (sym (left_is value c.args.rows.now k c.row-item.result within c.row-item.is))
-        ∙ c.loop-row.invariant.left;
+          ap (λ l. pruned_after l rest) passed
+          ∙ sym (pruned_here earlier rest next None found)
+          ∙ ap (pruned_after earlier) (sym (left_is value c.args.rows.now k c.row-item.result within c.row-item.is))
+          ∙ c.loop-row.invariant.left;
     }
 
 pub returns : goal.returns

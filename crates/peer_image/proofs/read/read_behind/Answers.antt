@@ -9,6 +9,6 @@ returns-then-is_trailer c =
     let left = c.in-Ok.left.now in
     let n : c.len.result ≡ length rows = omega (arith, c.len.ensures) in
     image_of_front c.args.bytes.now c.args.namespace rows left
-      (front_behind c.args.bytes.now c.args.namespace c.args.behind.now rows left c.requires.key c.requires.behind c.in-Ok.ensures)
-      (omega (arith, n, c.if-is_trailer.ensures.0))
-      (c.if-is_trailer.ensures.1 ∙ ap trailer n)
+    (front_behind c.args.bytes.now c.args.namespace c.args.behind.now rows left c.requires.key c.requires.behind c.in-Ok.ensures)
+    (omega (arith, n, c.if-is_trailer.ensures.0))
+    (c.if-is_trailer.ensures.1 ∙ ap trailer n)

@@ -1,4 +1,4 @@
-use Rattle.std.proofs.Common.{◌≡◌, inl, List, ℕ, ◌++◌, refl, sym, ap, ◌∙◌}
+use Rattle.std.proofs.Common.{inl, List, ℕ, ◌++◌, refl, sym, ap, ◌∙◌}
 use Rattle.spelling.proofs.Lists.{are_bytes}
 use Rattle.peer_image.specs.Image.{magic}
 use Rattle.peer_image.specs.ImageReading.{header_at}
