@@ -65,7 +65,9 @@ fn offer(
     let placed = flat.ingest(row).ok().ok_or("memory")?;
     let wanted = match covered {
         Some(by) => Placed::Kept { by },
-        None => Placed::Stored { pruned: pruned.len() as u32 },
+        None => Placed::Stored {
+            pruned: pruned.len() as u32,
+        },
     };
     let other = block.ingest(again).ok().ok_or("memory")?;
     if placed != wanted || other != wanted {
@@ -91,26 +93,73 @@ fn offer_all(alloc: Global, rows: &[Made]) -> Result<(Placed, u32), Fail> {
 }
 
 const STORED: Placed = Placed::Stored { pruned: 0 };
+
 const PRUNES: Placed = Placed::Stored { pruned: 1 };
+
 const KEPT: Placed = Placed::Kept { by: 0 };
 
 #[test]
 fn worked_rows(rt: HostRuntime) -> Result<(), Fail> {
     let alloc = rt.alloc();
     // by time, at an extension and at a prefix
-    assert_eq!(rt; offer_all(alloc, &[(1, b"ab", 5, 1, 0x11, 0), (1, b"a", 4, 1, 0x11, 0)])?, (STORED, 2));
-    assert_eq!(rt; offer_all(alloc, &[(1, b"ab", 5, 1, 0x11, 0), (1, b"a", 6, 1, 0x11, 0)])?, (PRUNES, 1));
-    assert_eq!(rt; offer_all(alloc, &[(1, b"a", 6, 1, 0x11, 0), (1, b"ab", 5, 1, 0x11, 0)])?, (KEPT, 1));
+    assert_eq!(rt;
+        offer_all(
+            alloc,
+            &[(1, b"ab", 5, 1, 0x11, 0), (1, b"a", 4, 1, 0x11, 0)]
+        )?,
+        (STORED, 2)
+    );
+    assert_eq!(rt;
+        offer_all(
+            alloc,
+            &[(1, b"ab", 5, 1, 0x11, 0), (1, b"a", 6, 1, 0x11, 0)]
+        )?,
+        (PRUNES, 1)
+    );
+    assert_eq!(rt;
+        offer_all(
+            alloc,
+            &[(1, b"a", 6, 1, 0x11, 0), (1, b"ab", 5, 1, 0x11, 0)]
+        )?,
+        (KEPT, 1)
+    );
     // then by digest, then by length
-    assert_eq!(rt; offer_all(alloc, &[(1, b"a", 5, 900, 0x11, 0), (1, b"a", 5, 1, 0x12, 0)])?, (PRUNES, 1));
-    assert_eq!(rt; offer_all(alloc, &[(1, b"a", 5, 1, 0x11, 0), (1, b"a", 5, 2, 0x11, 0)])?, (PRUNES, 1));
+    assert_eq!(rt;
+        offer_all(
+            alloc,
+            &[(1, b"a", 5, 900, 0x11, 0), (1, b"a", 5, 1, 0x12, 0)]
+        )?,
+        (PRUNES, 1)
+    );
+    assert_eq!(rt;
+        offer_all(alloc, &[(1, b"a", 5, 1, 0x11, 0), (1, b"a", 5, 2, 0x11, 0)])?,
+        (PRUNES, 1)
+    );
     // of equal rank at different paths both stay
-    assert_eq!(rt; offer_all(alloc, &[(1, b"a", 5, 1, 0x11, 0), (1, b"ab", 5, 1, 0x11, 0)])?, (STORED, 2));
+    assert_eq!(rt;
+        offer_all(
+            alloc,
+            &[(1, b"a", 5, 1, 0x11, 0), (1, b"ab", 5, 1, 0x11, 0)]
+        )?,
+        (STORED, 2)
+    );
     // of one entry the greater token stays
-    assert_eq!(rt; offer_all(alloc, &[(1, b"a", 5, 1, 0x11, 0), (1, b"a", 5, 1, 0x11, 1)])?, (PRUNES, 1));
-    assert_eq!(rt; offer_all(alloc, &[(1, b"a", 5, 1, 0x11, 1), (1, b"a", 5, 1, 0x11, 0)])?, (KEPT, 1));
+    assert_eq!(rt;
+        offer_all(alloc, &[(1, b"a", 5, 1, 0x11, 0), (1, b"a", 5, 1, 0x11, 1)])?,
+        (PRUNES, 1)
+    );
+    assert_eq!(rt;
+        offer_all(alloc, &[(1, b"a", 5, 1, 0x11, 1), (1, b"a", 5, 1, 0x11, 0)])?,
+        (KEPT, 1)
+    );
     // in another subspace nothing is pruned
-    assert_eq!(rt; offer_all(alloc, &[(1, b"ab", 5, 1, 0x11, 0), (2, b"a", 6, 1, 0x11, 0)])?, (STORED, 2));
+    assert_eq!(rt;
+        offer_all(
+            alloc,
+            &[(1, b"ab", 5, 1, 0x11, 0), (2, b"a", 6, 1, 0x11, 0)]
+        )?,
+        (STORED, 2)
+    );
     Ok(())
 }
 
