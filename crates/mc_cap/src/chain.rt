@@ -125,7 +125,7 @@ impl Chain {
     }
 
     /// The allocator of the chain.
-    pub fn allocator(&self) -> Global {
+    pub(crate) fn allocator(&self) -> Global {
         *self.delegations.allocator()
     }
 

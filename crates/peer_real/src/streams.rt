@@ -23,7 +23,10 @@ pub struct StdSource<R> {
 
 impl<R> StdSource<R> {
     /// Reads from the reader, with counts 0.
-    pub fn new(reader: R) -> StdSource<R> {
+    pub fn new(reader: R) -> StdSource<R>
+        ensures faults { result.faults ≡ 0 }
+        ensures ends { result.ends ≡ 0 }
+    {
         StdSource {
             reader,
             faults: 0,
@@ -67,7 +70,9 @@ pub type StdReport<W> = StdSink<W>;
 
 impl<W> StdSink<W> {
     /// Writes to the writer, with the count 0.
-    pub fn new(writer: W) -> StdSink<W> {
+    pub fn new(writer: W) -> StdSink<W>
+        ensures { result.faults ≡ 0 }
+    {
         StdSink { writer, faults: 0 }
     }
 }
