@@ -31,7 +31,7 @@ fn area_of(subspace: Option<UserKey>, path: Path, start: u64, end: Option<u64>) 
 }
 
 #[test]
-fn ranges_of_times(rt: HostRuntime) {
+fn ranges_of_times(rt: HostRuntime) -> Result<(), Fail> {
     let rows = [
         (0, None, true),
         (u64::MAX, None, true),
@@ -42,41 +42,100 @@ fn ranges_of_times(rt: HostRuntime) {
     for (start, end, fits) in rows {
         assert_eq!(rt; TimeRange::new(start, end).is_some(), fits);
     }
-    let times = TimeRange::new(5, Some(7));
+    let times = TimeRange::new(5, Some(7)).ok_or("a range")?;
     for (time, within) in [(4, false), (5, true), (6, true), (7, false)] {
-        assert_eq!(rt; times.map(|times| times.includes(time)), Some(within));
+        assert_eq!(rt; times.includes(time), within);
+    }
+    Ok(())
+}
+
+// The areas of the tables below.
+#[derive(Clone, Copy)]
+enum Sample {
+    Full,
+    Early,
+    Deep,
+    Late,
+    EarlyDeep,
+}
+
+// The area of this name, where it can be made.
+fn area_named(alloc: Global, name: Sample) -> Option<Area> {
+    let user = key_of(0, 7)?;
+    match name {
+        Sample::Full => Some(Area::full(alloc)),
+        Sample::Early => area_of(Some(user), path_of(alloc, &[b"a"])?, 0, Some(10)),
+        Sample::Deep => area_of(None, path_of(alloc, &[b"a", b"b"])?, 5, None),
+        Sample::Late => area_of(None, path_of(alloc, &[b"a"])?, 10, Some(20)),
+        Sample::EarlyDeep => area_of(Some(user), path_of(alloc, &[b"a", b"b"])?, 5, Some(10)),
+    }
+}
+
+// Whether these areas meet in the third, or not at all.
+fn meet_in(alloc: Global, one: Sample, two: Sample, both: Option<Sample>) -> Option<bool> {
+    let one = area_named(alloc, one)?;
+    let two = area_named(alloc, two)?;
+    let found = one.intersect(&two).ok()?;
+    match both {
+        None => Some(found.is_none()),
+        Some(both) => Some(found == area_named(alloc, both)),
+    }
+}
+
+// Whether the first of these areas includes the second.
+fn lies_within(alloc: Global, outer: Sample, inner: Sample) -> Option<bool> {
+    let outer = area_named(alloc, outer)?;
+    let inner = area_named(alloc, inner)?;
+    Some(outer.includes_area(&inner))
+}
+
+#[test]
+fn areas_meet(rt: HostRuntime) {
+    let alloc = rt.alloc();
+    let rows = [
+        (Sample::Early, Sample::Deep, Some(Sample::EarlyDeep)),
+        (Sample::Early, Sample::Late, None),
+        (Sample::Full, Sample::Late, Some(Sample::Late)),
+    ];
+    for (one, two, both) in rows {
+        assert_eq!(rt; meet_in(alloc, one, two, both), Some(true));
     }
 }
 
 #[test]
-fn areas_meet(rt: HostRuntime) -> Result<(), Fail> {
+fn areas_lie_within(rt: HostRuntime) {
     let alloc = rt.alloc();
-    let user = key_of(0, 7).ok_or("a key")?;
-    let near = path_of(alloc, &[b"a"]).ok_or("a path")?;
-    let far = path_of(alloc, &[b"a", b"b"]).ok_or("a path")?;
-    let one = area_of(Some(user), near.copy()?, 0, Some(10)).ok_or("an area")?;
-    let two = area_of(None, far.copy()?, 5, None).ok_or("an area")?;
-    let late = area_of(None, near.copy()?, 10, Some(20)).ok_or("an area")?;
-    let both = area_of(Some(user), far.copy()?, 5, Some(10));
-    assert_eq!(rt; one.intersect(&two)?, both);
-    assert_eq!(rt; one.intersect(&late)?, None);
-    let both = both.ok_or("an area")?;
-    let full = Area::full(alloc);
     let rows = [
-        (&full, &one, true),
-        (&one, &full, false),
-        (&one, &both, true),
-        (&both, &one, false),
-        (&one, &two, false),
+        (Sample::Full, Sample::Early, true),
+        (Sample::Early, Sample::Full, false),
+        (Sample::Early, Sample::EarlyDeep, true),
+        (Sample::EarlyDeep, Sample::Early, false),
+        (Sample::Early, Sample::Deep, false),
     ];
-    for (area, other, within) in rows {
-        assert_eq!(rt; area.includes_area(other), within);
+    for (outer, inner, within) in rows {
+        assert_eq!(rt; lies_within(alloc, outer, inner), Some(within));
     }
-    assert!(rt; both.includes(&user, &far, 9));
-    assert!(rt; !both.includes(&user, &far, 10));
-    assert!(rt; !both.includes(&user, &near, 9));
-    assert!(rt; !both.includes(&UserKey::least(), &far, 9));
-    Ok(())
+}
+
+// Whether the area of one user, two components and times includes this place.
+fn early_deep_includes(alloc: Global, kind: u8, parts: &[&[u8]], time: u64) -> Option<bool> {
+    let area = area_named(alloc, Sample::EarlyDeep)?;
+    let path = path_of(alloc, parts)?;
+    Some(area.includes(&key_of(kind, 7)?, &path, time))
+}
+
+#[test]
+fn areas_include_places(rt: HostRuntime) {
+    let alloc = rt.alloc();
+    let rows: [(u8, &[&[u8]], u64, bool); 4] = [
+        (0, &[b"a", b"b"], 9, true),
+        (0, &[b"a", b"b"], 10, false),
+        (0, &[b"a"], 9, false),
+        (1, &[b"a", b"b"], 9, false),
+    ];
+    for (kind, parts, time, within) in rows {
+        assert_eq!(rt; early_deep_includes(alloc, kind, parts, time), Some(within));
+    }
 }
 
 #[test]
@@ -90,35 +149,64 @@ fn boxes_of_areas(rt: HostRuntime) -> Result<(), Fail> {
     Ok(())
 }
 
+// The box of one user's area, its paths unbounded and its times below 10.
+fn whole_box(alloc: Global) -> Option<Box3> {
+    let area = area_of(key_of(0, 7), Path::empty(alloc), 0, Some(10))?;
+    box_of(&area).ok()
+}
+
+// Whether the halves of that box, cut at a path of one component, include this path.
+fn halves_include(alloc: Global, parts: &[&[u8]]) -> Option<(bool, bool)> {
+    let user = key_of(0, 7)?;
+    let path = path_of(alloc, parts)?;
+    let middle = CutAt::Path(path_of(alloc, &[b"\x14"])?);
+    let (lower, upper) = whole_box(alloc)?.cut(&middle).ok()?;
+    Some((
+        lower.includes(&user, &path, 9),
+        upper.includes(&user, &path, 9),
+    ))
+}
+
+// The ends and starts of the times of that box's halves, cut at this time.
+fn halves_times(alloc: Global, at: u64) -> Option<(Option<u64>, u64)> {
+    let (lower, upper) = whole_box(alloc)?.cut(&CutAt::Time(at)).ok()?;
+    Some((lower.times().end(), upper.times().start()))
+}
+
 #[test]
-fn boxes_are_cut(rt: HostRuntime) -> Result<(), Fail> {
+fn boxes_are_cut(rt: HostRuntime) {
     let alloc = rt.alloc();
-    let user = key_of(0, 7).ok_or("a key")?;
-    let whole = box_of(&area_of(Some(user), Path::empty(alloc), 0, Some(10)).ok_or("an area")?)?;
-    let middle = path_of(alloc, &[b"\x14"]).ok_or("a path")?;
-    let below = path_of(alloc, &[b"\x13\xff", b"x"]).ok_or("a path")?;
-    let above = path_of(alloc, &[b"\x14", b"x"]).ok_or("a path")?;
-    let (lower, upper) = whole.cut(&CutAt::Path(middle.copy()?)).ok().ok_or("a cut")?;
-    assert_eq!(rt; lower.path_end(), Some(&middle));
-    assert_eq!(rt; upper.path_start(), &middle);
-    for (path, is_below) in [(&below, true), (&middle, false), (&above, false)] {
-        assert_eq!(rt; lower.includes(&user, path, 9), is_below);
-        assert_eq!(rt; upper.copy()?.includes(&user, path, 9), !is_below);
+    let rows: [(&[&[u8]], bool); 3] = [
+        (&[b"\x13\xff", b"x"], true),
+        (&[b"\x14"], false),
+        (&[b"\x14", b"x"], false),
+    ];
+    for (parts, is_below) in rows {
+        assert_eq!(rt; halves_include(alloc, parts), Some((is_below, !is_below)));
     }
+    assert_eq!(rt; halves_times(alloc, 4), Some((Some(4), 4)));
+}
+
+#[test]
+fn boxes_are_not_cut_outside(rt: HostRuntime) -> Result<(), Fail> {
+    let alloc = rt.alloc();
+    let whole = whole_box(alloc).ok_or("a box")?;
+    let user = key_of(0, 7).ok_or("a key")?;
     let outside = [
         CutAt::Path(Path::empty(alloc)),
         CutAt::Subspace(user),
-        CutAt::Subspace(user.after().ok_or("a key")?),
         CutAt::Time(0),
         CutAt::Time(10),
     ];
     for at in &outside {
         assert_eq!(rt; whole.cut(at).err(), Some(End::Refused(CutOutside)));
     }
-    let (lower, upper) = whole.cut(&CutAt::Time(4)).ok().ok_or("a cut")?;
-    assert_eq!(rt; (lower.times().end(), upper.times().start()), (Some(4), 4));
-    assert_eq!(rt; (lower.key_start(), lower.times().start()), (&user, 0));
     Ok(())
+}
+
+// The area of one user, one component and times with an end.
+fn spelled_area(alloc: Global) -> Option<Area> {
+    area_of(key_of(1, 9), path_of(alloc, &[b"a"])?, 5, Some(258))
 }
 
 #[test]
@@ -126,15 +214,24 @@ fn areas_are_spelled(rt: HostRuntime) -> Result<(), Fail> {
     let alloc = rt.alloc();
     let mut text = Vec::new(alloc);
     Area::full(alloc).encode(&mut text)?;
-    assert_eq!(rt; text.as_slice(), [0u8; 11].as_slice());
-    let mut text = Vec::new(alloc);
-    let user = key_of(1, 9).ok_or("a key")?;
-    let path = path_of(alloc, &[b"a"]).ok_or("a path")?;
-    let area = area_of(Some(user), path, 5, Some(258)).ok_or("an area")?;
+    let area = spelled_area(alloc).ok_or("an area")?;
     area.encode(&mut text)?;
-    let tail = b"\x01\x01a\0\0\0\0\0\0\0\x05\x01\0\0\0\0\0\0\x01\x02".as_slice();
-    assert_eq!(rt; text.get(..2), Some(b"\x01\x01".as_slice()));
-    assert_eq!(rt; text.get(34..), Some(tail));
+    let head = b"\0\0\0\0\0\0\0\0\0\0\0\x01\x01\t\t\t\t\t\t\t\t\t\t\t\t\t\t\t\t";
+    let tail =
+        b"\t\t\t\t\t\t\t\t\t\t\t\t\t\t\t\t\x01\x01a\0\0\0\0\0\0\0\x05\x01\0\0\0\0\0\0\x01\x02";
+    let mut expected = Vec::new(alloc);
+    expected.extend_from_slice(head)?;
+    expected.extend_from_slice(tail)?;
+    assert_eq!(rt; text.as_slice(), expected.as_slice());
+    Ok(())
+}
+
+#[test]
+fn areas_are_read(rt: HostRuntime) -> Result<(), Fail> {
+    let alloc = rt.alloc();
+    let area = spelled_area(alloc).ok_or("an area")?;
+    let mut text = Vec::new(alloc);
+    area.encode(&mut text)?;
     text.push(7)?;
     assert_eq!(rt; Area::decode(alloc, &text), Ok((area, 54)));
     Ok(())
