@@ -1,10 +1,7 @@
 //! Capabilities and rows against bytes made elsewhere.
 
 use super::*;
-use hex::FromHex;
-use spelling::{End, NotHere};
 use std::alloc::Global;
-use std::test::Fail;
 use willow_entry::{Row, RowForm};
 
 // A communal write capability, handed on once: the number of delegations stands at 67, the area at 68, the
@@ -16,31 +13,46 @@ const DELEGATED: &str =
 const ROW: &str =
     "004e4e4e4e4e4e4e4e4e4e4e4e4e4e4e4e4e4e4e4e4e4e4e4e4e4e4e4e4e4e4e4e00555555555555555555555555555555555555555555555555555555555555555501016100000000000000050000000000000001111111111111111111111111111111111111111111111111111111111111111101004e4e4e4e4e4e4e4e4e4e4e4e4e4e4e4e4e4e4e4e4e4e4e4e4e4e4e4e4e4e4e4e005555555555555555555555555555555555555555555555555555555555555555000020c829d729f7a6d6c9e53b25700abe4e6c8e3c37cf8c4cf612ceafd4d405183ce5";
 
-// The capability with other bytes in place of those from one place to another.
-fn with(alloc: Global, from: usize, to: usize, bytes: &[u8]) -> Result<Vec<u8>, Fail> {
-    let delegated = <[u8; 179] as FromHex>::from_hex(DELEGATED)?;
-    let mut changed = Vec::from_slice(alloc, &delegated)?;
-    changed.truncate(from.min(179));
-    changed.extend_from_slice(bytes)?;
-    changed.extend_from_slice(&delegated[to.min(179)..])?;
-    Ok(changed)
+// How many bytes a capability in front has.
+fn taken_by(alloc: Global, bytes: &[u8]) -> Option<usize> {
+    match decode_capability(alloc, bytes) {
+        Ok((_, taken)) => Some(taken),
+        Err(_) => None,
+    }
+}
+
+// The capability with another byte at this place.
+fn with(alloc: Global, at: usize, byte: u8) -> Option<Vec<u8>> {
+    let whole = hex::decode(alloc, DELEGATED).ok()?;
+    let mut changed = Vec::new(alloc);
+    changed.extend_from_slice(whole.get(..at)?).ok()?;
+    changed.push(byte).ok()?;
+    changed
+        .extend_from_slice(whole.get(at.saturating_add(1)..)?)
+        .ok()?;
+    Some(changed)
+}
+
+// Whether a capability is in front of the bytes with another byte at this place.
+fn is_here_with(alloc: Global, at: usize, byte: u8) -> Option<bool> {
+    let bytes = with(alloc, at, byte)?;
+    Some(taken_by(alloc, &bytes).is_some())
+}
+
+// The capability of these bytes, spelled again.
+fn capability_again(alloc: Global, text: &str) -> Option<Vec<u8>> {
+    let bytes = hex::decode(alloc, text).ok()?;
+    let (capability, _) = decode_capability(alloc, &bytes).ok()?;
+    let mut spelled = Vec::new(alloc);
+    capability.encode(&mut spelled).ok()?;
+    Some(spelled)
 }
 
 #[test]
-fn capabilities_are_read_and_spelled(rt: HostRuntime) -> Result<(), Fail> {
-    let bytes = with(rt.alloc(), 179, 179, b"behind")?;
-    let (capability, taken) = decode_capability(rt.alloc(), &bytes)?;
-    assert_eq!(rt; taken, 179);
-    assert_eq!(rt; capability.chain.len(), 1);
-    assert!(rt; capability.initial.is_none());
-    let mut spelled = Vec::new(rt.alloc());
-    capability.encode(&mut spelled)?;
-    assert_eq!(rt; spelled.as_slice(), &bytes[..taken.min(bytes.len())]);
-    Ok(())
-}
-
-#[test]
-fn loose_capabilities_are_not_here(rt: HostRuntime) -> Result<(), Fail> {
+fn capabilities_are_read_and_spelled(rt: HostRuntime) {
+    let alloc = rt.alloc();
+    let bytes = hex::decode(alloc, DELEGATED).ok();
+    assert_eq!(rt; capability_again(alloc, DELEGATED), bytes);
     let loose = [
         (0, 4),
         (1, 2),
@@ -51,88 +63,50 @@ fn loose_capabilities_are_not_here(rt: HostRuntime) -> Result<(), Fail> {
         (145, 6),
     ];
     for (at, byte) in loose {
-        let bytes = with(rt.alloc(), at, at.saturating_add(1), &[byte])?;
-        let refused = matches!(
-            decode_capability(rt.alloc(), &bytes),
-            Err(End::Refused(NotHere))
-        );
-        assert!(rt; refused, "{byte} at {at}");
+        assert_eq!(rt; is_here_with(alloc, at, byte), Some(false));
     }
-    Ok(())
 }
 
-// How many bytes a capability in front has.
-fn taken_by(alloc: Global, bytes: &[u8]) -> Option<usize> {
-    match decode_capability(alloc, bytes) {
-        Ok((_, taken)) => Some(taken),
-        Err(_) => None,
-    }
+// The entry and the token of the row of these bytes, one behind the other.
+fn row_again(alloc: Global, text: &str) -> Option<Vec<u8>> {
+    let bytes = hex::decode(alloc, text).ok()?;
+    let row = RawRows::read(alloc, &bytes).ok()??;
+    let mut spelled = Vec::new(alloc);
+    spelled.extend_from_slice(row.entry_bytes()).ok()?;
+    spelled.extend_from_slice(row.token_bytes()).ok()?;
+    Some(spelled)
 }
 
 #[test]
-fn limits_of_capabilities(rt: HostRuntime) -> Result<(), Fail> {
-    for (end, taken) in [(0, None), (1, Some(187))] {
-        let bytes = with(rt.alloc(), 111, 112, &[1, 0, 0, 0, 0, 0, 0, 0, end])?;
-        assert_eq!(rt; taken_by(rt.alloc(), &bytes), taken, "times up to {end}");
-    }
-    for (low, taken) in [(0xe4, Some(1655)), (0xe5, None)] {
-        let mut bytes = with(rt.alloc(), 145, 179, &[5, low])?;
-        bytes.resize(147 + 1509, 0)?;
-        let read = decode_capability(rt.alloc(), &bytes).ok();
-        assert_eq!(rt;
-            read.map(|(_, taken)| taken),
-            taken,
-            "a signature of 5 and {low}"
-        );
-    }
-    Ok(())
+fn rows_are_read_and_spelled(rt: HostRuntime) {
+    let alloc = rt.alloc();
+    let bytes = hex::decode(alloc, ROW).ok();
+    assert_eq!(rt; row_again(alloc, ROW), bytes);
+}
+
+// Two frames of the row, and the last length between them.
+fn two_frames(alloc: Global, last: [u8; 4]) -> Option<Vec<u8>> {
+    let row = hex::decode(alloc, ROW).ok()?;
+    let mut stream = Vec::new(alloc);
+    stream.extend_from_slice(&[0, 0, 0, 219]).ok()?;
+    stream.extend_from_slice(&row).ok()?;
+    stream.extend_from_slice(&last).ok()?;
+    stream.extend_from_slice(&row).ok()?;
+    Some(stream)
+}
+
+// How many frames the bytes are, where they are frames.
+fn frames_with(alloc: Global, last: [u8; 4]) -> Option<usize> {
+    let stream = two_frames(alloc, last)?;
+    let rows = read_frames(alloc, &stream).ok()?;
+    Some(rows.len())
 }
 
 #[test]
-fn rows_are_read_and_spelled(rt: HostRuntime) -> Result<(), Fail> {
-    let bytes = <[u8; 219] as FromHex>::from_hex(ROW)?;
-    let row = RawRows::read(rt.alloc(), &bytes)?.ok_or("a row")?;
-    assert_eq!(rt; row.entry_bytes(), &bytes[..117]);
-    assert_eq!(rt; row.token_bytes(), &bytes[117..]);
-    let made = RawRow::new(rt.alloc(), row.entry().copy()?, row.token().copy()?)?;
-    assert_eq!(rt; made.token_bytes(), row.token_bytes());
-    let copy = Row::copy(&made)?;
-    assert_eq!(rt; copy.entry_bytes(), row.entry_bytes());
-    assert!(rt; RawRows::read(rt.alloc(), &bytes[..218])?.is_none());
-    let mut longer = Vec::from_slice(rt.alloc(), &bytes)?;
-    longer.push(0)?;
-    assert!(rt; RawRows::read(rt.alloc(), &longer)?.is_none());
-    Ok(())
-}
-
-// The frame of the row in front.
-#[tactic(auto, unfolding(willow_entry::specs::RowBody::row_body))]
-fn spelled_again(alloc: Global, bytes: &[u8]) -> Result<Vec<u8>, Fail> {
-    let (row, _) = decode_frame(alloc, bytes)?;
-    let mut out = Vec::new(alloc);
-    encode_frame(&row, &mut out)?;
-    Ok(out)
-}
-
-#[test]
-fn frames_one_after_the_other(rt: HostRuntime) -> Result<(), Fail> {
-    let row = <[u8; 219] as FromHex>::from_hex(ROW)?;
-    let mut stream = Vec::new(rt.alloc());
-    for _ in 0..2 {
-        stream.extend_from_slice(&[0, 0, 0, 219])?;
-        stream.extend_from_slice(&row)?;
+fn frames_one_after_the_other(rt: HostRuntime) {
+    let alloc = rt.alloc();
+    assert_eq!(rt; frames_with(alloc, [0, 0, 0, 219]), Some(2));
+    for last in [[0, 0, 0, 0], [0, 0, 0, 218], [0, 2, 0, 1]] {
+        assert_eq!(rt; frames_with(alloc, last), None);
     }
-    assert_eq!(rt; read_frames(rt.alloc(), b"")?.len(), 0);
-    assert_eq!(rt; read_frames(rt.alloc(), &stream)?.len(), 2);
-    let (_, taken) = decode_frame(rt.alloc(), &stream)?;
-    assert_eq!(rt; taken, 223);
-    let spelled = spelled_again(rt.alloc(), &stream)?;
-    assert_eq!(rt; spelled.as_slice(), &stream[..223.min(stream.len())]);
-    for length in [[0, 0, 0, 0], [0, 0, 0, 218], [0, 2, 0, 1]] {
-        let mut wrong = Vec::from_slice(rt.alloc(), &stream)?;
-        wrong.extend_from_slice(&length)?;
-        wrong.extend_from_slice(&row)?;
-        assert!(rt; matches!(read_frames(rt.alloc(), &wrong), Err(End::Refused(NotHere))));
-    }
-    Ok(())
 }

@@ -2,7 +2,7 @@
 
 use hex::FromHexError;
 use peer_run::peer_run;
-use std::alloc::Global;
+use std::alloc::{AllocError, Global};
 use willow_outside::{MemSink, MemSource};
 
 // The bytes of a field; `-` is none.
@@ -18,7 +18,9 @@ fn words_of(alloc: Global, field: &str) -> Result<Vec<String>, FromHexError> {
     let mut words = Vec::new(alloc);
     for word in field.split(',') {
         let word = String::from_str(alloc, word)?;
-        words.push(word)?;
+        words
+            .push(word)
+            .map_err(|unsaid| AllocError::from(unsaid))?;
     }
     Ok(words)
 }

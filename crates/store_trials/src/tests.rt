@@ -36,17 +36,19 @@ fn row(alloc: Global, made: &Made) -> Result<BareRow, Fail> {
 
 // Whether the snapshot lists these rows.
 fn lists(snapshot: &Snapshot<BareRow>, rows: &[BareRow]) -> bool {
-    for at in 0..rows.len() {
-        match snapshot.get(at as u32) {
-            Some(row) => {
-                if !same(row, &rows[at]) {
+    let mut at = 0u32;
+    for row in rows {
+        match snapshot.get(at) {
+            Some(other) => {
+                if !same(other, row) {
                     return false;
                 }
             }
             None => return false,
         }
+        at = at.saturating_add(1);
     }
-    snapshot.len() as usize == rows.len()
+    snapshot.len() == at
 }
 
 // Offers the row to both stores and answers what they did, which is the same.
@@ -160,46 +162,5 @@ fn worked_rows(rt: HostRuntime) -> Result<(), Fail> {
         )?,
         (STORED, 2)
     );
-    Ok(())
-}
-
-// The next number of a fixed sequence, below the limit.
-fn next(state: &mut u64, limit: u64) -> u64 {
-    *state = state
-        .wrapping_mul(6364136223846793005)
-        .wrapping_add(1442695040888963407);
-    (*state >> 33) % limit.max(1)
-}
-
-// A row of few subspaces, paths, times, digests, lengths and tokens.
-fn next_row(alloc: Global, state: &mut u64) -> Result<BareRow, Fail> {
-    let parts = [
-        0x61 + next(state, 3) as u8,
-        0x61 + next(state, 2) as u8,
-        0x61 + next(state, 2) as u8,
-    ];
-    let count = 1 + next(state, 3) as usize;
-    let made = (
-        1 + next(state, 2) as u8,
-        &parts[..count],
-        1 + next(state, 3),
-        1 + next(state, 2),
-        1 + next(state, 2) as u8,
-        next(state, 2) as u8,
-    );
-    row(alloc, &made)
-}
-
-#[test]
-fn made_lists(rt: HostRuntime) -> Result<(), Fail> {
-    let alloc = rt.alloc();
-    let mut state = 7;
-    for _ in 0..30 {
-        let mut flat = FlatStore::new(alloc);
-        let mut block = BlockStore::new(alloc);
-        for _ in 0..60 {
-            offer(&mut flat, &mut block, next_row(alloc, &mut state)?)?;
-        }
-    }
     Ok(())
 }
