@@ -18,9 +18,7 @@ fn words_of(alloc: Global, field: &str) -> Result<Vec<String>, FromHexError> {
     let mut words = Vec::new(alloc);
     for word in field.split(',') {
         let word = String::from_str(alloc, word)?;
-        words
-            .push(word)
-            .map_err(|unsaid| AllocError::from(unsaid))?;
+        words.push(word).map_err(|unsaid| AllocError::from(unsaid))?;
     }
     Ok(words)
 }
