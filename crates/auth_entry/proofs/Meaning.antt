@@ -17,7 +17,7 @@ use Rattle.mc_cap.proofs.Causes.{unless_true, neither}
 use Rattle.mc_cap.proofs.Meaning.{valid_means}
 use Rattle.cap_codec.specs.Rows.{RawValue}
 use Rattle.auth_entry.specs.Authorised.{entry_message, namespace_refusal, mode_refusal, capability_refusal, grant_refusal, signature_refusal, claim_refusal, entry_refusal, row_refusal, IsAuthorised}
-use Rattle.auth_entry.specs.declared.refusal.RowRefusal.TheVariants.{WrongNamespace, Chain, OutsideGrant, BadEntrySignature}
+use Rattle.mc_cap.specs.declared.refusal.RowRefusal.TheVariants.{WrongNamespace, Chain, OutsideGrant, BadEntrySignature}
 
 mode_writes : (mode : Mode) → mode_refusal mode ≡ None → mode ≡ Write
 mode_writes Write e = refl

@@ -12,8 +12,8 @@ use Rattle.mc_cap.specs.declared.capability.Capability.{Capability}
 use Rattle.mc_cap.specs.declared.capability.Mode.{Mode}
 use Rattle.mc_cap.specs.declared.capability.Mode.TheVariants.{Read, Write}
 use Rattle.cap_codec.specs.Rows.{RawValue}
-use Rattle.auth_entry.specs.declared.refusal.RowRefusal.{RowRefusal}
-use Rattle.auth_entry.specs.declared.refusal.RowRefusal.TheVariants.{WrongNamespace, NotWrite, Chain, OutsideGrant, BadEntrySignature}
+use Rattle.mc_cap.specs.declared.refusal.RowRefusal.{RowRefusal}
+use Rattle.mc_cap.specs.declared.refusal.RowRefusal.TheVariants.{WrongNamespace, NotWrite, Chain, OutsideGrant, BadEntrySignature}
 
 -- the letter E, and the entry: signed by the receiver of the entry's capability
 unfoldable pub entry_message : Entry → List ℕ

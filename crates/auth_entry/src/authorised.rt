@@ -5,8 +5,9 @@ ghost use Rattle.spelling.specs.Answers.{Answers};
 ghost use Rattle.cap_codec.specs.Rows.{FitsFrame, row_of};
 ghost use Rattle.auth_entry.specs.Authorised.{AuthorisedValue, row_refusal};
 
-use crate::refusal::{RowRefusal, check_row};
+use crate::refusal::check_row;
 use cap_codec::RawRow;
+use mc_cap::RowRefusal;
 use scheme_core::Verify;
 use spelling::End;
 use std::alloc::Global;

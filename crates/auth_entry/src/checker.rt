@@ -4,8 +4,8 @@ ghost use Rattle.std.specs.Prelude.{◌≡◌, ℕ, List, map, IfOk};
 ghost use Rattle.auth_entry.specs.Authorised.{verdict};
 
 use crate::authorised::{AuthorisedEntry, authorise};
-use crate::refusal::RowRefusal;
 use cap_codec::RawRow;
+use mc_cap::RowRefusal;
 use scheme_core::Verify;
 use spelling::End;
 use std::alloc::Global;

@@ -9,7 +9,8 @@ mod refusal;
 
 pub use authorised::{AuthorisedEntry, authorise};
 pub use checker::{Checker, PlainChecker};
-pub use refusal::{RowRefusal, check_capability, check_claim, check_entry, check_row};
+pub use mc_cap::RowRefusal;
+pub use refusal::{check_capability, check_claim, check_entry, check_row};
 
 #[cfg(test)]
 mod tests;

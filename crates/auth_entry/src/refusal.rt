@@ -6,27 +6,12 @@ ghost use Rattle.willow_entry.specs.EntryForm.{entry_spelling};
 ghost use Rattle.auth_entry.specs.Authorised.{entry_message, capability_refusal, claim_refusal, entry_refusal, row_refusal};
 
 use cap_codec::RawRow;
-use mc_cap::{Capability, ChainRefusal, Mode};
+use mc_cap::{Capability, Mode, RowRefusal};
 use scheme_core::Verify;
 use spelling::{End, NoMemory, put_byte, put_bytes};
 use std::alloc::Global;
 use willow_entry::Row;
 use willow_path::NamespaceKey;
-
-/// Why a row is not authorised in a namespace. Where several hold, the first is told.
-#[derive(Clone, Copy, Debug, PartialEq, Eq)]
-pub enum RowRefusal {
-    /// The entry or the capability is of another namespace.
-    WrongNamespace,
-    /// The capability is not for writing.
-    NotWrite,
-    /// The capability is not valid.
-    Chain(ChainRefusal),
-    /// The capability's grant does not include the entry.
-    OutsideGrant,
-    /// The capability's receiver did not sign the entry.
-    BadEntrySignature,
-}
 
 /// Whether the row is authorised in the namespace by the rules of the scheme (Willow Data Model,
 /// Meadowcap): its entry and its capability are of the namespace; the capability is for writing and valid;

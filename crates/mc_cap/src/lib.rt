@@ -8,6 +8,7 @@ mod check;
 mod delegate;
 mod laws;
 mod messages;
+mod refusal;
 mod signature;
 
 pub use capability::{Capability, Mode};
@@ -15,6 +16,7 @@ pub use chain::{Chain, Delegation, MAX_CHAIN};
 pub use check::{ChainRefusal, MAX_DELEGATIONS};
 pub use laws::validity;
 pub use messages::initial_message;
+pub use refusal::RowRefusal;
 pub use signature::Signature;
 
 #[cfg(test)]

@@ -12,7 +12,7 @@ use Rattle.willow_entry.proofs.Live.{live_early_left, live-covered}
 use Rattle.scheme_core.specs.Open.{open_rules}
 use Rattle.cap_codec.specs.Rows.{RawValue, row_of}
 use Rattle.auth_entry.specs.Authorised.{row_refusal, is_authorised, authorised}
-use Rattle.auth_entry.specs.declared.refusal.RowRefusal.{RowRefusal}
+use Rattle.mc_cap.specs.declared.refusal.RowRefusal.{RowRefusal}
 use Rattle.peer_run.specs.Logged.{accepted, IsLogOf}
 use Rattle.peer_run.proofs.NewRows.{unless, new_after-snoc}
 

@@ -6,6 +6,8 @@ use Rattle.willow_outside.specs.Counts.{Rose}
 use Rattle.willow_outside.specs.Facts.{SourceFacts, SinkFacts}
 use Rattle.peer_stage.specs.declared.outcome.Stop.{Stop}
 use Rattle.peer_stage.specs.declared.outcome.Stop.TheVariants as stop
+use Rattle.peer_stage.specs.declared.outcome.Origin.{Origin}
+use Rattle.peer_stage.specs.declared.outcome.Origin.TheVariants as origin
 use Rattle.peer_stage.specs.declared.stage.TheConstants.{INPUT_LIMIT}
 
 -- the whole input was read: these bytes up to its end, within the limit
@@ -26,11 +28,16 @@ pub record IsReadToFault (old new : SourceFacts) (bytes : List ℕ) : Type 0 whe
   pub within : length bytes ≤ INPUT_LIMIT
   pub fault : Rose old.faults new.faults
 
--- how the reading of an input ends
+-- the bytes came from the input
+abbrev pub IsInput : Origin → Type 0
+IsInput origin.Input = Unit {0}
+IsInput (origin.Name name) = ⊥
+
+-- how the reading of an input ends: bytes that are too many are told at the limit
 abbrev pub ReadsInput : SourceFacts → SourceFacts → Result (Vec ℕ) Stop → Type 0
 ReadsInput old new (Ok v) = IsReadWhole old new v.items
 ReadsInput old new (Err stop.ReadFault) = (bytes : List ℕ) × IsReadToFault old new bytes
-ReadsInput old new (Err stop.BadInput) = (bytes : List ℕ) × IsReadTooFar old new bytes
+ReadsInput old new (Err (stop.BadInput origin at)) = ((bytes : List ℕ) × IsReadTooFar old new bytes) × IsInput origin × (at ≡ INPUT_LIMIT)
 ReadsInput old new (Err stop.NoMemory) = (bytes : List ℕ) × Consumes old.left new.left bytes
 ReadsInput old new (Err e) = ⊥
 

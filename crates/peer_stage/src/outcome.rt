@@ -1,25 +1,56 @@
 //! How a command ends: as plain numbers and causes, before any status or text is made of it.
 
+use mc_cap::RowRefusal;
 use spelling::NoMemory;
 
+/// A row that is not authorised: its number among the rows read, from 1, and why.
+#[derive(Clone, Copy, Debug, PartialEq, Eq)]
+pub struct RefusedRow {
+    pub row: u64,
+    pub refusal: RowRefusal,
+}
+
 /// The numbers of a join: every row read, those stored when they came, those that an earlier row covered,
-/// and those that are not authorised.
+/// and those that are not authorised, with the first of these.
 #[derive(Clone, Copy, Debug, PartialEq, Eq)]
 pub struct JoinCounts {
     pub rows: u64,
     pub stored: u64,
     pub kept: u64,
     pub refused: u64,
+    pub first: Option<RefusedRow>,
+}
+
+/// The numbers of a listing: every row of the image, and those that are not authorised, with the first of these.
+#[derive(Clone, Copy, Debug, PartialEq, Eq)]
+pub struct ShowCounts {
+    pub rows: u64,
+    pub refused: u64,
+    pub first: Option<RefusedRow>,
 }
 
 /// What a command did that came to its end.
 #[derive(Clone, Copy, Debug, PartialEq, Eq)]
 pub enum Done {
+    /// Rows were joined.
     Joined(JoinCounts),
+    /// An image was listed.
+    Shown(ShowCounts),
+    /// What was to be made is written; there is nothing to report.
+    Made,
+}
+
+/// Where bytes came from.
+#[derive(Debug, Drop)]
+pub enum Origin {
+    /// The input.
+    Input,
+    /// A name of the shelf.
+    Name(String),
 }
 
 /// Why a command stopped before its end.
-#[derive(Clone, Copy, Debug, PartialEq, Eq)]
+#[derive(Debug, Drop)]
 pub enum Stop {
     /// The words are no command.
     Usage,
@@ -27,12 +58,24 @@ pub enum Stop {
     ReadFault,
     /// Writing failed.
     WriteFault,
-    /// The input is not in its grammar, or too long.
-    BadInput,
+    /// The bytes are not in their grammar from this offset on, or are too many.
+    BadInput { origin: Origin, at: u64 },
+    /// A row of an image, counted from 1, is not above the row before it.
+    NotRising { origin: Origin, row: u32 },
+    /// A row of an image is dominated by an earlier one, both counted from 1.
+    Pruned { origin: Origin, row: u32, by: u32 },
+    /// The shelf has no such name.
+    Missing { name: String },
+    /// The shelf has the name already.
+    Taken { name: String },
+    /// What was to be made is not authorised.
+    Refused(RowRefusal),
     /// No memory was found.
     NoMemory,
     /// A row that would be stored met a full log.
     LogFull,
+    /// A key file has fewer indices left than were asked for.
+    KeySpent,
 }
 
 impl From<NoMemory> for Stop {

@@ -2,7 +2,7 @@
 
 ghost use Rattle.peer_stage.specs.Stages.{ReadsInput, WritesOutput};
 
-use crate::outcome::Stop;
+use crate::outcome::{Origin, Stop};
 use spelling::End;
 use std::alloc::Global;
 use willow_outside::{Fault, ReadEnd, Sink, Source, read_all, write_whole};
@@ -17,7 +17,10 @@ pub fn read_input<I: Source>(alloc: Global, input: &mut I) -> Result<Vec<u8>, St
     match read_all(alloc, input, INPUT_LIMIT) {
         Ok(bytes) => Ok(bytes),
         Err(End::Refused(ReadEnd::Failed)) => Err(Stop::ReadFault),
-        Err(End::Refused(ReadEnd::TooLong)) => Err(Stop::BadInput),
+        Err(End::Refused(ReadEnd::TooLong)) => Err(Stop::BadInput {
+            origin: Origin::Input,
+            at: INPUT_LIMIT,
+        }),
         Err(End::NoMemory) => Err(Stop::NoMemory),
     }
 }

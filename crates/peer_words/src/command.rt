@@ -1,0 +1,95 @@
+//! What the words of a run ask for.
+
+use lms_core::Height;
+use mc_cap::Mode;
+use willow_path::{Digest, NamespaceKey, Path, UserKey};
+
+/// Who signs: an open key, or the next index of a key file.
+#[derive(Debug, Drop)]
+pub enum SignerWord {
+    /// `open:` and 64 digits: the key of kind 0 with that body.
+    OpenKey(UserKey),
+    /// `lms:` and the name of a key file.
+    LmsFile(String),
+}
+
+/// What the words say of an area. None stands where a field has no word; it is then that of the area at hand.
+#[derive(Debug, Drop)]
+pub struct AreaWords {
+    /// `--subspace`; the inner None is the word `any`.
+    pub subspace: Option<Option<UserKey>>,
+    /// `--under`.
+    pub under: Option<Path>,
+    /// `--from`.
+    pub from: Option<u64>,
+    /// `--until`; the inner None is the word `none`.
+    pub until: Option<Option<u64>>,
+}
+
+/// A command with its options.
+#[derive(Debug, Drop)]
+pub enum Command {
+    Join {
+        namespace: NamespaceKey,
+    },
+    Show {
+        newest: Option<u32>,
+    },
+    Key {
+        name: String,
+        height: Height,
+    },
+    Grant {
+        namespace: NamespaceKey,
+        mode: Mode,
+        user: UserKey,
+        key: Option<SignerWord>,
+    },
+    Delegate {
+        key: SignerWord,
+        to: UserKey,
+        area: AreaWords,
+    },
+    Write {
+        key: SignerWord,
+        path: Path,
+        time: u64,
+        length: u64,
+        digest: Digest,
+        subspace: Option<UserKey>,
+    },
+    Gen {
+        rows: u32,
+    },
+    Drill {
+        rows: u32,
+    },
+    Meet {
+        left: String,
+        right: String,
+        left_cap: String,
+        right_cap: String,
+        left_out: String,
+        right_out: String,
+        area: AreaWords,
+    },
+    Sync {
+        image: String,
+        cap: String,
+        key: SignerWord,
+        to: String,
+        area: AreaWords,
+    },
+    Serve {
+        image: String,
+        cap: String,
+        key: SignerWord,
+        at: String,
+        links: u32,
+        area: AreaWords,
+    },
+    Watch {
+        image: String,
+        area: AreaWords,
+    },
+}

@@ -1,0 +1,7 @@
+//! The words of a run: every list of words is read by hand as a command, or is none.
+//! The contract: the command answered is the one that the words spell, and `Usage` comes exactly where they spell none.
+#![tactic(auto)]
+
+mod command;
+
+pub use command::{AreaWords, Command, SignerWord};
