@@ -22,7 +22,8 @@ use Rattle.spelling.proofs.Joining.{one_spelling, whole_value, whole_rest}
 use Rattle.spelling.proofs.Fields.{u32-reads}
 use Rattle.spelling.proofs.Repeated.{text-reads}
 use Rattle.cap_codec.specs.declared.frame.TheConstants.{MAX_FRAME}
-use Rattle.cap_codec.specs.Rows.{RawValue, raw_spelling, ReadsWhole, FitsFrame, frame, AreFrames, ReadsFrames, HaveOneReading}
+use Rattle.cap_codec.specs.Rows.{RawValue, raw_spelling, ReadsWhole, FitsFrame, frame, AreFrames, HaveOneReading}
+use Rattle.cap_codec.specs.Streams.{HasNoFrame, AreAllFrames, StopsAt, AreNeverBoth, HaveOneStop}
 use Rattle.cap_codec.proofs.RowReads.{raw-reads}
 
 -- ---- a frame
@@ -150,15 +151,47 @@ left_are (r ∷ rows) (s ∷ others) left f g e =
     left_are rows others left f.1 g.1 both.1
 
 no_more : (left : List ℕ) (more : List RawValue) → 0 < length left → AllByRecursion FitsFrame more → left ≡ flat_map frame more
-    → ((r : RawValue) (rest : List ℕ) → FitsFrame r → left ≡ frame r ++ rest → ⊥) → ⊥
+    → HasNoFrame left → ⊥
 no_more left [] some f e none = omega (arith, some, ap length e)
 no_more left (r ∷ more) some f e none = none r (flat_map frame more) f.0 e
 
 -- no frame stands where bytes are left
-pub frames_end : (bytes left : List ℕ) (rows others : List RawValue) → FramesSo bytes rows left → 0 < length left → ((r : RawValue) (rest : List ℕ) → FitsFrame r → left ≡ frame r ++ rest → ⊥) → AreFrames bytes others → ⊥
+pub frames_end : (bytes left : List ℕ) (rows others : List RawValue) → FramesSo bytes rows left → 0 < length left → HasNoFrame left → AreFrames bytes others → ⊥
 frames_end bytes left rows others so some none are =
     let more = left_are rows others left so.fit are.fit (sym so.parts ∙ are.spelled) in
     no_more left more.0 some more.1 more.2 none
+
+-- ---- where a stream stops
+
+-- bytes behind all frames in front
+pub stops_here : (bytes left : List ℕ) (rows : List RawValue) (at : ℕ) → AreAllFrames bytes rows left → 0 < length left → at ≡ length bytes - length left → StopsAt bytes at
+stops_here bytes left rows at all some is = record {
+  rows = rows;
+  left = left;
+  frames = all;
+  place = omega (arith, is, ap length all.parts, length-append (flat_map frame rows) left);
+  more = some;
+}
+
+pub never_both : AreNeverBoth
+never_both bytes at rows s are = frames_end bytes s.left s.rows rows (record { fit = s.frames.fit; parts = s.frames.parts }) s.more s.frames.no_frame are
+
+-- what stands in front up to where no frame goes on is the same
+pub same_frames : (rows others : List RawValue) (a b : List ℕ) → AllByRecursion FitsFrame rows → AllByRecursion FitsFrame others → HasNoFrame a → HasNoFrame b
+    → flat_map frame rows ++ a ≡ flat_map frame others ++ b → (rows ≡ others) × (a ≡ b)
+same_frames [] [] a b f g na nb e = (refl, e)
+same_frames [] (s ∷ others) a b f g na nb e = absurd (na s (flat_map frame others ++ b) g.0 (e ∙ append_assoc (frame s) (flat_map frame others) b))
+same_frames (r ∷ rows) [] a b f g na nb e = absurd (nb r (flat_map frame rows ++ a) f.0 (sym e ∙ append_assoc (frame r) (flat_map frame rows) a))
+same_frames (r ∷ rows) (s ∷ others) a b f g na nb e =
+    let both = frame_form r s (flat_map frame rows ++ a) (flat_map frame others ++ b) f.0 g.0
+    (sym (append_assoc (frame r) (flat_map frame rows) a) ∙ e ∙ append_assoc (frame s) (flat_map frame others) b) in
+    let more = same_frames rows others a b f.1 g.1 na nb both.1 in
+    (ap (λ (x : RawValue). x ∷ rows) both.0 ∙ ap (λ (l : List RawValue). s ∷ l) more.0, more.1)
+
+pub one_stop : HaveOneStop
+one_stop bytes at other s t =
+    let same = same_frames s.rows t.rows s.left t.left s.frames.fit t.frames.fit s.frames.no_frame t.frames.no_frame (sym s.frames.parts ∙ t.frames.parts) in
+    sym s.place ∙ ap (λ (l : List RawValue). length (flat_map frame l)) same.0 ∙ t.place
 
 -- ---- errors that are handed on
 
@@ -168,14 +201,3 @@ pub frame_err : (bytes input body left : List ℕ) (e : End NotHere) (result : R
 frame_err bytes input body left e result is h none err =
     let p = err_from_is_err_and result err in
     subst (λ (r : Result (RawValue × ℕ) (End NotHere)). Decodes frame FitsFrame bytes r) (ap (λ (d : End NotHere). Err d) (sym p.2) ∙ sym p.1) (frame_not bytes body left e (ap body_at (sym is) ∙ h) none)
-
-frames_by : {X : Type 0} (view : X → List RawValue) (bytes left : List ℕ) (rows : List RawValue) (e : End NotHere) → FramesSo bytes rows left → 0 < length left → Decodes frame FitsFrame left (Err e) → ReadsFrames view bytes (Err e)
-frames_by view bytes left rows NoMemory so some none = tt
-frames_by view bytes left rows (Refused e) so some none = λ others are. frames_end bytes left rows others so some none are
-
--- no frame was read where bytes are left
-pub frames_err : {X : Type 0} (view : X → List RawValue) (bytes left : List ℕ) (rows : List RawValue) (e : End NotHere) (result : Result X (End NotHere)) → FramesSo bytes rows left → 0 < length left → Decodes frame FitsFrame left (Err e)
-    → IsErrAnd result (λ d. d ≡ e) → ReadsFrames view bytes result
-frames_err {X} view bytes left rows e result so some none err =
-    let p = err_from_is_err_and result err in
-    subst (λ (r : Result X (End NotHere)). ReadsFrames view bytes r) (ap (λ (d : End NotHere). Err d) (sym p.2) ∙ sym p.1) (frames_by view bytes left rows e so some none)

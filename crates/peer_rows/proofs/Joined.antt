@@ -1,0 +1,31 @@
+-- From the log of a stream to its image and numbers.
+use Rattle.std.proofs.Common.{◌≡◌, ℕ, ◌+◌, ◌-◌, ◌≤◌, List, length, [], sym, ap, ◌∙◌, subst, arith}
+use Rattle.std.specs.List.{AllByRecursion}
+use Rattle.willow_entry.specs.Row.{is_covering, live, new}
+use Rattle.cap_codec.specs.Rows.{RawValue, AreFrames}
+use Rattle.auth_entry.specs.Authorised.{AuthorisedValue}
+use Rattle.peer_image.specs.Image.{image, HasFrame}
+use Rattle.peer_stage.specs.declared.outcome.JoinCounts.{JoinCounts}
+use Rattle.peer_rows.specs.declared.log.Log.{Log}
+use Rattle.peer_rows.specs.Logged.{accepted, rows_of, IsLogOf}
+use Rattle.peer_rows.specs.Stored.{IsWholeLog}
+use Rattle.peer_rows.specs.Join.{joined, IsJoinOf}
+use Rattle.peer_rows.proofs.NewRows.{new_after-fewer}
+use Rattle.peer_rows.proofs.Framed.{live_framed}
+
+-- what a snapshot of the log shows
+held : (n : List ℕ) (rows : List RawValue) (log : Log) (shown : List AuthorisedValue) → IsWholeLog n rows log → shown ≡ log.store → rows_of shown ≡ live (accepted n rows)
+held n rows log shown whole same = ap rows_of same ∙ whole.is_log.held_is
+
+pub shown_framed : (n bytes : List ℕ) (rows : List RawValue) (log : Log) (shown : List AuthorisedValue) → AreFrames bytes rows → IsWholeLog n rows log → shown ≡ log.store → AllByRecursion HasFrame (rows_of shown)
+shown_framed n bytes rows log shown frames whole same = subst (AllByRecursion HasFrame) (sym (held n rows log shown whole same)) (live_framed n rows frames.fit)
+
+pub is_join : (n bytes written : List ℕ) (rows : List RawValue) (log : Log) (shown : List AuthorisedValue) → AreFrames bytes rows → IsWholeLog n rows log → shown ≡ log.store
+    → written ≡ image n (rows_of shown) → IsJoinOf n bytes written log.counts
+is_join n bytes written rows log shown frames whole same is = record {
+  rows = rows;
+  frames = frames;
+  fits_log = whole.fits_log;
+  counted = whole.is_log.counted;
+  is_image = is ∙ ap (image n) (held n rows log shown whole same);
+}
