@@ -1,14 +1,23 @@
 -- The status and the report's lines for each end of a run.
-use Rattle.std.specs.Prelude.{◌≡◌, ℕ, ◌==◌, nat_le, if◌then◌else◌, ◌⊎◌, List, [], ◌∷◌, ◌++◌, codes, Result, Ok, Err}
+use Rattle.std.specs.Prelude.{◌≡◌, ℕ, ◌==◌, nat_le, if◌then◌else◌, ◌⊎◌, List, [], ◌∷◌, ◌++◌, codes, Option, Some, None, Result, Ok, Err}
 use Rattle.std.specs.Fmt.{decimal}
+use Rattle.std.specs.String.{string_bytes}
 use Rattle.willow_outside.specs.Counts.{Rose}
 use Rattle.willow_outside.specs.Facts.{SinkFacts}
+use Rattle.mc_cap.specs.declared.refusal.RowRefusal.{RowRefusal}
+use Rattle.peer_text.specs.Refusals.{row_refusal_text}
 use Rattle.peer_stage.specs.Stages.{IsWritten, IsPartlyWritten}
 use Rattle.peer_stage.specs.declared.outcome.JoinCounts.{JoinCounts}
+use Rattle.peer_stage.specs.declared.outcome.ShowCounts.{ShowCounts}
+use Rattle.peer_stage.specs.declared.outcome.RefusedRow.{RefusedRow}
+use Rattle.peer_stage.specs.declared.outcome.Origin.{Origin}
+use Rattle.peer_stage.specs.declared.outcome.Origin.TheVariants as origin
 use Rattle.peer_stage.specs.declared.outcome.Done.{Done}
 use Rattle.peer_stage.specs.declared.outcome.Done.TheVariants as done
 use Rattle.peer_stage.specs.declared.outcome.Stop.{Stop}
 use Rattle.peer_stage.specs.declared.outcome.Stop.TheVariants as stop
+
+-- ---- the lines
 
 -- a line ends with one newline byte
 abbrev pub line : List ℕ → List ℕ
@@ -18,39 +27,86 @@ line text = text ++ 10 ∷ []
 abbrev pub rows_line : JoinCounts → List ℕ
 rows_line counts = line (codes "rows " ++ (decimal counts.rows ++ (codes " stored " ++ (decimal counts.stored ++ (codes " kept " ++ (decimal counts.kept ++ (codes " refused " ++ decimal counts.refused)))))))
 
-abbrev pub status_of : Result Done Stop → ℕ
-status_of (Ok (done.Joined counts)) = if counts.refused == 0 then 0 else 1
-status_of (Err stop.Usage) = 2
-status_of (Err stop.ReadFault) = 3
-status_of (Err stop.WriteFault) = 4
-status_of (Err stop.BadInput) = 5
-status_of (Err stop.NoMemory) = 7
-status_of (Err stop.LogFull) = 8
+-- `rows N refused R`
+abbrev pub shown_line : ShowCounts → List ℕ
+shown_line counts = line (codes "rows " ++ (decimal counts.rows ++ (codes " refused " ++ decimal counts.refused)))
 
+-- the text of a refusal, as the end of a line
+abbrev pub refused_line : RowRefusal → List ℕ
+refused_line refusal = line (row_refusal_text refusal)
+
+-- `first refused row I: TEXT`, where a row was refused
+abbrev pub first_line : Option RefusedRow → List ℕ
+first_line None = []
+first_line (Some first) = codes "first refused row " ++ (decimal first.row ++ (codes ": " ++ refused_line first.refusal))
+
+-- the name of what bytes came from, `-` for the input
+abbrev pub name_text : Origin → List ℕ
+name_text origin.Input = codes "-"
+name_text (origin.Name name) = string_bytes name
+
+-- the lines of an end; what was made needs none
 abbrev pub report_of : Result Done Stop → List ℕ
-report_of (Ok (done.Joined counts)) = rows_line counts
+report_of (Ok (done.Joined counts)) = rows_line counts ++ first_line counts.first
+report_of (Ok (done.Shown counts)) = shown_line counts ++ first_line counts.first
+report_of (Ok done.Made) = []
 report_of (Err stop.Usage) = line (codes "usage")
 report_of (Err stop.ReadFault) = line (codes "read fault")
 report_of (Err stop.WriteFault) = line (codes "write fault")
-report_of (Err stop.BadInput) = line (codes "bad input")
+report_of (Err (stop.BadInput from at)) = line (codes "bad input " ++ (name_text from ++ (codes " at " ++ decimal at)))
+report_of (Err (stop.NotRising from row)) = line (codes "not rising " ++ (name_text from ++ (codes " row " ++ decimal row)))
+report_of (Err (stop.Pruned from row by)) = line (codes "pruned " ++ (name_text from ++ (codes " row " ++ (decimal row ++ (codes " by " ++ decimal by)))))
+report_of (Err (stop.Missing name)) = line (codes "missing " ++ string_bytes name)
+report_of (Err (stop.Taken name)) = line (codes "taken " ++ string_bytes name)
+report_of (Err (stop.Refused refusal)) = codes "refused: " ++ refused_line refusal
 report_of (Err stop.NoMemory) = line (codes "no memory")
 report_of (Err stop.LogFull) = line (codes "log full")
+report_of (Err stop.KeySpent) = line (codes "key spent")
+
+-- ---- the status
+
+-- 0 where no row was refused, else 1
+abbrev pub refused_status : ℕ → ℕ
+refused_status refused = if refused == 0 then 0 else 1
+
+abbrev pub status_of : Result Done Stop → ℕ
+status_of (Ok (done.Joined counts)) = refused_status counts.refused
+status_of (Ok (done.Shown counts)) = refused_status counts.refused
+status_of (Ok done.Made) = 0
+status_of (Err (stop.Refused refusal)) = 1
+status_of (Err stop.Usage) = 2
+status_of (Err stop.ReadFault) = 3
+status_of (Err stop.WriteFault) = 4
+status_of (Err (stop.BadInput from at)) = 5
+status_of (Err (stop.NotRising from row)) = 5
+status_of (Err (stop.Pruned from row by)) = 5
+status_of (Err (stop.Missing name)) = 5
+status_of (Err (stop.Taken name)) = 5
+status_of (Err stop.NoMemory) = 7
+status_of (Err stop.LogFull) = 8
+status_of (Err stop.KeySpent) = 9
 
 -- a fault of the report gives 4 where the run itself ended with 0 or 1, and changes no other status
 abbrev pub after_report_fault : ℕ → ℕ
 after_report_fault status = if nat_le status 1 then 4 else status
 
+-- ---- both
+
 -- the report took the lines whole
-abbrev pub IsReported : SinkFacts → SinkFacts → Result Done Stop → ℕ → Type 0
-IsReported old new end status = (status ≡ status_of end) × IsWritten old new (report_of end)
+pub record IsReported (old new : SinkFacts) (end : Result Done Stop) (status : ℕ) : Type 0 where
+  pub status_is : status ≡ status_of end
+  pub written : IsWritten old new (report_of end)
 
 -- the report failed, after a front of the lines
-abbrev pub IsReportFault : SinkFacts → SinkFacts → Result Done Stop → ℕ → Type 0
-IsReportFault old new end status = (status ≡ after_report_fault (status_of end)) × IsPartlyWritten old new (report_of end) × Rose old.faults new.faults
+pub record IsReportFault (old new : SinkFacts) (end : Result Done Stop) (status : ℕ) : Type 0 where
+  pub status_is : status ≡ after_report_fault (status_of end)
+  pub written : IsPartlyWritten old new (report_of end)
+  pub fault : Rose old.faults new.faults
 
 -- no memory was found for the lines
-abbrev pub IsReportWithoutMemory : SinkFacts → SinkFacts → Result Done Stop → ℕ → Type 0
-IsReportWithoutMemory old new end status = (status ≡ 7) × IsPartlyWritten old new (report_of end)
+pub record IsReportWithoutMemory (old new : SinkFacts) (end : Result Done Stop) (status : ℕ) : Type 0 where
+  pub status_is : status ≡ 7
+  pub written : IsPartlyWritten old new (report_of end)
 
 -- how the report stands after a run that ended so, and with which status
 abbrev pub Reports : SinkFacts → SinkFacts → Result Done Stop → ℕ → Type 0

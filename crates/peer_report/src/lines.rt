@@ -1,0 +1,130 @@
+//! The report's lines for each end of a run.
+
+ghost use Rattle.std.specs.Prelude.{◌≡◌, ◌++◌, IfOk, OnOk, Err, Ok};
+ghost use Rattle.peer_stage.specs.declared.outcome.Done.TheVariants as done;
+ghost use Rattle.peer_report.specs.Report.{report_of, rows_line, shown_line, first_line, name_text, refused_line};
+
+use mc_cap::RowRefusal;
+use peer_stage::{Done, JoinCounts, Origin, RefusedRow, ShowCounts, Stop};
+use peer_text::row_refusal_text;
+use spelling::{NoMemory, put_byte, put_bytes};
+use std::alloc::Global;
+
+/// The report's lines for a run that ended so.
+pub(crate) fn report_of(alloc: Global, end: &Result<Done, Stop>) -> Result<Vec<u8>, NoMemory>
+    ensures { IfOk result (λ text. text.items ≡ report_of end.now) }
+{
+    match end {
+        Ok(Done::Joined(counts)) => joined_lines(alloc, counts),
+        Ok(Done::Shown(counts)) => shown_lines(alloc, counts),
+        Ok(Done::Made) => Ok(Vec::new(alloc)),
+        Err(stop) => stop_line(alloc, stop),
+    }
+}
+
+// The numbers of a join, and the first refused row.
+fn joined_lines(alloc: Global, counts: &JoinCounts) -> Result<Vec<u8>, NoMemory>
+    ensures { IfOk result (λ text. text.items ≡ rows_line counts.now ++ first_line counts.now.first) }
+{
+    let JoinCounts {
+        rows,
+        stored,
+        kept,
+        refused,
+        first,
+    } = *counts;
+    let line = format!(in alloc; "rows {rows} stored {stored} kept {kept} refused {refused}\n")?;
+    let mut text = line.into_bytes();
+    put_first_line(alloc, first, &mut text)?;
+    Ok(text)
+}
+
+// The numbers of a listing, and the first refused row.
+fn shown_lines(alloc: Global, counts: &ShowCounts) -> Result<Vec<u8>, NoMemory>
+    ensures { IfOk result (λ text. text.items ≡ shown_line counts.now ++ first_line counts.now.first) }
+{
+    let ShowCounts {
+        rows,
+        refused,
+        first,
+    } = *counts;
+    let mut text = format!(in alloc; "rows {rows} refused {refused}\n")?.into_bytes();
+    put_first_line(alloc, first, &mut text)?;
+    Ok(text)
+}
+
+// Appends the line of the first refused row, where there is one.
+fn put_first_line(
+    alloc: Global,
+    first: Option<RefusedRow>,
+    text: &mut Vec<u8>,
+) -> Result<(), NoMemory>
+    ensures { OnOk result (text.new.items ≡ text.old.items ++ first_line first) }
+{
+    match first {
+        Some(RefusedRow { row, refusal }) => {
+            let mut line = format!(in alloc; "first refused row {row}: ")?.into_bytes();
+            put_refusal(refusal, &mut line)?;
+            put_bytes(text, &line)
+        }
+        None => Ok(()),
+    }
+}
+
+// Appends a refusal's text and a newline.
+fn put_refusal(refusal: RowRefusal, line: &mut Vec<u8>) -> Result<(), NoMemory>
+    ensures { OnOk result (line.new.items ≡ line.old.items ++ refused_line refusal) }
+{
+    row_refusal_text(refusal, line)?;
+    put_byte(line, b'\n')
+}
+
+// The line of a stop.
+fn stop_line(alloc: Global, stop: &Stop) -> Result<Vec<u8>, NoMemory>
+    ensures { IfOk result (λ text. text.items ≡ report_of (Err stop.now)) }
+{
+    match stop {
+        Stop::Usage => plain_line(alloc, "usage\n"),
+        Stop::ReadFault => plain_line(alloc, "read fault\n"),
+        Stop::WriteFault => plain_line(alloc, "write fault\n"),
+        Stop::BadInput { origin, at } => {
+            let name = name_of(origin);
+            Ok(format!(in alloc; "bad input {name} at {at}\n")?.into_bytes())
+        }
+        Stop::NotRising { origin, row } => {
+            let name = name_of(origin);
+            Ok(format!(in alloc; "not rising {name} row {row}\n")?.into_bytes())
+        }
+        Stop::Pruned { origin, row, by } => {
+            let name = name_of(origin);
+            Ok(format!(in alloc; "pruned {name} row {row} by {by}\n")?.into_bytes())
+        }
+        Stop::Missing { name } => Ok(format!(in alloc; "missing {name}\n")?.into_bytes()),
+        Stop::Taken { name } => Ok(format!(in alloc; "taken {name}\n")?.into_bytes()),
+        Stop::Refused(refusal) => {
+            let mut line = plain_line(alloc, "refused: ")?;
+            put_refusal(*refusal, &mut line)?;
+            Ok(line)
+        }
+        Stop::NoMemory => plain_line(alloc, "no memory\n"),
+        Stop::LogFull => plain_line(alloc, "log full\n"),
+        Stop::KeySpent => plain_line(alloc, "key spent\n"),
+    }
+}
+
+// The text as bytes.
+fn plain_line(alloc: Global, text: &str) -> Result<Vec<u8>, NoMemory>
+    ensures { IfOk result (λ line. line.items ≡ text.now) }
+{
+    Ok(Vec::from_slice(alloc, text.as_bytes())?)
+}
+
+// The name of what the bytes came from: `-` for the input.
+fn name_of(origin: &Origin) -> &str
+    ensures { result.now ≡ name_text origin.now }
+{
+    match origin {
+        Origin::Input => "-",
+        Origin::Name(name) => name.as_str(),
+    }
+}
