@@ -1,5 +1,5 @@
 -- How long a generated row's body is.
-use Rattle.std.proofs.Common.{◌≡◌, ℕ, ◌+◌, ◌/◌, ◌%◌, ◌≤◌, ◌==◌, Bool, true, false, if◌then◌else◌, List, [], ◌∷◌, ◌++◌, length, Some, refl, arith, length-append, lit≤}
+use Rattle.std.proofs.Common.{◌≡◌, ℕ, ◌/◌, ◌%◌, ◌≤◌, ◌==◌, Bool, true, false, if◌then◌else◌, List, [], ◌∷◌, ◌++◌, length, refl, arith, length-append, lit≤}
 use Rattle.std.specs.Int.{w64, to_be_bytes}
 use Rattle.sha2.proofs.Facts256.{length-sha256}
 use Rattle.scheme_core.specs.Open.{open_signature}

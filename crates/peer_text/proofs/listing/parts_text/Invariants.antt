@@ -1,4 +1,4 @@
-use Rattle.std.proofs.Common.{◌≡◌, length, take, flat_map}
+use Rattle.std.proofs.Common.{◌≡◌, take, flat_map}
 use Rattle.std.specs.String.{string_bytes}
 use Rattle.peer_text.specs.Listing.{part_text}
 use Rattle.peer_text.proofs.listing.parts_text.Given as goal
