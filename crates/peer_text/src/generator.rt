@@ -15,16 +15,16 @@ use std::alloc::Global;
 use willow_entry::Entry;
 use willow_path::{Digest, NamespaceKey, Path, UserKey};
 
-/// The timestamp of the first generated row.
+// The timestamp of the first generated row.
 const FIRST_TIMESTAMP: u64 = 1_700_000_000_000_000;
 
-/// Row i of the generator, i below 65,536: the same wherever it is made, and authorised in the generator's
-/// namespace under open keys. Let s be i mod 8 and k be i / 8. The namespace is the key 00 and 32 bytes 4f,
-/// the subspace the key 00, 31 bytes 55 and one byte s. The path has the two components k / 32 (two bytes)
-/// and k mod 32 (one byte), or the first alone where i mod 50 is 49. The timestamp is
-/// 1,700,000,000,000,000 + i, the payload length i mod 4,096, the digest i in eight bytes four times. The
-/// capability is the owned write capability of the subspace's user without delegations. Numbers are rounded
-/// down and spelled with the highest byte first. Its body fits a frame.
+/// Row i of the generator, i below 65,536: the same wherever it is made. Let s be i mod 8 and k be i / 8.
+/// The namespace is the key 00 and 32 bytes 4f, the subspace the key 00, 31 bytes 55 and one byte s. The
+/// path has the two components k / 32 (two bytes) and k mod 32 (one byte), or the first alone where i mod
+/// 50 is 49. The timestamp is 1,700,000,000,000,000 + i, the payload length i mod 4,096, the digest i in
+/// eight bytes four times. The capability is the owned write capability of the subspace's user, without
+/// delegations and with the open signature of the namespace; the user's open signature stands behind it.
+/// Numbers are rounded down and spelled with the highest byte first. The row's body fits a frame.
 #[tactic(auto, using(crate::proofs::Lengths::generated_fits))]
 pub fn generated_row(alloc: Global, i: u32) -> Result<RawRow, NoMemory>
     requires { i < 65536 }
