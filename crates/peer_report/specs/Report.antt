@@ -45,6 +45,18 @@ abbrev pub name_text : Origin → List ℕ
 name_text origin.Input = codes "-"
 name_text (origin.Name name) = string_bytes name
 
+-- `bad input NAME at OFFSET`
+abbrev pub bad_input_line : List ℕ → ℕ → List ℕ
+bad_input_line name at = line (codes "bad input " ++ (name ++ (codes " at " ++ decimal at)))
+
+-- `not rising NAME row I`
+abbrev pub not_rising_line : List ℕ → ℕ → List ℕ
+not_rising_line name row = line (codes "not rising " ++ (name ++ (codes " row " ++ decimal row)))
+
+-- `pruned NAME row I by J`
+abbrev pub pruned_line : List ℕ → ℕ → ℕ → List ℕ
+pruned_line name row by = line (codes "pruned " ++ (name ++ (codes " row " ++ (decimal row ++ (codes " by " ++ decimal by)))))
+
 -- the lines of an end; what was made needs none
 abbrev pub report_of : Result Done Stop → List ℕ
 report_of (Ok (done.Joined counts)) = rows_line counts ++ first_line counts.first
@@ -53,9 +65,9 @@ report_of (Ok done.Made) = []
 report_of (Err stop.Usage) = line (codes "usage")
 report_of (Err stop.ReadFault) = line (codes "read fault")
 report_of (Err stop.WriteFault) = line (codes "write fault")
-report_of (Err (stop.BadInput from at)) = line (codes "bad input " ++ (name_text from ++ (codes " at " ++ decimal at)))
-report_of (Err (stop.NotRising from row)) = line (codes "not rising " ++ (name_text from ++ (codes " row " ++ decimal row)))
-report_of (Err (stop.Pruned from row by)) = line (codes "pruned " ++ (name_text from ++ (codes " row " ++ (decimal row ++ (codes " by " ++ decimal by)))))
+report_of (Err (stop.BadInput from at)) = bad_input_line (name_text from) at
+report_of (Err (stop.NotRising from row)) = not_rising_line (name_text from) row
+report_of (Err (stop.Pruned from row by)) = pruned_line (name_text from) row by
 report_of (Err (stop.Missing name)) = line (codes "missing " ++ string_bytes name)
 report_of (Err (stop.Taken name)) = line (codes "taken " ++ string_bytes name)
 report_of (Err (stop.Refused refusal)) = codes "refused: " ++ refused_line refusal

@@ -2,7 +2,7 @@
 
 ghost use Rattle.std.specs.Prelude.{◌≡◌, ◌++◌, IfOk, OnOk, Err, Ok};
 ghost use Rattle.peer_stage.specs.declared.outcome.Done.TheVariants as done;
-ghost use Rattle.peer_report.specs.Report.{report_of, rows_line, shown_line, first_line, name_text, refused_line};
+ghost use Rattle.peer_report.specs.Report.{report_of, rows_line, shown_line, first_line, name_text, refused_line, bad_input_line, not_rising_line, pruned_line};
 
 use mc_cap::RowRefusal;
 use peer_stage::{Done, JoinCounts, Origin, RefusedRow, ShowCounts, Stop};
@@ -87,18 +87,9 @@ fn stop_line(alloc: Global, stop: &Stop) -> Result<Vec<u8>, NoMemory>
         Stop::Usage => plain_line(alloc, "usage\n"),
         Stop::ReadFault => plain_line(alloc, "read fault\n"),
         Stop::WriteFault => plain_line(alloc, "write fault\n"),
-        Stop::BadInput { origin, at } => {
-            let name = name_of(origin);
-            Ok(format!(in alloc; "bad input {name} at {at}\n")?.into_bytes())
-        }
-        Stop::NotRising { origin, row } => {
-            let name = name_of(origin);
-            Ok(format!(in alloc; "not rising {name} row {row}\n")?.into_bytes())
-        }
-        Stop::Pruned { origin, row, by } => {
-            let name = name_of(origin);
-            Ok(format!(in alloc; "pruned {name} row {row} by {by}\n")?.into_bytes())
-        }
+        Stop::BadInput { origin, at } => bad_input_line(alloc, name_of(origin), *at),
+        Stop::NotRising { origin, row } => not_rising_line(alloc, name_of(origin), *row),
+        Stop::Pruned { origin, row, by } => pruned_line(alloc, name_of(origin), *row, *by),
         Stop::Missing { name } => Ok(format!(in alloc; "missing {name}\n")?.into_bytes()),
         Stop::Taken { name } => Ok(format!(in alloc; "taken {name}\n")?.into_bytes()),
         Stop::Refused(refusal) => {
@@ -110,6 +101,27 @@ fn stop_line(alloc: Global, stop: &Stop) -> Result<Vec<u8>, NoMemory>
         Stop::LogFull => plain_line(alloc, "log full\n"),
         Stop::KeySpent => plain_line(alloc, "key spent\n"),
     }
+}
+
+// Where the bytes of this name go wrong.
+fn bad_input_line(alloc: Global, name: &str, at: u64) -> Result<Vec<u8>, NoMemory>
+    ensures { IfOk result (λ text. text.items ≡ bad_input_line name.now at) }
+{
+    Ok(format!(in alloc; "bad input {name} at {at}\n")?.into_bytes())
+}
+
+// Which row of this name is not above the row before it.
+fn not_rising_line(alloc: Global, name: &str, row: u32) -> Result<Vec<u8>, NoMemory>
+    ensures { IfOk result (λ text. text.items ≡ not_rising_line name.now row) }
+{
+    Ok(format!(in alloc; "not rising {name} row {row}\n")?.into_bytes())
+}
+
+// Which row of this name an earlier one dominates.
+fn pruned_line(alloc: Global, name: &str, row: u32, by: u32) -> Result<Vec<u8>, NoMemory>
+    ensures { IfOk result (λ text. text.items ≡ pruned_line name.now row by) }
+{
+    Ok(format!(in alloc; "pruned {name} row {row} by {by}\n")?.into_bytes())
 }
 
 // The text as bytes.

@@ -1,7 +1,7 @@
 //! The status of a run, and its report.
 
 ghost use Rattle.std.specs.Prelude.{◌≡◌};
-ghost use Rattle.peer_report.specs.Report.{status_of, after_report_fault, Reports};
+ghost use Rattle.peer_report.specs.Report.{status_of, after_report_fault, refused_status, Reports};
 
 use crate::lines::report_of;
 use peer_stage::{Done, Stop, write_output};
