@@ -2,9 +2,6 @@
 //! answers a status. Its contract says what is read, written and reported at each status, and why it comes.
 #![tactic(auto)]
 
-mod command;
-mod join;
-mod log;
 mod run;
 
 pub use run::peer_run;
