@@ -13,3 +13,5 @@ pub use shelf::FileShelf;
 pub use streams::{StdReport, StdSink, StdSource};
 pub use tcp::{TcpDoor, TcpLink};
 
+#[cfg(test)]
+mod tests;

@@ -3,7 +3,7 @@
 ghost use Rattle.std.specs.Prelude.{◌≡◌, None};
 
 use crate::faults::{fault_of, raised};
-use std::fs::OpenFile;
+use std::fs::{File, OpenFile};
 use std::io::{ErrorKind, Write};
 use std::rt::Files;
 use std::{fs, io};
@@ -31,10 +31,11 @@ impl<R: Files + AllocGlobal + Drop> FileShelf<R> {
     }
 }
 
-// Writes the bytes to the file `beside`, and all of them to the disk, and then renames it to `name`.
-// Who may read and write a file that is replaced stays.
+// Writes all bytes to a new file `beside`, and on to the disk, and then renames it to `name`.
+// One that a crash left there goes first. A file that is replaced passes on who may read and write it.
 fn write_beside<R: Files>(machine: &R, beside: &str, name: &str, bytes: &[u8]) -> io::Result<()> {
-    let mut file = fs::create(machine, beside)?;
+    let _ = fs::remove_file(machine, beside);
+    let mut file = File::create_new(machine, beside)?;
     if let Ok(replaced) = fs::metadata(machine, name) {
         file.set_permissions(replaced.permissions())?;
     }
@@ -43,9 +44,9 @@ fn write_beside<R: Files>(machine: &R, beside: &str, name: &str, bytes: &[u8]) -
     fs::rename(machine, beside, name)
 }
 
-// The file keeps its old bytes up to the rename. After it they are the new ones, so that no fault is one of memory.
+// The name holds its old bytes up to the rename, and from then on the new ones, so no later fault is one of memory.
 fn replace<R: Files + AllocGlobal>(machine: &R, name: &str, bytes: &[u8]) -> Result<(), Fault> {
-    let beside = format!(in machine.alloc(); ".{name}.new").map_err(|_| Fault::NoMemory)?;
+    let beside = format!(in machine.alloc(); ".{name}.new")?;
     if let Err(error) = write_beside(machine, beside.as_str(), name, bytes) {
         let _ = fs::remove_file(machine, beside.as_str());
         return Err(fault_of(&error));

@@ -21,10 +21,11 @@ pub struct TcpLink {
 }
 
 impl TcpLink {
-    /// A link over the connection, with counts 0.
+    /// A link over the connection, with counts 0. What is written goes out at once, where the machine offers that.
     pub fn new(stream: TcpStream) -> TcpLink
         ensures { ⟦<TcpLink as Link>⟧.facts result ≡ record { left = None; taken = None; held = None; read_faults = 0; write_faults = 0; ends = 0 } }
     {
+        let _ = stream.set_nodelay(true);
         TcpLink {
             stream,
             read_faults: 0,
@@ -38,9 +39,12 @@ impl Link for TcpLink {
     ghost facts = { λ s. record { left = None; taken = None; held = None; read_faults = s.read_faults; write_faults = s.write_faults; ends = s.ends } };
 
     fn read(&mut self, buf: &mut [u8]) -> Result<usize, Fault> {
-        let room = buf.len();
+        // Without room a socket would wait for bytes that it then leaves.
+        if buf.is_empty() {
+            return Ok(0);
+        }
         match self.stream.read(buf) {
-            Ok(0) if room > 0 => {
+            Ok(0) => {
                 self.ends = raised(self.ends);
                 Ok(0)
             }
