@@ -1,6 +1,6 @@
 //! What an error of the machine is to the callers of the outside, and how it is counted.
 
-ghost use Rattle.std.specs.Prelude.{◌≡◌, ◌+◌, ◌-◌, ◌^◌, min, if◌then◌else◌};
+ghost use Rattle.std.specs.Prelude.{◌≡◌, ◌+◌, ◌-◌, ◌^◌, min};
 
 use std::io::{Error, ErrorKind};
 use willow_outside::Fault;
