@@ -2,6 +2,16 @@
 //! Each adapter is proved against the trait of the outside that it serves; it tells no content.
 #![tactic(auto)]
 
+mod faults;
+mod noise;
+mod shelf;
 mod streams;
+mod tcp;
 
+pub use noise::RandomNoise;
+pub use shelf::FileShelf;
 pub use streams::{StdReport, StdSink, StdSource};
+pub use tcp::{TcpDoor, TcpLink};
+
+#[cfg(test)]
+mod tests;

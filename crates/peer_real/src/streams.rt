@@ -1,17 +1,10 @@
 //! The standard streams.
 
-ghost use Rattle.std.specs.Prelude.{◌≡◌, ℕ, ◌≤◌, ◌+◌, ◌-◌, ◌^◌, min, None};
-ghost use Rattle.std.specs.declared.option.Option.{Option};
+ghost use Rattle.std.specs.Prelude.{◌≡◌, None};
 
-use std::io::{ErrorKind, Read, Write};
+use crate::faults::{fault_of, raised};
+use std::io::{Read, Write};
 use willow_outside::{Fault, Sink, Source};
-
-// One more, up to the last number of the type.
-fn raised(count: u64) -> u64
-    ensures { result ≡ min (count + 1) (2 ^ 64 - 1) }
-{
-    count.saturating_add(1)
-}
 
 /// A real reader, with counts of its faults and of its ends. What it has left is not told.
 #[derive(Drop)]
@@ -21,11 +14,10 @@ pub struct StdSource<R> {
     ends: u64,
 }
 
-impl<R> StdSource<R> {
+impl<R: Read + Drop> StdSource<R> {
     /// Reads from the reader, with counts 0.
     pub fn new(reader: R) -> StdSource<R>
-        ensures faults { result.faults ≡ 0 }
-        ensures ends { result.ends ≡ 0 }
+        ensures { ⟦<StdSource<R> as Source>⟧.facts result ≡ record { left = None; faults = 0; ends = 0 } }
     {
         StdSource {
             reader,
@@ -48,11 +40,7 @@ impl<R: Read + Drop> Source for StdSource<R> {
             Ok(count) => Ok(count),
             Err(error) => {
                 self.faults = raised(self.faults);
-                if error.kind() == ErrorKind::OutOfMemory {
-                    Err(Fault::NoMemory)
-                } else {
-                    Err(Fault::Failed)
-                }
+                Err(fault_of(&error))
             }
         }
     }
@@ -68,10 +56,10 @@ pub struct StdSink<W> {
 /// The report: a real writer too.
 pub type StdReport<W> = StdSink<W>;
 
-impl<W> StdSink<W> {
+impl<W: Write + Drop> StdSink<W> {
     /// Writes to the writer, with the count 0.
     pub fn new(writer: W) -> StdSink<W>
-        ensures { result.faults ≡ 0 }
+        ensures { ⟦<StdSink<W> as Sink>⟧.facts result ≡ record { held = None; faults = 0 } }
     {
         StdSink { writer, faults: 0 }
     }
@@ -92,11 +80,7 @@ impl<W: Write + Drop> Sink for StdSink<W> {
             Ok(count) => Ok(count),
             Err(error) => {
                 self.faults = raised(self.faults);
-                if error.kind() == ErrorKind::OutOfMemory {
-                    Err(Fault::NoMemory)
-                } else {
-                    Err(Fault::Failed)
-                }
+                Err(fault_of(&error))
             }
         }
     }

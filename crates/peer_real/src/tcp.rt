@@ -1,0 +1,157 @@
+//! Links over TCP.
+
+ghost use Rattle.std.specs.Prelude.{◌≡◌, None, IfOk};
+ghost use Rattle.willow_outside.specs.Counts.{HasCause};
+ghost use Rattle.willow_outside.specs.Links.{HandsOut, IsFresh};
+
+use crate::faults::{fault_of, raised};
+use std::io;
+use std::io::{ErrorKind, Read, Write};
+use std::net::{Net, TcpListener, TcpStream};
+use willow_outside::{Door, Fault, Link};
+
+/// A connection over TCP, with counts of its faults and of its ends. A write of nothing counts as a fault.
+/// What it gives and takes is not told.
+#[derive(Drop)]
+pub struct TcpLink {
+    stream: TcpStream,
+    read_faults: u64,
+    write_faults: u64,
+    ends: u64,
+}
+
+impl TcpLink {
+    /// A link over the connection, with counts 0. What is written goes out at once, where the machine offers that.
+    pub fn new(stream: TcpStream) -> TcpLink
+        ensures { ⟦<TcpLink as Link>⟧.facts result ≡ record { left = None; taken = None; held = None; read_faults = 0; write_faults = 0; ends = 0 } }
+    {
+        let _ = stream.set_nodelay(true);
+        TcpLink {
+            stream,
+            read_faults: 0,
+            write_faults: 0,
+            ends: 0,
+        }
+    }
+}
+
+impl Link for TcpLink {
+    ghost facts = { λ s. record { left = None; taken = None; held = None; read_faults = s.read_faults; write_faults = s.write_faults; ends = s.ends } };
+
+    fn read(&mut self, buf: &mut [u8]) -> Result<usize, Fault> {
+        // Without room a socket would wait for bytes that it then leaves.
+        if buf.is_empty() {
+            return Ok(0);
+        }
+        match self.stream.read(buf) {
+            Ok(0) => {
+                self.ends = raised(self.ends);
+                Ok(0)
+            }
+            Ok(count) => Ok(count),
+            Err(error) => {
+                self.read_faults = raised(self.read_faults);
+                Err(fault_of(&error))
+            }
+        }
+    }
+
+    fn write(&mut self, piece: &[u8]) -> Result<usize, Fault> {
+        if piece.is_empty() {
+            return Ok(0);
+        }
+        match self.stream.write(piece) {
+            Ok(0) => {
+                self.write_faults = raised(self.write_faults);
+                Err(Fault::Failed)
+            }
+            Ok(count) => Ok(count),
+            Err(error) => {
+                self.write_faults = raised(self.write_faults);
+                Err(fault_of(&error))
+            }
+        }
+    }
+}
+
+/// The network, with a count of the faults. The places asked for and the links that came back are not told.
+#[derive(Drop)]
+pub struct TcpDoor<N> {
+    net: N,
+    listener: Option<TcpListener>,
+    faults: u64,
+    out: u64,
+}
+
+impl<N: Net<Listener = TcpListener, Stream = TcpStream> + Drop> TcpDoor<N> {
+    /// The network `net`, with counts 0, which listens at no place yet.
+    pub fn new(net: N) -> TcpDoor<N>
+        ensures { ⟦<TcpDoor<N> as Door>⟧.facts result ≡ record { faults = 0; out = 0; asked = None; back = None } }
+    {
+        TcpDoor {
+            net,
+            listener: None,
+            faults: 0,
+            out: 0,
+        }
+    }
+
+    // A link over the connection, counted as handed out. One too many for the count is closed.
+    fn hand_out(&mut self, stream: io::Result<TcpStream>) -> Result<TcpLink, Fault>
+        ensures fresh { IfOk result (λ link. IsFresh (⟦<TcpLink as Link>⟧.facts link)) }
+        ensures out { HandsOut self.old.out self.new.out result }
+        ensures cause { HasCause self.old.faults self.new.faults result }
+    {
+        match (stream, self.out.checked_add(1)) {
+            (Ok(stream), Some(out)) => {
+                self.out = out;
+                Ok(TcpLink::new(stream))
+            }
+            (Ok(_), None) => {
+                self.faults = raised(self.faults);
+                Err(Fault::Failed)
+            }
+            (Err(error), _) => {
+                self.faults = raised(self.faults);
+                Err(fault_of(&error))
+            }
+        }
+    }
+}
+
+impl<N: Net<Listener = TcpListener, Stream = TcpStream> + Drop> Door for TcpDoor<N> {
+    type L = TcpLink;
+
+    ghost facts = { λ s. record { faults = s.faults; out = s.out; asked = None; back = None } };
+
+    /// Listens at `place` from now on, in place of an earlier one.
+    fn listen(&mut self, place: &str) -> Result<(), Fault> {
+        match TcpListener::bind(&self.net, place) {
+            Ok(listener) => {
+                self.listener = Some(listener);
+                Ok(())
+            }
+            Err(error) => {
+                self.faults = raised(self.faults);
+                Err(fault_of(&error))
+            }
+        }
+    }
+
+    fn accept(&mut self) -> Result<TcpLink, Fault> {
+        let stream = match &self.listener {
+            Some(listener) => listener.accept().map(|(stream, _)| stream),
+            None => Err(io::Error::from(ErrorKind::NotConnected)),
+        };
+        self.hand_out(stream)
+    }
+
+    fn connect(&mut self, place: &str) -> Result<TcpLink, Fault> {
+        let stream = TcpStream::connect(&self.net, place);
+        self.hand_out(stream)
+    }
+
+    fn give_back(&mut self, _link: TcpLink) {
+        self.out -= 1;
+    }
+}

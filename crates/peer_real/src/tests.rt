@@ -1,0 +1,64 @@
+//! What no clause says: that calls on real files, noise and streams succeed, and what comes back.
+
+use crate::{FileShelf, RandomNoise, StdSink, StdSource};
+use std::fs;
+use std::fs::Permissions;
+use std::os::unix::fs::PermissionsExt;
+use std::test::Fail;
+use willow_outside::{Fault, Noise, Shelf, Sink, Source};
+
+/// Whether a get answers just these bytes, or that there are none.
+fn holds<S: Shelf>(shelf: &mut S, name: &str, want: Option<&[u8]>) -> bool {
+    match (shelf.get(name), want) {
+        (Ok(Some(bytes)), Some(want)) => bytes.as_slice() == want,
+        (Ok(None), None) => true,
+        _ => false,
+    }
+}
+
+#[test]
+fn files_are_replaced_whole(rt: HostRuntime) -> Result<(), Fail> {
+    let name = "peer-real-own-file";
+    let mut shelf = FileShelf::new(rt);
+    assert!(rt; holds(&mut shelf, name, None));
+    assert!(rt; shelf.put(name, &[1, 2, 3]) == Ok(()));
+    assert!(rt; holds(&mut shelf, name, Some(&[1, 2, 3])));
+    fs::set_permissions(&rt, name, Permissions::from_mode(0o600))?;
+    assert!(rt; shelf.put(name, &[4]) == Ok(()));
+    assert!(rt; holds(&mut shelf, name, Some(&[4])));
+    assert_eq!(rt;
+        fs::metadata(&rt, name)?.permissions().mode() & 0o777,
+        0o600
+    );
+    fs::remove_file(&rt, name)?;
+    fs::create_dir(&rt, name)?;
+    assert!(rt; shelf.get(name) == Err(Fault::Failed));
+    assert!(rt; shelf.put(name, &[5]) == Err(Fault::Failed));
+    assert!(rt; holds(&mut shelf, ".peer-real-own-file.new", None));
+    fs::remove_dir(&rt, name)?;
+    Ok(())
+}
+
+#[test]
+fn noise_differs_at_each_draw(rt: HostRuntime) {
+    let mut noise = RandomNoise::new(&rt);
+    let first = noise.words();
+    assert!(rt; first.is_ok());
+    assert!(rt; noise.words() != first);
+}
+
+#[test]
+fn streams_pass_bytes_on(rt: HostRuntime) {
+    let mut source = StdSource::new([1u8, 2, 3].as_slice());
+    let mut buf = [0u8; 2];
+    for want in [2, 1, 0] {
+        assert_eq!(rt; source.read(&mut buf), Ok(want));
+    }
+    assert_eq!(rt; buf, [3, 2]);
+    let mut room = [0u8; 3];
+    let mut sink = StdSink::new(room.as_mut_slice());
+    assert_eq!(rt; sink.write(&[7, 8]), Ok(2));
+    assert_eq!(rt; sink.write(&[9, 9]), Ok(1));
+    assert_eq!(rt; sink.write(&[9]), Err(Fault::Failed));
+    assert_eq!(rt; sink.write(&[]), Ok(0));
+}
