@@ -1,180 +1,154 @@
 -- What each status says of a run.
-use Rattle.std.proofs.Common.{◌≡◌, ◌≢◌, ℕ, ◌≤◌, ◌<◌, Bool, true, false, cond, eqb, ◌⊎◌, inl, inr, List, [], ◌∷◌, ◌++◌, length, Option, Some, None, refl, sym, ap, ◌∙◌, subst, arith}
-use Rattle.std.specs.Prelude.{Result, Ok, Err}
-use Rattle.std.specs.Io.KnownBytes.{Consumes}
-use Rattle.std.proofs.lemmas.List.{append_cancel_right}
-use Rattle.std.proofs.lemmas.Bool.{eqb-true}
-use Rattle.std.proofs.lemmas.Bool.Decides.{nat_tests}
-use Rattle.willow_outside.specs.Counts.{Rose}
-use Rattle.willow_outside.specs.Facts.{SourceFacts, SinkFacts}
-use Rattle.cap_codec.specs.Rows.{RawValue, AreFrames}
-use Rattle.cap_codec.proofs.Frames.{same_rows}
+use Rattle.std.proofs.Common.{◌≡◌, ◌≢◌, ℕ, ◌≤◌, ◌<◌, ◌⊎◌, inl, inr, List, ◌++◌, refl, sym, ap, ◌∙◌, subst, arith}
+use Rattle.std.specs.Prelude.{Some, None, Result, Ok, Err}
+use Rattle.willow_outside.specs.Facts.{SinkFacts}
 use Rattle.peer_stage.specs.World.{World}
 use Rattle.peer_stage.specs.Stages.{IsWritten}
-use Rattle.peer_stage.specs.Report.{Reports}
-use Rattle.peer_stage.specs.declared.outcome.JoinCounts.{JoinCounts}
 use Rattle.peer_stage.specs.declared.outcome.Done.{Done}
 use Rattle.peer_stage.specs.declared.outcome.Done.TheVariants as done
 use Rattle.peer_stage.specs.declared.outcome.Stop.{Stop}
 use Rattle.peer_stage.specs.declared.outcome.Stop.TheVariants as stop
-use Rattle.peer_run.specs.declared.command.Command.{Command}
-use Rattle.peer_run.specs.declared.command.Command.TheVariants as cmd
-use Rattle.peer_run.specs.Words.{IsWords, IsJoin, IsNoCommand}
-use Rattle.peer_run.specs.Logged.{FitsLog}
-use Rattle.peer_run.specs.Join.{joined, IsJoined, IsTooFull}
+use Rattle.peer_report.specs.Report.{Reports, status_of, after_report_fault}
+use Rattle.peer_words.specs.Commands.{IsWords, IsNoCommand}
+use Rattle.peer_words.specs.declared.command.Command.{Command}
+use Rattle.peer_words.specs.declared.command.Command.TheVariants as cmd
 use Rattle.peer_run.specs.Meets.{Meets}
-use Rattle.peer_run.specs.Runs.{Runs, IsMisused, RunsWords}
-use Rattle.peer_run.specs.Statuses.{IsWholeJoin, IsRefusedInput, IsFull, CanJoin, HasNoFault}
-use Rattle.peer_run.proofs.Ends.{stop_status, join_status, done_status, IsToldDone, done_small}
+use Rattle.peer_run.specs.Runs.{Runs, RunsWords}
+use Rattle.peer_run.specs.Statuses.{HasEnded, HasStopped, HasReadFault, HasWriteFault, IsNoRun, IsBadStop, IsLogFull, IsKeySpent, IsUnbuiltCommand}
+use Rattle.peer_run.proofs.Ends.{own_status, is_end, StopsSo, IsUsage, IsReadFault, IsWriteFault, usage_end, read_end, write_end, bad_end, full_end, spent_end, known}
+use Rattle.peer_run.proofs.Faults as faults
 
-either : (s k : ℕ) → (s ≡ k) ⊎ (s ≡ 7) → s ≢ k → s ≢ 7 → ⊥
-either s k (inl e) a b = a e
-either s k (inr e) a b = b e
+-- of a run without a command the status is 2, 4 or 7
+no_command : (r r' : SinkFacts) (s : ℕ) → Reports r r' (Err stop.Usage) s → s ≢ 4 → s ≢ 7 → s ≡ 2
+no_command r r' s reports other memory = own_status r r' (Err stop.Usage) s reports other memory
+
+unread : (r r' : SinkFacts) (s : ℕ) → Reports r r' (Err stop.NoMemory) s → s ≢ 4 → s ≡ 7
+unread r r' s (inl told) other = told.status_is
+unread r r' s (inr (inl fault)) other = own_status r r' (Err stop.NoMemory) s (inr (inl fault)) other (λ memory. other (omega (arith, fault.status_is, memory)))
+unread r r' s (inr (inr none)) other = none.status_is
 
 -- ---- 0 and 1
 
-authorised_all : (counts : JoinCounts) (s : ℕ) → s ≡ done_status counts → s ≡ 0 → counts.refused ≡ 0
-authorised_all counts s e zero_is = eqb-true _ _ (test (eqb counts.refused 0) e) where
-  test : (b : Bool) → s ≡ cond b 0 1 → b ≡ true
-  test true h = refl
-  test false h = absurd (omega arith)
+pub ended : (words : List (List ℕ)) (old new : World) (r r' : SinkFacts) (s : ℕ) → RunsWords words old new r r' s → s ≤ 1 → HasEnded words old new r r' s
+ended words old new r r' s (inr (inl misused)) small =
+    let two = no_command r r' s misused.reports (λ e. omega (arith, e, small)) (λ e. omega (arith, e, small)) in absurd (omega (arith, two, small))
+ended words old new r r' s (inr (inr none)) small =
+    let seven = unread r r' s none.reports (λ e. omega (arith, e, small)) in absurd (omega (arith, seven, small))
+ended words old new r r' s (inl runs) small = go runs.reports where
+  is : s ≡ status_of runs.end
+  is = own_status r r' runs.end s runs.reports (λ e. omega (arith, e, small)) (λ e. omega (arith, e, small))
+  go : Reports r r' runs.end s → HasEnded words old new r r' s
+  go (inl told) = record {
+    command = runs.command;
+    is_words = runs.is_words;
+    end = runs.end;
+    is_end = is_end runs.end (omega (arith, is, small));
+    meets = runs.meets;
+    reported = told.written;
+    status_is = is;
+  }
+  go (inr (inl fault)) = absurd (omega (arith, fault.status_is, is, small))
+  go (inr (inr none)) = absurd (omega (arith, none.status_is, small))
 
-refused_some : (counts : JoinCounts) (s : ℕ) → s ≡ done_status counts → s ≡ 1 → 0 < counts.refused
-refused_some counts s e one_is = above (eqb counts.refused 0) refl e where
-  above : (b : Bool) → eqb counts.refused 0 ≡ b → s ≡ cond b 0 1 → 0 < counts.refused
-  above true t h = absurd (omega arith)
-  above false t h = grind (arith, nat_tests)
+-- ---- the stops
 
-pub whole_join : (words : List (List ℕ)) (old new : World) (r r' : SinkFacts) (s : ℕ) → RunsWords words old new r r' s → s ≤ 1 → IsWholeJoin words old new r r' s
-whole_join words old new r r' s (inr misused) small = absurd (either s 2 (stop_status r r' stop.Usage s misused.reports) (omega arith) (omega arith))
-whole_join words old new r r' s (inl runs) small = go runs.command runs.end runs.is_words runs.meets runs.reports where
-  go : (c : Command) (e : Result Done Stop) → IsWords words c → Meets c old new e → Reports r r' e s → IsWholeJoin words old new r r' s
-  go (cmd.Join n) (Ok (done.Joined counts)) is_join meets reports = elim (join_status r r' counts s reports) [
-    | inl told ↦ record {
-      namespace = n;
-      is_join = is_join;
-      bytes = meets.0.bytes;
-      read = meets.0.read;
-      rows = meets.0.join.rows;
-      frames = meets.0.join.frames;
-      fits_log = meets.0.join.fits_log;
-      written = subst (λ (text : List ℕ). IsWritten old.output new.output text) meets.0.join.is_image meets.0.written;
-      counts = counts;
-      counted = meets.0.join.counted;
-      reported = told.written;
-      all_authorised = λ z. authorised_all counts s told.status z;
-      some_refused = λ o. refused_some counts s told.status o;
-    }
-    | inr (inl fault) ↦ absurd (omega (arith, fault.0))
-    | inr (inr none) ↦ absurd (omega arith)
-  ]
-  go (cmd.Join n) (Err stop.Usage) is_join meets reports = absurd meets.0
-  go (cmd.Join n) (Err stop.ReadFault) is_join meets reports = absurd (either s 3 (stop_status r r' stop.ReadFault s reports) (omega arith) (omega arith))
-  go (cmd.Join n) (Err stop.WriteFault) is_join meets reports = absurd (either s 4 (stop_status r r' stop.WriteFault s reports) (omega arith) (omega arith))
-  go (cmd.Join n) (Err stop.BadInput) is_join meets reports = absurd (either s 5 (stop_status r r' stop.BadInput s reports) (omega arith) (omega arith))
-  go (cmd.Join n) (Err stop.NoMemory) is_join meets reports = absurd (either s 7 (stop_status r r' stop.NoMemory s reports) (omega arith) (omega arith))
-  go (cmd.Join n) (Err stop.LogFull) is_join meets reports = absurd (either s 8 (stop_status r r' stop.LogFull s reports) (omega arith) (omega arith))
+-- a run with another status than 0, 1, 2, 4 and 7 is one of a command that stopped
+stopped : (IsOne : Stop → Type 0) (k : ℕ) → ((end : Result Done Stop) → status_of end ≡ k → StopsSo IsOne end) → k ≢ 2 → k ≢ 4 → k ≢ 7
+    → (words : List (List ℕ)) (old new : World) (r r' : SinkFacts) → RunsWords words old new r r' k → HasStopped IsOne words old new
+stopped IsOne k each two four seven words old new r r' (inr (inl misused)) = absurd (two (no_command r r' k misused.reports four seven))
+stopped IsOne k each two four seven words old new r r' (inr (inr none)) = absurd (seven (unread r r' k none.reports four))
+stopped IsOne k each two four seven words old new r r' (inl runs) = go runs.end runs.meets (each runs.end (sym (own_status r r' runs.end k runs.reports four seven))) where
+  go : (end : Result Done Stop) → Meets runs.command old new end → StopsSo IsOne end → HasStopped IsOne words old new
+  go (Ok d) meets is = absurd is
+  go (Err e) meets is = record { command = runs.command; is_words = runs.is_words; stop = e; is_one = is; meets = meets }
 
--- ---- the causes of the others
+pub bad_input : (words : List (List ℕ)) (old new : World) (r r' : SinkFacts) (s : ℕ) → RunsWords words old new r r' s → s ≡ 5 → HasStopped IsBadStop words old new
+bad_input words old new r r' s runs is =
+    stopped IsBadStop 5 bad_end (λ e. omega (arith, e)) (λ e. omega (arith, e)) (λ e. omega (arith, e)) words old new r r' (subst (RunsWords words old new r r') is runs)
 
-not_done : (r r' : SinkFacts) (counts : JoinCounts) (s : ℕ) → Reports r r' (Ok (done.Joined counts)) s → (s ≤ 1 → ⊥) → s ≢ 7 → Rose r.faults r'.faults × (s ≡ 4)
-not_done r r' counts s reports large memory = elim (join_status r r' counts s reports) [
-  | inl told ↦ absurd (large (done_small counts s told.status))
-  | inr (inl fault) ↦ (fault.1, fault.0)
-  | inr (inr none) ↦ absurd (memory none)
-]
+pub log_full : (words : List (List ℕ)) (old new : World) (r r' : SinkFacts) (s : ℕ) → RunsWords words old new r r' s → s ≡ 8 → HasStopped IsLogFull words old new
+log_full words old new r r' s runs is =
+    stopped IsLogFull 8 full_end (λ e. omega (arith, e)) (λ e. omega (arith, e)) (λ e. omega (arith, e)) words old new r r' (subst (RunsWords words old new r r') is runs)
 
-pub misused : (words : List (List ℕ)) (old new : World) (r r' : SinkFacts) (s : ℕ) → RunsWords words old new r r' s → s ≡ 2 → IsNoCommand words × (new ≡ old)
-misused words old new r r' s (inr m) is = (m.no_command, m.same)
-misused words old new r r' s (inl runs) is = absurd (go runs.command runs.end runs.meets runs.reports) where
-  go : (c : Command) (e : Result Done Stop) → Meets c old new e → Reports r r' e s → ⊥
-  go (cmd.Join n) (Ok (done.Joined counts)) meets reports = let fault = not_done r r' counts s reports (λ h. omega arith) (omega arith) in omega (arith, fault.1)
-  go (cmd.Join n) (Err stop.Usage) meets reports = meets.0
-  go (cmd.Join n) (Err stop.ReadFault) meets reports = either s 3 (stop_status r r' stop.ReadFault s reports) (omega arith) (omega arith)
-  go (cmd.Join n) (Err stop.WriteFault) meets reports = either s 4 (stop_status r r' stop.WriteFault s reports) (omega arith) (omega arith)
-  go (cmd.Join n) (Err stop.BadInput) meets reports = either s 5 (stop_status r r' stop.BadInput s reports) (omega arith) (omega arith)
-  go (cmd.Join n) (Err stop.NoMemory) meets reports = either s 7 (stop_status r r' stop.NoMemory s reports) (omega arith) (omega arith)
-  go (cmd.Join n) (Err stop.LogFull) meets reports = either s 8 (stop_status r r' stop.LogFull s reports) (omega arith) (omega arith)
+pub key_spent : (words : List (List ℕ)) (old new : World) (r r' : SinkFacts) (s : ℕ) → RunsWords words old new r r' s → s ≡ 9 → HasStopped IsKeySpent words old new
+key_spent words old new r r' s runs is =
+    stopped IsKeySpent 9 spent_end (λ e. omega (arith, e)) (λ e. omega (arith, e)) (λ e. omega (arith, e)) words old new r r' (subst (RunsWords words old new r r') is runs)
 
-pub is_command : (words : List (List ℕ)) (old new : World) (r r' : SinkFacts) (s : ℕ) → RunsWords words old new r r' s → s ≢ 2 → s ≢ 7 → (command : Command) × IsWords words command
-is_command words old new r r' s (inl runs) a b = (runs.command, runs.is_words)
-is_command words old new r r' s (inr m) a b = absurd (either s 2 (stop_status r r' stop.Usage s m.reports) a b)
+-- ---- 2
 
-pub read_fault : (words : List (List ℕ)) (old new : World) (r r' : SinkFacts) (s : ℕ) → RunsWords words old new r r' s → s ≡ 3 → Rose old.input.faults new.input.faults
-read_fault words old new r r' s (inr m) is = absurd (either s 2 (stop_status r r' stop.Usage s m.reports) (omega arith) (omega arith))
-read_fault words old new r r' s (inl runs) is = go runs.command runs.end runs.meets runs.reports where
-  go : (c : Command) (e : Result Done Stop) → Meets c old new e → Reports r r' e s → Rose old.input.faults new.input.faults
-  go (cmd.Join n) (Ok (done.Joined counts)) meets reports = let fault = not_done r r' counts s reports (λ h. omega arith) (omega arith) in absurd (omega (arith, fault.1))
-  go (cmd.Join n) (Err stop.Usage) meets reports = absurd meets.0
-  go (cmd.Join n) (Err stop.ReadFault) meets reports = meets.0.0.1.fault
-  go (cmd.Join n) (Err stop.WriteFault) meets reports = absurd (either s 4 (stop_status r r' stop.WriteFault s reports) (omega arith) (omega arith))
-  go (cmd.Join n) (Err stop.BadInput) meets reports = absurd (either s 5 (stop_status r r' stop.BadInput s reports) (omega arith) (omega arith))
-  go (cmd.Join n) (Err stop.NoMemory) meets reports = absurd (either s 7 (stop_status r r' stop.NoMemory s reports) (omega arith) (omega arith))
-  go (cmd.Join n) (Err stop.LogFull) meets reports = absurd (either s 8 (stop_status r r' stop.LogFull s reports) (omega arith) (omega arith))
+-- only a command that is not built ends as no command, and it changes nothing
+unbuilt : (c : Command) (old new : World) → Meets c old new (Err stop.Usage) → IsUnbuiltCommand c × (new ≡ old)
+unbuilt (cmd.Join n) old new meets = absurd meets.0
+unbuilt (cmd.Show None) old new meets = absurd meets.0
+unbuilt (cmd.Show (Some newest)) old new meets = (tt, meets)
+unbuilt (cmd.Key name height) old new meets = absurd meets.0
+unbuilt (cmd.Grant n mode user key) old new meets = absurd meets.0
+unbuilt (cmd.Delegate key to area) old new meets = absurd meets.0
+unbuilt (cmd.Write key path time payload_length digest subspace) old new meets = absurd meets.0
+unbuilt (cmd.Gen rows) old new meets = absurd meets.0
+unbuilt (cmd.Drill rows) old new meets = (tt, meets)
+unbuilt (cmd.Meet a b c d e f area) old new meets = (tt, meets)
+unbuilt (cmd.Sync image cap key to area) old new meets = (tt, meets)
+unbuilt (cmd.Serve image cap key at links area) old new meets = (tt, meets)
+unbuilt (cmd.Watch image area) old new meets = (tt, meets)
 
-pub write_fault : (words : List (List ℕ)) (old new : World) (r r' : SinkFacts) (s : ℕ) → RunsWords words old new r r' s → s ≡ 4 → Rose old.output.faults new.output.faults ⊎ Rose r.faults r'.faults
-write_fault words old new r r' s (inr m) is = absurd (either s 2 (stop_status r r' stop.Usage s m.reports) (omega arith) (omega arith))
-write_fault words old new r r' s (inl runs) is = go runs.command runs.end runs.meets runs.reports where
-  go : (c : Command) (e : Result Done Stop) → Meets c old new e → Reports r r' e s → Rose old.output.faults new.output.faults ⊎ Rose r.faults r'.faults
-  go (cmd.Join n) (Ok (done.Joined counts)) meets reports = inr (not_done r r' counts s reports (λ h. omega arith) (omega arith)).0
-  go (cmd.Join n) (Err stop.Usage) meets reports = absurd meets.0
-  go (cmd.Join n) (Err stop.ReadFault) meets reports = absurd (either s 3 (stop_status r r' stop.ReadFault s reports) (omega arith) (omega arith))
-  go (cmd.Join n) (Err stop.WriteFault) meets reports = inl meets.0.1
-  go (cmd.Join n) (Err stop.BadInput) meets reports = absurd (either s 5 (stop_status r r' stop.BadInput s reports) (omega arith) (omega arith))
-  go (cmd.Join n) (Err stop.NoMemory) meets reports = absurd (either s 7 (stop_status r r' stop.NoMemory s reports) (omega arith) (omega arith))
-  go (cmd.Join n) (Err stop.LogFull) meets reports = absurd (either s 8 (stop_status r r' stop.LogFull s reports) (omega arith) (omega arith))
+pub usage : (words : List (List ℕ)) (old new : World) (r r' : SinkFacts) (s : ℕ) → RunsWords words old new r r' s → s ≡ 2 → IsNoRun words × (new ≡ old)
+usage words old new r r' s (inr (inl misused)) is = (inl misused.no_command, misused.same)
+usage words old new r r' s (inr (inr none)) is =
+    let seven = unread r r' s none.reports (λ e. omega (arith, e, is)) in absurd (omega (arith, seven, is))
+usage words old new r r' s (inl runs) is = go runs.end runs.meets (usage_end runs.end (sym (own_status r r' runs.end s runs.reports (λ e. omega (arith, e, is)) (λ e. omega (arith, e, is))) ∙ is)) where
+  go : (end : Result Done Stop) → Meets runs.command old new end → StopsSo IsUsage end → IsNoRun words × (new ≡ old)
+  go (Err stop.Usage) meets stops = let both = unbuilt runs.command old new meets in (inr (runs.command, runs.is_words, both.0), both.1)
+  go end meets stops = absurd stops
 
-pub bad_input : (words : List (List ℕ)) (old new : World) (r r' : SinkFacts) (s : ℕ) → RunsWords words old new r r' s → s ≡ 5 → IsRefusedInput words old new
-bad_input words old new r r' s (inr m) is = absurd (either s 2 (stop_status r r' stop.Usage s m.reports) (omega arith) (omega arith))
-bad_input words old new r r' s (inl runs) is = go runs.command runs.end runs.is_words runs.meets runs.reports where
-  go : (c : Command) (e : Result Done Stop) → IsWords words c → Meets c old new e → Reports r r' e s → IsRefusedInput words old new
-  go (cmd.Join n) (Ok (done.Joined counts)) is_join meets reports = let fault = not_done r r' counts s reports (λ h. omega arith) (omega arith) in absurd (omega (arith, fault.1))
-  go (cmd.Join n) (Err stop.Usage) is_join meets reports = absurd meets.0
-  go (cmd.Join n) (Err stop.ReadFault) is_join meets reports = absurd (either s 3 (stop_status r r' stop.ReadFault s reports) (omega arith) (omega arith))
-  go (cmd.Join n) (Err stop.WriteFault) is_join meets reports = absurd (either s 4 (stop_status r r' stop.WriteFault s reports) (omega arith) (omega arith))
-  go (cmd.Join n) (Err stop.BadInput) is_join meets reports = record { namespace = n; is_join = is_join; bad = meets.0.0; same = meets.0.1 }
-  go (cmd.Join n) (Err stop.NoMemory) is_join meets reports = absurd (either s 7 (stop_status r r' stop.NoMemory s reports) (omega arith) (omega arith))
-  go (cmd.Join n) (Err stop.LogFull) is_join meets reports = absurd (either s 8 (stop_status r r' stop.LogFull s reports) (omega arith) (omega arith))
+pub is_command : (words : List (List ℕ)) (old new : World) (r r' : SinkFacts) (s : ℕ) → RunsWords words old new r r' s → s ≢ 2 → s ≢ 4 → s ≢ 7 → (command : Command) × IsWords words command
+is_command words old new r r' s (inl runs) two four seven = (runs.command, runs.is_words)
+is_command words old new r r' s (inr (inl misused)) two four seven = absurd (two (no_command r r' s misused.reports four seven))
+is_command words old new r r' s (inr (inr none)) two four seven = absurd (seven (unread r r' s none.reports four))
 
-pub full : (words : List (List ℕ)) (old new : World) (r r' : SinkFacts) (s : ℕ) → RunsWords words old new r r' s → s ≡ 8 → IsFull words old new
-full words old new r r' s (inr m) is = absurd (either s 2 (stop_status r r' stop.Usage s m.reports) (omega arith) (omega arith))
-full words old new r r' s (inl runs) is = go runs.command runs.end runs.is_words runs.meets runs.reports where
-  go : (c : Command) (e : Result Done Stop) → IsWords words c → Meets c old new e → Reports r r' e s → IsFull words old new
-  go (cmd.Join n) (Ok (done.Joined counts)) is_join meets reports = let fault = not_done r r' counts s reports (λ h. omega arith) (omega arith) in absurd (omega (arith, fault.1))
-  go (cmd.Join n) (Err stop.Usage) is_join meets reports = absurd meets.0
-  go (cmd.Join n) (Err stop.ReadFault) is_join meets reports = absurd (either s 3 (stop_status r r' stop.ReadFault s reports) (omega arith) (omega arith))
-  go (cmd.Join n) (Err stop.WriteFault) is_join meets reports = absurd (either s 4 (stop_status r r' stop.WriteFault s reports) (omega arith) (omega arith))
-  go (cmd.Join n) (Err stop.BadInput) is_join meets reports = absurd (either s 5 (stop_status r r' stop.BadInput s reports) (omega arith) (omega arith))
-  go (cmd.Join n) (Err stop.NoMemory) is_join meets reports = absurd (either s 7 (stop_status r r' stop.NoMemory s reports) (omega arith) (omega arith))
-  go (cmd.Join n) (Err stop.LogFull) is_join meets reports = record { namespace = n; is_join = is_join; bytes = meets.0.0.0; read = meets.0.0.1; full = meets.0.0.2; same = meets.0.1 }
+-- ---- 3 and 4
 
-pub known_status : (words : List (List ℕ)) (old new : World) (r r' : SinkFacts) (s : ℕ) → RunsWords words old new r r' s → (s ≤ 5) ⊎ ((s ≡ 7) ⊎ (s ≡ 8))
-known_status words old new r r' s (inr m) = small 2 (stop_status r r' stop.Usage s m.reports) (omega arith) where
-  small : (k : ℕ) → (s ≡ k) ⊎ (s ≡ 7) → k ≤ 5 → (s ≤ 5) ⊎ ((s ≡ 7) ⊎ (s ≡ 8))
-  small k (inl e) le = inl (omega arith)
-  small k (inr e) le = inr (inl e)
-known_status words old new r r' s (inl runs) = go runs.command runs.end runs.meets runs.reports where
-  small : (k : ℕ) → (s ≡ k) ⊎ (s ≡ 7) → k ≤ 5 → (s ≤ 5) ⊎ ((s ≡ 7) ⊎ (s ≡ 8))
-  small k (inl e) le = inl (omega arith)
-  small k (inr e) le = inr (inl e)
+pub read_fault : (words : List (List ℕ)) (old new : World) (r r' : SinkFacts) (s : ℕ) → RunsWords words old new r r' s → s ≡ 3 → HasReadFault old new
+read_fault words old new r r' s runs is =
+    let met = stopped IsReadFault 3 read_end (λ e. omega (arith, e)) (λ e. omega (arith, e)) (λ e. omega (arith, e)) words old new r r' (subst (RunsWords words old new r r') is runs) in
+    go met.command met.stop met.is_one met.meets where
+  go : (c : Command) (e : Stop) → IsReadFault e → Meets c old new (Err e) → HasReadFault old new
+  go c stop.ReadFault is_one meets = faults.read_fault c old new meets
+  go c e is_one meets = absurd is_one
 
-  seven : (s ≡ 7) ⊎ (s ≡ 7) → s ≡ 7
-  seven (inl e) = e
-  seven (inr e) = e
+pub write_fault : (words : List (List ℕ)) (old new : World) (r r' : SinkFacts) (s : ℕ) → RunsWords words old new r r' s → s ≡ 4 → HasWriteFault old new r r'
+write_fault words old new r r' s (inl runs) is = go runs.end runs.meets runs.reports where
+  met : (end : Result Done Stop) → Meets runs.command old new end → StopsSo IsWriteFault end → HasWriteFault old new r r'
+  met (Err stop.WriteFault) meets stops = faults.write_fault runs.command old new r r' meets
+  met end meets stops = absurd stops
+  go : (end : Result Done Stop) → Meets runs.command old new end → Reports r r' end s → HasWriteFault old new r r'
+  go end meets (inl told) = met end meets (write_end end (sym told.status_is ∙ is))
+  go end meets (inr (inl fault)) = inr (inr fault.fault)
+  go end meets (inr (inr none)) = absurd (omega (arith, none.status_is, is))
+write_fault words old new r r' s (inr (inl misused)) is = go misused.reports where
+  go : Reports r r' (Err stop.Usage) s → HasWriteFault old new r r'
+  go (inl told) = absurd (omega (arith, told.status_is, is))
+  go (inr (inl fault)) = inr (inr fault.fault)
+  go (inr (inr none)) = absurd (omega (arith, none.status_is, is))
+write_fault words old new r r' s (inr (inr none)) is = go none.reports where
+  go : Reports r r' (Err stop.NoMemory) s → HasWriteFault old new r r'
+  go (inl told) = absurd (omega (arith, told.status_is, is))
+  go (inr (inl fault)) = inr (inr fault.fault)
+  go (inr (inr memory)) = absurd (omega (arith, memory.status_is, is))
 
-  last : (s ≡ 8) ⊎ (s ≡ 7) → (s ≤ 5) ⊎ ((s ≡ 7) ⊎ (s ≡ 8))
-  last (inl e) = inr (inr e)
-  last (inr e) = inr (inl e)
+-- ---- no other status
 
-  go : (c : Command) (e : Result Done Stop) → Meets c old new e → Reports r r' e s → (s ≤ 5) ⊎ ((s ≡ 7) ⊎ (s ≡ 8))
-  go (cmd.Join n) (Ok (done.Joined counts)) meets reports = elim (join_status r r' counts s reports) [
-    | inl told ↦ inl (omega (arith, done_small counts s told.status))
-    | inr (inl fault) ↦ inl (omega (arith, fault.0))
-    | inr (inr none) ↦ inr (inl none)
-  ]
-  go (cmd.Join n) (Err stop.Usage) meets reports = absurd meets.0
-  go (cmd.Join n) (Err stop.ReadFault) meets reports = small 3 (stop_status r r' stop.ReadFault s reports) (omega arith)
-  go (cmd.Join n) (Err stop.WriteFault) meets reports = small 4 (stop_status r r' stop.WriteFault s reports) (omega arith)
-  go (cmd.Join n) (Err stop.BadInput) meets reports = small 5 (stop_status r r' stop.BadInput s reports) (omega arith)
-  go (cmd.Join n) (Err stop.NoMemory) meets reports = inr (inl (seven (stop_status r r' stop.NoMemory s reports)))
-  go (cmd.Join n) (Err stop.LogFull) meets reports = last (stop_status r r' stop.LogFull s reports)
+pub statuses : (words : List (List ℕ)) (old new : World) (r r' : SinkFacts) (s : ℕ) → RunsWords words old new r r' s → (s ≤ 5) ⊎ ((7 ≤ s) × (s ≤ 9))
+statuses words old new r r' s runs = go runs where
+  of_end : (end : Result Done Stop) → Reports r r' end s → (s ≤ 5) ⊎ ((7 ≤ s) × (s ≤ 9))
+  of_end end (inl told) = subst (λ (k : ℕ). (k ≤ 5) ⊎ ((7 ≤ k) × (k ≤ 9))) (sym told.status_is) (known end)
+  of_end end (inr (inl fault)) = after (status_of end) fault.status_is (known end)
+    where
+      after : (t : ℕ) → s ≡ after_report_fault t → (t ≤ 5) ⊎ ((7 ≤ t) × (t ≤ 9)) → (s ≤ 5) ⊎ ((7 ≤ s) × (s ≤ 9))
+      after t e (inl small) = inl (grind (arith, e, small))
+      after t e (inr large) = inr (grind (arith, e, large.0, large.1), grind (arith, e, large.0, large.1))
+  of_end end (inr (inr none)) = inr (omega (arith, none.status_is), omega (arith, none.status_is))
+  go : RunsWords words old new r r' s → (s ≤ 5) ⊎ ((7 ≤ s) × (s ≤ 9))
+  go (inl r1) = of_end r1.end r1.reports
+  go (inr (inl m)) = of_end (Err stop.Usage) m.reports
+  go (inr (inr n)) = of_end (Err stop.NoMemory) n.reports

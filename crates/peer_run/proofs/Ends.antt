@@ -1,46 +1,134 @@
--- From how a run ended to its status.
-use Rattle.std.proofs.Common.{◌≡◌, ℕ, ◌≤◌, ◌<◌, Bool, true, false, cond, eqb, ◌⊎◌, inl, inr, refl, sym, ap, ◌∙◌, arith}
-use Rattle.std.specs.Prelude.{Result, Ok, Err}
+-- From the status of a run back to how its command ended.
+use Rattle.std.proofs.Common.{◌≡◌, ◌≢◌, ℕ, ◌≤◌, ◌<◌, Bool, true, false, cond, eqb, ◌⊎◌, inl, inr, refl, sym, ap, ◌∙◌, arith}
+use Rattle.std.specs.Prelude.{Result, Ok, Err, nat_le}
+use Rattle.std.proofs.lemmas.Bool.{eqb-true}
+use Rattle.std.proofs.lemmas.Bool.Decides.{nat_tests}
 use Rattle.willow_outside.specs.Counts.{Rose}
 use Rattle.willow_outside.specs.Facts.{SinkFacts}
 use Rattle.peer_stage.specs.Stages.{IsWritten}
-use Rattle.peer_stage.specs.Report.{Reports, status_of, after_report_fault, rows_line}
-use Rattle.peer_stage.specs.declared.outcome.JoinCounts.{JoinCounts}
 use Rattle.peer_stage.specs.declared.outcome.Done.{Done}
 use Rattle.peer_stage.specs.declared.outcome.Done.TheVariants as done
 use Rattle.peer_stage.specs.declared.outcome.Stop.{Stop}
 use Rattle.peer_stage.specs.declared.outcome.Stop.TheVariants as stop
+use Rattle.peer_report.specs.Report.{Reports, status_of, refused_status, report_of, after_report_fault}
+use Rattle.peer_run.specs.Statuses.{IsEnd, IsBadStop, IsLogFull, IsKeySpent, IsCondition}
 
--- a stop has its own status, but for want of memory
-pub stop_status : (r r' : SinkFacts) (e : Stop) (s : ℕ) → Reports r r' (Err e) s → (s ≡ status_of (Err e)) ⊎ (s ≡ 7)
-stop_status r r' e s (inl told) = inl told.0
-stop_status r r' e s (inr (inr none)) = inr none.0
-stop_status r r' stop.Usage s (inr (inl fault)) = inl fault.0
-stop_status r r' stop.ReadFault s (inr (inl fault)) = inl fault.0
-stop_status r r' stop.WriteFault s (inr (inl fault)) = inl fault.0
-stop_status r r' stop.BadInput s (inr (inl fault)) = inl fault.0
-stop_status r r' stop.NoMemory s (inr (inl fault)) = inl fault.0
-stop_status r r' stop.LogFull s (inr (inl fault)) = inl fault.0
+-- ---- refused rows
 
--- 0 where nothing was refused, and else 1
-abbrev pub done_status : JoinCounts → ℕ
-done_status counts = cond (eqb counts.refused 0) 0 1
+pub refused_small : (refused : ℕ) → refused_status refused ≤ 1
+refused_small refused = small (eqb refused 0) where
+  small : (b : Bool) → cond b 0 1 ≤ 1
+  small true = omega arith
+  small false = omega arith
 
-pub record IsToldDone (r r' : SinkFacts) (counts : JoinCounts) (s : ℕ) : Type 0 where
-  pub status : s ≡ done_status counts
-  pub written : IsWritten r r' (rows_line counts)
+pub refused_none : (refused : ℕ) → refused_status refused ≡ 0 → refused ≡ 0
+refused_none refused e = eqb-true _ _ (test (eqb refused 0) e) where
+  test : (b : Bool) → cond b 0 1 ≡ 0 → b ≡ true
+  test true h = refl
+  test false h = absurd (omega (arith, h))
 
--- a join that came to its end has status 0 or 1, unless the report failed
-pub join_status : (r r' : SinkFacts) (counts : JoinCounts) (s : ℕ) → Reports r r' (Ok (done.Joined counts)) s → IsToldDone r r' counts s ⊎ (((s ≡ 4) × Rose r.faults r'.faults) ⊎ (s ≡ 7))
-join_status r r' counts s (inl told) = inl (record { status = told.0; written = told.1 })
-join_status r r' counts s (inr (inl fault)) = inr (inl (fault.0 ∙ four (eqb counts.refused 0), fault.2)) where
-  four : (b : Bool) → after_report_fault (cond b 0 1) ≡ 4
-  four true = refl
-  four false = refl
-join_status r r' counts s (inr (inr none)) = inr (inr none.0)
+pub refused_some : (refused : ℕ) → refused_status refused ≡ 1 → 0 < refused
+refused_some refused e = above (eqb refused 0) refl e where
+  above : (b : Bool) → eqb refused 0 ≡ b → cond b 0 1 ≡ 1 → 0 < refused
+  above true t h = absurd (omega (arith, h))
+  above false t h = grind (arith, nat_tests)
 
-pub done_small : (counts : JoinCounts) (s : ℕ) → s ≡ done_status counts → s ≤ 1
-done_small counts s e = small (eqb counts.refused 0) s e where
-  small : (b : Bool) (t : ℕ) → t ≡ cond b 0 1 → t ≤ 1
-  small true t e = omega arith
-  small false t e = omega arith
+-- ---- what a status tells of the end
+
+after_same : (s t : ℕ) → s ≡ after_report_fault t → s ≢ 4 → s ≡ t
+after_same s t e other = same (nat_le t 1) e where
+  same : (b : Bool) → s ≡ cond b 4 t → s ≡ t
+  same true h = absurd (other h)
+  same false h = h
+
+-- but for 4 and 7 the status is that of the end
+pub own_status : (r r' : SinkFacts) (end : Result Done Stop) (s : ℕ) → Reports r r' end s → s ≢ 4 → s ≢ 7 → s ≡ status_of end
+own_status r r' end s (inl told) other memory = told.status_is
+own_status r r' end s (inr (inl fault)) other memory = after_same s (status_of end) fault.status_is other
+own_status r r' end s (inr (inr none)) other memory = absurd (memory none.status_is)
+
+-- an end of which this holds, and not that anything is done
+abbrev pub StopsSo : (Stop → Type 0) → Result Done Stop → Type 0
+StopsSo P (Ok d) = ⊥
+StopsSo P (Err e) = P e
+
+done_small : (d : Done) → status_of (Ok d) ≤ 1
+done_small (done.Joined counts) = refused_small counts.refused
+done_small (done.Shown counts) = refused_small counts.refused
+done_small done.Made = omega arith
+
+pub is_end : (end : Result Done Stop) → status_of end ≤ 1 → IsEnd end
+is_end (Ok d) small = tt
+is_end (Err (stop.Refused refusal)) small = tt
+is_end (Err e) small = absurd (omega (arith, small))
+
+-- the stops of each status
+abbrev pub IsUsage : Stop → Type 0
+IsUsage stop.Usage = Unit {0}
+IsUsage e = ⊥
+
+abbrev pub IsReadFault : Stop → Type 0
+IsReadFault stop.ReadFault = Unit {0}
+IsReadFault e = ⊥
+
+abbrev pub IsWriteFault : Stop → Type 0
+IsWriteFault stop.WriteFault = Unit {0}
+IsWriteFault e = ⊥
+
+stops : (P : Stop → Type 0) (k : ℕ) → 1 < k → ((e : Stop) → status_of (Err e) ≡ k → P e) → (end : Result Done Stop) → status_of end ≡ k → StopsSo P end
+stops P k large each (Ok d) is = absurd (omega (arith, done_small d, is))
+stops P k large each (Err e) is = each e is
+
+usage_only : (e : Stop) → status_of (Err e) ≡ 2 → IsUsage e
+usage_only stop.Usage is = tt
+usage_only e is = absurd (omega (arith, is))
+
+read_only : (e : Stop) → status_of (Err e) ≡ 3 → IsReadFault e
+read_only stop.ReadFault is = tt
+read_only e is = absurd (omega (arith, is))
+
+write_only : (e : Stop) → status_of (Err e) ≡ 4 → IsWriteFault e
+write_only stop.WriteFault is = tt
+write_only e is = absurd (omega (arith, is))
+
+bad_only : (e : Stop) → status_of (Err e) ≡ 5 → IsBadStop e
+bad_only (stop.BadInput from at) is = tt
+bad_only (stop.NotRising from row) is = tt
+bad_only (stop.Pruned from row by) is = tt
+bad_only (stop.Missing name) is = tt
+bad_only (stop.Taken name) is = tt
+bad_only e is = absurd (omega (arith, is))
+
+full_only : (e : Stop) → status_of (Err e) ≡ 8 → IsLogFull e
+full_only stop.LogFull is = tt
+full_only e is = absurd (omega (arith, is))
+
+spent_only : (e : Stop) → status_of (Err e) ≡ 9 → IsKeySpent e
+spent_only stop.KeySpent is = tt
+spent_only e is = absurd (omega (arith, is))
+
+pub usage_end : (end : Result Done Stop) → status_of end ≡ 2 → StopsSo IsUsage end
+usage_end = stops IsUsage 2 (omega arith) usage_only
+
+pub read_end : (end : Result Done Stop) → status_of end ≡ 3 → StopsSo IsReadFault end
+read_end = stops IsReadFault 3 (omega arith) read_only
+
+pub write_end : (end : Result Done Stop) → status_of end ≡ 4 → StopsSo IsWriteFault end
+write_end = stops IsWriteFault 4 (omega arith) write_only
+
+pub bad_end : (end : Result Done Stop) → status_of end ≡ 5 → StopsSo IsBadStop end
+bad_end = stops IsBadStop 5 (omega arith) bad_only
+
+pub full_end : (end : Result Done Stop) → status_of end ≡ 8 → StopsSo IsLogFull end
+full_end = stops IsLogFull 8 (omega arith) full_only
+
+pub spent_end : (end : Result Done Stop) → status_of end ≡ 9 → StopsSo IsKeySpent end
+spent_end = stops IsKeySpent 9 (omega arith) spent_only
+
+-- no end has another status
+pub known : (end : Result Done Stop) → (status_of end ≤ 5) ⊎ ((7 ≤ status_of end) × (status_of end ≤ 9))
+known (Ok d) = inl (omega (arith, done_small d))
+known (Err stop.NoMemory) = inr (omega arith, omega arith)
+known (Err stop.LogFull) = inr (omega arith, omega arith)
+known (Err stop.KeySpent) = inr (omega arith, omega arith)
+known (Err e) = inl (omega arith)

@@ -1,11 +1,4 @@
-pub mod ShortLists
-pub mod TextTests
-pub mod NewRows
-pub mod Logged
-pub mod Streams
-pub mod Keeping
-pub mod Framed
-pub mod Joined
 pub mod Ends
+pub mod Faults
 pub mod Causes
 pub mod Complete

@@ -1,21 +1,31 @@
--- What each status says of a run: the causes, told of the objects and the words alone.
-use Rattle.std.specs.Prelude.{◌≡◌, ◌≢◌, ℕ, ◌<◌, ◌≤◌, ◌⊎◌, List, Some}
+-- What each status says of a run: the causes, told of the words and the objects alone.
+use Rattle.std.specs.Prelude.{◌≡◌, ◌≢◌, ℕ, ◌<◌, ◌≤◌, ◌⊎◌, List, Option, Some, None, Result, Ok, Err}
 use Rattle.willow_outside.specs.Counts.{Rose}
-use Rattle.willow_outside.specs.Facts.{SourceFacts, SinkFacts}
+use Rattle.willow_outside.specs.Facts.{SinkFacts}
 use Rattle.cap_codec.specs.Rows.{RawValue, AreFrames}
 use Rattle.peer_stage.specs.World.{World}
-use Rattle.peer_stage.specs.Stages.{IsReadWhole, IsWritten, IsPartlyWritten}
-use Rattle.peer_stage.specs.Report.{rows_line}
+use Rattle.peer_stage.specs.Stages.{IsReadWhole, IsWritten}
+use Rattle.peer_stage.specs.declared.stage.TheConstants.{INPUT_LIMIT}
 use Rattle.peer_stage.specs.declared.outcome.JoinCounts.{JoinCounts}
-use Rattle.peer_run.specs.Words.{IsJoin, IsNoCommand}
-use Rattle.peer_run.specs.Logged.{FitsLog}
-use Rattle.peer_run.specs.Join.{AreCounts, joined, IsBadInput, IsTooFull}
+use Rattle.peer_stage.specs.declared.outcome.Done.{Done}
+use Rattle.peer_stage.specs.declared.outcome.Done.TheVariants as done
+use Rattle.peer_stage.specs.declared.outcome.Stop.{Stop}
+use Rattle.peer_stage.specs.declared.outcome.Stop.TheVariants as stop
+use Rattle.peer_report.specs.Report.{rows_line, first_line, report_of, status_of}
+use Rattle.peer_rows.specs.Logged.{AreCounts, FitsLog}
+use Rattle.peer_rows.specs.Join.{joined}
+use Rattle.peer_words.specs.Commands.{IsWords, IsNoCommand}
+use Rattle.peer_words.specs.declared.command.Command.{Command}
+use Rattle.peer_words.specs.declared.command.Command.TheVariants as cmd
+use Rattle.peer_run.specs.Meets.{Meets}
+use Rattle.std.specs.Prelude.{length}
 
--- A join that came to its end: the words are `join`, the input was read to its end and is these rows, the
--- output grew by the image of what is live of the authorised ones, and the report by the line of numbers.
-pub record IsWholeJoin (words : List (List ℕ)) (old new : World) (report report' : SinkFacts) (status : ℕ) : Type 0 where
-  pub namespace : List ℕ
-  pub is_join : IsJoin words namespace
+-- ---- 0 and 1
+
+-- A join that came to its end: the input was read to its end and is these rows, the output grew by the image
+-- of what is live of the authorised ones, and the report by the line of numbers and that of the first row
+-- that is not authorised.
+pub record IsWholeJoin (namespace : List ℕ) (old new : World) (report report' : SinkFacts) (status : ℕ) : Type 0 where
   pub bytes : List ℕ
   pub read : IsReadWhole old.input new.input bytes
   pub rows : List RawValue
@@ -24,41 +34,108 @@ pub record IsWholeJoin (words : List (List ℕ)) (old new : World) (report repor
   pub written : IsWritten old.output new.output (joined namespace rows)
   pub counts : JoinCounts
   pub counted : AreCounts namespace rows counts
-  pub reported : IsWritten report report' (rows_line counts)
+  pub reported : IsWritten report report' (rows_line counts ++ first_line counts.first)
   pub all_authorised : status ≡ 0 → counts.refused ≡ 0
   pub some_refused : status ≡ 1 → 0 < counts.refused
 
--- the input passes the limit, or was read to its end and is no stream of rows
-pub record IsRefusedInput (words : List (List ℕ)) (old new : World) : Type 0 where
-  pub namespace : List ℕ
-  pub is_join : IsJoin words namespace
-  pub bad : IsBadInput old.input new.input
-  pub same : new.output ≡ old.output
+-- an end of a command that gives 0 or 1: what was to be done is done, or what was to be made is refused
+abbrev pub IsEnd : Result Done Stop → Type 0
+IsEnd (Ok d) = Unit {0}
+IsEnd (Err (stop.Refused refusal)) = Unit {0}
+IsEnd (Err e) = ⊥
 
--- the input was read to its end, and a row that would be stored met a full log
-pub record IsFull (words : List (List ℕ)) (old new : World) : Type 0 where
-  pub namespace : List ℕ
-  pub is_join : IsJoin words namespace
-  pub bytes : List ℕ
-  pub read : IsReadWhole old.input new.input bytes
-  pub full : IsTooFull namespace bytes
-  pub same : new.output ≡ old.output
+-- The words are a command that came to such an end, and its lines are reported.
+pub record HasEnded (words : List (List ℕ)) (old new : World) (report report' : SinkFacts) (status : ℕ) : Type 0 where
+  pub command : Command
+  pub is_words : IsWords words command
+  pub end : Result Done Stop
+  pub is_end : IsEnd end
+  pub meets : Meets command old new end
+  pub reported : IsWritten report report' (report_of end)
+  pub status_is : status ≡ status_of end
 
--- What must come to an end, since nothing is against it: the words are `join`, the input is these rows, and
--- they fit the log. The input tells its bytes.
-pub record CanJoin (words : List (List ℕ)) (old new : World) : Type 0 where
-  pub namespace : List ℕ
-  pub is_join : IsJoin words namespace
-  pub had : List ℕ
-  pub told : old.input.left ≡ Some had
-  pub bytes : List ℕ
-  pub read : IsReadWhole old.input new.input bytes
-  pub rows : List RawValue
-  pub frames : AreFrames bytes rows
-  pub fits_log : FitsLog namespace rows
+-- ---- 2
+
+-- the command is not built yet
+abbrev pub IsUnbuiltCommand : Command → Type 0
+IsUnbuiltCommand (cmd.Join n) = ⊥
+IsUnbuiltCommand (cmd.Show None) = ⊥
+IsUnbuiltCommand (cmd.Key name height) = ⊥
+IsUnbuiltCommand (cmd.Grant n mode user key) = ⊥
+IsUnbuiltCommand (cmd.Delegate key to area) = ⊥
+IsUnbuiltCommand (cmd.Write key path time payload_length digest subspace) = ⊥
+IsUnbuiltCommand (cmd.Gen rows) = ⊥
+IsUnbuiltCommand command = Unit {0}
+
+-- the words are no command, or one that is not built yet
+abbrev pub IsNoRun : List (List ℕ) → Type 0
+IsNoRun words = IsNoCommand words ⊎ ((command : Command) × IsWords words command × IsUnbuiltCommand command)
+
+-- ---- 3 and 4
+
+-- a count of what is read rose: the shelf's, the input's or the noise's
+abbrev pub HasReadFault : World → World → Type 0
+HasReadFault old new =
+    Rose old.shelf.read_faults new.shelf.read_faults ⊎ (Rose old.input.faults new.input.faults ⊎ Rose old.noise.faults new.noise.faults)
+
+-- a count of what is written rose: the shelf's, the output's or the report's
+abbrev pub HasWriteFault : World → World → SinkFacts → SinkFacts → Type 0
+HasWriteFault old new report report' =
+    Rose old.shelf.write_faults new.shelf.write_faults ⊎ (Rose old.output.faults new.output.faults ⊎ Rose report.faults report'.faults)
 
 -- no count of faults rose in the run
 pub record HasNoFault (old new : World) (report report' : SinkFacts) : Type 0 where
-  pub input : Rose old.input.faults new.input.faults → ⊥
-  pub output : Rose old.output.faults new.output.faults → ⊥
-  pub report_stands : Rose report.faults report'.faults → ⊥
+  pub reads : HasReadFault old new → ⊥
+  pub writes : HasWriteFault old new report report' → ⊥
+
+-- ---- 5, 8 and 9
+
+-- bytes of the input or of a name are not in their grammar or too many, a name is missing or taken
+abbrev pub IsBadStop : Stop → Type 0
+IsBadStop (stop.BadInput origin at) = Unit {0}
+IsBadStop (stop.NotRising origin row) = Unit {0}
+IsBadStop (stop.Pruned origin row by) = Unit {0}
+IsBadStop (stop.Missing name) = Unit {0}
+IsBadStop (stop.Taken name) = Unit {0}
+IsBadStop e = ⊥
+
+abbrev pub IsLogFull : Stop → Type 0
+IsLogFull stop.LogFull = Unit {0}
+IsLogFull e = ⊥
+
+abbrev pub IsKeySpent : Stop → Type 0
+IsKeySpent stop.KeySpent = Unit {0}
+IsKeySpent e = ⊥
+
+-- the words are a command that met its stop, which is one of these
+pub record HasStopped (IsOne : Stop → Type 0) (words : List (List ℕ)) (old new : World) : Type 0 where
+  pub command : Command
+  pub is_words : IsWords words command
+  pub stop : Stop
+  pub is_one : IsOne stop
+  pub meets : Meets command old new (Err stop)
+
+-- ---- completeness
+
+-- What may keep a command from its end, but for faults and want of memory.
+abbrev pub IsCondition : Stop → Type 0
+IsCondition stop.Usage = Unit {0}
+IsCondition stop.LogFull = Unit {0}
+IsCondition stop.KeySpent = Unit {0}
+IsCondition e = IsBadStop e
+
+-- the words are a command, and no condition keeps it from its end
+pub record CanEnd (words : List (List ℕ)) (old new : World) : Type 0 where
+  pub some_command : Command
+  pub is_words : IsWords words some_command
+  pub no_condition : (command : Command) (e : Stop) → IsWords words command → IsCondition e → Meets command old new (Err e) → ⊥
+
+-- What a join needs to come to its end, told of the words and the input as they were: the input has the
+-- frames of rows, not too many bytes, and the rows fit the log.
+pub record CanJoin (namespace : List ℕ) (old : World) : Type 0 where
+  pub had : List ℕ
+  pub told : old.input.left ≡ Some had
+  pub within : length had ≤ INPUT_LIMIT
+  pub rows : List RawValue
+  pub frames : AreFrames had rows
+  pub fits_log : FitsLog namespace rows
