@@ -1,0 +1,4 @@
+pub mod Signing
+pub mod Making
+pub mod Granting
+pub mod Reading
