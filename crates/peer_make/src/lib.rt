@@ -2,10 +2,14 @@
 //! The contract: what is written is what the words ask for and has passed its check, and each stop says what it met and left.
 #![tactic(auto)]
 
+mod delegating;
 mod granting;
 mod making;
 mod reading;
 mod signing;
+mod writing;
 
+pub use delegating::delegate;
 pub use granting::grant;
 pub use making::make_key;
+pub use writing::write;
