@@ -1,0 +1,5 @@
+pub mod Signatures
+pub mod Parsed
+pub mod Ends
+pub mod Delegated
+pub mod Written

@@ -1,0 +1,6 @@
+pub mod Signing
+pub mod Making
+pub mod Granting
+pub mod Reading
+pub mod Delegating
+pub mod Writing

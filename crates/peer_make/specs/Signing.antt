@@ -1,0 +1,117 @@
+-- How a message is signed: by an open key, or with the next index of a key file.
+use Rattle.std.specs.Prelude.{◌≡◌, ℕ, ◌⊎◌, List, [], ◌∷◌, Result, Ok, Err, None}
+use Rattle.std.specs.String.{string_bytes}
+use Rattle.std.specs.declared.string.String.{String}
+use Rattle.std.specs.declared.alloc.Global.{Global}
+use Rattle.scheme_core.specs.Open.{open_signature}
+use Rattle.willow_outside.specs.Counts.{Rose}
+use Rattle.willow_outside.specs.Facts.{ShelfFacts}
+use Rattle.willow_outside.specs.Names.{GetsName}
+use Rattle.lms_core.specs.Key.{Key}
+use Rattle.lms_core.specs.Use.{Use, use_signature}
+use Rattle.lms_core.specs.Reserve.{KeepsNames, HandsOut, HoldsNoKey, IsSpent, FailsToPut}
+use Rattle.lms_core.specs.declared.reserve.KeyRefusal.{KeyRefusal}
+use Rattle.lms_core.specs.declared.reserve.KeyRefusal.TheVariants.{ShelfRead, Missing, BadKeyFile, KeySpent, ShelfWrite}
+use Rattle.peer_words.specs.declared.command.SignerWord.{SignerWord}
+use Rattle.peer_words.specs.declared.command.SignerWord.TheVariants.{OpenKey, LmsFile}
+use Rattle.peer_stage.specs.declared.outcome.Stop.{Stop}
+use Rattle.peer_stage.specs.declared.outcome.Stop.TheVariants as stop
+use Rattle.peer_stage.specs.declared.outcome.Origin.{Origin}
+use Rattle.peer_stage.specs.declared.outcome.Origin.TheVariants as origin
+
+-- The next index of the key under a name is used up: its signer is handed out, and the key's file is put back
+-- with its next index raised by one.
+pub record IsUsed (name : List ℕ) (old new : ShelfFacts) (signer : Use) : Type 0 where
+  pub key : Key
+  pub handed_out : HandsOut name 1 old new (signer ∷ []) key
+
+-- The signature is that of the message with the next index of the key under a name, which is used up.
+pub record IsSignedNext (name : List ℕ) (old new : ShelfFacts) (message signature : List ℕ) : Type 0 where
+  pub signer : Use
+  pub used : IsUsed name old new signer
+  pub made : signature ≡ use_signature signer message
+
+-- the signature is the signer's of the message: an open key has one of each message, and a key file gives the
+-- next index for it
+abbrev pub Signed : SignerWord → ShelfFacts → ShelfFacts → List ℕ → List ℕ → Type 0
+Signed (OpenKey key) old new message signature = (signature ≡ open_signature key message) × (new ≡ old)
+Signed (LmsFile name) old new message signature = IsSignedNext (string_bytes name) old new message signature
+
+-- nothing is changed for an open key, and at most one index of a key file is used up
+abbrev pub UsesAtMostOne : SignerWord → ShelfFacts → ShelfFacts → Type 0
+UsesAtMostOne (OpenKey key) old new = new ≡ old
+UsesAtMostOne (LmsFile name) old new = KeepsNames old new ⊎ ((signer : Use) × IsUsed (string_bytes name) old new signer)
+
+-- the bytes came from the name
+abbrev pub IsOfName : Origin → String Global → Type 0
+IsOfName origin.Input name = ⊥
+IsOfName (origin.Name other) name = other ≡ name
+
+-- The name holds no key file.
+pub record HoldsOther (name : List ℕ) (old new : ShelfFacts) : Type 0 where
+  pub bytes : List ℕ
+  pub no_key : HoldsNoKey name old bytes
+  pub kept : KeepsNames old new
+
+-- The name's key file has no index left.
+pub record HoldsSpent (name : List ℕ) (old new : ShelfFacts) : Type 0 where
+  pub key : Key
+  pub next : ℕ
+  pub spent : IsSpent name 1 next old new key
+
+-- why no signature was made with the key file under a name, and what that left
+abbrev pub StopsNext : String Global → ShelfFacts → ShelfFacts → Stop → Type 0
+StopsNext name old new stop.ReadFault = Rose old.read_faults new.read_faults × KeepsNames old new
+StopsNext name old new (stop.Missing other) = (other ≡ name) × GetsName old.names (string_bytes name) None × KeepsNames old new
+StopsNext name old new (stop.BadInput from at) = IsOfName from name × (at ≡ 0) × HoldsOther (string_bytes name) old new
+StopsNext name old new stop.KeySpent = HoldsSpent (string_bytes name) old new
+StopsNext name old new stop.WriteFault = (key : Key) × FailsToPut (string_bytes name) 1 old new key
+StopsNext name old new stop.NoMemory = UsesAtMostOne (LmsFile name) old new
+StopsNext name old new e = ⊥
+
+-- why an open key made no signature
+abbrev pub StopsOpen : ShelfFacts → ShelfFacts → Stop → Type 0
+StopsOpen old new stop.NoMemory = new ≡ old
+StopsOpen old new e = ⊥
+
+-- why a signer made no signature, and what that left
+abbrev pub StopsSigning : SignerWord → ShelfFacts → ShelfFacts → Stop → Type 0
+StopsSigning (OpenKey key) old new e = StopsOpen old new e
+StopsSigning (LmsFile name) old new e = StopsNext name old new e
+
+-- how a message is signed
+abbrev pub Signs : SignerWord → ShelfFacts → ShelfFacts → List ℕ → Result (List ℕ) Stop → Type 0
+Signs key old new message (Ok signature) = Signed key old new message signature
+Signs key old new message (Err e) = StopsSigning key old new e
+
+-- ---- the stages
+
+-- the signature of an open key
+abbrev pub SignsOpen : List ℕ → List ℕ → Result (List ℕ) Stop → Type 0
+SignsOpen key message (Ok signature) = signature ≡ open_signature key message
+SignsOpen key message (Err stop.NoMemory) = Unit {0}
+SignsOpen key message (Err e) = ⊥
+
+-- the signature with the next index of a key file
+abbrev pub SignsNext : String Global → ShelfFacts → ShelfFacts → List ℕ → Result (List ℕ) Stop → Type 0
+SignsNext name old new message (Ok signature) = IsSignedNext (string_bytes name) old new message signature
+SignsNext name old new message (Err e) = StopsNext name old new e
+
+-- the signer of the next index of a key file
+abbrev pub HandsNext : String Global → ShelfFacts → ShelfFacts → Result Use Stop → Type 0
+HandsNext name old new (Ok signer) = IsUsed (string_bytes name) old new signer
+HandsNext name old new (Err e) = StopsNext name old new e
+
+-- how a refusal of the key file under a name is told
+abbrev pub stop_of : KeyRefusal → String Global → Stop
+stop_of ShelfRead name = stop.ReadFault
+stop_of Missing name = stop.Missing name
+stop_of BadKeyFile name = stop.BadInput (origin.Name name) 0
+stop_of (KeySpent next) name = stop.KeySpent
+stop_of ShelfWrite name = stop.WriteFault
+
+-- the signature of a signer of one index
+abbrev pub SignsOnce : Use → List ℕ → Result (List ℕ) Stop → Type 0
+SignsOnce signer message (Ok signature) = signature ≡ use_signature signer message
+SignsOnce signer message (Err stop.NoMemory) = Unit {0}
+SignsOnce signer message (Err e) = ⊥

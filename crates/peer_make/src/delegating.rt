@@ -1,0 +1,119 @@
+//! `delegate`: a capability with one delegation more.
+
+ghost use Rattle.std.specs.Prelude.{◌≡◌, ◌≤◌, true, false, IfOk, MatchOption};
+ghost use Rattle.willow_area.specs.Times.{ends_by};
+ghost use Rattle.lms_core.specs.Use.{peer_rules};
+ghost use Rattle.mc_cap.specs.Grant.{extended};
+ghost use Rattle.peer_words.specs.Signers.{IsSigner};
+ghost use Rattle.peer_make.specs.Granting.{Tells};
+ghost use Rattle.peer_make.specs.Delegating.{Asks, DelegateMeets, growing_refusal};
+
+use crate::granting::tell;
+use crate::reading::read_one;
+use crate::signing::sign_with;
+use lms_core::PeerScheme;
+use mc_cap::{Capability, ChainRefusal, Delegation, MAX_DELEGATIONS, RowRefusal};
+use peer_stage::{Done, Stop};
+use peer_words::{AreaWords, SignerWord};
+use spelling::{End, NoMemory};
+use std::alloc::Global;
+use willow_area::{Area, TimeRange};
+use willow_outside::{Shelf, Sink, Source};
+use willow_path::UserKey;
+
+/// Reads one capability, hands it on to a user for an area, and writes the longer one, where it is valid.
+///
+/// A field of the area without a word is that of the area that is granted. The signer signs the handover
+/// before the longer capability is checked, so an index of a key file is used up also where it is refused.
+/// Only where the area has no times the signer is not asked: the first refusal is told of the longer
+/// capability, in which the new delegation counts as one whose area grows.
+pub fn delegate<H: Shelf, I: Source, O: Sink>(
+    alloc: Global,
+    key: SignerWord,
+    to: UserKey,
+    area: AreaWords,
+    shelf: &mut H,
+    input: &mut I,
+    output: &mut O,
+) -> Result<Done, Stop>
+    requires { IsSigner key }
+    ensures meets { DelegateMeets key to area (H.facts shelf.old) (H.facts shelf.new) (I.facts input.old) (I.facts input.new) (O.facts output.old) (O.facts output.new) result }
+    ensures read_faults { (H.facts shelf.old).read_faults ≤ (H.facts shelf.new).read_faults }
+    ensures write_faults { (H.facts shelf.old).write_faults ≤ (H.facts shelf.new).write_faults }
+{
+    let capability = read_one(alloc, input)?;
+    let area = ask(&capability, area)?;
+    let message = capability.handover(&area, &to)?;
+    let signature = sign_with(alloc, shelf, key, &message)?;
+    let delegation = Delegation {
+        area,
+        user: to,
+        signature,
+    };
+    tell_longer(alloc, capability, delegation, output)
+}
+
+// The area that the words ask for, where it has times.
+fn ask(capability: &Capability, words: AreaWords) -> Result<Area, Stop>
+    ensures { Asks words capability.now result }
+{
+    let granted = capability.granted_area()?;
+    let AreaWords {
+        subspace,
+        under,
+        from,
+        until,
+    } = words;
+    let start = from.unwrap_or(granted.times.start());
+    let end = until.unwrap_or(granted.times.end());
+    match times_of(start, end) {
+        Some(times) => Ok(Area {
+            subspace: subspace.unwrap_or(granted.subspace),
+            path: under.unwrap_or(granted.path),
+            times,
+        }),
+        None => Err(Stop::Refused(RowRefusal::Chain(growing_refusal(capability)?))),
+    }
+}
+
+// The times from a start up to an end, where there are some.
+fn times_of(start: u64, end: Option<u64>) -> Option<TimeRange>
+    ensures { MatchOption result (ends_by end start ≡ true) (λ times. (times ≡ record { start = start; end = end }) × (ends_by end start ≡ false)) }
+{
+    TimeRange::new(start, end)
+}
+
+// Why the capability is not handed on for an area without times.
+#[tactic(auto, unfolding(crate::specs::Delegating::growing_refusal))]
+fn growing_refusal(capability: &Capability) -> Result<ChainRefusal, NoMemory>
+    ensures { IfOk result (λ refusal. refusal ≡ growing_refusal peer_rules capability.now) }
+{
+    let at = capability.chain.len() + 1;
+    if at > MAX_DELEGATIONS {
+        return Ok(ChainRefusal::TooManyDelegations);
+    }
+    match capability.check(&PeerScheme) {
+        Ok(()) => Ok(ChainRefusal::AreaGrows { at: at as u8 }),
+        Err(End::Refused(refusal)) => Ok(refusal),
+        Err(End::NoMemory) => Err(NoMemory),
+    }
+}
+
+// Writes the spelling of the capability with one delegation more, where it is valid.
+fn tell_longer<O: Sink>(
+    alloc: Global,
+    capability: Capability,
+    delegation: Delegation,
+    output: &mut O,
+) -> Result<Done, Stop>
+    ensures { Tells (O.facts output.old) (O.facts output.new) (extended capability delegation.area delegation.user delegation.signature) result }
+{
+    let mut longer = capability;
+    if longer.chain.len() >= MAX_DELEGATIONS {
+        return Err(Stop::Refused(RowRefusal::Chain(
+            ChainRefusal::TooManyDelegations,
+        )));
+    }
+    longer.chain.push(delegation)?;
+    tell(alloc, &longer, output)
+}

@@ -1,0 +1,87 @@
+//! `grant`: a capability without delegations.
+
+ghost use Rattle.std.specs.Prelude.{◌≡◌, ◌≤◌, ◌↔◌, IsSome, IfSome, false};
+ghost use Rattle.peer_words.specs.Signers.{IsSigner};
+ghost use Rattle.scheme_core.specs.Open.{is_communal};
+ghost use Rattle.peer_make.specs.Granting.{GrantMeets, BeginsBy, Tells};
+
+use crate::signing::sign_with;
+use lms_core::PeerScheme;
+use mc_cap::{Capability, Chain, Mode, RowRefusal, Signature, initial_message};
+use peer_stage::{Done, Stop, write_output};
+use peer_words::SignerWord;
+use spelling::End;
+use std::alloc::Global;
+use willow_outside::{Shelf, Sink};
+use willow_path::{NamespaceKey, UserKey};
+
+/// Writes the capability of a user in a namespace, without delegations, where it is valid.
+///
+/// For an owned namespace the signer signs the initial message; for a communal one there is no signer. An
+/// index of a key file is used up also where the capability is refused then.
+pub fn grant<H: Shelf, O: Sink>(
+    alloc: Global,
+    namespace: NamespaceKey,
+    mode: Mode,
+    user: UserKey,
+    key: Option<SignerWord>,
+    shelf: &mut H,
+    output: &mut O,
+) -> Result<Done, Stop>
+    requires owned { IsSome key ↔ (is_communal namespace ≡ false) }
+    requires signer { IfSome key IsSigner }
+    ensures meets { GrantMeets namespace mode user key (H.facts shelf.old) (H.facts shelf.new) (O.facts output.old) (O.facts output.new) result }
+    ensures read_faults { (H.facts shelf.old).read_faults ≤ (H.facts shelf.new).read_faults }
+    ensures write_faults { (H.facts shelf.old).write_faults ≤ (H.facts shelf.new).write_faults }
+{
+    let message = initial_message(mode, &user);
+    let initial = begin(alloc, shelf, key, &message)?;
+    let capability = Capability {
+        mode,
+        namespace,
+        user,
+        initial,
+        chain: Chain::empty(alloc),
+    };
+    tell(alloc, &capability, output)
+}
+
+// The initial signature, where there is a signer.
+fn begin<H: Shelf>(
+    alloc: Global,
+    shelf: &mut H,
+    key: Option<SignerWord>,
+    message: &[u8],
+) -> Result<Option<Signature>, Stop>
+    requires { IfSome key IsSigner }
+    ensures begins { BeginsBy key (H.facts shelf.old) (H.facts shelf.new) message.now result }
+    ensures read_faults { (H.facts shelf.old).read_faults ≤ (H.facts shelf.new).read_faults }
+    ensures write_faults { (H.facts shelf.old).write_faults ≤ (H.facts shelf.new).write_faults }
+{
+    match key {
+        Some(key) => {
+            let signature = sign_with(alloc, shelf, key, message)?;
+            Ok(Some(signature))
+        }
+        None => Ok(None),
+    }
+}
+
+/// Writes the capability's spelling, where it is valid.
+pub(crate) fn tell<O: Sink>(
+    alloc: Global,
+    capability: &Capability,
+    output: &mut O,
+) -> Result<Done, Stop>
+    ensures { Tells (O.facts output.old) (O.facts output.new) capability.now result }
+{
+    match capability.check(&PeerScheme) {
+        Ok(()) => {}
+        Err(End::Refused(refusal)) => return Err(Stop::Refused(RowRefusal::Chain(refusal))),
+        Err(End::NoMemory) => return Err(Stop::NoMemory),
+    }
+    let mut text = Vec::new(alloc);
+    capability.encode(&mut text)?;
+    write_output(output, &text)?;
+    Ok(Done::Made)
+}

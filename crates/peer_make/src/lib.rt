@@ -1,0 +1,15 @@
+//! The commands that make things: keys, capabilities and rows.
+//! The contract: what is written is what the words ask for and has passed its check, and each stop says what it met and left.
+#![tactic(auto)]
+
+mod delegating;
+mod granting;
+mod making;
+mod reading;
+mod signing;
+mod writing;
+
+pub use delegating::delegate;
+pub use granting::grant;
+pub use making::make_key;
+pub use writing::write;

@@ -1,0 +1,44 @@
+//! The input of a command that is to be one capability.
+
+ghost use Rattle.std.specs.Prelude.{◌≡◌};
+ghost use Rattle.peer_stage.specs.declared.outcome.Stop.TheVariants as stop;
+ghost use Rattle.peer_stage.specs.declared.outcome.Origin.TheVariants as origin;
+ghost use Rattle.peer_make.specs.Reading.{Parses, ReadsOne};
+
+use cap_codec::decode_capability;
+use mc_cap::Capability;
+use peer_stage::{Origin, Stop, read_input};
+use spelling::End;
+use std::alloc::Global;
+use willow_outside::Source;
+
+/// The capability that all of the input is.
+pub(crate) fn read_one<I: Source>(alloc: Global, input: &mut I) -> Result<Capability, Stop>
+    ensures { ReadsOne (I.facts input.old) (I.facts input.new) result }
+{
+    let bytes = read_input(alloc, input)?;
+    parse(alloc, &bytes)
+}
+
+// The capability that the bytes are, with nothing behind it.
+fn parse(alloc: Global, bytes: &[u8]) -> Result<Capability, Stop>
+    ensures { Parses bytes.now result }
+{
+    match decode_capability(alloc, bytes) {
+        Ok((capability, taken)) => {
+            if taken == bytes.len() { Ok(capability) } else { Err(unfit()) }
+        }
+        Err(End::Refused(_)) => Err(unfit()),
+        Err(End::NoMemory) => Err(Stop::NoMemory),
+    }
+}
+
+// How an input is told that is no capability.
+fn unfit() -> Stop
+    ensures { result ≡ stop.BadInput origin.Input 0 }
+{
+    Stop::BadInput {
+        origin: Origin::Input,
+        at: 0,
+    }
+}

@@ -1,0 +1,120 @@
+//! How messages are signed: by an open key, or with the next index of a key file.
+
+ghost use Rattle.std.specs.Prelude.{◌≡◌, ◌≤◌, [], ◌∷◌, length, slice_index};
+ghost use Rattle.std.specs.String.{string_bytes};
+ghost use Rattle.peer_words.specs.Signers.{IsSigner};
+ghost use Rattle.lms_core.specs.Use.{Use};
+ghost use Rattle.lms_core.specs.Reserve.{Reserves};
+ghost use Rattle.peer_make.specs.Signing.{Signs, SignsOpen, SignsNext, SignsOnce, HandsNext, stop_of};
+
+use lms_core::{KeyRefusal, OneUse, reserve_keys};
+use mc_cap::Signature;
+use peer_stage::{Origin, Stop};
+use peer_words::SignerWord;
+use scheme_core::{OpenSigner, Signer};
+use spelling::End;
+use std::alloc::Global;
+use willow_outside::Shelf;
+use willow_path::UserKey;
+
+/// Signs a message. An open key calls nothing of the shelf; a key file gives its next index for it, which
+/// is used up also where no memory is found for the signature.
+pub(crate) fn sign_with<H: Shelf>(
+    alloc: Global,
+    shelf: &mut H,
+    key: SignerWord,
+    message: &[u8],
+) -> Result<Signature, Stop>
+    requires { IsSigner key }
+    ensures signs { Signs key (H.facts shelf.old) (H.facts shelf.new) message.now result }
+    ensures read_faults { (H.facts shelf.old).read_faults ≤ (H.facts shelf.new).read_faults }
+    ensures write_faults { (H.facts shelf.old).write_faults ≤ (H.facts shelf.new).write_faults }
+{
+    match key {
+        SignerWord::OpenKey(key) => sign_open(alloc, key, message),
+        SignerWord::LmsFile(name) => sign_next(alloc, shelf, name, message),
+    }
+}
+
+// The signature of an open key.
+fn sign_open(alloc: Global, key: UserKey, message: &[u8]) -> Result<Signature, Stop>
+    requires { slice_index key 0 ≡ 0 }
+    ensures { SignsOpen key message.now result }
+{
+    match OpenSigner::new(key).sign(alloc, message) {
+        Ok(bytes) => Ok(short(bytes)),
+        Err(End::Refused(_)) => unreachable!(),
+        Err(End::NoMemory) => Err(Stop::NoMemory),
+    }
+}
+
+// The signature of the next index of a key file.
+fn sign_next<H: Shelf>(
+    alloc: Global,
+    shelf: &mut H,
+    name: String,
+    message: &[u8],
+) -> Result<Signature, Stop>
+    ensures signs { SignsNext name (H.facts shelf.old) (H.facts shelf.new) message.now result }
+    ensures read_faults { (H.facts shelf.old).read_faults ≤ (H.facts shelf.new).read_faults }
+    ensures write_faults { (H.facts shelf.old).write_faults ≤ (H.facts shelf.new).write_faults }
+{
+    let signer = take_next(alloc, shelf, name)?;
+    sign_once(alloc, signer, message)
+}
+
+// The signer of the next index of a key file, which is used up.
+fn take_next<H: Shelf>(alloc: Global, shelf: &mut H, name: String) -> Result<OneUse, Stop>
+    ensures hands { HandsNext name (H.facts shelf.old) (H.facts shelf.new) result }
+    ensures read_faults { (H.facts shelf.old).read_faults ≤ (H.facts shelf.new).read_faults }
+    ensures write_faults { (H.facts shelf.old).write_faults ≤ (H.facts shelf.new).write_faults }
+{
+    match reserve_keys(alloc, shelf, name.as_str(), 1) {
+        Ok(mut signers) => match signers.pop() {
+            Some(signer) => Ok(signer),
+            None => unreachable!(),
+        },
+        Err(End::Refused(refusal)) => Err(stop_of(refusal, name)),
+        Err(End::NoMemory) => Err(Stop::NoMemory),
+    }
+}
+
+// How a refusal of a key file is told.
+fn stop_of(refusal: KeyRefusal, name: String) -> Stop
+    ensures { result ≡ stop_of refusal name }
+{
+    match refusal {
+        KeyRefusal::ShelfRead => Stop::ReadFault,
+        KeyRefusal::Missing => Stop::Missing { name },
+        KeyRefusal::BadKeyFile => Stop::BadInput {
+            origin: Origin::Name(name),
+            at: 0,
+        },
+        KeyRefusal::KeySpent { .. } => Stop::KeySpent,
+        KeyRefusal::ShelfWrite => Stop::WriteFault,
+    }
+}
+
+// The signature of a signer of one index, which has not signed.
+fn sign_once(alloc: Global, signer: OneUse, message: &[u8]) -> Result<Signature, Stop>
+    requires { signer.left ≡ 1 }
+    ensures { SignsOnce signer message.now result }
+{
+    let mut signer = signer;
+    match signer.sign(alloc, message) {
+        Ok(bytes) => Ok(short(bytes)),
+        Err(End::Refused(_)) => unreachable!(),
+        Err(End::NoMemory) => Err(Stop::NoMemory),
+    }
+}
+
+// The signature of these bytes, which are few enough.
+fn short(bytes: Vec<u8>) -> Signature
+    requires { length bytes.items ≤ 1508 }
+    ensures { result ≡ bytes.items }
+{
+    match Signature::new(bytes) {
+        Some(signature) => signature,
+        None => unreachable!(),
+    }
+}
