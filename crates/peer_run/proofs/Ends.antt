@@ -52,7 +52,7 @@ abbrev pub StopsSo : (Stop → Type 0) → Result Done Stop → Type 0
 StopsSo P (Ok d) = ⊥
 StopsSo P (Err e) = P e
 
-done_small : (d : Done) → status_of (Ok d) ≤ 1
+pub done_small : (d : Done) → status_of (Ok d) ≤ 1
 done_small (done.Joined counts) = refused_small counts.refused
 done_small (done.Shown counts) = refused_small counts.refused
 done_small done.Made = omega arith
