@@ -66,12 +66,6 @@ pub record AreFrames (bytes : List ℕ) (rows : List RawValue) : Type 0 where
   pub fit : AllByRecursion FitsFrame rows
   pub spelled : bytes ≡ flat_map frame rows
 
--- the rows whose frames the bytes are, or that the bytes are the frames of no rows
-abbrev pub ReadsFrames : {X : Type 0} → (X → List RawValue) → List ℕ → Result X (End NotHere) → Type 0
-ReadsFrames view bytes (Ok rows) = AreFrames bytes (view rows)
-ReadsFrames view bytes (Err (Refused e)) = (rows : List RawValue) → AreFrames bytes rows → ⊥
-ReadsFrames view bytes (Err NoMemory) = Unit {0}
-
 -- the bytes are the frames of at most one list of rows
 abbrev pub HaveOneReading : Type 0
 HaveOneReading = (bytes : List ℕ) (rows others : List RawValue) → AreFrames bytes rows → AreFrames bytes others → rows ≡ others

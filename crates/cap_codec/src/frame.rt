@@ -1,12 +1,13 @@
 //! Rows in frames, one after the other.
 
-ghost use Rattle.std.specs.Prelude.{◌≡◌, ◌≤◌, ◌++◌, length, drop, OnErr, OnOk};
+ghost use Rattle.std.specs.Prelude.{◌≡◌, ◌≤◌, ◌++◌, length, drop, IfOk, OnErr, OnOk};
 ghost use Rattle.std.specs.Int.{w32};
 ghost use Rattle.spelling.specs.Form.{Decodes};
 ghost use Rattle.spelling.specs.Reading.{Gives, number_at, text_at};
 ghost use Rattle.willow_entry.specs.Frame.{row_frame};
 ghost use Rattle.willow_entry.specs.RowBody.{row_body};
-ghost use Rattle.cap_codec.specs.Rows.{frame, FitsFrame, ReadsFrames};
+ghost use Rattle.cap_codec.specs.Rows.{frame, FitsFrame};
+ghost use Rattle.cap_codec.specs.Streams.{AreAllFrames, ReadsFrames};
 
 use crate::row::RawRow;
 use spelling::{End, Input, NoMemory, NotHere, Unread, guard, put_bytes, put_u32};
@@ -15,6 +16,13 @@ use willow_entry::Row;
 
 /// The greatest number of bytes of a frame's body.
 pub const MAX_FRAME: usize = 131_072;
+
+/// Where bytes are no stream of frames.
+#[derive(Clone, Copy, Debug, PartialEq, Eq)]
+pub struct BadFrames {
+    /// How many bytes stand in front of the length field of the first frame that is none.
+    pub at: usize,
+}
 
 /// Appends the row's frame to `out`: four bytes for the length of the body, and the body, which is the
 /// entry and the token as the row keeps them. Without memory `out` stays as it was.
@@ -62,19 +70,35 @@ fn read_body<'a>(input: &mut Input<'a>) -> Result<&'a [u8], Unread>
     input.slice(len)
 }
 
-/// The rows whose frames the bytes are, one after the other and nothing else. They are not here exactly
-/// where the bytes are the frames of no rows.
-pub fn read_frames(alloc: Global, bytes: &[u8]) -> Result<Vec<RawRow>, End<NotHere>>
+/// The rows whose frames the bytes are, one after the other and nothing else. Otherwise the first frame that is
+/// none is told: its length is 0 or above `MAX_FRAME`, its body is no row, or the bytes end inside it.
+pub fn read_frames(alloc: Global, bytes: &[u8]) -> Result<Vec<RawRow>, End<BadFrames>>
     ensures { ReadsFrames (λ rows. rows.items) bytes.now result }
+{
+    let (rows, left) = frames_in_front(alloc, bytes)?;
+    if left.len() > 0 {
+        let at = bytes.len() - left.len();
+        return Err(End::Refused(BadFrames { at }));
+    }
+    Ok(rows)
+}
+
+/// The rows of all frames in front of the bytes, and the bytes behind these frames.
+pub fn frames_in_front(alloc: Global, bytes: &[u8]) -> Result<(Vec<RawRow>, &[u8]), NoMemory>
+    ensures { IfOk result (λ read. AreAllFrames bytes.now read.0.items read.1.now) }
 {
     let mut rows = Vec::new(alloc);
     let mut left = bytes;
-    while left.len() > 0 {
-        let (row, taken) = decode_frame(alloc, left)?;
+    'frames: while left.len() > 0 {
+        let (row, taken) = match decode_frame(alloc, left) {
+            Ok(read) => read,
+            Err(End::Refused(NotHere)) => return Ok((rows, left)),
+            Err(End::NoMemory) => return Err(NoMemory),
+        };
         rows.push(row)?;
         left = behind(left, taken);
     }
-    Ok(rows)
+    Ok((rows, left))
 }
 
 // The bytes behind the first ones.

@@ -3,6 +3,7 @@
 ghost use Rattle.spelling.specs.Form.{IsForm};
 ghost use Rattle.mc_cap.specs.Forms.{capability_spelling, IsCapability};
 ghost use Rattle.cap_codec.specs.Rows.{token_spelling, IsToken, raw_spelling, IsRaw, frame, FitsFrame, HaveOneReading};
+ghost use Rattle.cap_codec.specs.Streams.{AreNeverBoth, HaveOneStop};
 
 /// A capability has one spelling, which begins that of no other.
 pub fn one_capability()
@@ -27,4 +28,14 @@ pub fn one_frame()
 /// Bytes are the frames of at most one list of rows.
 pub fn one_stream()
     ensures { HaveOneReading }
+{}
+
+/// Bytes in which some frame is none are the frames of no rows.
+pub fn never_both()
+    ensures { AreNeverBoth }
+{}
+
+/// The first frame that is none stands at one place.
+pub fn one_stop()
+    ensures { HaveOneStop }
 {}

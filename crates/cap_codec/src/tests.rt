@@ -1,6 +1,7 @@
 //! Capabilities and rows against bytes made elsewhere.
 
 use super::*;
+use spelling::End;
 use std::alloc::Global;
 use willow_entry::{Row, RowForm};
 
@@ -84,29 +85,42 @@ fn rows_are_read_and_spelled(rt: HostRuntime) {
     assert_eq!(rt; row_again(alloc, ROW), bytes);
 }
 
-// Two frames of the row, and the last length between them.
-fn two_frames(alloc: Global, last: [u8; 4]) -> Option<Vec<u8>> {
-    let row = hex::decode(alloc, ROW).ok()?;
-    let mut stream = Vec::new(alloc);
-    stream.extend_from_slice(&[0, 0, 0, 219]).ok()?;
-    stream.extend_from_slice(&row).ok()?;
-    stream.extend_from_slice(&last).ok()?;
-    stream.extend_from_slice(&row).ok()?;
-    Some(stream)
+// The texts' bytes one behind the other.
+fn joined(alloc: Global, texts: &[&str]) -> Option<Vec<u8>> {
+    let mut bytes = Vec::new(alloc);
+    for text in texts {
+        let piece = hex::decode(alloc, *text).ok()?;
+        bytes.extend_from_slice(&piece).ok()?;
+    }
+    Some(bytes)
 }
 
-// How many frames the bytes are, where they are frames.
-fn frames_with(alloc: Global, last: [u8; 4]) -> Option<usize> {
-    let stream = two_frames(alloc, last)?;
-    let rows = read_frames(alloc, &stream).ok()?;
-    Some(rows.len())
+// How many frames the bytes are, or where the first stands that is none.
+fn frames_of(alloc: Global, texts: &[&str]) -> Option<Result<usize, usize>> {
+    let stream = joined(alloc, texts)?;
+    match read_frames(alloc, &stream) {
+        Ok(rows) => Some(Ok(rows.len())),
+        Err(End::Refused(bad)) => Some(Err(bad.at)),
+        Err(End::NoMemory) => None,
+    }
 }
 
 #[test]
 fn frames_one_after_the_other(rt: HostRuntime) {
     let alloc = rt.alloc();
-    assert_eq!(rt; frames_with(alloc, [0, 0, 0, 219]), Some(2));
-    for last in [[0, 0, 0, 0], [0, 0, 0, 218], [0, 2, 0, 1]] {
-        assert_eq!(rt; frames_with(alloc, last), None);
+    let streams = [
+        (["", "", "", ""], Ok(0)),
+        (["000000db", ROW, "", ""], Ok(1)),
+        (["000000db", ROW, "000000db", ROW], Ok(2)),
+        (["000000db", ROW, "00000003aabbcc", ""], Err(223)),
+        (["000000db", ROW, "00000000", ROW], Err(223)),
+        (["000000db", ROW, "000000da", ROW], Err(223)),
+        (["000000db", ROW, "00020001", ROW], Err(223)),
+        (["000000db", ROW, "000000", ""], Err(223)),
+        (["000000db", "00112233445566778899", "", ""], Err(0)),
+        (["00020001", "", "", ""], Err(0)),
+    ];
+    for (texts, due) in streams {
+        assert_eq!(rt; frames_of(alloc, &texts), Some(due));
     }
 }
