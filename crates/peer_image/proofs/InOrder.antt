@@ -1,4 +1,4 @@
--- Rows are not refused for their order exactly where they are live.
+-- Rows of one namespace are not refused for their order exactly where they are live.
 use Rattle.std.proofs.Common.{◌≡◌, inl, inr, ℕ, ◌+◌, Bool, true, false, cond, List, [], ◌∷◌, ◌++◌, length, Option, Some, None, refl, sym, ap, subst, ◌∙◌, append_assoc, Less, is_gt}
 use Rattle.std.specs.List.{AllByRecursion, position_from}
 use Rattle.std.specs.List.Sorted.{IsStrictlySortedBy}
@@ -15,8 +15,9 @@ use Rattle.willow_entry.proofs.Local.{at_prefix, dominated_at_prefix, at_prefix_
 use Rattle.willow_entry.proofs.Pruning.{pruned-only, pruned_member}
 use Rattle.willow_entry.proofs.Live.{live-rises}
 use Rattle.peer_image.specs.declared.refusal.ImageRefusal.{ImageRefusal}
-use Rattle.peer_image.specs.Order.{pruned_by, pruned_after, first_fall, first_pruned, order_refusal, IsOrderOfLive}
+use Rattle.peer_image.specs.Order.{pruned_by, pruned_after, first_fall, first_pruned, order_refusal, AreOf, IsOrderOfLive}
 use Rattle.peer_image.proofs.Falls.{rising_from_none, none_from_rising}
+use Rattle.peer_image.proofs.Inner.{rising_from_inner, inner_from_rising}
 
 -- a row below another is not dominated by it
 above_spares : (r s : RowValue) → place_cmp r s ≡ Less → is_dominating s r ≡ false
@@ -85,18 +86,18 @@ none_pruned earlier (r ∷ rest) f =
 
 -- ---- live rows
 
-live_from_order : (rows : List RowValue) → order_refusal rows ≡ None → live rows ≡ rows
-live_from_order rows e =
+live_from_order : (n : List ℕ) (rows : List RowValue) → AreOf n rows → order_refusal rows ≡ None → live rows ≡ rows
+live_from_order n rows f e =
     let parts = or_else_both (first_fall rows) (first_pruned rows) e in
-    let up = rising_from_none rows parts.0 in
+    let up = rising_from_inner n rows f (rising_from_none rows parts.0) in
     let spared = spares_all [] rows up parts.1 in
     sym (pruned-only is_dominating place_cmp rows_prune rows rows up (λ z m. (m, λ s n. spared z m s n)) (λ z m u. m))
 
-order_from_live : (rows : List RowValue) → live rows ≡ rows → order_refusal rows ≡ None
-order_from_live rows e =
+order_from_live : (n : List ℕ) (rows : List RowValue) → AreOf n rows → live rows ≡ rows → order_refusal rows ≡ None
+order_from_live n rows f e =
     let up = subst IsRising e (live-rises rows) in
     let spared : Spares rows rows = λ z m s n. (pruned_member is_dominating place_cmp rows_prune rows z (subst (λ l. Member l z) (sym e) m)).1 s n in
-    ap (λ (o : Option ImageRefusal). or_else o (first_pruned rows)) (none_from_rising rows up) ∙ none_pruned [] rows spared
+    ap (λ (o : Option ImageRefusal). or_else o (first_pruned rows)) (none_from_rising rows (inner_from_rising n rows f up)) ∙ none_pruned [] rows spared
 
 pub order_of_live : IsOrderOfLive
-order_of_live rows = (live_from_order rows, order_from_live rows)
+order_of_live n rows f = (live_from_order n rows f, order_from_live n rows f)
