@@ -1,6 +1,6 @@
 -- The order by subspace and path: it is total, what stands at a prefix stands together, and within one namespace
 -- it is the order of places.
-use Rattle.std.proofs.Common.{◌≡◌, true, List, [], ◌∷◌, ℕ, refl, sym, ap, ◌∙◌, Less, is_gt}
+use Rattle.std.proofs.Common.{◌≡◌, true, false, List, [], ◌∷◌, ℕ, refl, sym, ap, ◌∙◌, Less, is_gt}
 use Rattle.std.specs.Cmp.{IsTotalOrder}
 use Rattle.std.specs.Cmp.Lexicographic.{bytes_decides}
 use Rattle.std.specs.List.{AllByRecursion}
@@ -10,7 +10,7 @@ use Rattle.std.proofs.lemmas.Cmp.{nat_list_cmp_total, lists_total, on_total, the
 use Rattle.willow_path.specs.Path.{is_prefix}
 use Rattle.willow_entry.specs.Entry.{same_bytes}
 use Rattle.willow_entry.specs.Row.{RowValue, is_dominating, place_cmp, IsRising}
-use Rattle.willow_entry.proofs.Local.{IsAtPrefix, at_prefix, dominated_at_prefix, between_at_prefix}
+use Rattle.willow_entry.proofs.Local.{IsAtPrefix, at_prefix, dominated_at_prefix, at_prefix_not_above, between_at_prefix}
 use Rattle.willow_entry.proofs.Ranks.{place-in_one_namespace}
 use Rattle.peer_image.specs.Order.{inner_cmp, IsInnerRising, AreOf}
 use Rattle.peer_image.specs.Fronts.{is_at_inner_prefix}
@@ -54,6 +54,10 @@ pub inner_between : (x c r : RowValue) → inner_cmp x c ≡ Less → inner_cmp 
 inner_between x c r h k e =
     prefix_from_bare x c (between_at_prefix (bare x) (bare c) (bare r) (bare_prefix x r e)
     (ap is_gt (inner_of_bare x c ∙ h)) (ap is_gt (inner_of_bare c r ∙ k)))
+
+-- a row is not above what stands at its prefix
+pub inner_not_above : (r s : RowValue) → is_at_inner_prefix r s ≡ true → is_gt (inner_cmp r s) ≡ false
+inner_not_above r s e = ap is_gt (sym (inner_of_bare r s)) ∙ at_prefix_not_above (bare r) (bare s) (bare_prefix r s e)
 
 -- a row dominates only at its prefix
 pub dominated_at_inner : (r s : RowValue) → is_dominating r s ≡ true → is_at_inner_prefix r s ≡ true

@@ -1,5 +1,5 @@
 -- How the rows of an image are ordered: they rise by subspace and path, and none dominates a later one.
-use Rattle.std.specs.Prelude.{◌≡◌, ◌↔◌, ℕ, ◌+◌, List, [], ◌∷◌, ◌++◌, length, Option, Some, None, if◌then◌else◌}
+use Rattle.std.specs.Prelude.{◌≡◌, ◌↔◌, ℕ, ◌+◌, List, [], ◌∷◌, ◌++◌, length, Contains, Option, Some, None, if◌then◌else◌}
 use Rattle.std.specs.List.{position_from, AllByRecursion}
 use Rattle.std.specs.List.Sorted.{IsStrictlySortedBy}
 use Rattle.std.specs.Ordering.{is_lt, ordering_then}
@@ -7,7 +7,7 @@ use Rattle.std.specs.declared.cmp.Ordering.{Ordering}
 use Rattle.spelling.specs.Answers.{or_else}
 use Rattle.willow_path.specs.Path.{path_cmp}
 use Rattle.willow_entry.specs.Entry.{bytes_cmp}
-use Rattle.willow_entry.specs.Row.{RowValue, is_dominating, live}
+use Rattle.willow_entry.specs.Row.{RowValue, is_dominating, Dominates, live}
 use Rattle.peer_image.specs.declared.refusal.ImageRefusal.{ImageRefusal}
 use Rattle.peer_image.specs.declared.refusal.ImageRefusal.TheVariants.{NotRising, Pruned}
 
@@ -48,6 +48,15 @@ first_pruned = pruned_after []
 -- why the rows are none of a store: they do not rise, or else one is pruned
 abbrev pub order_refusal : List RowValue → Option ImageRefusal
 order_refusal rows = or_else (first_fall rows) (first_pruned rows)
+
+-- the rows rise by subspace and path, and none of them dominates another
+pub record IsInOrder (rows : List RowValue) : Type 0 where
+  pub rising : IsInnerRising rows
+  pub undominated : (r s : RowValue) → Contains rows r → Contains rows s → Dominates r s → ⊥
+
+-- Rows are not refused for their order exactly where they are in order.
+abbrev pub IsOrder : Type 0
+IsOrder = (rows : List RowValue) → (order_refusal rows ≡ None) ↔ IsInOrder rows
 
 -- the rows are of this namespace
 abbrev pub AreOf : List ℕ → List RowValue → Type 0

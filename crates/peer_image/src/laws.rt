@@ -1,8 +1,13 @@
 //! What holds of images.
 
-ghost use Rattle.peer_image.specs.Order.{IsOrderOfLive};
+ghost use Rattle.peer_image.specs.Order.{IsOrder, IsOrderOfLive};
 ghost use Rattle.peer_image.specs.ImageReading.{image_spelling, AreNeverBoth, FitsImage, HaveOneImage, HaveOnePlace, ReadsBack};
 ghost use Rattle.spelling.specs.Form.{IsForm};
+
+/// Rows are not refused for their order exactly where they rise by subspace and path, and none dominates another.
+pub fn order_decides()
+    ensures { IsOrder }
+{}
 
 /// Rows of one namespace are not refused for their order exactly where a store keeps them all, in this order.
 pub fn order_of_live()
