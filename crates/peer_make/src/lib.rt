@@ -16,3 +16,5 @@ pub use laws::empty_areas_count_as_growing;
 pub use making::make_key;
 pub use writing::write;
 
+#[cfg(test)]
+mod tests;
