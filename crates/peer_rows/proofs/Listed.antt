@@ -1,5 +1,5 @@
 -- How the lines and numbers of a listing go on by one row.
-use Rattle.std.proofs.Common.{◌≡◌, ℕ, ◌+◌, ◌≤◌, Bool, true, false, cond, List, [], ◌∷◌, ◌++◌, length, filter, Option, Some, None, refl, sym, ap, ◌∙◌, arith, length-append}
+use Rattle.std.proofs.Common.{◌≡◌, ℕ, ◌+◌, Bool, true, false, cond, List, [], ◌∷◌, ◌++◌, Option, Some, None, refl, sym, ap, ◌∙◌, arith, length-append}
 use Rattle.std.specs.List.{flat_map}
 use Rattle.std.proofs.lemmas.List.{append-nil, flat_map_more}
 use Rattle.std.proofs.lemmas.List.Elements.{filter-append}
@@ -11,7 +11,6 @@ use Rattle.auth_entry.specs.Authorised.{row_refusal, is_authorised, authorised}
 use Rattle.peer_text.specs.Listing.{listing_line}
 use Rattle.peer_stage.specs.declared.outcome.ShowCounts.{ShowCounts}
 use Rattle.peer_stage.specs.declared.outcome.RefusedRow.{RefusedRow}
-use Rattle.peer_rows.specs.Show.{listing_lines, AreShown}
 use Rattle.peer_rows.specs.Listed.{IsListed, with_listed, with_left_out}
 use Rattle.peer_rows.proofs.Logged.{authorised_none, authorised_some, number, first-more, first-same}
 
@@ -34,10 +33,10 @@ IsListed-listed n seen lines lines' counts r e goes so_far =
     let was = so_far.counted in
     record {
       are_lines =
-        goes
-        ∙ ap (λ (text : List ℕ). text ++ listing_line r.entry) so_far.are_lines
-        ∙ flat_map_more (λ (x : RawValue). listing_line x.entry) [] (authorised peer_rules n seen) r
-        ∙ ap (flat_map (λ (x : RawValue). listing_line x.entry)) (sym more);
+          goes
+          ∙ ap (λ (text : List ℕ). text ++ listing_line r.entry) so_far.are_lines
+          ∙ flat_map_more (λ (x : RawValue). listing_line x.entry) [] (authorised peer_rules n seen) r
+          ∙ ap (flat_map (λ (x : RawValue). listing_line x.entry)) (sym more);
       counted = record {
         all = omega (arith, was.all, length-append seen (r ∷ []));
         refused = rw more (omega (arith, was.refused, length-append (authorised peer_rules n seen) (r ∷ []), length-append seen (r ∷ [])));

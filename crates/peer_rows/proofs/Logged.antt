@@ -1,22 +1,21 @@
 -- How a log goes on by one row.
-use Rattle.std.proofs.Common.{◌≡◌, ℕ, ◌+◌, ◌≤◌, Bool, true, false, cond, not, List, [], ◌∷◌, ◌++◌, length, map, filter, get_or, Option, Some, None, is_some, option_map, refl, sym, ap, ◌∙◌, subst, append_assoc, arith, inl, inr, length-append}
+use Rattle.std.proofs.Common.{◌≡◌, ℕ, ◌+◌, Bool, true, false, cond, not, List, [], ◌∷◌, ◌++◌, length, map, filter, Option, Some, None, is_some, option_map, refl, sym, ap, ◌∙◌, subst, arith, inl, inr, length-append}
 use Rattle.std.specs.List.{list_any}
-use Rattle.std.specs.Prelude.{Contains}
 use Rattle.std.proofs.lemmas.List.{append-nil, map-append}
 use Rattle.std.proofs.lemmas.List.Elements.{filter-append}
-use Rattle.willow_entry.specs.Row.{RowValue, is_dominating, place_cmp, live, new, is_covering, HasCovering, IsCoveringAt}
+use Rattle.willow_entry.specs.Row.{RowValue, is_dominating, place_cmp, live, new, is_covering, HasCovering}
 use Rattle.willow_entry.proofs.RowLaws.{covering_means, covered_from_covering, covering_from_covered, rows_prune}
 use Rattle.willow_entry.proofs.Members.{Member, member_from_contains, contains_from_member, true_of_any, any_false}
 use Rattle.willow_entry.proofs.Pruning.{IsCovered, covers_all_chain, covers_pruned, pruned_covers}
-use Rattle.willow_entry.proofs.Live.{live_early_left, live-covered}
+use Rattle.willow_entry.proofs.Live.{live_early_left}
 use Rattle.lms_core.specs.Use.{peer_rules}
 use Rattle.cap_codec.specs.Rows.{RawValue, row_of}
-use Rattle.auth_entry.specs.Authorised.{row_refusal, is_authorised, authorised}
+use Rattle.auth_entry.specs.Authorised.{row_refusal, is_authorised}
 use Rattle.mc_cap.specs.declared.refusal.RowRefusal.{RowRefusal}
-use Rattle.spelling.specs.Answers.{or_else, first_some}
+use Rattle.spelling.specs.Answers.{or_else}
 use Rattle.peer_stage.specs.declared.outcome.JoinCounts.{JoinCounts}
 use Rattle.peer_stage.specs.declared.outcome.RefusedRow.{RefusedRow}
-use Rattle.peer_rows.specs.Logged.{accepted, numbered_refusal, first_refused, AreCounts, IsLogOf, with_refused, with_kept, with_stored}
+use Rattle.peer_rows.specs.Logged.{accepted, numbered_refusal, first_refused, IsLogOf, with_refused, with_kept, with_stored}
 use Rattle.peer_rows.proofs.Firsts.{first_some-snoc, or_else-none}
 use Rattle.peer_rows.proofs.NewRows.{unless, new_after-snoc}
 

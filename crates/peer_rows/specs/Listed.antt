@@ -25,5 +25,5 @@ abbrev pub with_left_out : RowRefusal → ShowCounts → ShowCounts
 with_left_out refusal counts = record counts {
   rows = counts.rows + 1;
   refused = counts.refused + 1;
-  first = or_else counts.first (Some (record { row = counts.rows + 1; refusal = refusal }))
+  first = or_else counts.first (Some (record { row = counts.rows + 1; refusal = refusal }));
 }

@@ -12,3 +12,6 @@ pub use generating::generate;
 pub use joining::join;
 pub use log::LOG_LIMIT;
 pub use showing::show;
+
+#[cfg(test)]
+mod tests;

@@ -23,11 +23,7 @@ use willow_path::NamespaceKey;
 /// Reads an image from the input and writes the listing of those of its rows that are authorised in its
 /// namespace: a head with their number, and the line of each, in the order of the image. Told are the numbers of
 /// all rows and of those left out, with the first of these, counted from 1.
-pub fn show<I: Source, O: Sink>(
-    alloc: Global,
-    input: &mut I,
-    output: &mut O,
-) -> Result<Done, Stop>
+pub fn show<I: Source, O: Sink>(alloc: Global, input: &mut I, output: &mut O) -> Result<Done, Stop>
     ensures { ShowMeets (I.facts input.old) (I.facts input.new) (O.facts output.old) (O.facts output.new) result }
 {
     let bytes = read_input(alloc, input)?;
@@ -109,12 +105,7 @@ impl Listing {
     }
 
     // Adds a row: one that is not authorised is left out and counted.
-    fn add(
-        &mut self,
-        alloc: Global,
-        namespace: &NamespaceKey,
-        row: &RawRow,
-    ) -> Result<(), NoMemory>
+    fn add(&mut self, alloc: Global, namespace: &NamespaceKey, row: &RawRow) -> Result<(), NoMemory>
         requires rows { self.old.counts.rows < 2 ^ 64 - 1 }
         requires refused { self.old.counts.refused ≤ self.old.counts.rows }
         ensures { (seen : List RawValue) → IsListed namespace.now seen self.old.lines.items self.old.counts

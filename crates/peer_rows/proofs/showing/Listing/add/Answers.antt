@@ -1,4 +1,4 @@
-use Rattle.std.proofs.Common.{◌≡◌, ap, ◌∙◌, ◌++◌}
+use Rattle.std.proofs.Common.{ap, ◌∙◌, ◌++◌}
 use Rattle.willow_entry.specs.declared.entry.Entry.{Entry}
 use Rattle.peer_text.specs.Listing.{listing_line}
 use Rattle.peer_rows.proofs.Listed.{IsListed-listed, IsListed-left_out}
