@@ -1,1 +1,4 @@
 pub mod Signers
+pub mod Words
+pub mod Options
+pub mod Verbs

@@ -3,5 +3,7 @@
 #![tactic(auto)]
 
 mod command;
+mod options;
+mod verb;
 
-pub use command::{AreaWords, Command, SignerWord};
+pub use command::{AreaWords, Command, SignerWord, Usage};
