@@ -1,4 +1,5 @@
-pub mod Signers
 pub mod Words
 pub mod Options
 pub mod Verbs
+pub mod Values
+pub mod Signers

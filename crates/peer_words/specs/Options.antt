@@ -38,3 +38,12 @@ are_settings names (setting ∷ others) =
 pub record IsSpelled (names words : List (List ℕ)) (settings : List Setting) : Type 0 where
   pub spelled : words ≡ flat_map setting_words settings
   pub fit : IsTrue (are_settings names settings)
+
+-- the value behind the name is a word of the form P for x
+abbrev pub Gives : {A : Type 0} → (List ℕ → A → Type 0) → List Setting → List ℕ → A → Type 0
+Gives P settings name x = (word : List ℕ) × (value_of name settings ≡ Some word) × P word x
+
+-- the same where there is an x, and where there is none the name does not stand
+abbrev pub MayGive : {A : Type 0} → (List ℕ → A → Type 0) → List Setting → List ℕ → Option A → Type 0
+MayGive P settings name None = value_of name settings ≡ None
+MayGive P settings name (Some x) = Gives P settings name x

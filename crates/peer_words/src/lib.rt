@@ -5,5 +5,6 @@
 mod command;
 mod options;
 mod verb;
+mod word;
 
 pub use command::{AreaWords, Command, SignerWord, Usage};

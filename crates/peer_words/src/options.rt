@@ -1,12 +1,16 @@
 //! The options of a command.
 
 ghost use Rattle.std.specs.Prelude.{◌≡◌, List, MatchOption, option_copied};
-ghost use Rattle.peer_words.specs.Options.{Setting, settings_of, value_of, is_value, are_settings, IsSpelled};
+ghost use Rattle.peer_words.specs.Options.{Setting, settings_of, value_of, is_value, are_settings, IsSpelled, Gives, MayGive};
 ghost use Rattle.peer_words.specs.Verbs.{names_of};
-ghost use Rattle.peer_words.specs.Words.{texts};
+ghost use Rattle.peer_words.specs.Words.{texts, Reads};
 
+use crate::command::Usage;
 use crate::verb::Verb;
+use crate::word::Word;
+use std::alloc::Global;
 use std::marker::Model;
+use willow_path::End;
 
 /// Options that are set. A contract sees their names and values, in the order of the words.
 #[derive(Drop)]
@@ -51,6 +55,30 @@ impl<'a> Options<'a> {
             left = others;
         }
         None
+    }
+
+    /// What the value behind a name spells; refused where the name does not stand, or its value spells nothing.
+    pub(crate) fn given<T: Word>(&self, alloc: Global, name: &str) -> Result<T, End<Usage>>
+        ensures { Reads (Gives T.spells self.now name.now) result }
+    {
+        match self.value_of(name) {
+            Some(word) => T::of_word(alloc, word),
+            None => Err(End::Refused(Usage)),
+        }
+    }
+
+    /// What the value behind a name spells, where the name stands; refused where its value spells nothing.
+    pub(crate) fn given_if<T: Word>(
+        &self,
+        alloc: Global,
+        name: &str,
+    ) -> Result<Option<T>, End<Usage>>
+        ensures { Reads (MayGive T.spells self.now name.now) result }
+    {
+        match self.value_of(name) {
+            Some(word) => Ok(Some(T::of_word(alloc, word)?)),
+            None => Ok(None),
+        }
     }
 }
 
