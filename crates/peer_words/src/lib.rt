@@ -4,6 +4,7 @@
 
 mod command;
 mod options;
+mod number;
 mod verb;
 mod word;
 
