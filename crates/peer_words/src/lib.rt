@@ -4,6 +4,7 @@
 
 mod command;
 mod options;
+mod name;
 mod number;
 mod verb;
 mod word;
