@@ -1,5 +1,5 @@
 -- The forms of a value.
-use Rattle.std.specs.Prelude.{◌≡◌, ℕ, ◌<◌, ◌≤◌, ◌^◌, Bool, ◌&&◌, ◌||◌, not, List, [], ◌∷◌, ◌++◌, length, slice_index, Option, Some, None, Ok, codes, nat_lt, nat_le, ◌==◌, IsTrue, String}
+use Rattle.std.specs.Prelude.{◌≡◌, ◌≢◌, ℕ, ◌<◌, ◌≤◌, ◌^◌, Bool, ◌&&◌, ◌||◌, List, [], ◌∷◌, ◌++◌, length, slice_index, EachIndex, Option, Some, None, Ok, codes, nat_lt, nat_le, ◌==◌, IsTrue, String}
 use Rattle.std.specs.Fmt.{decimal}
 use Rattle.std.specs.List.{list_all}
 use Rattle.std.specs.String.{string_bytes}
@@ -85,7 +85,7 @@ pub record IsHostAndPort (word : List ℕ) : Type 0 where
   pub port : ℕ
   pub digits : List ℕ
   pub spelled : word ≡ host ++ 58 ∷ digits
-  pub is_host : IsTrue (list_all (λ c. not (c == 58)) host)
+  pub is_host : EachIndex host (λ k. slice_index host k ≢ 58)
   pub some_host : 0 < length host
   pub is_port : IsNumberWithin 1 65535 digits port
 

@@ -2,10 +2,11 @@
 
 ghost use Rattle.std.specs.Prelude.{◌≡◌, List, MatchBool};
 ghost use Rattle.std.specs.List.{list_all};
-ghost use Rattle.peer_words.specs.Values.{IsName, IsNameWord, is_letter_or_digit, is_name_byte};
+ghost use Rattle.peer_words.specs.Values.{IsName, IsNameWord, IsPlace, IsPlaceWord, is_letter_or_digit, is_name_byte};
 ghost use Rattle.peer_words.specs.Words.{Reads};
 
 use crate::command::Usage;
+use crate::number::number_within;
 use crate::word::Word;
 use std::alloc::Global;
 use willow_path::End;
@@ -40,6 +41,37 @@ fn is_name(word: &str) -> bool
         return false;
     }
     are_name_bytes(bytes)
+}
+
+/// Where a listener is, or is to be.
+#[derive(Debug, Drop)]
+pub(crate) struct Place(pub(crate) String);
+
+impl Word for Place {
+    ghost spells = { λ word place. IsPlaceWord word place.0 };
+
+    fn of_word(alloc: Global, word: &str) -> Result<Place, End<Usage>> {
+        if !is_place(word) {
+            return Err(End::Refused(Usage));
+        }
+        Ok(Place(String::from_str(alloc, word)?))
+    }
+}
+
+// Whether the word is a host and a port.
+fn is_place(word: &str) -> bool
+    ensures { MatchBool result (IsPlace word.now) (IsPlace word.now → ⊥) }
+{
+    if word.len() > 255 {
+        return false;
+    }
+    let Some((host, digits)) = word.split_once(':') else {
+        return false;
+    };
+    if host.is_empty() {
+        return false;
+    }
+    number_within(1, 65535, digits).is_some()
 }
 
 // Whether each byte may stand in the name of a file.
