@@ -11,13 +11,17 @@ abbrev pub IsSigner : SignerWord → Type 0
 IsSigner (OpenKey key) = slice_index key 0 ≡ 0
 IsSigner (LmsFile name) = Unit {0}
 
--- `open:` and 64 hexadecimal digits, of either case: the body of a key of kind 0
-pub record IsOpenWord (word key : List ℕ) : Type 0 where
-  pub digits : List ℕ
+-- 64 hexadecimal digits, of either case: the body of a key of kind 0
+pub record IsOpenBody (digits key : List ℕ) : Type 0 where
   pub body : List ℕ
-  pub spelled : word ≡ codes "open:" ++ digits
   pub decoded : decode_sized digits 32 ≡ Ok body
   pub of_kind_0 : key ≡ 0 ∷ body
+
+-- `open:` and the body
+pub record IsOpenWord (word key : List ℕ) : Type 0 where
+  pub digits : List ℕ
+  pub spelled : word ≡ codes "open:" ++ digits
+  pub is_body : IsOpenBody digits key
 
 -- `lms:` and the name of a key file
 pub record IsFileWord (word : List ℕ) (name : String Global) : Type 0 where
