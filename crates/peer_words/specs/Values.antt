@@ -111,3 +111,8 @@ SpellsPath word (part ∷ parts) = AreParts word (part ∷ parts)
 pub record IsPathWord (word : List ℕ) (path : List (List ℕ)) : Type 0 where
   pub spelled : SpellsPath word path
   pub is_path : IsPath path
+
+-- components one after another that are a path within the limits
+pub record IsParts (word : List ℕ) (path : List (List ℕ)) : Type 0 where
+  pub parts : AreParts word path
+  pub is_path : IsPath path

@@ -6,6 +6,7 @@ mod command;
 mod options;
 mod name;
 mod number;
+mod path;
 mod signer;
 mod verb;
 mod word;
