@@ -58,3 +58,9 @@ too_low least most word n is low m within = absurd (omega (arith, one_number wor
 
 pub too_high : (least most : ℕ) (word : List ℕ) (n : ℕ) → IsNumber word n → most < n → (m : ℕ) → IsNumberWithin least most word m → ⊥
 too_high least most word n is high m within = absurd (omega (arith, one_number word n m is within.number, within.high))
+
+-- no number begins with the `n` of `none`
+pub not_letter : (word : List ℕ) → get_or word 0 0 ≡ 110 → (n : ℕ) → IsNumber word n → ⊥
+not_letter word letter n is =
+    let same = ap (λ (w : List ℕ). get_or w 0 0) is.digits in
+    absurd (omega (arith, same, (digit_at (decimal n) 0 (digits_decimal own n is.fits) (decimal_nonempty n is.fits)).1))

@@ -3,3 +3,5 @@ pub mod Options
 pub mod Verbs
 pub mod Values
 pub mod Signers
+pub mod Areas
+pub mod Commands
