@@ -1,5 +1,8 @@
 -- A value spells one thing.
-use Rattle.std.proofs.Common.{◌≡◌, ℕ, ◌<◌, ◌≤◌, List, length, get_or, Option, Some, None, codes, refl, sym, ap, ◌∙◌, arith, subst}
+use Rattle.std.proofs.Common.{◌≡◌, ℕ, ◌<◌, ◌≤◌, List, length, get_or, Bool, true, false, eqb, Option, Some, None, codes, refl, sym, ap, ◌∙◌, arith, subst}
+use Rattle.std.specs.Option.{option_eq}
+use Rattle.std.proofs.lemmas.Bool.{false≢true}
+use Rattle.std.proofs.lemmas.Bool.Decides.{nat_tests}
 use Rattle.peer_words.specs.Areas.{AreRising}
 use Rattle.peer_words.specs.Options.{Setting, value_of, Gives, MayGive}
 use Rattle.peer_words.specs.Values.{IsNumber, IsNumberOrNone}
@@ -39,3 +42,14 @@ pub times_are : (settings : List Setting) (start : Option ℕ) (end : Option (Op
 times_are settings start end other later a b c d rising =
     subst (λ (s : Option ℕ). AreRising s end) (may_give_one IsNumber one_number settings (codes "--from") other start c a)
       (subst (λ (e : Option (Option ℕ)). AreRising other e) (may_give_one IsNumberOrNone one_end settings (codes "--until") later end d b) rising)
+
+-- an end that passes the test for 0 is 0
+pub ends_at_0 : (end : Option (Option ℕ)) → true ≡ option_eq (option_eq eqb) end (Some (Some 0)) → end ≡ Some (Some 0)
+ends_at_0 None test = absurd (false≢true (sym test))
+ends_at_0 (Some None) test = absurd (false≢true (sym test))
+ends_at_0 (Some (Some n)) test = let zero : n ≡ 0 = grind (arith, nat_tests) in ap (λ (m : ℕ). Some (Some m)) zero
+
+-- so it is, where the options give it
+pub given_end : (settings : List Setting) (end read : Option (Option ℕ)) → MayGive IsNumberOrNone settings (codes "--until") end → MayGive IsNumberOrNone settings (codes "--until") read
+    → true ≡ option_eq (option_eq eqb) read (Some (Some 0)) → end ≡ Some (Some 0)
+given_end settings end read a b test = may_give_one IsNumberOrNone one_end settings (codes "--until") end read a b ∙ ends_at_0 read test

@@ -22,18 +22,17 @@ use willow_path::{Digest, End, NamespaceKey, Path, UserKey};
 pub fn read_words(alloc: Global, words: &[String]) -> Result<Command, End<Usage>>
     ensures { ReadsWords (texts words.now) result }
 {
-    match words {
-        [] => Err(End::Refused(Usage)),
-        [word, others @ ..] => {
-            let Some(verb) = verb_at(word) else {
-                return Err(End::Refused(Usage));
-            };
-            let Some(options) = Options::read(verb, others) else {
-                return Err(End::Refused(Usage));
-            };
-            command_of(alloc, verb, &options)
-        }
+    if words.is_empty() {
+        return Err(End::Refused(Usage));
     }
+    let (_, others) = words.split_at(1);
+    let Some(verb) = verb_at(&words[0]) else {
+        return Err(End::Refused(Usage));
+    };
+    let Some(options) = Options::read(verb, others) else {
+        return Err(End::Refused(Usage));
+    };
+    command_of(alloc, verb, &options)
 }
 
 // The command with what its options give.
