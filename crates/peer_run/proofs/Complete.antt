@@ -13,8 +13,8 @@ use Rattle.peer_stage.specs.declared.outcome.Done.{Done}
 use Rattle.peer_stage.specs.declared.outcome.Done.TheVariants as done
 use Rattle.peer_stage.specs.declared.outcome.Stop.{Stop}
 use Rattle.peer_stage.specs.declared.outcome.Stop.TheVariants as stop
-use Rattle.peer_report.specs.Report.{Reports, status_of, rows_line, first_line}
-use Rattle.peer_rows.specs.Logged.{FitsLog}
+use Rattle.peer_report.specs.Report.{Reports, status_of, report_of}
+use Rattle.peer_rows.specs.Logged.{PassesLog}
 use Rattle.peer_rows.specs.Join.{IsBadStream, IsTooFull, joined}
 use Rattle.peer_words.specs.Commands.{IsWords}
 use Rattle.peer_words.specs.declared.command.Command.{Command}
@@ -22,8 +22,8 @@ use Rattle.peer_words.specs.declared.command.Command.TheVariants as cmd
 use Rattle.peer_stage.specs.Stages.{IsWritten}
 use Rattle.peer_run.specs.Meets.{Meets}
 use Rattle.peer_run.specs.Runs.{Runs, RunsWords}
-use Rattle.peer_run.specs.Statuses.{CanEnd, CanJoin, HasNoFault, HasEnded, IsWholeJoin}
-use Rattle.peer_run.proofs.Ends.{done_small, refused_none, refused_some}
+use Rattle.peer_run.specs.Statuses.{CanEnd, CanJoin, IsCondition, HasNoFault, HasEnded, IsEnd, IsWholeJoin}
+use Rattle.peer_run.proofs.Ends.{done_small, memory_end, refused_none, refused_some}
 use Rattle.peer_run.proofs.Faults as faults
 use Rattle.peer_run.proofs.OneJoin.{one_join}
 
@@ -32,12 +32,6 @@ small_end : (r r' : SinkFacts) (end : Result Done Stop) (s : ℕ) → Reports r 
 small_end r r' end s (inl told) small old new none memory = omega (arith, told.status_is, small)
 small_end r r' end s (inr (inl fault)) small old new none memory = absurd (none.writes (inr (inr fault.fault)))
 small_end r r' end s (inr (inr seven)) small old new none memory = absurd (memory seven.status_is)
-
--- without memory the status is 7
-memory_end : (r r' : SinkFacts) (s : ℕ) → Reports r r' (Err stop.NoMemory) s → s ≡ 7
-memory_end r r' s (inl told) = told.status_is
-memory_end r r' s (inr (inl fault)) = fault.status_is
-memory_end r r' s (inr (inr none)) = none.status_is
 
 pub completes : (words : List (List ℕ)) (old new : World) (r r' : SinkFacts) (s : ℕ) → RunsWords words old new r r' s → CanEnd words old new → HasNoFault old new r r' → s ≢ 7 → s ≤ 1
 completes words old new r r' s (inr (inl misused)) can none memory = absurd (misused.no_command can.some_command can.is_words)
@@ -87,8 +81,8 @@ not_full : (namespace : List ℕ) (old new : World) (bytes : List ℕ) → CanJo
 not_full namespace old new bytes can read full =
     let all = taken_all old.input.left new.input.left can.had bytes can.told read.taken read.at_end in
     let same = same_rows full.0 can.rows full.1.fit can.frames.fit (sym full.1.spelled ∙ all ∙ can.frames.spelled) in
-    let passes = subst (λ (rows : List RawValue). FitsLog namespace rows → ⊥) (sym same) (λ fits. omega (arith, fits, full.2)) in
-    passes can.fits_log
+    let passes = subst (λ (rows : List RawValue). PassesLog namespace rows) same full.2 in
+    omega (arith, passes, can.fits_log)
 
 pub joins : (words : List (List ℕ)) (old new : World) (r r' : SinkFacts) (s : ℕ) (n : List ℕ) → RunsWords words old new r r' s → IsWords words (cmd.Join n) → CanJoin n old → HasNoFault old new r r' → s ≢ 7 → s ≤ 1
 joins words old new r r' s n runs is_join can none memory = completes words old new r r' s runs (record {
@@ -97,20 +91,21 @@ joins words old new r r' s n runs is_join can none memory = completes words old 
   no_condition = λ c e is_words condition meets. against e condition (subst (λ (k : Command). Meets k old new (Err e)) (one_join words n c is_join is_words) meets);
 }) none memory
   where
-    use Rattle.peer_run.specs.Statuses.{IsCondition}
     against : (e : Stop) → IsCondition e → Meets (cmd.Join n) old new (Err e) → ⊥
     against (stop.BadInput from at) condition meets = not_bad n old new at can meets.0.0
     against stop.LogFull condition meets = not_full n old new meets.0.0.0 can meets.0.0.1 meets.0.0.2
-    against stop.Refused condition meets = absurd condition
+    against (stop.Refused refusal) condition meets = absurd condition
+    against stop.ReadFault condition meets = absurd condition
+    against stop.WriteFault condition meets = absurd condition
+    against stop.NoMemory condition meets = absurd condition
     against e condition meets = absurd meets.0
 
 -- a run of a join with status 0 or 1 is a whole join
 pub whole_join : (words : List (List ℕ)) (old new : World) (r r' : SinkFacts) (s : ℕ) (n : List ℕ) → HasEnded words old new r r' s → IsWords words (cmd.Join n) → IsWholeJoin n old new r r' s
-whole_join words old new r r' s n ended is_join = go ended.end (subst (λ (k : Command). Meets k old new ended.end) (one_join words n ended.command is_join ended.is_words) ended.meets) ended.reported ended.status_is
+whole_join words old new r r' s n ended is_join = go ended.end (subst (λ (k : Command). Meets k old new ended.end) (one_join words n ended.command is_join ended.is_words) ended.meets) ended.is_end ended.reported ended.status_is
   where
-    use Rattle.peer_report.specs.Report.{report_of}
-    go : (end : Result Done Stop) → Meets (cmd.Join n) old new end → IsWritten r r' (report_of end) → s ≡ status_of end → IsWholeJoin n old new r r' s
-    go (Ok (done.Joined counts)) meets reported status_is = record {
+    go : (end : Result Done Stop) → Meets (cmd.Join n) old new end → IsEnd end → IsWritten r r' (report_of end) → s ≡ status_of end → IsWholeJoin n old new r r' s
+    go (Ok (done.Joined counts)) meets is_end reported status_is = record {
       bytes = meets.0.bytes;
       read = meets.0.read;
       rows = meets.0.join.rows;
@@ -123,4 +118,6 @@ whole_join words old new r r' s n ended is_join = go ended.end (subst (λ (k : C
       all_authorised = λ zero_is. refused_none counts.refused (sym status_is ∙ zero_is);
       some_refused = λ one_is. refused_some counts.refused (sym status_is ∙ one_is);
     }
-    go end meets reported status_is = absurd meets.0
+    go (Ok d) meets is_end reported status_is = absurd meets.0
+    go (Err (stop.Refused refusal)) meets is_end reported status_is = absurd meets.0
+    go (Err e) meets is_end reported status_is = absurd is_end

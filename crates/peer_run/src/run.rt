@@ -1,12 +1,12 @@
 //! The one call that `main` makes.
 
 ghost use Rattle.std.specs.Prelude.{◌≡◌, ◌≢◌, ◌⊎◌, ℕ, List, ◌≤◌};
-ghost use Rattle.willow_outside.specs.Facts.{DoorFacts};
+ghost use Rattle.willow_outside.specs.Facts.{ShelfFacts, DoorFacts, NoiseFacts};
 ghost use Rattle.peer_words.specs.Words.{texts};
 ghost use Rattle.peer_words.specs.Commands.{IsWords};
 ghost use Rattle.peer_words.specs.declared.command.Command.{Command};
 ghost use Rattle.peer_words.specs.declared.command.Command.TheVariants as cmd;
-ghost use Rattle.peer_run.specs.Meets.{Meets, world};
+ghost use Rattle.peer_run.specs.Meets.{Meets, MeetsShow, world};
 ghost use Rattle.peer_run.specs.Runs.{RunsWords};
 ghost use Rattle.peer_run.specs.Statuses.{IsWholeJoin, HasEnded, IsNoRun, HasReadFault, HasWriteFault, HasStopped, IsBadStop, IsLogFull, IsKeySpent, HasNoFault, CanEnd, CanJoin};
 
@@ -33,7 +33,7 @@ fn run_command<H: Shelf, I: Source, O: Sink, N: Noise>(
 {
     match command {
         Command::Join { namespace } => join(alloc, &namespace, input, output),
-        Command::Show { newest: None } => show(alloc, input, output),
+        Command::Show { newest } => run_show(alloc, newest, input, output),
         Command::Key { name, height } => make_key(alloc, name, height, shelf, noise, output),
         Command::Grant {
             namespace,
@@ -51,12 +51,26 @@ fn run_command<H: Shelf, I: Source, O: Sink, N: Noise>(
             subspace,
         } => write(alloc, key, path, time, length, digest, subspace, shelf, input, output),
         Command::Gen { rows } => generate(alloc, rows, output),
-        Command::Show { newest: Some(_) } => Err(Stop::Usage),
         Command::Drill { .. } => Err(Stop::Usage),
         Command::Meet { .. } => Err(Stop::Usage),
         Command::Sync { .. } => Err(Stop::Usage),
         Command::Serve { .. } => Err(Stop::Usage),
         Command::Watch { .. } => Err(Stop::Usage),
+    }
+}
+
+// A listing of all rows; one of the newest is not built yet.
+fn run_show<I: Source, O: Sink>(
+    alloc: Global,
+    newest: Option<u32>,
+    input: &mut I,
+    output: &mut O,
+) -> Result<Done, Stop>
+    ensures { (shelf : ShelfFacts) (door : DoorFacts) (noise : NoiseFacts) → MeetsShow newest (world shelf (I.facts input.old) (O.facts output.old) door noise) (world shelf (I.facts input.new) (O.facts output.new) door noise) result }
+{
+    match newest {
+        None => show(alloc, input, output),
+        Some(_) => Err(Stop::Usage),
     }
 }
 
