@@ -1,7 +1,7 @@
 //! Keys, capabilities and rows against bytes made elsewhere. The fills 4e and 4f are those of a communal and
 //! of an owned namespace, 55 and 56 those of users.
 
-ghost use Rattle.std.specs.Prelude.{◌≡◌, slice_index, IfSome, IfOk};
+ghost use Rattle.std.specs.Prelude.{◌≡◌, slice_index, IfSome};
 ghost use Rattle.peer_words.specs.Signers.{IsSigner};
 
 use super::*;
