@@ -153,6 +153,7 @@ fn handed_for_none(alloc: Global) -> Option<RowRefusal> {
 
 #[test]
 fn capabilities_are_granted_and_handed_on(rt: HostRuntime) {
+    empty_areas_count_as_growing();
     let alloc = rt.alloc();
     assert_eq!(rt;
         granted(alloc, 0x4e, None).ok(),
