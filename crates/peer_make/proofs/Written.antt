@@ -1,9 +1,8 @@
 -- How `write` ends after each of its stages.
-use Rattle.std.proofs.Common.{◌≡◌, ℕ, ◌≤◌, ◌⊎◌, inl, inr, List, length, refl, sym, ap, ◌∙◌, subst}
+use Rattle.std.proofs.Common.{◌≡◌, ℕ, ◌≤◌, inl, inr, List, length, refl, sym, ap, ◌∙◌, subst}
 use Rattle.std.specs.Prelude.{Result, Ok, Err}
 use Rattle.willow_outside.specs.Facts.{ShelfFacts, SourceFacts, SinkFacts}
 use Rattle.willow_entry.specs.RowBody.{row_body}
-use Rattle.willow_entry.specs.declared.entry.Entry.{Entry}
 use Rattle.mc_cap.specs.declared.capability.Capability.{Capability}
 use Rattle.cap_codec.specs.Rows.{RawValue, FitsFrame, row_of}
 use Rattle.auth_entry.specs.Authorised.{entry_message}

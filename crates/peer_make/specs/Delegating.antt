@@ -1,5 +1,5 @@
 -- What `delegate` does: a capability with one delegation more.
-use Rattle.std.specs.Prelude.{◌≡◌, ℕ, ◌+◌, ◌⊎◌, Bool, true, false, List, length, Option, Some, None, Result, Ok, Err, nat_lt, unwrap_or, if◌then◌else◌}
+use Rattle.std.specs.Prelude.{◌≡◌, ℕ, ◌+◌, ◌⊎◌, Bool, true, false, List, length, Some, Result, Ok, Err, nat_lt, unwrap_or, if◌then◌else◌}
 use Rattle.willow_outside.specs.Counts.{Rose}
 use Rattle.willow_outside.specs.Facts.{ShelfFacts, SourceFacts, SinkFacts}
 use Rattle.scheme_core.specs.Rules.{Rules}

@@ -1,8 +1,6 @@
 //! `key`: a new key under a name, and its user key.
 
 ghost use Rattle.std.specs.Prelude.{◌≡◌, ◌≤◌, IfOk};
-ghost use Rattle.std.specs.String.{string_bytes};
-ghost use Rattle.willow_outside.specs.Counts.{HasCause};
 ghost use Rattle.peer_make.specs.Making.{KeyMeets, LooksUp, DrawsKey, DrawsOne, PutsFile, user_key_line};
 
 use lms_core::{Height, LmsKey};
