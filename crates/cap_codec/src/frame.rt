@@ -1,6 +1,6 @@
 //! Rows in frames, one after the other.
 
-ghost use Rattle.std.specs.Prelude.{◌≡◌, ◌≤◌, ◌++◌, length, drop, IfOk, OnErr, OnOk};
+ghost use Rattle.std.specs.Prelude.{◌≡◌, ◌≤◌, ◌++◌, length, take, drop, IfOk, OnErr, OnOk, vec_len};
 ghost use Rattle.std.specs.Int.{w32};
 ghost use Rattle.spelling.specs.Form.{Decodes};
 ghost use Rattle.spelling.specs.Reading.{Gives, number_at, text_at};
@@ -31,21 +31,27 @@ pub fn encode_frame<R: Row>(row: &R, out: &mut Vec<u8>) -> Result<(), NoMemory>
     ensures spelled { OnOk result (out.new.items ≡ out.old.items ++ row_frame (R.value row.now)) }
     ensures err { OnErr result (out.new.items ≡ out.old.items) }
 {
-    let mut text = Vec::new(*out.allocator());
-    spell_frame(row, &mut text)?;
-    put_bytes(out, &text)
+    let begun = out.len();
+    match spell_frame(row, out) {
+        Ok(()) => Ok(()),
+        Err(NoMemory) => {
+            out.truncate(begun);
+            Err(NoMemory)
+        }
+    }
 }
 
-// Appends the frame.
+// Appends the frame, or without memory a part of it.
 #[tactic(auto, unfolding(willow_entry::specs::RowBody::row_body))]
-fn spell_frame<R: Row>(row: &R, text: &mut Vec<u8>) -> Result<(), NoMemory>
+fn spell_frame<R: Row>(row: &R, out: &mut Vec<u8>) -> Result<(), NoMemory>
     requires { length (row_body (R.value row.now)) ≤ MAX_FRAME }
-    ensures { OnOk result (text.new.items ≡ text.old.items ++ row_frame (R.value row.now)) }
+    ensures spelled { OnOk result (out.new.items ≡ out.old.items ++ row_frame (R.value row.now)) }
+    ensures kept { take (vec_len out.old) out.new.items ≡ out.old.items }
 {
     let (entry, token) = (row.entry_bytes(), row.token_bytes());
-    put_u32(text, (entry.len() + token.len()) as u32)?;
-    put_bytes(text, entry)?;
-    put_bytes(text, token)
+    put_u32(out, (entry.len() + token.len()) as u32)?;
+    put_bytes(out, entry)?;
+    put_bytes(out, token)
 }
 
 /// The row in the frame at the front of the bytes, with the number of bytes taken: four bytes for the

@@ -1,6 +1,7 @@
 //! Write tokens: by whose leave an entry was written, and the signature of the entry.
 
-ghost use Rattle.std.specs.Prelude.{◌≡◌, ◌++◌, IfOk, OnErr, OnOk};
+ghost use Rattle.std.specs.Prelude.{◌≡◌, ◌++◌, take, vec_len, IfOk, OnErr, OnOk};
+ghost use Rattle.mc_cap.specs.Signature.{IsSignature};
 ghost use Rattle.spelling.specs.Reading.{Gives};
 ghost use Rattle.cap_codec.specs.Reading.{token_at};
 ghost use Rattle.cap_codec.specs.Rows.{token_spelling, IsToken};
@@ -28,12 +29,26 @@ impl WriteToken {
         ensures fits { IsToken self.now }
     {
         self.capability.known();
+        let begun = out.len();
+        match self.spell(out) {
+            Ok(()) => Ok(()),
+            Err(NoMemory) => {
+                out.truncate(begun);
+                Err(NoMemory)
+            }
+        }
+    }
+
+    // Appends the spelling, or without memory a part of it.
+    fn spell(&self, out: &mut Vec<u8>) -> Result<(), NoMemory>
+        ensures spelled { OnOk result (out.new.items ≡ out.old.items ++ token_spelling self.now) }
+        ensures kept { take (vec_len out.old) out.new.items ≡ out.old.items }
+        ensures signature { IsSignature self.now.signature }
+    {
         let signature = self.signature.as_slice();
-        let mut text = Vec::new(*out.allocator());
-        self.capability.encode(&mut text)?;
-        put_u16(&mut text, signature.len() as u16)?;
-        put_bytes(&mut text, signature)?;
-        put_bytes(out, &text)
+        self.capability.encode(out)?;
+        put_u16(out, signature.len() as u16)?;
+        put_bytes(out, signature)
     }
 
     /// An equal token.
