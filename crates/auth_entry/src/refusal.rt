@@ -90,8 +90,9 @@ pub fn check_entry<S: Verify>(
 fn entry_message(alloc: Global, row: &RawRow) -> Result<Vec<u8>, NoMemory>
     ensures { IfOk result (λ message. message.items ≡ entry_message row.now.entry) }
 {
-    let mut message = Vec::new(alloc);
+    let entry = row.entry_bytes();
+    let mut message = Vec::with_capacity(alloc, entry.len() + 1)?;
     put_byte(&mut message, b'E')?;
-    put_bytes(&mut message, row.entry_bytes())?;
+    put_bytes(&mut message, entry)?;
     Ok(message)
 }

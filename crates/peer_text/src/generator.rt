@@ -15,6 +15,9 @@ use std::alloc::Global;
 use willow_entry::Entry;
 use willow_path::{Digest, NamespaceKey, Path, UserKey};
 
+// The room that is taken for a message: what a writer signs of a generated entry has 121 bytes at most.
+const MESSAGE_ROOM: usize = 121;
+
 // The timestamp of the first generated row.
 const FIRST_TIMESTAMP: u64 = 1_700_000_000_000_000;
 
@@ -112,7 +115,7 @@ fn generated_token(alloc: Global, i: u32, entry: &Entry) -> Result<WriteToken, N
 fn signed_message(alloc: Global, entry: &Entry) -> Result<Vec<u8>, NoMemory>
     ensures { IfOk result (λ message. message.items ≡ signed_message entry.now) }
 {
-    let mut message = Vec::new(alloc);
+    let mut message = Vec::with_capacity(alloc, MESSAGE_ROOM)?;
     put_byte(&mut message, b'E')?;
     entry.encode(&mut message)?;
     Ok(message)
