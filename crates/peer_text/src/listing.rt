@@ -84,16 +84,17 @@ fn parts_text(alloc: Global, path: &Path) -> Result<String, NoMemory>
 {
     let mut text = String::new(alloc);
     for i in 0..path.count() {
-        let part = part_text(alloc, path.part(i))?;
-        text.push_str(part.as_str())?;
+        add_part(&mut text, path.part(i))?;
     }
     Ok(text)
 }
 
-// A component as text.
-fn part_text(alloc: Global, part: &[u8]) -> Result<String, NoMemory>
-    ensures { IfOk result (λ text. string_bytes text ≡ part_text part.now) }
+// Appends a component.
+fn add_part(text: &mut String, part: &[u8]) -> Result<(), NoMemory>
+    ensures { OnOk result (string_bytes text.new ≡ string_bytes text.old ++ part_text part.now) }
 {
-    let digits = hex::encode(alloc, part)?;
-    Ok(format!(in alloc; "/{digits}")?)
+    let digits = hex::encode(*text.allocator(), part)?;
+    text.push('/')?;
+    text.push_str(digits.as_str())?;
+    Ok(())
 }
