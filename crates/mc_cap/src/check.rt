@@ -76,10 +76,14 @@ impl Capability {
     }
 
     // Checks the delegations one after the other.
+    #[tactic(auto, unfolding(spelling::specs::Answers::first_some))]
     fn check_chain<S: Verify>(&self, scheme: &S) -> Result<(), End<ChainRefusal>>
         requires { length self.now.chain ≤ MAX_DELEGATIONS }
         ensures { Answers result (first_some (step_refusal S.rules self.now) 0 self.now.chain) }
     {
+        if self.chain.as_slice().is_empty() {
+            return Ok(());
+        }
         let mut message = Vec::new(self.chain.allocator());
         put_byte(&mut message, b'H')?;
         self.spell_head(&mut message)?;
