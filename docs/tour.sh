@@ -6,7 +6,7 @@
 
 here=$(cd "$(dirname "$0")" && pwd) || exit 2
 program=$(cd "$(dirname "$1")" && pwd)/$(basename "$1") || exit 2
-[ -x "$program" ] || { echo "usage: sh tour.sh PROGRAM" >&2; exit 2; }
+[ -f "$program" ] && [ -x "$program" ] || { echo "usage: sh tour.sh PROGRAM" >&2; exit 2; }
 folder=$(mktemp -d) || exit 2
 trap 'rm -rf "$folder"' EXIT
 mkdir "$folder/tour" && cd "$folder/tour" || exit 2
@@ -54,9 +54,11 @@ ${line#??}" ;;
     esac
 done 3< "$here/TOUR.md"
 
+# What the first part leaves is what lies in the repository.
+others=0
 for name in anna.rows ben.rows archive.image; do
-    cmp "$name" "$here/../samples/$name" || wrong=$((wrong + 1))
+    cmp "$name" "$here/../samples/$name" || others=$((others + 1))
 done
 
 echo "$((commands - wrong)) of $commands commands as in the tour"
-[ "$wrong" -eq 0 ]
+[ "$commands" -gt 0 ] && [ "$wrong" -eq 0 ] && [ "$others" -eq 0 ]
