@@ -1,5 +1,5 @@
 -- Frames: each row has one, and a stream of them has one reading.
-use Rattle.std.proofs.Common.{◌≡◌, ℕ, ◌-◌, ◌≤◌, ◌<◌, Bool, false, ltb, List, [], ◌∷◌, ◌++◌, length, take, drop, Result, Ok, Err, refl, sym, ap, subst, ◌∙◌, append_assoc, arith}
+use Rattle.std.proofs.Common.{◌≡◌, ℕ, ◌-◌, ◌≤◌, Bool, false, ltb, List, [], ◌∷◌, ◌++◌, length, take, drop, Result, Ok, Err, refl, sym, ap, subst, ◌∙◌, append_assoc, arith}
 use Rattle.std.specs.List.{AllByRecursion, flat_map}
 use Rattle.std.specs.Int.{w32, to_be_bytes}
 use Rattle.std.specs.Prelude.{nat_le}
@@ -22,8 +22,8 @@ use Rattle.spelling.proofs.Joining.{one_spelling, whole_value, whole_rest}
 use Rattle.spelling.proofs.Fields.{u32-reads}
 use Rattle.spelling.proofs.Repeated.{text-reads}
 use Rattle.cap_codec.specs.declared.frame.TheConstants.{MAX_FRAME}
-use Rattle.cap_codec.specs.Rows.{RawValue, raw_spelling, ReadsWhole, FitsFrame, frame, AreFrames, HaveOneReading}
-use Rattle.cap_codec.specs.Streams.{HasNoFrame, AreAllFrames, StopsAt, AreNeverBoth, HaveOneStop}
+use Rattle.cap_codec.specs.Rows.{RawValue, raw_spelling, ReadsWhole, FitsFrame, frame, HaveOneReading}
+use Rattle.cap_codec.specs.Streams.{HasNoFrame, AreNeverBoth, HaveOneStop}
 use Rattle.cap_codec.proofs.RowReads.{raw-reads}
 
 -- ---- a frame
@@ -99,82 +99,8 @@ frame_whole bytes input body left r taken are same h is n =
 frame_long : (r : RawValue) → 4 ≤ length (frame r)
 frame_long r = omega (arith, length-append (to_be_bytes w32 (length (raw_spelling r))) (raw_spelling r))
 
-nothing_is : (r : RawValue) (rest : List ℕ) → [] ≡ frame r ++ rest → ⊥
-nothing_is r rest e = omega (arith, ap length e, length-append (frame r) rest, frame_long r)
-
-pub same_rows : (rows others : List RawValue) → AllByRecursion FitsFrame rows → AllByRecursion FitsFrame others → flat_map frame rows ≡ flat_map frame others → rows ≡ others
-same_rows [] [] f g e = refl
-same_rows [] (s ∷ others) f g e = absurd (nothing_is s (flat_map frame others) e)
-same_rows (r ∷ rows) [] f g e = absurd (nothing_is r (flat_map frame rows) (sym e))
-same_rows (r ∷ rows) (s ∷ others) f g e =
-    let both = frame_form r s (flat_map frame rows) (flat_map frame others) f.0 g.0 e in
-    ap (λ (x : RawValue). x ∷ rows) both.0 ∙ ap (λ (l : List RawValue). s ∷ l) (same_rows rows others f.1 g.1 both.1)
-
-pub one_stream : HaveOneReading
-one_stream bytes rows others f g = same_rows rows others f.fit g.fit (sym f.spelled ∙ g.spelled)
-
--- the frames of rows behind which bytes are left
-pub record FramesSo (bytes : List ℕ) (rows : List RawValue) (left : List ℕ) : Type 0 where
-  pub fit : AllByRecursion FitsFrame rows
-  pub parts : bytes ≡ flat_map frame rows ++ left
-
-pub no_frames : (bytes : List ℕ) → FramesSo bytes [] bytes
-no_frames bytes = record { fit = tt; parts = refl }
-
--- one more frame
-pub frame_on : (bytes left : List ℕ) (rows : List RawValue) (r : RawValue) (taken : ℕ) → FramesSo bytes rows left → Decodes frame FitsFrame left (Ok (r, taken)) → FramesSo bytes (rows ++ r ∷ []) (drop taken left)
-frame_on bytes left rows r taken so one =
-    let on : left ≡ frame r ++ drop taken left = sym (take-append-drop taken left) ∙ ap (λ (l : List ℕ). l ++ drop taken left) one.2 in
-    let all : flat_map frame (rows ++ r ∷ []) ≡ flat_map frame rows ++ frame r = flat_map-append frame rows (r ∷ []) ∙ ap (λ (l : List ℕ). flat_map frame rows ++ l) (append-nil (frame r)) in
-    record {
-      fit = All-append FitsFrame rows (r ∷ []) so.fit (one.0, tt);
-      parts = so.parts ∙ ap (λ (l : List ℕ). flat_map frame rows ++ l) on ∙ sym (append_assoc (flat_map frame rows) (frame r) (drop taken left)) ∙ ap (λ (l : List ℕ). l ++ drop taken left) (sym all);
-    }
-
--- a frame takes bytes
-pub frame_takes : (left : List ℕ) (r : RawValue) (taken : ℕ) → Decodes frame FitsFrame left (Ok (r, taken)) → length (drop taken left) < length left
-frame_takes left r taken one =
-    omega (arith, one.1, frame_long r, ap length one.2, length-append (take taken left) (drop taken left), ap length (take-append-drop taken left))
-
--- all bytes are read
-pub frames_all : (bytes left : List ℕ) (rows : List RawValue) → FramesSo bytes rows left → left ≡ [] → AreFrames bytes rows
-frames_all bytes left rows so end =
-    record { fit = so.fit; spelled = so.parts ∙ ap (λ (l : List ℕ). flat_map frame rows ++ l) end ∙ append-nil (flat_map frame rows) }
-
--- what is left behind some rows' frames are frames too, where the whole is frames
-pub left_are : (rows others : List RawValue) (left : List ℕ) → AllByRecursion FitsFrame rows → AllByRecursion FitsFrame others → flat_map frame rows ++ left ≡ flat_map frame others
-    → (more : List RawValue) × AllByRecursion FitsFrame more × (left ≡ flat_map frame more)
-left_are [] others left f g e = (others, g, e)
-left_are (r ∷ rows) [] left f g e = absurd (nothing_is r (flat_map frame rows ++ left) (sym e ∙ append_assoc (frame r) (flat_map frame rows) left))
-left_are (r ∷ rows) (s ∷ others) left f g e =
-    let both = frame_form r s (flat_map frame rows ++ left) (flat_map frame others) f.0 g.0 (sym (append_assoc (frame r) (flat_map frame rows) left) ∙ e) in
-    left_are rows others left f.1 g.1 both.1
-
-no_more : (left : List ℕ) (more : List RawValue) → 0 < length left → AllByRecursion FitsFrame more → left ≡ flat_map frame more
-    → HasNoFrame left → ⊥
-no_more left [] some f e none = omega (arith, some, ap length e)
-no_more left (r ∷ more) some f e none = none r (flat_map frame more) f.0 e
-
--- no frame stands where bytes are left
-pub frames_end : (bytes left : List ℕ) (rows others : List RawValue) → FramesSo bytes rows left → 0 < length left → HasNoFrame left → AreFrames bytes others → ⊥
-frames_end bytes left rows others so some none are =
-    let more = left_are rows others left so.fit are.fit (sym so.parts ∙ are.spelled) in
-    no_more left more.0 some more.1 more.2 none
-
--- ---- where a stream stops
-
--- bytes behind all frames in front
-pub stops_here : (bytes left : List ℕ) (rows : List RawValue) (at : ℕ) → AreAllFrames bytes rows left → 0 < length left → at ≡ length bytes - length left → StopsAt bytes at
-stops_here bytes left rows at all some is = record {
-  rows = rows;
-  left = left;
-  frames = all;
-  place = omega (arith, is, ap length all.parts, length-append (flat_map frame rows) left);
-  more = some;
-}
-
-pub never_both : AreNeverBoth
-never_both bytes at rows s are = frames_end bytes s.left s.rows rows (record { fit = s.frames.fit; parts = s.frames.parts }) s.more s.frames.no_frame are
+nothing_left : HasNoFrame []
+nothing_left r rest fits e = omega (arith, ap length e, length-append (frame r) rest, frame_long r)
 
 -- what stands in front up to where no frame goes on is the same
 pub same_frames : (rows others : List RawValue) (a b : List ℕ) → AllByRecursion FitsFrame rows → AllByRecursion FitsFrame others → HasNoFrame a → HasNoFrame b
@@ -188,10 +114,37 @@ same_frames (r ∷ rows) (s ∷ others) a b f g na nb e =
     let more = same_frames rows others a b f.1 g.1 na nb both.1 in
     (ap (λ (x : RawValue). x ∷ rows) both.0 ∙ ap (λ (l : List RawValue). s ∷ l) more.0, more.1)
 
+pub same_rows : (rows others : List RawValue) → AllByRecursion FitsFrame rows → AllByRecursion FitsFrame others → flat_map frame rows ≡ flat_map frame others → rows ≡ others
+same_rows rows others f g e =
+    (same_frames rows others [] [] f g nothing_left nothing_left (append-nil (flat_map frame rows) ∙ e ∙ sym (append-nil (flat_map frame others)))).0
+
+pub one_stream : HaveOneReading
+one_stream bytes rows others f g = same_rows rows others f.fit g.fit (sym f.spelled ∙ g.spelled)
+
+pub never_both : AreNeverBoth
+never_both bytes at rows s are =
+    let same = same_frames s.rows rows s.left [] s.frames.fit are.fit s.frames.no_frame nothing_left (sym s.frames.parts ∙ are.spelled ∙ sym (append-nil (flat_map frame rows))) in
+    omega (arith, s.more, ap length same.1)
+
 pub one_stop : HaveOneStop
 one_stop bytes at other s t =
     let same = same_frames s.rows t.rows s.left t.left s.frames.fit t.frames.fit s.frames.no_frame t.frames.no_frame (sym s.frames.parts ∙ t.frames.parts) in
     sym s.place ∙ ap (λ (l : List RawValue). length (flat_map frame l)) same.0 ∙ t.place
+
+-- the frames of rows behind which bytes are left
+pub record FramesSo (bytes : List ℕ) (rows : List RawValue) (left : List ℕ) : Type 0 where
+  pub fit : AllByRecursion FitsFrame rows
+  pub parts : bytes ≡ flat_map frame rows ++ left
+
+-- one more frame
+pub frame_on : (bytes left : List ℕ) (rows : List RawValue) (r : RawValue) (taken : ℕ) → FramesSo bytes rows left → Decodes frame FitsFrame left (Ok (r, taken)) → FramesSo bytes (rows ++ r ∷ []) (drop taken left)
+frame_on bytes left rows r taken so one =
+    let on : left ≡ frame r ++ drop taken left = sym (take-append-drop taken left) ∙ ap (λ (l : List ℕ). l ++ drop taken left) one.2 in
+    let all : flat_map frame (rows ++ r ∷ []) ≡ flat_map frame rows ++ frame r = flat_map-append frame rows (r ∷ []) ∙ ap (λ (l : List ℕ). flat_map frame rows ++ l) (append-nil (frame r)) in
+    record {
+      fit = All-append FitsFrame rows (r ∷ []) so.fit (one.0, tt);
+      parts = so.parts ∙ ap (λ (l : List ℕ). flat_map frame rows ++ l) on ∙ sym (append_assoc (flat_map frame rows) (frame r) (drop taken left)) ∙ ap (λ (l : List ℕ). l ++ drop taken left) (sym all);
+    }
 
 -- ---- errors that are handed on
 

@@ -1,38 +1,34 @@
 -- The rows at prefixes of a row, among rows that rise, are found among those at prefixes of the row before.
-use Rattle.std.proofs.Common.{◌≡◌, ℕ, ◌+◌, Bool, true, false, cond, List, [], ◌∷◌, ◌++◌, length, Option, Some, None, refl, sym, ap, ◌∙◌, arith, Less, is_gt}
+use Rattle.std.proofs.Common.{◌≡◌, ℕ, ◌+◌, Bool, true, false, cond, List, [], ◌∷◌, ◌++◌, length, Option, Some, None, refl, sym, ap, ◌∙◌, arith, Less}
 use Rattle.std.specs.List.{AllByRecursion, position_from}
 use Rattle.std.specs.List.Sorted.{IsStrictlySortedBy}
 use Rattle.std.proofs.lemmas.Bool.{false≢true}
 use Rattle.std.proofs.lemmas.List.Elements.{filter-append}
 use Rattle.spelling.proofs.Lists.{All-right}
 use Rattle.spelling.specs.Answers.{or_else}
-use Rattle.willow_entry.specs.Row.{RowValue, is_at_prefix, is_dominating, place_cmp, IsRising}
-use Rattle.willow_entry.proofs.Local.{at_prefix, at_prefix_test, dominated_at_prefix, between_at_prefix}
-use Rattle.peer_image.specs.Fronts.{Seen, numbered, fronts_of, first_dominating, Suffices}
-use Rattle.peer_image.specs.Order.{pruned_by, pruned_after}
+use Rattle.willow_entry.specs.Row.{RowValue, is_dominating}
+use Rattle.peer_image.specs.Fronts.{Seen, numbered, fronts_of, first_dominating, is_at_inner_prefix, Suffices}
+use Rattle.peer_image.specs.Order.{inner_cmp, pruned_by, pruned_after, IsInnerRising}
+use Rattle.peer_image.proofs.Inner.{inner_between, dominated_at_inner}
 
 abbrev entry_of : ℕ → RowValue → Seen
 entry_of k r = record { at = k; row = r }
 
 -- ---- fronts of fronts
 
--- below c and c below r: a prefix of r is one of c
-front_between : (x c r : RowValue) → place_cmp x c ≡ Less → place_cmp c r ≡ Less → is_at_prefix x r ≡ true → is_at_prefix x c ≡ true
-front_between x c r h k e = at_prefix_test x c (between_at_prefix x c r (at_prefix x r e) (ap is_gt h) (ap is_gt k))
-
-fronts_step : (c r : RowValue) (x : Seen) (xs : List Seen) (b d : Bool) → is_at_prefix x.row c ≡ b → is_at_prefix x.row r ≡ d → (d ≡ true → b ≡ true)
+fronts_step : (c r : RowValue) (x : Seen) (xs : List Seen) (b d : Bool) → is_at_inner_prefix x.row c ≡ b → is_at_inner_prefix x.row r ≡ d → (d ≡ true → b ≡ true)
     → fronts_of r (cond b (x ∷ xs) xs) ≡ cond d (x ∷ fronts_of r xs) (fronts_of r xs)
 fronts_step c r x xs true d e f up = ap (λ t. cond t (x ∷ fronts_of r xs) (fronts_of r xs)) f
 fronts_step c r x xs false true e f up = absurd (false≢true (up refl))
 fronts_step c r x xs false false e f up = refl
 
-fronts_twice : (c r : RowValue) (k : ℕ) (rows : List RowValue) → AllByRecursion (λ s. place_cmp s c ≡ Less) rows → place_cmp c r ≡ Less
+fronts_twice : (c r : RowValue) (k : ℕ) (rows : List RowValue) → AllByRecursion (λ s. inner_cmp s c ≡ Less) rows → inner_cmp c r ≡ Less
     → fronts_of r (fronts_of c (numbered k rows)) ≡ fronts_of r (numbered k rows)
 unfolding numbered
 fronts_twice c r k [] below above = refl
 fronts_twice c r k (x ∷ rows) below above =
-    fronts_step c r (entry_of k x) (fronts_of c (numbered (k + 1) rows)) (is_at_prefix x c) (is_at_prefix x r) refl refl (front_between x c r below.0 above)
-    ∙ ap (λ l. cond (is_at_prefix x r) (entry_of k x ∷ l) l) (fronts_twice c r (k + 1) rows below.1 above)
+    fronts_step c r (entry_of k x) (fronts_of c (numbered (k + 1) rows)) (is_at_inner_prefix x c) (is_at_inner_prefix x r) refl refl (inner_between x c r below.0 above)
+    ∙ ap (λ l. cond (is_at_inner_prefix x r) (entry_of k x ∷ l) l) (fronts_twice c r (k + 1) rows below.1 above)
 
 numbered-push : (k : ℕ) (rows : List RowValue) (c : RowValue) → numbered k (rows ++ c ∷ []) ≡ numbered k rows ++ entry_of (k + length rows) c ∷ []
 unfolding numbered
@@ -47,22 +43,22 @@ pub suffices_none : Suffices [] []
 unfolding numbered
 suffices_none r above = refl
 
-pub suffices_on : (earlier : List RowValue) (c : RowValue) (fronts kept : List Seen) (at : ℕ) → AllByRecursion (λ s. place_cmp s c ≡ Less) earlier → Suffices earlier fronts
+pub suffices_on : (earlier : List RowValue) (c : RowValue) (fronts kept : List Seen) (at : ℕ) → AllByRecursion (λ s. inner_cmp s c ≡ Less) earlier → Suffices earlier fronts
     → kept ≡ fronts_of c fronts → at ≡ length earlier + 1 → Suffices (earlier ++ c ∷ []) (kept ++ entry_of at c ∷ [])
 suffices_on earlier c fronts kept at below so is n r above =
-    let P : RowValue → Type 0 = λ s. place_cmp s r ≡ Less in
-    let over : place_cmp c r ≡ Less = (All-right P earlier (c ∷ []) above).0 in
+    let P : RowValue → Type 0 = λ s. inner_cmp s r ≡ Less in
+    let over : inner_cmp c r ≡ Less = (All-right P earlier (c ∷ []) above).0 in
     let m : at ≡ 1 + length earlier = omega (arith, n) in
     let left : fronts_of r kept ≡ fronts_of r (numbered 1 earlier) = ap (fronts_of r) (is ∙ so c below) ∙ fronts_twice c r 1 earlier below over in
-    filter-append (λ s. is_at_prefix s.row r) kept (entry_of at c ∷ [])
+    filter-append (λ s. is_at_inner_prefix s.row r) kept (entry_of at c ∷ [])
     ∙ ap (λ l. l ++ fronts_of r (entry_of at c ∷ [])) left
-    ∙ sym (filter-append (λ s. is_at_prefix s.row r) (numbered 1 earlier) (entry_of at c ∷ []))
+    ∙ sym (filter-append (λ s. is_at_inner_prefix s.row r) (numbered 1 earlier) (entry_of at c ∷ []))
     ∙ ap (λ i. fronts_of r (numbered 1 earlier ++ entry_of i c ∷ [])) m
     ∙ ap (fronts_of r) (sym (numbered-push 1 earlier c))
 
 -- ---- the first that dominates
 
-dominating_step : (r x : RowValue) (k : ℕ) (rest : List Seen) (b d : Bool) → is_at_prefix x r ≡ b → is_dominating x r ≡ d → (d ≡ true → b ≡ true)
+dominating_step : (r x : RowValue) (k : ℕ) (rest : List Seen) (b d : Bool) → is_at_inner_prefix x r ≡ b → is_dominating x r ≡ d → (d ≡ true → b ≡ true)
     → first_dominating r (cond b (entry_of k x ∷ rest) rest) ≡ cond d (Some k) (first_dominating r rest)
 unfolding first_dominating
 dominating_step r x k rest true d e f up = ap (λ t. cond t (Some k) (first_dominating r rest)) f
@@ -73,20 +69,20 @@ dominating_is : (r : RowValue) (k : ℕ) (rows : List RowValue) → first_domina
 unfolding numbered first_dominating
 dominating_is r k [] = refl
 dominating_is r k (x ∷ rows) =
-    dominating_step r x k (fronts_of r (numbered (k + 1) rows)) (is_at_prefix x r) (is_dominating x r) refl refl (dominated_at_prefix x r)
+    dominating_step r x k (fronts_of r (numbered (k + 1) rows)) (is_at_inner_prefix x r) (is_dominating x r) refl refl (dominated_at_inner x r)
     ∙ ap (λ o. cond (is_dominating x r) (Some k) o) (dominating_is r (k + 1) rows)
 
 -- what is found among the kept fronts is the first of all earlier rows that dominates
-pub found_is : (earlier : List RowValue) (c : RowValue) (fronts kept : List Seen) → AllByRecursion (λ s. place_cmp s c ≡ Less) earlier → Suffices earlier fronts → kept ≡ fronts_of c fronts
+pub found_is : (earlier : List RowValue) (c : RowValue) (fronts kept : List Seen) → AllByRecursion (λ s. inner_cmp s c ≡ Less) earlier → Suffices earlier fronts → kept ≡ fronts_of c fronts
     → first_dominating c kept ≡ position_from (λ s. is_dominating s c) 1 earlier
 found_is earlier c fronts kept below so is = ap (first_dominating c) (is ∙ so c below) ∙ dominating_is c 1 earlier
 
 -- ---- what is left to refuse
 
-pub below_here : (earlier : List RowValue) (c : RowValue) (rest : List RowValue) → IsRising (earlier ++ c ∷ rest) → AllByRecursion (λ s. place_cmp s c ≡ Less) earlier
+pub below_here : (earlier : List RowValue) (c : RowValue) (rest : List RowValue) → IsInnerRising (earlier ++ c ∷ rest) → AllByRecursion (λ s. inner_cmp s c ≡ Less) earlier
 unfolding IsStrictlySortedBy
 below_here [] c rest up = tt
-below_here (x ∷ earlier) c rest up = ((All-right (λ s. place_cmp x s ≡ Less) earlier (c ∷ rest) up.0).0, below_here earlier c rest up.1)
+below_here (x ∷ earlier) c rest up = ((All-right (λ s. inner_cmp x s ≡ Less) earlier (c ∷ rest) up.0).0, below_here earlier c rest up.1)
 
 pub pruned_here : (earlier rest : List RowValue) (c : RowValue) (found : Option ℕ) → found ≡ position_from (λ s. is_dominating s c) 1 earlier
     → pruned_after earlier (c ∷ rest) ≡ or_else (pruned_by (length earlier + 1) found) (pruned_after (earlier ++ c ∷ []) rest)

@@ -1,5 +1,6 @@
 pub mod Filtered
 pub mod Places
+pub mod Inner
 pub mod KeptFronts
 pub mod Falls
 pub mod InOrder

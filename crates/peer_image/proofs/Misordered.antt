@@ -4,11 +4,11 @@ use Rattle.std.specs.List.{position_from}
 use Rattle.std.specs.Ordering.{is_lt}
 use Rattle.spelling.specs.Answers.{or_else}
 use Rattle.spelling.specs.declared.ending.End.TheVariants.{Refused}
-use Rattle.willow_entry.specs.Row.{RowValue, is_dominating, place_cmp}
+use Rattle.willow_entry.specs.Row.{RowValue, is_dominating}
 use Rattle.cap_codec.specs.Rows.{RawValue}
 use Rattle.peer_image.specs.declared.refusal.ImageRefusal.{ImageRefusal}
 use Rattle.peer_image.specs.declared.refusal.ImageRefusal.TheVariants.{BadImage, NotRising, Pruned}
-use Rattle.peer_image.specs.Order.{fall_after, first_fall, pruned_by, pruned_after, order_refusal}
+use Rattle.peer_image.specs.Order.{fall_after, first_fall, inner_cmp, pruned_by, pruned_after, order_refusal}
 use Rattle.peer_image.specs.ImageReading.{rows_of, IsImage, ReadsImage}
 
 abbrev IsForOrder : Option ImageRefusal → Type 0
@@ -28,7 +28,7 @@ chosen false a b f g = g
 fall_for_order : (k : ℕ) (r : RowValue) (rows : List RowValue) → IsForOrder (fall_after k r rows)
 unfolding fall_after
 fall_for_order k r [] = tt
-fall_for_order k r (s ∷ rows) = chosen (is_lt (place_cmp r s)) (fall_after (k + 1) s rows) (Some (NotRising k)) (fall_for_order (k + 1) s rows) tt
+fall_for_order k r (s ∷ rows) = chosen (is_lt (inner_cmp r s)) (fall_after (k + 1) s rows) (Some (NotRising k)) (fall_for_order (k + 1) s rows) tt
 
 first_for_order : (rows : List RowValue) → IsForOrder (first_fall rows)
 unfolding first_fall

@@ -14,7 +14,7 @@ use Rattle.peer_image.specs.declared.read.Image.{Image}
 use Rattle.peer_image.specs.declared.refusal.ImageRefusal.{ImageRefusal}
 use Rattle.peer_image.specs.declared.refusal.ImageRefusal.TheVariants.{BadImage, NotRising, Pruned}
 use Rattle.peer_image.specs.Image.{image, HasFrame}
-use Rattle.peer_image.specs.Order.{order_refusal}
+use Rattle.peer_image.specs.Order.{order_refusal, AreOf}
 use Rattle.peer_image.specs.ImageReading.{rows_of, IsImage, IsMisordered, ReadsImage, IsBack, ReadsBack}
 use Rattle.peer_image.proofs.InOrder.{order_of_live}
 use Rattle.peer_image.proofs.Stops.{one_image, never_both}
@@ -83,8 +83,8 @@ image_here : (n : List ℕ) (raws : List RawValue) → IsKey n → AllByRecursio
 image_here n raws key fit few = record { key = key; fit = fit; count = omega (arith, few, length-map raws row_of); spelled = refl }
 
 pub reads_back : ReadsBack
-reads_back n rows result key readable short few is_live told =
+reads_back n m rows result key one readable short few is_live told =
     let r = raws_of rows readable short in
-    let P : List RowValue → Type 0 = λ l. length l < 2 ^ 32 → live l ≡ l → ReadsImage (image n l) result → IsBack n l result in
-    let here : P (rows_of r.raws) = λ f v t. back n r.raws result (image_here n r.raws key r.fit f) ((order_of_live (rows_of r.raws)).1 v) t in
-    subst P r.same here few is_live told
+    let P : List RowValue → Type 0 = λ l. AreOf m l → length l < 2 ^ 32 → live l ≡ l → ReadsImage (image n l) result → IsBack n l result in
+    let here : P (rows_of r.raws) = λ o f v t. back n r.raws result (image_here n r.raws key r.fit f) ((order_of_live m (rows_of r.raws) o).1 v) t in
+    subst P r.same here one few is_live told

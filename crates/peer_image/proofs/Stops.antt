@@ -1,9 +1,10 @@
 -- Bytes have one front of frames that nothing goes on from, so they are one image, or go wrong at one place.
 use Rattle.std.proofs.Common.{◌≡◌, inl, inr, ℕ, ◌<◌, ◌^◌, List, [], ◌∷◌, ◌++◌, length, refl, sym, ap, subst, ◌∙◌, append_assoc, arith}
-use Rattle.std.specs.List.{flat_map, AllByRecursion}
+use Rattle.std.specs.List.{flat_map}
 use Rattle.std.specs.Int.{w32, to_be_bytes}
-use Rattle.std.proofs.lemmas.List.{length-append, length-map}
+use Rattle.std.proofs.lemmas.List.{length-append, length-map, append_cancel_left}
 use Rattle.spelling.specs.Front.{Front, Whole, Part, Wrong}
+use Rattle.spelling.specs.Form.{IsForm}
 use Rattle.spelling.proofs.Joining.{Reads, Reads-then, Reads-is, one_spelling, whole_value}
 use Rattle.spelling.proofs.Exact.{exactly-reads}
 use Rattle.spelling.proofs.Fields.{u32-reads}
@@ -14,10 +15,11 @@ use Rattle.willow_entry.specs.EntryForm.{entry_spelling}
 use Rattle.willow_entry.specs.Frame.{row_frame}
 use Rattle.willow_entry.specs.RowBody.{row_body}
 use Rattle.cap_codec.specs.declared.frame.TheConstants.{MAX_FRAME}
-use Rattle.cap_codec.specs.Rows.{RawValue, IsRaw, row_of, raw_spelling, FitsFrame, frame}
-use Rattle.cap_codec.proofs.Frames.{body_at, frame_again, frame_form}
+use Rattle.cap_codec.specs.Rows.{RawValue, IsRaw, row_of, raw_spelling, frame}
+use Rattle.cap_codec.specs.Streams.{HasNoFrame, AreAllFrames}
+use Rattle.cap_codec.proofs.Frames.{body_at, frame_again, same_frames}
 use Rattle.peer_image.specs.Image.{image, magic, trailer}
-use Rattle.peer_image.specs.ImageReading.{header_at, rows_of, HasNoFrame, HasNoHeader, IsImage, IsFront, StopsAt, IsWrong, AreAllFrames}
+use Rattle.peer_image.specs.ImageReading.{header_at, rows_of, image_spelling, HasNoHeader, FitsImage, IsImage, IsFront, StopsAt, IsWrong, Told}
 
 -- ---- the header
 
@@ -50,29 +52,18 @@ body_some : (r : RawValue) → IsRaw r → [] ≡ raw_spelling r → ⊥
 unfolding entry_spelling
 body_some r f e = behind_key r.entry.namespace _ _ f.entry_fits.namespace.whole e
 
--- nothing
-pub nothing_left : HasNoFrame []
-nothing_left r rest f e = omega (arith, ap length e, length-append (frame r) rest, length-append (to_be_bytes w32 (length (raw_spelling r))) (raw_spelling r))
+zero_body : (rest : List ℕ) → body_at (0 ∷ 0 ∷ 0 ∷ 0 ∷ rest) ≡ Whole [] rest
+zero_body rest = (text-reads MAX_FRAME (omega arith) u32-reads).again [] rest (omega arith, tt)
 
-zero_body : (k : ℕ) → body_at (trailer k) ≡ Whole [] (to_be_bytes w32 k)
-zero_body k = (text-reads MAX_FRAME (omega arith) u32-reads).again [] (to_be_bytes w32 k) (omega arith, tt)
+-- four bytes 00
+pub zeros_left : (rest : List ℕ) → HasNoFrame (0 ∷ 0 ∷ 0 ∷ 0 ∷ rest)
+zeros_left rest r others f e = body_some r f.raw (whole_value [] (raw_spelling r) rest others (sym (zero_body rest) ∙ ap body_at e ∙ frame_again r others f))
 
 -- the end of an image
 pub trailer_left : (k : ℕ) → HasNoFrame (trailer k)
-trailer_left k r rest f e = body_some r f.raw (whole_value [] (raw_spelling r) (to_be_bytes w32 k) rest (sym (zero_body k) ∙ ap body_at e ∙ frame_again r rest f))
+trailer_left k = zeros_left (to_be_bytes w32 k)
 
 -- ---- fronts
-
-same_frames : (rows others : List RawValue) (a b : List ℕ) → AllByRecursion FitsFrame rows → AllByRecursion FitsFrame others → HasNoFrame a → HasNoFrame b
-    → flat_map frame rows ++ a ≡ flat_map frame others ++ b → (rows ≡ others) × (a ≡ b)
-same_frames [] [] a b f g na nb e = (refl, e)
-same_frames [] (s ∷ others) a b f g na nb e = absurd (na s (flat_map frame others ++ b) g.0 (e ∙ append_assoc (frame s) (flat_map frame others) b))
-same_frames (r ∷ rows) [] a b f g na nb e = absurd (nb r (flat_map frame rows ++ a) f.0 (sym e ∙ append_assoc (frame r) (flat_map frame rows) a))
-same_frames (r ∷ rows) (s ∷ others) a b f g na nb e =
-    let both = frame_form r s (flat_map frame rows ++ a) (flat_map frame others ++ b) f.0 g.0
-    (sym (append_assoc (frame r) (flat_map frame rows) a) ∙ e ∙ append_assoc (frame s) (flat_map frame others) b) in
-    let more = same_frames rows others a b f.1 g.1 na nb both.1 in
-    (ap (λ (x : RawValue). x ∷ rows) both.0 ∙ ap (λ (l : List RawValue). s ∷ l) more.0, more.1)
 
 pub record SameFronts (n m : List ℕ) (rows others : List RawValue) (a b : List ℕ) : Type 0 where
   pub namespace : n ≡ m
@@ -115,9 +106,23 @@ front_behind bytes n behind rows left key is all = record { key = key; fit = all
 
 -- ---- the laws
 
-pub record SameImage (n m : List ℕ) (rows others : List RawValue) : Type 0 where
-  pub namespace : n ≡ m
-  pub rows_same : rows ≡ others
+image_in_front : (n : List ℕ) (rows : List RawValue) (a : List ℕ) → image n (rows_of rows) ++ a ≡ (magic ++ n) ++ (flat_map frame rows ++ (trailer (length rows) ++ a))
+image_in_front n rows a =
+    ap (λ (l : List ℕ). l ++ a) (image_is n rows)
+    ∙ append_assoc (magic ++ n) (flat_map frame rows ++ trailer (length rows)) a
+    ∙ ap (λ (l : List ℕ). (magic ++ n) ++ l) (append_assoc (flat_map frame rows) (trailer (length rows)) a)
+
+told_same : (t u : Told) → t.namespace ≡ u.namespace → t.rows ≡ u.rows → t ≡ u
+told_same t u n r = λ i. record { namespace = n i; rows = r i }
+
+-- an image in front tells what it tells, and what stands behind it
+pub image_form : IsForm image_spelling FitsImage
+image_form t u a b f g e =
+    let both = one_spelling header-reads t.namespace u.namespace (flat_map frame t.rows ++ (trailer (length t.rows) ++ a)) (flat_map frame u.rows ++ (trailer (length u.rows) ++ b)) f.key g.key
+    (sym (image_in_front t.namespace t.rows a) ∙ e ∙ image_in_front u.namespace u.rows b) in
+    let same = same_frames t.rows u.rows (trailer (length t.rows) ++ a) (trailer (length u.rows) ++ b) f.fit g.fit
+    (zeros_left (to_be_bytes w32 (length t.rows) ++ a)) (zeros_left (to_be_bytes w32 (length u.rows) ++ b)) both.1 in
+    (told_same t u both.0 same.0, append_cancel_left (trailer (length t.rows)) a b (same.1 ∙ ap (λ (l : List RawValue). trailer (length l) ++ b) (sym same.0)))
 
 pub one_image : (bytes n m : List ℕ) (rows others : List RawValue) → IsImage bytes n rows → IsImage bytes m others → (n ≡ m) × (rows ≡ others)
 one_image bytes n m rows others i j =

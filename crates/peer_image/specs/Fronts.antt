@@ -1,9 +1,12 @@
 -- The rows at the prefixes of a row among those before it, with their numbers.
-use Rattle.std.specs.Prelude.{◌≡◌, ℕ, ◌+◌, List, [], ◌∷◌, Option, Some, None, filter, if◌then◌else◌}
+use Rattle.std.specs.Prelude.{◌≡◌, ℕ, ◌+◌, Bool, ◌&&◌, List, [], ◌∷◌, Option, Some, None, filter, if◌then◌else◌}
 use Rattle.std.specs.List.{AllByRecursion}
 use Rattle.std.specs.declared.cmp.Ordering.TheVariants.{Less}
+use Rattle.willow_path.specs.Path.{is_prefix}
+use Rattle.willow_entry.specs.Entry.{same_bytes}
+use Rattle.willow_entry.specs.Row.{RowValue, is_dominating}
 use Rattle.peer_image.specs.declared.order.Front.{Front}
-use Rattle.willow_entry.specs.Row.{RowValue, is_at_prefix, is_dominating, place_cmp}
+use Rattle.peer_image.specs.Order.{inner_cmp}
 
 -- a row and its number
 pub record Seen : Type 0 where
@@ -19,9 +22,13 @@ unfoldable pub numbered : ℕ → List RowValue → List Seen
 numbered k [] = []
 numbered k (r ∷ rows) = record { at = k; row = r } ∷ numbered (k + 1) rows
 
+-- r stands in the subspace of s, at a prefix of its path, whatever namespaces they are of
+unfoldable pub is_at_inner_prefix : RowValue → RowValue → Bool
+is_at_inner_prefix r s = same_bytes r.entry.subspace s.entry.subspace && is_prefix r.entry.path s.entry.path
+
 -- those that stand at prefixes of r
 abbrev pub fronts_of : RowValue → List Seen → List Seen
-fronts_of r = filter (λ s. is_at_prefix s.row r)
+fronts_of r = filter (λ s. is_at_inner_prefix s.row r)
 
 -- the number of the first that dominates r
 unfoldable pub first_dominating : RowValue → List Seen → Option ℕ
@@ -30,4 +37,4 @@ first_dominating r (s ∷ seen) = if is_dominating s.row r then Some s.at else f
 
 -- for each row above the earlier ones, the kept ones have all that stand at its prefixes
 abbrev pub Suffices : List RowValue → List Seen → Type 0
-Suffices earlier kept = (r : RowValue) → AllByRecursion (λ s. place_cmp s r ≡ Less) earlier → fronts_of r kept ≡ fronts_of r (numbered 1 earlier)
+Suffices earlier kept = (r : RowValue) → AllByRecursion (λ s. inner_cmp s r ≡ Less) earlier → fronts_of r kept ≡ fronts_of r (numbered 1 earlier)

@@ -8,11 +8,12 @@ use Rattle.spelling.specs.declared.ending.End.TheVariants.{Refused, NoMemory}
 use Rattle.willow_path.specs.Key.{IsKey, key_at}
 use Rattle.willow_entry.specs.Row.{RowValue, live}
 use Rattle.cap_codec.specs.Rows.{RawValue, row_of, IsRawRow, FitsFrame, frame}
+use Rattle.cap_codec.specs.Streams.{HasNoFrame}
 use Rattle.peer_image.specs.declared.refusal.ImageRefusal.{ImageRefusal}
 use Rattle.peer_image.specs.declared.refusal.ImageRefusal.TheVariants.{BadImage, NotRising, Pruned}
 use Rattle.peer_image.specs.declared.read.Image.{Image}
 use Rattle.peer_image.specs.Image.{image, magic, trailer, HasFrame}
-use Rattle.peer_image.specs.Order.{order_refusal}
+use Rattle.peer_image.specs.Order.{order_refusal, AreOf}
 
 -- what a store sees of the rows
 abbrev pub rows_of : List RawValue → List RowValue
@@ -36,10 +37,6 @@ pub record IsFront (bytes n : List ℕ) (rows : List RawValue) (left : List ℕ)
   pub key : IsKey n
   pub fit : AllByRecursion FitsFrame rows
   pub parts : bytes ≡ (magic ++ n) ++ (flat_map frame rows ++ left)
-
--- no row's frame stands in front
-abbrev pub HasNoFrame : List ℕ → Type 0
-HasNoFrame left = (r : RawValue) (rest : List ℕ) → FitsFrame r → left ≡ frame r ++ rest → ⊥
 
 -- no text WIM1 with a key behind it stands in front
 abbrev pub HasNoHeader : List ℕ → Type 0
@@ -87,6 +84,21 @@ ReadsRows bytes (Err (Refused (NotRising at))) = ⊥
 ReadsRows bytes (Err (Refused (Pruned at by))) = ⊥
 ReadsRows bytes (Err NoMemory) = Unit {0}
 
+-- what an image tells: a namespace and rows
+pub record Told : Type 0 where
+  pub namespace : List ℕ
+  pub rows : List RawValue
+
+-- a key, and rows that frames may carry, fewer than a count of four bytes can tell
+pub record FitsImage (t : Told) : Type 0 where
+  pub key : IsKey t.namespace
+  pub fit : AllByRecursion FitsFrame t.rows
+  pub count : length t.rows < 2 ^ 32
+
+-- the image that tells it
+abbrev pub image_spelling : Told → List ℕ
+image_spelling t = image t.namespace (rows_of t.rows)
+
 -- bytes are the image of at most one list of rows, of one namespace
 abbrev pub HaveOneImage : Type 0
 HaveOneImage = (bytes n m : List ℕ) (rows others : List RawValue) → IsImage bytes n rows → IsImage bytes m others → (n ≡ m) × (rows ≡ others)
@@ -104,13 +116,8 @@ abbrev pub IsBack : List ℕ → List RowValue → Result Image (End ImageRefusa
 IsBack n rows (Ok found) = (found.namespace ≡ n) × (rows_of found.rows.items ≡ rows)
 IsBack n rows (Err e) = e ≡ NoMemory
 
--- The image of live rows whose tokens can be read, and whose bodies frames may carry, is read back as these.
+-- The image of live rows of one namespace, whose tokens can be read, and whose bodies frames may carry, is read
+-- back as these.
 abbrev pub ReadsBack : Type 0
-ReadsBack = (n : List ℕ) (rows : List RowValue) (result : Result Image (End ImageRefusal)) → IsKey n → AllByRecursion IsRawRow rows → AllByRecursion HasFrame rows
+ReadsBack = (n m : List ℕ) (rows : List RowValue) (result : Result Image (End ImageRefusal)) → IsKey n → AreOf m rows → AllByRecursion IsRawRow rows → AllByRecursion HasFrame rows
     → length rows < 2 ^ 32 → live rows ≡ rows → ReadsImage (image n rows) result → IsBack n rows result
-
--- all frames in front of what is left
-pub record AreAllFrames (bytes : List ℕ) (rows : List RawValue) (left : List ℕ) : Type 0 where
-  pub fit : AllByRecursion FitsFrame rows
-  pub parts : bytes ≡ flat_map frame rows ++ left
-  pub no_frame : HasNoFrame left

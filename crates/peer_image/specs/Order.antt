@@ -1,17 +1,29 @@
--- How the rows of an image are ordered: they rise by place, and none dominates a later one.
-use Rattle.std.specs.Prelude.{◌≡◌, ◌↔◌, ℕ, ◌+◌, List, [], ◌∷◌, ◌++◌, length, Option, Some, None, if◌then◌else◌}
-use Rattle.std.specs.List.{position_from}
-use Rattle.std.specs.Ordering.{is_lt}
+-- How the rows of an image are ordered: they rise by subspace and path, and none dominates a later one.
+use Rattle.std.specs.Prelude.{◌≡◌, ◌↔◌, ℕ, ◌+◌, List, [], ◌∷◌, ◌++◌, length, Contains, Option, Some, None, if◌then◌else◌}
+use Rattle.std.specs.List.{position_from, AllByRecursion}
+use Rattle.std.specs.List.Sorted.{IsStrictlySortedBy}
+use Rattle.std.specs.Ordering.{is_lt, ordering_then}
+use Rattle.std.specs.declared.cmp.Ordering.{Ordering}
 use Rattle.spelling.specs.Answers.{or_else}
-use Rattle.willow_entry.specs.Row.{RowValue, is_dominating, place_cmp, live}
+use Rattle.willow_path.specs.Path.{path_cmp}
+use Rattle.willow_entry.specs.Entry.{bytes_cmp}
+use Rattle.willow_entry.specs.Row.{RowValue, is_dominating, Dominates, live}
 use Rattle.peer_image.specs.declared.refusal.ImageRefusal.{ImageRefusal}
 use Rattle.peer_image.specs.declared.refusal.ImageRefusal.TheVariants.{NotRising, Pruned}
+
+-- by subspace, then by path: the order within a namespace, whatever namespaces the rows are of
+unfoldable pub inner_cmp : RowValue → RowValue → Ordering
+inner_cmp r s = ordering_then (bytes_cmp r.entry.subspace s.entry.subspace) (path_cmp r.entry.path s.entry.path)
+
+-- by strictly rising (subspace, path)
+abbrev pub IsInnerRising : List RowValue → Type 0
+IsInnerRising = IsStrictlySortedBy inner_cmp
 
 -- the first row that does not stand above the row before it; r stands before all of them, and k is the
 -- number of the first of them
 unfoldable pub fall_after : ℕ → RowValue → List RowValue → Option ImageRefusal
 fall_after k r [] = None
-fall_after k r (s ∷ rows) = if is_lt (place_cmp r s) then fall_after (k + 1) s rows else Some (NotRising k)
+fall_after k r (s ∷ rows) = if is_lt (inner_cmp r s) then fall_after (k + 1) s rows else Some (NotRising k)
 
 -- the first row, counted from 1, that does not stand above the row before it
 unfoldable pub first_fall : List RowValue → Option ImageRefusal
@@ -37,6 +49,19 @@ first_pruned = pruned_after []
 abbrev pub order_refusal : List RowValue → Option ImageRefusal
 order_refusal rows = or_else (first_fall rows) (first_pruned rows)
 
--- Rows are in order exactly where they are what a store keeps of them.
+-- the rows rise by subspace and path, and none of them dominates another
+pub record IsInOrder (rows : List RowValue) : Type 0 where
+  pub rising : IsInnerRising rows
+  pub undominated : (r s : RowValue) → Contains rows r → Contains rows s → Dominates r s → ⊥
+
+-- Rows are not refused for their order exactly where they are in order.
+abbrev pub IsOrder : Type 0
+IsOrder = (rows : List RowValue) → (order_refusal rows ≡ None) ↔ IsInOrder rows
+
+-- the rows are of this namespace
+abbrev pub AreOf : List ℕ → List RowValue → Type 0
+AreOf n = AllByRecursion (λ r. r.entry.namespace ≡ n)
+
+-- Rows of one namespace are in order exactly where they are what a store keeps of them.
 abbrev pub IsOrderOfLive : Type 0
-IsOrderOfLive = (rows : List RowValue) → (order_refusal rows ≡ None) ↔ (live rows ≡ rows)
+IsOrderOfLive = (n : List ℕ) (rows : List RowValue) → AreOf n rows → (order_refusal rows ≡ None) ↔ (live rows ≡ rows)

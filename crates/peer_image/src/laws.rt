@@ -1,11 +1,22 @@
 //! What holds of images.
 
-ghost use Rattle.peer_image.specs.Order.{IsOrderOfLive};
-ghost use Rattle.peer_image.specs.ImageReading.{AreNeverBoth, HaveOneImage, HaveOnePlace, ReadsBack};
+ghost use Rattle.peer_image.specs.Order.{IsOrder, IsOrderOfLive};
+ghost use Rattle.peer_image.specs.ImageReading.{image_spelling, AreNeverBoth, FitsImage, HaveOneImage, HaveOnePlace, ReadsBack};
+ghost use Rattle.spelling.specs.Form.{IsForm};
 
-/// Rows are not refused for their order exactly where a store keeps them all, in this order.
+/// Rows are not refused for their order exactly where they rise by subspace and path, and none dominates another.
+pub fn order_decides()
+    ensures { IsOrder }
+{}
+
+/// Rows of one namespace are not refused for their order exactly where a store keeps them all, in this order.
 pub fn order_of_live()
     ensures { IsOrderOfLive }
+{}
+
+/// A namespace with rows has one image, which begins that of no other.
+pub fn one_form()
+    ensures { IsForm image_spelling FitsImage }
 {}
 
 /// Bytes are the image of at most one list of rows, of one namespace.
@@ -23,7 +34,7 @@ pub fn never_both()
     ensures { AreNeverBoth }
 {}
 
-/// The image of live rows is read back as just these.
+/// The image of live rows of one namespace is read back as just these.
 pub fn spells()
     ensures { ReadsBack }
 {}

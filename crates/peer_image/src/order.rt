@@ -1,14 +1,14 @@
-//! The order of an image's rows: they rise by place, and no row dominates a later one.
+//! The order of an image's rows: they rise by subspace and path, and no row dominates a later one.
 
 ghost use Rattle.std.specs.Prelude.{◌≡◌, ◌+◌, ◌<◌, ◌^◌, length, map, IfOk};
-ghost use Rattle.willow_entry.specs.Row.{IsRising, is_at_prefix};
-ghost use Rattle.peer_image.specs.Fronts.{first_dominating, fronts_of, seen};
-ghost use Rattle.peer_image.specs.Order.{fall_after, first_fall, first_pruned, order_refusal};
+ghost use Rattle.peer_image.specs.Fronts.{first_dominating, fronts_of, is_at_inner_prefix, seen};
+ghost use Rattle.peer_image.specs.Order.{fall_after, first_fall, first_pruned, inner_cmp, order_refusal, IsInnerRising};
 
 use crate::refusal::ImageRefusal;
 use spelling::NoMemory;
 use std::alloc::Global;
-use willow_entry::{Row, by_place, dominates};
+use std::cmp::Ordering;
+use willow_entry::{Row, dominates};
 
 // Why the rows are none of a store: they do not rise, or else a row dominates a later one.
 #[tactic(auto, using(crate::proofs::Falls::rising_from_none))]
@@ -23,6 +23,15 @@ pub(crate) fn order_refusal<R: Row>(
         Some(refusal) => Ok(Some(refusal)),
         None => first_pruned(alloc, rows),
     }
+}
+
+// How r and s are ordered by subspace, then by path.
+#[tactic(auto, unfolding(crate::specs::Order::inner_cmp))]
+fn by_inner_place<R: Row>(r: &R, s: &R) -> Ordering
+    ensures { result ≡ inner_cmp (R.value r.now) (R.value s.now) }
+{
+    let (e, f) = (r.entry(), s.entry());
+    e.subspace.cmp(&f.subspace).then(e.path.cmp(&f.path))
 }
 
 // The first row that does not stand above the row before it.
@@ -46,7 +55,7 @@ fn fall_after<R: Row>(first: &R, others: &[R]) -> Option<ImageRefusal>
     let mut at = 1;
     for row in others {
         at += 1;
-        if !by_place(last, row).is_lt() {
+        if !by_inner_place(last, row).is_lt() {
             return Some(ImageRefusal::NotRising { at });
         }
         last = row;
@@ -61,20 +70,20 @@ struct Front<'a, R> {
     row: &'a R,
 }
 
-// Whether r stands in the namespace and subspace of s, at a prefix of its path.
-#[tactic(auto, unfolding(willow_entry::specs::Row::is_at_prefix))]
-fn is_at_prefix<R: Row>(r: &R, s: &R) -> bool
-    ensures { result ≡ is_at_prefix (R.value r.now) (R.value s.now) }
+// Whether r stands in the subspace of s, at a prefix of its path.
+#[tactic(auto, unfolding(crate::specs::Fronts::is_at_inner_prefix))]
+fn is_at_inner_prefix<R: Row>(r: &R, s: &R) -> bool
+    ensures { result ≡ is_at_inner_prefix (R.value r.now) (R.value s.now) }
 {
     let (e, f) = (r.entry(), s.entry());
-    e.namespace == f.namespace && e.subspace == f.subspace && e.path.is_prefix_of(&f.path)
+    e.subspace == f.subspace && e.path.is_prefix_of(&f.path)
 }
 
 // Leaves those that stand at prefixes of the row.
 fn keep_fronts<R: Row>(fronts: &mut Vec<Front<R>>, row: &R)
     ensures { map (seen R.value) fronts.new.items ≡ fronts_of (R.value row.now) (map (seen R.value) fronts.old.items) }
 {
-    fronts.retain(|front| is_at_prefix(front.row, row));
+    fronts.retain(|front| is_at_inner_prefix(front.row, row));
 }
 
 // The number of the first that dominates the row.
@@ -94,11 +103,12 @@ fn dominating<R: Row>(fronts: &[Front<R>], row: &R) -> Option<u32>
     }
 }
 
-// The first row that an earlier one dominates. Such rows stand at prefixes of its path, and as rows rise, what is
-// no prefix of a row is none of a later one: so only the prefixes of the row before are looked at.
+// The first row that an earlier one dominates. Such rows stand at prefixes of its path, and as rows rise by subspace
+// and path, what is at no prefix of a row is at none of a later one: so only the prefixes of the row before are
+// looked at. Rows of other namespaces may stand between, so namespaces do not decide what is kept.
 fn first_pruned<R: Row>(alloc: Global, rows: &[R]) -> Result<Option<ImageRefusal>, NoMemory>
     requires count { length rows.now < 2 ^ 32 }
-    requires rising { IsRising (map R.value rows.now) }
+    requires rising { IsInnerRising (map R.value rows.now) }
     ensures { IfOk result (λ found. found ≡ first_pruned (map R.value rows.now)) }
 {
     let mut fronts = Vec::new(alloc);

@@ -1,19 +1,19 @@
 //! Images as they are read.
 
-ghost use Rattle.std.specs.Prelude.{◌≡◌, ◌<◌, ◌^◌, ◌++◌, ◌≤◌, length, drop, IfOk, MatchBool};
+ghost use Rattle.std.specs.Prelude.{◌≡◌, ◌<◌, ◌^◌, ◌++◌, MatchBool};
 ghost use Rattle.spelling.specs.Reading.{Gives};
 ghost use Rattle.willow_path.specs.Key.{IsKey};
 ghost use Rattle.peer_image.specs.Image.{magic, trailer};
-ghost use Rattle.peer_image.specs.ImageReading.{header_at, AreAllFrames, ReadsImage, ReadsRows};
+ghost use Rattle.peer_image.specs.ImageReading.{header_at, ReadsImage, ReadsRows};
 
 use crate::order::order_refusal;
 use crate::refusal::ImageRefusal;
-use cap_codec::{RawRow, decode_frame};
+use cap_codec::{RawRow, frames_in_front};
 use spelling::{End, Input, NoMemory, Unread};
 use std::alloc::Global;
 use willow_path::{NamespaceKey, read_namespace_key};
 
-/// The rows of an image, by rising place, and the namespace that it is of. Nothing is said of whether the
+/// The rows of an image, by rising subspace and path, and the namespace that it is of. Nothing is said of whether the
 /// rows are of that namespace, or authorised.
 #[derive(Debug, Drop)]
 pub struct Image {
@@ -22,9 +22,9 @@ pub struct Image {
 }
 
 /// The rows of the image that the bytes are: the text WIM1, a namespace key, frames of rows, four bytes 00,
-/// the number of rows in four bytes, and nothing else. The rows rise by place, and none dominates a later one.
-/// Bytes that are no image are refused first, then rows that do not rise, then pruned ones, with the places
-/// that `ImageRefusal` tells.
+/// the number of rows in four bytes, and nothing else. The rows rise by subspace and then by path, and none
+/// dominates a later one. Bytes that are no image are refused first, then rows that do not rise, then pruned ones,
+/// with the places that `ImageRefusal` tells.
 pub fn read_image(alloc: Global, bytes: &[u8]) -> Result<Image, End<ImageRefusal>>
     ensures { ReadsImage bytes.now result }
 {
@@ -79,7 +79,7 @@ fn read_behind(
     requires behind { bytes.now ≡ (magic ++ namespace) ++ behind.now }
     ensures { ReadsRows bytes.now result }
 {
-    match read_frames(alloc, behind) {
+    match frames_in_front(alloc, behind) {
         Ok((rows, left)) => {
             if is_trailer(left, rows.len()) {
                 Ok(Image { namespace, rows })
@@ -90,32 +90,6 @@ fn read_behind(
         }
         Err(NoMemory) => Err(End::NoMemory),
     }
-}
-
-// The rows of all frames in front, and the bytes behind them.
-fn read_frames<'a>(alloc: Global, bytes: &'a [u8]) -> Result<(Vec<RawRow>, &'a [u8]), NoMemory>
-    ensures { IfOk result (λ read. AreAllFrames bytes.now read.0.items read.1.now) }
-{
-    let mut rows = Vec::new(alloc);
-    let mut left = bytes;
-    'frames: while !left.is_empty() {
-        let (row, taken) = match decode_frame(alloc, left) {
-            Ok(read) => read,
-            Err(End::Refused(_)) => return Ok((rows, left)),
-            Err(End::NoMemory) => return Err(NoMemory),
-        };
-        rows.push(row)?;
-        left = behind(left, taken);
-    }
-    Ok((rows, left))
-}
-
-// The bytes behind so many.
-fn behind(bytes: &[u8], taken: usize) -> &[u8]
-    requires { taken ≤ length bytes.now }
-    ensures { result.now ≡ drop taken bytes.now }
-{
-    &bytes[taken..]
 }
 
 // Whether the bytes are the end of an image of so many rows.

@@ -9,7 +9,8 @@ pub enum ImageRefusal {
     /// and a namespace key do not stand in front, else those before a wrong frame or before the final count.
     #[error("the image is wrong from byte {at} on")]
     BadImage { at: u64 },
-    /// The row `at`, counted from 1, is the first that does not stand above the row before it.
+    /// The row `at`, counted from 1, is the first that does not stand above the row before it, by subspace and then
+    /// by path.
     #[error("row {at} of the image does not stand above the row before it")]
     NotRising { at: u32 },
     /// The row `at` is the first that an earlier row dominates, and `by` the first such; both are counted from 1.

@@ -110,9 +110,7 @@ fn tell_longer<O: Sink>(
 {
     let mut longer = capability;
     if longer.chain.len() >= MAX_DELEGATIONS {
-        return Err(Stop::Refused(RowRefusal::Chain(
-            ChainRefusal::TooManyDelegations,
-        )));
+        return Err(Stop::Refused(RowRefusal::Chain(ChainRefusal::TooManyDelegations)));
     }
     longer.chain.push(delegation)?;
     tell(alloc, &longer, output)

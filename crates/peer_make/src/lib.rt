@@ -4,6 +4,7 @@
 
 mod delegating;
 mod granting;
+mod laws;
 mod making;
 mod reading;
 mod signing;
@@ -11,5 +12,9 @@ mod writing;
 
 pub use delegating::delegate;
 pub use granting::grant;
+pub use laws::empty_areas_count_as_growing;
 pub use making::make_key;
 pub use writing::write;
+
+#[cfg(test)]
+mod tests;

@@ -89,12 +89,7 @@ fn user_key_line(alloc: Global, key: &LmsKey) -> Result<Vec<u8>, NoMemory>
 }
 
 // Puts the key's file under the name.
-fn put_file<H: Shelf>(
-    alloc: Global,
-    shelf: &mut H,
-    name: &str,
-    key: &LmsKey,
-) -> Result<(), Stop>
+fn put_file<H: Shelf>(alloc: Global, shelf: &mut H, name: &str, key: &LmsKey) -> Result<(), Stop>
     ensures puts { PutsFile name.now key.now (H.facts shelf.old) (H.facts shelf.new) result }
     ensures read_faults { (H.facts shelf.new).read_faults ≡ (H.facts shelf.old).read_faults }
     ensures write_faults { (H.facts shelf.old).write_faults ≤ (H.facts shelf.new).write_faults }

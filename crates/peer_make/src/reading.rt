@@ -26,7 +26,11 @@ fn parse(alloc: Global, bytes: &[u8]) -> Result<Capability, Stop>
 {
     match decode_capability(alloc, bytes) {
         Ok((capability, taken)) => {
-            if taken == bytes.len() { Ok(capability) } else { Err(unfit()) }
+            if taken == bytes.len() {
+                Ok(capability)
+            } else {
+                Err(unfit())
+            }
         }
         Err(End::Refused(_)) => Err(unfit()),
         Err(End::NoMemory) => Err(Stop::NoMemory),

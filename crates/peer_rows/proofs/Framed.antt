@@ -1,5 +1,5 @@
 -- The rows that a stream's log holds have frames.
-use Rattle.std.proofs.Common.{◌≡◌, ℕ, Bool, true, false, cond, List, [], ◌∷◌, filter, map, refl, sym, subst, inl, inr}
+use Rattle.std.proofs.Common.{ℕ, Bool, true, false, cond, List, [], ◌∷◌, filter, map, refl, subst, inl, inr}
 use Rattle.std.specs.List.{AllByRecursion}
 use Rattle.willow_entry.specs.Row.{RowValue, is_dominating, place_cmp, live}
 use Rattle.willow_entry.proofs.RowLaws.{rows_prune}

@@ -1,16 +1,14 @@
 -- From the log of a stream to its image and numbers.
-use Rattle.std.proofs.Common.{◌≡◌, ℕ, ◌+◌, ◌-◌, ◌≤◌, List, length, [], sym, ap, ◌∙◌, subst, arith}
+use Rattle.std.proofs.Common.{◌≡◌, ℕ, List, sym, ap, ◌∙◌, subst}
 use Rattle.std.specs.List.{AllByRecursion}
-use Rattle.willow_entry.specs.Row.{is_covering, live, new}
+use Rattle.willow_entry.specs.Row.{live}
 use Rattle.cap_codec.specs.Rows.{RawValue, AreFrames}
 use Rattle.auth_entry.specs.Authorised.{AuthorisedValue}
 use Rattle.peer_image.specs.Image.{image, HasFrame}
-use Rattle.peer_stage.specs.declared.outcome.JoinCounts.{JoinCounts}
 use Rattle.peer_rows.specs.declared.log.Log.{Log}
-use Rattle.peer_rows.specs.Logged.{accepted, rows_of, IsLogOf}
+use Rattle.peer_rows.specs.Logged.{accepted, rows_of}
 use Rattle.peer_rows.specs.Stored.{IsWholeLog}
-use Rattle.peer_rows.specs.Join.{joined, IsJoinOf}
-use Rattle.peer_rows.proofs.NewRows.{new_after-fewer}
+use Rattle.peer_rows.specs.Join.{IsJoinOf}
 use Rattle.peer_rows.proofs.Framed.{live_framed}
 
 -- what a snapshot of the log shows

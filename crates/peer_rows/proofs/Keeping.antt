@@ -1,5 +1,5 @@
 -- What a covered row leaves of the entries that are held.
-use Rattle.std.proofs.Common.{◌≡◌, ℕ, List, [], ◌∷◌, ◌++◌, length, map, sym, ap, ◌∙◌}
+use Rattle.std.proofs.Common.{◌≡◌, List, [], ◌∷◌, ◌++◌, length, sym, ap, ◌∙◌}
 use Rattle.std.proofs.lemmas.List.{length-map}
 use Rattle.willow_entry.specs.Row.{RowValue, live, HasCovering}
 use Rattle.willow_entry.proofs.Live.{live-covered}

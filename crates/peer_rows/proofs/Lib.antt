@@ -5,3 +5,5 @@ pub mod Streams
 pub mod Keeping
 pub mod Framed
 pub mod Joined
+pub mod Listed
+pub mod Generated

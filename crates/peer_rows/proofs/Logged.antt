@@ -1,30 +1,29 @@
 -- How a log goes on by one row.
-use Rattle.std.proofs.Common.{◌≡◌, ℕ, ◌+◌, ◌≤◌, Bool, true, false, cond, not, List, [], ◌∷◌, ◌++◌, length, map, filter, get_or, Option, Some, None, is_some, option_map, refl, sym, ap, ◌∙◌, subst, append_assoc, arith, inl, inr, length-append}
+use Rattle.std.proofs.Common.{◌≡◌, ℕ, ◌+◌, Bool, true, false, cond, not, List, [], ◌∷◌, ◌++◌, length, map, filter, Option, Some, None, is_some, option_map, refl, sym, ap, ◌∙◌, subst, arith, inl, inr, length-append}
 use Rattle.std.specs.List.{list_any}
-use Rattle.std.specs.Prelude.{Contains}
 use Rattle.std.proofs.lemmas.List.{append-nil, map-append}
 use Rattle.std.proofs.lemmas.List.Elements.{filter-append}
-use Rattle.willow_entry.specs.Row.{RowValue, is_dominating, place_cmp, live, new, is_covering, HasCovering, IsCoveringAt}
+use Rattle.willow_entry.specs.Row.{RowValue, is_dominating, place_cmp, live, new, is_covering, HasCovering}
 use Rattle.willow_entry.proofs.RowLaws.{covering_means, covered_from_covering, covering_from_covered, rows_prune}
 use Rattle.willow_entry.proofs.Members.{Member, member_from_contains, contains_from_member, true_of_any, any_false}
 use Rattle.willow_entry.proofs.Pruning.{IsCovered, covers_all_chain, covers_pruned, pruned_covers}
-use Rattle.willow_entry.proofs.Live.{live_early_left, live-covered}
+use Rattle.willow_entry.proofs.Live.{live_early_left}
 use Rattle.lms_core.specs.Use.{peer_rules}
 use Rattle.cap_codec.specs.Rows.{RawValue, row_of}
-use Rattle.auth_entry.specs.Authorised.{row_refusal, is_authorised, authorised}
+use Rattle.auth_entry.specs.Authorised.{row_refusal, is_authorised}
 use Rattle.mc_cap.specs.declared.refusal.RowRefusal.{RowRefusal}
-use Rattle.spelling.specs.Answers.{or_else, first_some}
+use Rattle.spelling.specs.Answers.{or_else}
 use Rattle.peer_stage.specs.declared.outcome.JoinCounts.{JoinCounts}
 use Rattle.peer_stage.specs.declared.outcome.RefusedRow.{RefusedRow}
-use Rattle.peer_rows.specs.Logged.{accepted, numbered_refusal, first_refused, AreCounts, IsLogOf, with_refused, with_kept, with_stored}
+use Rattle.peer_rows.specs.Logged.{accepted, numbered_refusal, first_refused, IsLogOf, with_refused, with_kept, with_stored}
 use Rattle.peer_rows.proofs.Firsts.{first_some-snoc, or_else-none}
 use Rattle.peer_rows.proofs.NewRows.{unless, new_after-snoc}
 
-authorised_none : (n : List ℕ) (r : RawValue) → row_refusal peer_rules n r ≡ None → is_authorised peer_rules n r ≡ true
+pub authorised_none : (n : List ℕ) (r : RawValue) → row_refusal peer_rules n r ≡ None → is_authorised peer_rules n r ≡ true
 unfolding is_authorised
 authorised_none n r e = ap (λ (o : Option RowRefusal). not (is_some o)) e
 
-authorised_some : (n : List ℕ) (r : RawValue) (x : RowRefusal) → row_refusal peer_rules n r ≡ Some x → is_authorised peer_rules n r ≡ false
+pub authorised_some : (n : List ℕ) (r : RawValue) (x : RowRefusal) → row_refusal peer_rules n r ≡ Some x → is_authorised peer_rules n r ≡ false
 unfolding is_authorised
 authorised_some n r x e = ap (λ (o : Option RowRefusal). not (is_some o)) e
 
@@ -73,13 +72,13 @@ covering_to_live rows s h =
     only x c z (inr m) = absurd m
 
 -- a refusal with its row's number
-abbrev number : ℕ → RowRefusal → RefusedRow
+abbrev pub number : ℕ → RowRefusal → RefusedRow
 number k x = record { row = k; refusal = x }
 
 -- ---- one more row
 
 -- the first refused row goes on by one row
-first-more : (n : List ℕ) (seen : List RawValue) (r : RawValue) (o : Option RowRefusal) (k : ℕ) → k ≡ length seen → row_refusal peer_rules n r ≡ o
+pub first-more : (n : List ℕ) (seen : List RawValue) (r : RawValue) (o : Option RowRefusal) (k : ℕ) → k ≡ length seen → row_refusal peer_rules n r ≡ o
     → first_refused n (seen ++ r ∷ []) ≡ or_else (first_refused n seen) (option_map (λ (x : RowRefusal). number (k + 1) x) o)
 first-more n seen r o k is e =
     let at : k + 1 ≡ 1 + length seen = omega arith in
@@ -87,7 +86,7 @@ first-more n seen r o k is e =
     ∙ ap (λ (q : Option RowRefusal). or_else (first_refused n seen) (option_map (λ (x : RowRefusal). number (1 + length seen) x) q)) e
     ∙ ap (λ (m : ℕ). or_else (first_refused n seen) (option_map (λ (x : RowRefusal). number m x) o)) (sym at)
 
-first-same : (n : List ℕ) (seen : List RawValue) (r : RawValue) → row_refusal peer_rules n r ≡ None → first_refused n (seen ++ r ∷ []) ≡ first_refused n seen
+pub first-same : (n : List ℕ) (seen : List RawValue) (r : RawValue) → row_refusal peer_rules n r ≡ None → first_refused n (seen ++ r ∷ []) ≡ first_refused n seen
 first-same n seen r e = first-more n seen r None (length seen) refl e ∙ or_else-none (first_refused n seen)
 
 pub IsLogOf-refused : (n : List ℕ) (seen : List RawValue) (held : List RowValue) (counts : JoinCounts) (r : RawValue) (x : RowRefusal)

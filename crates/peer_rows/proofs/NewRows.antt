@@ -1,11 +1,8 @@
 -- How what is new along a list goes on by one item.
-use Rattle.std.proofs.Common.{◌≡◌, ℕ, suc, Bool, true, false, cond, List, [], ◌∷◌, ◌++◌, length, ◌≤◌, refl, sym, ap, ◌∙◌, append_assoc, arith}
+use Rattle.std.proofs.Common.{◌≡◌, suc, Bool, true, false, cond, List, [], ◌∷◌, ◌++◌, length, ◌≤◌, sym, ap, ◌∙◌, append_assoc, arith}
 use Rattle.std.specs.List.{list_any}
-use Rattle.std.specs.Prelude.{Contains}
 use Rattle.std.proofs.lemmas.List.{append-nil}
 use Rattle.willow_entry.specs.Pruning.{new_after}
-use Rattle.willow_entry.specs.Row.{RowValue, is_covering, new, HasCovering}
-use Rattle.willow_entry.proofs.RowLaws.{covering_means}
 
 -- the item, where nothing covers it
 abbrev pub unless : {X : Type 0} → Bool → X → List X

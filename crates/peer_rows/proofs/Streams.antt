@@ -1,12 +1,12 @@
 -- A stream of rows that is used up from its front, while a log takes them in.
-use Rattle.std.proofs.Common.{◌≡◌, ℕ, ◌+◌, ◌≤◌, ◌<◌, List, [], ◌∷◌, ◌++◌, length, map, filter, refl, sym, ap, ◌∙◌, subst, append_assoc, arith, reverse, length-append}
+use Rattle.std.proofs.Common.{◌≡◌, ℕ, ◌+◌, ◌≤◌, List, [], ◌∷◌, ◌++◌, length, map, filter, refl, sym, ap, ◌∙◌, subst, append_assoc, arith, reverse, length-append}
 use Rattle.std.proofs.lemmas.List.{append-nil, map-append, reverse-append, reverse-reverse}
 use Rattle.std.proofs.lemmas.List.Elements.{filter-append}
 use Rattle.lms_core.specs.Use.{peer_rules}
 use Rattle.auth_entry.specs.Authorised.{is_authorised}
 use Rattle.willow_entry.specs.Pruning.{pruned, new_after}
 use Rattle.cap_codec.specs.Rows.{RawValue, row_of}
-use Rattle.willow_entry.specs.Row.{new, is_covering}
+use Rattle.willow_entry.specs.Row.{is_covering}
 use Rattle.peer_rows.proofs.NewRows.{new_after-longer}
 use Rattle.spelling.specs.Answers.{first_some}
 use Rattle.peer_rows.specs.Logged.{accepted, rows_of, AreCounts, IsLogOf, PassesLog}

@@ -1,5 +1,5 @@
 -- What `join` does: the image of the live rows among the authorised rows of the input.
-use Rattle.std.specs.Prelude.{◌≡◌, ℕ, ◌+◌, ◌⊎◌, List, length, Result, Ok, Err}
+use Rattle.std.specs.Prelude.{◌≡◌, ℕ, ◌⊎◌, List, Result, Ok, Err}
 use Rattle.std.specs.Global.{Vec}
 use Rattle.std.specs.Io.KnownBytes.{Consumes}
 use Rattle.willow_outside.specs.Counts.{Rose}

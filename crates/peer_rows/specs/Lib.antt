@@ -1,3 +1,6 @@
 pub mod Logged
 pub mod Stored
 pub mod Join
+pub mod Show
+pub mod Listed
+pub mod Generate

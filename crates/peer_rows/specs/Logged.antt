@@ -55,7 +55,7 @@ abbrev pub with_refused : RowRefusal → JoinCounts → JoinCounts
 with_refused refusal counts = record counts {
   rows = counts.rows + 1;
   refused = counts.refused + 1;
-  first = or_else counts.first (Some (record { row = counts.rows + 1; refusal = refusal }))
+  first = or_else counts.first (Some (record { row = counts.rows + 1; refusal = refusal }));
 }
 
 -- ---- the log

@@ -1,9 +1,17 @@
-//! The commands over rows: `join` makes the image of what is live of a stream of rows.
+//! The commands over rows: `join` makes the image of what is live of a stream of rows, `show` lists what is
+//! authorised of an image, and `generate` makes a stream of rows.
 //! The contract of each says, for each end, what was read and written and why it came.
 #![tactic(auto)]
 
+mod generating;
 mod joining;
 mod log;
+mod showing;
 
+pub use generating::generate;
 pub use joining::join;
 pub use log::LOG_LIMIT;
+pub use showing::show;
+
+#[cfg(test)]
+mod tests;

@@ -114,7 +114,7 @@ impl Log {
 }
 
 // The first of two, where there is one before.
-fn first_of(first: Option<RefusedRow>, next: RefusedRow) -> Option<RefusedRow>
+pub(crate) fn first_of(first: Option<RefusedRow>, next: RefusedRow) -> Option<RefusedRow>
     ensures { result ≡ or_else first (Some next) }
 {
     match first {

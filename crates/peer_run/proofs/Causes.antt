@@ -15,17 +15,12 @@ use Rattle.peer_words.specs.declared.command.Command.TheVariants as cmd
 use Rattle.peer_run.specs.Meets.{Meets}
 use Rattle.peer_run.specs.Runs.{Runs, RunsWords}
 use Rattle.peer_run.specs.Statuses.{HasEnded, HasStopped, HasReadFault, HasWriteFault, IsNoRun, IsBadStop, IsLogFull, IsKeySpent, IsUnbuiltCommand}
-use Rattle.peer_run.proofs.Ends.{own_status, is_end, StopsSo, IsUsage, IsReadFault, IsWriteFault, usage_end, read_end, write_end, bad_end, full_end, spent_end, known}
+use Rattle.peer_run.proofs.Ends.{own_status, after_is, memory_end, is_end, StopsSo, IsUsage, IsReadFault, IsWriteFault, usage_end, read_end, write_end, bad_end, full_end, spent_end, known}
 use Rattle.peer_run.proofs.Faults as faults
 
 -- of a run without a command the status is 2, 4 or 7
 no_command : (r r' : SinkFacts) (s : ℕ) → Reports r r' (Err stop.Usage) s → s ≢ 4 → s ≢ 7 → s ≡ 2
 no_command r r' s reports other memory = own_status r r' (Err stop.Usage) s reports other memory
-
-unread : (r r' : SinkFacts) (s : ℕ) → Reports r r' (Err stop.NoMemory) s → s ≢ 4 → s ≡ 7
-unread r r' s (inl told) other = told.status_is
-unread r r' s (inr (inl fault)) other = own_status r r' (Err stop.NoMemory) s (inr (inl fault)) other (λ memory. other (omega (arith, fault.status_is, memory)))
-unread r r' s (inr (inr none)) other = none.status_is
 
 -- ---- 0 and 1
 
@@ -33,7 +28,7 @@ pub ended : (words : List (List ℕ)) (old new : World) (r r' : SinkFacts) (s : 
 ended words old new r r' s (inr (inl misused)) small =
     let two = no_command r r' s misused.reports (λ e. omega (arith, e, small)) (λ e. omega (arith, e, small)) in absurd (omega (arith, two, small))
 ended words old new r r' s (inr (inr none)) small =
-    let seven = unread r r' s none.reports (λ e. omega (arith, e, small)) in absurd (omega (arith, seven, small))
+    absurd (omega (arith, memory_end r r' s none.reports, small))
 ended words old new r r' s (inl runs) small = go runs.reports where
   is : s ≡ status_of runs.end
   is = own_status r r' runs.end s runs.reports (λ e. omega (arith, e, small)) (λ e. omega (arith, e, small))
@@ -47,7 +42,7 @@ ended words old new r r' s (inl runs) small = go runs.reports where
     reported = told.written;
     status_is = is;
   }
-  go (inr (inl fault)) = absurd (omega (arith, fault.status_is, is, small))
+  go (inr (inl fault)) = elim (after_is s (status_of runs.end) fault.status_is) [ inl four ↦ absurd (omega (arith, four, small)) | inr large ↦ absurd (omega (arith, large.0, large.1, small)) ]
   go (inr (inr none)) = absurd (omega (arith, none.status_is, small))
 
 -- ---- the stops
@@ -56,7 +51,7 @@ ended words old new r r' s (inl runs) small = go runs.reports where
 stopped : (IsOne : Stop → Type 0) (k : ℕ) → ((end : Result Done Stop) → status_of end ≡ k → StopsSo IsOne end) → k ≢ 2 → k ≢ 4 → k ≢ 7
     → (words : List (List ℕ)) (old new : World) (r r' : SinkFacts) → RunsWords words old new r r' k → HasStopped IsOne words old new
 stopped IsOne k each two four seven words old new r r' (inr (inl misused)) = absurd (two (no_command r r' k misused.reports four seven))
-stopped IsOne k each two four seven words old new r r' (inr (inr none)) = absurd (seven (unread r r' k none.reports four))
+stopped IsOne k each two four seven words old new r r' (inr (inr none)) = absurd (seven (memory_end r r' k none.reports))
 stopped IsOne k each two four seven words old new r r' (inl runs) = go runs.end runs.meets (each runs.end (sym (own_status r r' runs.end k runs.reports four seven))) where
   go : (end : Result Done Stop) → Meets runs.command old new end → StopsSo IsOne end → HasStopped IsOne words old new
   go (Ok d) meets is = absurd is
@@ -95,7 +90,7 @@ unbuilt (cmd.Watch image area) old new meets = (tt, meets)
 pub usage : (words : List (List ℕ)) (old new : World) (r r' : SinkFacts) (s : ℕ) → RunsWords words old new r r' s → s ≡ 2 → IsNoRun words × (new ≡ old)
 usage words old new r r' s (inr (inl misused)) is = (inl misused.no_command, misused.same)
 usage words old new r r' s (inr (inr none)) is =
-    let seven = unread r r' s none.reports (λ e. omega (arith, e, is)) in absurd (omega (arith, seven, is))
+    absurd (omega (arith, memory_end r r' s none.reports, is))
 usage words old new r r' s (inl runs) is = go runs.end runs.meets (usage_end runs.end (sym (own_status r r' runs.end s runs.reports (λ e. omega (arith, e, is)) (λ e. omega (arith, e, is))) ∙ is)) where
   go : (end : Result Done Stop) → Meets runs.command old new end → StopsSo IsUsage end → IsNoRun words × (new ≡ old)
   go (Err stop.Usage) meets stops = let both = unbuilt runs.command old new meets in (inr (runs.command, runs.is_words, both.0), both.1)
@@ -104,7 +99,7 @@ usage words old new r r' s (inl runs) is = go runs.end runs.meets (usage_end run
 pub is_command : (words : List (List ℕ)) (old new : World) (r r' : SinkFacts) (s : ℕ) → RunsWords words old new r r' s → s ≢ 2 → s ≢ 4 → s ≢ 7 → (command : Command) × IsWords words command
 is_command words old new r r' s (inl runs) two four seven = (runs.command, runs.is_words)
 is_command words old new r r' s (inr (inl misused)) two four seven = absurd (two (no_command r r' s misused.reports four seven))
-is_command words old new r r' s (inr (inr none)) two four seven = absurd (seven (unread r r' s none.reports four))
+is_command words old new r r' s (inr (inr none)) two four seven = absurd (seven (memory_end r r' s none.reports))
 
 -- ---- 3 and 4
 
@@ -142,11 +137,10 @@ pub statuses : (words : List (List ℕ)) (old new : World) (r r' : SinkFacts) (s
 statuses words old new r r' s runs = go runs where
   of_end : (end : Result Done Stop) → Reports r r' end s → (s ≤ 5) ⊎ ((7 ≤ s) × (s ≤ 9))
   of_end end (inl told) = subst (λ (k : ℕ). (k ≤ 5) ⊎ ((7 ≤ k) × (k ≤ 9))) (sym told.status_is) (known end)
-  of_end end (inr (inl fault)) = after (status_of end) fault.status_is (known end)
-    where
-      after : (t : ℕ) → s ≡ after_report_fault t → (t ≤ 5) ⊎ ((7 ≤ t) × (t ≤ 9)) → (s ≤ 5) ⊎ ((7 ≤ s) × (s ≤ 9))
-      after t e (inl small) = inl (grind (arith, e, small))
-      after t e (inr large) = inr (grind (arith, e, large.0, large.1), grind (arith, e, large.0, large.1))
+  of_end end (inr (inl fault)) = elim (after_is s (status_of end) fault.status_is) [
+    | inl four ↦ inl (omega (arith, four))
+    | inr same ↦ subst (λ (k : ℕ). (k ≤ 5) ⊎ ((7 ≤ k) × (k ≤ 9))) (sym same.0) (known end)
+  ]
   of_end end (inr (inr none)) = inr (omega (arith, none.status_is), omega (arith, none.status_is))
   go : RunsWords words old new r r' s → (s ≤ 5) ⊎ ((7 ≤ s) × (s ≤ 9))
   go (inl r1) = of_end r1.end r1.reports

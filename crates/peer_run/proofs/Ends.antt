@@ -22,37 +22,44 @@ refused_small refused = small (eqb refused 0) where
   small false = omega arith
 
 pub refused_none : (refused : ℕ) → refused_status refused ≡ 0 → refused ≡ 0
-refused_none refused e = eqb-true _ _ (test (eqb refused 0) e) where
-  test : (b : Bool) → cond b 0 1 ≡ 0 → b ≡ true
-  test true h = refl
-  test false h = absurd (omega (arith, h))
+refused_none refused e = eqb-true _ _ (test (eqb refused 0) 0 (sym e) refl) where
+  test : (b : Bool) (s : ℕ) → s ≡ cond b 0 1 → s ≡ 0 → b ≡ true
+  test true s h zero_is = refl
+  test false s h zero_is = absurd (omega (arith, h, zero_is))
 
 pub refused_some : (refused : ℕ) → refused_status refused ≡ 1 → 0 < refused
-refused_some refused e = above (eqb refused 0) refl e where
-  above : (b : Bool) → eqb refused 0 ≡ b → cond b 0 1 ≡ 1 → 0 < refused
-  above true t h = absurd (omega (arith, h))
-  above false t h = grind (arith, nat_tests)
+refused_some refused e = above (eqb refused 0) 1 refl (sym e) refl where
+  above : (b : Bool) (s : ℕ) → eqb refused 0 ≡ b → s ≡ cond b 0 1 → s ≡ 1 → 0 < refused
+  above true s t h one_is = absurd (omega (arith, h, one_is))
+  above false s t h one_is = grind (arith, nat_tests)
 
 -- ---- what a status tells of the end
 
-after_same : (s t : ℕ) → s ≡ after_report_fault t → s ≢ 4 → s ≡ t
-after_same s t e other = same (nat_le t 1) e where
-  same : (b : Bool) → s ≡ cond b 4 t → s ≡ t
-  same true h = absurd (other h)
-  same false h = h
+-- after a fault of the report the status is 4 or as it was, and 4 where it was small
+pub after_is : (s t : ℕ) → s ≡ after_report_fault t → (s ≡ 4) ⊎ ((s ≡ t) × (1 < t))
+after_is s t e = cases (nat_le t 1) refl e where
+  cases : (b : Bool) → nat_le t 1 ≡ b → s ≡ cond b 4 t → (s ≡ 4) ⊎ ((s ≡ t) × (1 < t))
+  cases true test h = inl h
+  cases false test h = inr (h, grind (arith, nat_tests))
 
 -- but for 4 and 7 the status is that of the end
 pub own_status : (r r' : SinkFacts) (end : Result Done Stop) (s : ℕ) → Reports r r' end s → s ≢ 4 → s ≢ 7 → s ≡ status_of end
 own_status r r' end s (inl told) other memory = told.status_is
-own_status r r' end s (inr (inl fault)) other memory = after_same s (status_of end) fault.status_is other
+own_status r r' end s (inr (inl fault)) other memory = elim (after_is s (status_of end) fault.status_is) [ inl four ↦ absurd (other four) | inr same ↦ same.0 ]
 own_status r r' end s (inr (inr none)) other memory = absurd (memory none.status_is)
+
+-- without memory the status is 7
+pub memory_end : (r r' : SinkFacts) (s : ℕ) → Reports r r' (Err stop.NoMemory) s → s ≡ 7
+memory_end r r' s (inl told) = told.status_is
+memory_end r r' s (inr (inl fault)) = fault.status_is
+memory_end r r' s (inr (inr none)) = none.status_is
 
 -- an end of which this holds, and not that anything is done
 abbrev pub StopsSo : (Stop → Type 0) → Result Done Stop → Type 0
 StopsSo P (Ok d) = ⊥
 StopsSo P (Err e) = P e
 
-done_small : (d : Done) → status_of (Ok d) ≤ 1
+pub done_small : (d : Done) → status_of (Ok d) ≤ 1
 done_small (done.Joined counts) = refused_small counts.refused
 done_small (done.Shown counts) = refused_small counts.refused
 done_small done.Made = omega arith

@@ -56,19 +56,19 @@ write_fault (cmd.Key name height) old new r r' meets = elim meets.0 [
 ]
 write_fault (cmd.Grant n mode user None) old new r r' meets = elim meets.0 [
   | inl signer ↦ absurd signer.0
-  | inr output ↦ inr (inl output.1.2)
+  | inr output ↦ inr (inl output.3)
 ]
 write_fault (cmd.Grant n mode user (Some key)) old new r r' meets = elim meets.0 [
   | inl signer ↦ inl (signing_write key old.shelf new.shelf signer.0)
-  | inr output ↦ inr (inl output.1.2)
+  | inr output ↦ inr (inl output.3)
 ]
 write_fault (cmd.Delegate key to area) old new r r' meets = elim meets.0 [
   | inl signer ↦ inl (signing_write key old.shelf new.shelf signer.0.1)
-  | inr output ↦ inr (inl output.1.2)
+  | inr output ↦ inr (inl output.3)
 ]
 write_fault (cmd.Write key path time payload_length digest subspace) old new r r' meets = elim meets.0 [
   | inl signer ↦ inl (signing_write key old.shelf new.shelf signer.0.1)
-  | inr output ↦ inr (inl output.1.2)
+  | inr output ↦ inr (inl output.3)
 ]
 write_fault (cmd.Gen rows) old new r r' meets = inr (inl meets.0.1)
 write_fault (cmd.Show (Some newest)) old new r r' meets = absurd meets

@@ -1,4 +1,5 @@
 pub mod Ends
 pub mod Faults
 pub mod Causes
+pub mod OneJoin
 pub mod Complete

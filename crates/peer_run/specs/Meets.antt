@@ -1,5 +1,5 @@
 -- What each command does to the world, by its end.
-use Rattle.std.specs.Prelude.{◌≡◌, Some, None, Result, Err}
+use Rattle.std.specs.Prelude.{◌≡◌, ℕ, Option, Some, None, Result, Err}
 use Rattle.willow_outside.specs.Facts.{ShelfFacts, SourceFacts, SinkFacts, DoorFacts, NoiseFacts}
 use Rattle.peer_stage.specs.World.{World}
 use Rattle.peer_stage.specs.declared.outcome.Done.{Done}
@@ -24,16 +24,20 @@ abbrev pub IsUnbuilt : World → World → Result Done Stop → Type 0
 IsUnbuilt old new (Err stop.Usage) = new ≡ old
 IsUnbuilt old new end = ⊥
 
+-- all rows are listed; a listing of the newest is not built yet
+abbrev pub MeetsShow : Option ℕ → World → World → Result Done Stop → Type 0
+MeetsShow None old new end = ShowMeets old.input new.input old.output new.output end × (new ≡ record old { input = new.input; output = new.output })
+MeetsShow (Some newest) old new end = IsUnbuilt old new end
+
 -- One line a command. An object that a command does not call is as it was.
 abbrev pub Meets : Command → World → World → Result Done Stop → Type 0
 Meets (cmd.Join n) old new end = JoinMeets n old.input new.input old.output new.output end × (new ≡ record old { input = new.input; output = new.output })
-Meets (cmd.Show None) old new end = ShowMeets old.input new.input old.output new.output end × (new ≡ record old { input = new.input; output = new.output })
+Meets (cmd.Show newest) old new end = MeetsShow newest old new end
 Meets (cmd.Key name height) old new end = KeyMeets name height old.shelf new.shelf old.noise new.noise old.output new.output end × (new ≡ record old { shelf = new.shelf; noise = new.noise; output = new.output })
 Meets (cmd.Grant n mode user key) old new end = GrantMeets n mode user key old.shelf new.shelf old.output new.output end × (new ≡ record old { shelf = new.shelf; output = new.output })
 Meets (cmd.Delegate key to area) old new end = DelegateMeets key to area old.shelf new.shelf old.input new.input old.output new.output end × (new ≡ record old { shelf = new.shelf; input = new.input; output = new.output })
 Meets (cmd.Write key path time payload_length digest subspace) old new end = WriteMeets key (record { path = path; time = time; payload_length = payload_length; digest = digest; subspace = subspace }) old.shelf new.shelf old.input new.input old.output new.output end × (new ≡ record old { shelf = new.shelf; input = new.input; output = new.output })
 Meets (cmd.Gen rows) old new end = GenMeets rows old.output new.output end × (new ≡ record old { output = new.output })
-Meets (cmd.Show (Some newest)) old new end = IsUnbuilt old new end
 Meets (cmd.Drill rows) old new end = IsUnbuilt old new end
 Meets (cmd.Meet a b c d e f area) old new end = IsUnbuilt old new end
 Meets (cmd.Sync image cap key to area) old new end = IsUnbuilt old new end

@@ -1,5 +1,5 @@
 -- What each status says of a run: the causes, told of the words and the objects alone.
-use Rattle.std.specs.Prelude.{◌≡◌, ◌≢◌, ℕ, ◌<◌, ◌≤◌, ◌⊎◌, List, Option, Some, None, Result, Ok, Err}
+use Rattle.std.specs.Prelude.{◌≡◌, ℕ, ◌<◌, ◌≤◌, ◌⊎◌, List, ◌++◌, length, Option, Some, None, Result, Ok, Err}
 use Rattle.willow_outside.specs.Counts.{Rose}
 use Rattle.willow_outside.specs.Facts.{SinkFacts}
 use Rattle.cap_codec.specs.Rows.{RawValue, AreFrames}
@@ -18,7 +18,6 @@ use Rattle.peer_words.specs.Commands.{IsWords, IsNoCommand}
 use Rattle.peer_words.specs.declared.command.Command.{Command}
 use Rattle.peer_words.specs.declared.command.Command.TheVariants as cmd
 use Rattle.peer_run.specs.Meets.{Meets}
-use Rattle.std.specs.Prelude.{length}
 
 -- ---- 0 and 1
 

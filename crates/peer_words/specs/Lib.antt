@@ -1,1 +1,7 @@
+pub mod Words
+pub mod Options
+pub mod Verbs
+pub mod Values
 pub mod Signers
+pub mod Areas
+pub mod Commands

@@ -4,6 +4,10 @@ use lms_core::Height;
 use mc_cap::Mode;
 use willow_path::{Digest, NamespaceKey, Path, UserKey};
 
+/// The words are no command.
+#[derive(Clone, Copy, Debug, PartialEq, Eq)]
+pub struct Usage;
+
 /// Who signs: an open key, or the next index of a key file.
 #[derive(Debug, Drop)]
 pub enum SignerWord {

@@ -2,6 +2,16 @@
 //! The contract: the command answered is the one that the words spell, and `Usage` comes exactly where they spell none.
 #![tactic(auto)]
 
+mod area;
 mod command;
+mod options;
+mod name;
+mod number;
+mod path;
+mod read;
+mod signer;
+mod verb;
+mod word;
 
-pub use command::{AreaWords, Command, SignerWord};
+pub use command::{AreaWords, Command, SignerWord, Usage};
+pub use read::read_words;

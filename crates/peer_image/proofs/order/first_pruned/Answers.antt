@@ -1,10 +1,10 @@
 use Rattle.std.proofs.Common.{◌≡◌, ◌+◌, [], ◌∷◌, ◌++◌, map, length, take, drop, Some, None, refl, sym, ap, subst, ◌∙◌, arith}
 use Rattle.std.specs.List.{position_from}
 use Rattle.std.proofs.lemmas.List.{length-map, drop_all, length-take-le, map-append}
-use Rattle.willow_entry.specs.Row.{IsRising, is_dominating}
+use Rattle.willow_entry.specs.Row.{is_dominating}
 use Rattle.peer_image.specs.declared.refusal.ImageRefusal.TheVariants.{Pruned}
 use Rattle.peer_image.specs.Fronts.{Seen, Suffices, seen, first_dominating}
-use Rattle.peer_image.specs.Order.{pruned_after}
+use Rattle.peer_image.specs.Order.{pruned_after, IsInnerRising}
 use Rattle.peer_image.proofs.Places.{left_is, passed_is, split_is}
 use Rattle.peer_image.proofs.KeptFronts.{suffices_none, suffices_on, found_is, below_here, pruned_here, pruned_end}
 use Rattle.peer_image.proofs.order.first_pruned.Goals as goal
@@ -27,7 +27,7 @@ returns-in-Some g c =
     let within = c.loop-row-test.true in
     let long : length earlier ≡ k = length-take-le k rows (omega (arith, within, length-map c.args.rows.now value)) in
     let split = split_is value c.args.rows.now k c.row-item.result within c.row-item.is in
-    let below = below_here earlier next rest (subst IsRising split c.requires.rising) in
+    let below = below_here earlier next rest (subst IsInnerRising split c.requires.rising) in
     let kept = map (seen value) c.keep_fronts.new.fronts.items in
     let found : Some c.in-Some.by ≡ position_from (λ s. is_dominating s next) 1 earlier =
     c.in-Some.ensures ∙ ap (λ l. first_dominating next (map (seen value) l)) c.deref.ensures.value
@@ -48,7 +48,7 @@ loop-row-preserved g c =
     let within = c.loop-row-test.true in
     let long : length earlier ≡ k = length-take-le k rows (omega (arith, within, length-map c.args.rows.now value)) in
     let split = split_is value c.args.rows.now k c.row-item.result within c.row-item.is in
-    let below = below_here earlier next rest (subst IsRising split c.requires.rising) in
+    let below = below_here earlier next rest (subst IsInnerRising split c.requires.rising) in
     let fronts = map (seen value) c.loop-row.fronts.items in
     let kept = map (seen value) c.keep_fronts.new.fronts.items in
     let found : None ≡ position_from (λ s. is_dominating s next) 1 earlier =

@@ -13,6 +13,6 @@ returns-in_err-signature-clause-meets g c =
 pub returns-clause-meets : goal.returns-clause-meets
 returns-clause-meets g c =
     let made =
-        delegated c.args.key c.args.to c.args.area _ _ _ _ c.in_ok-capability.capability c.in_ok-area.area c.deref.result.now c.in_ok-signature.signature
-        c.in_ok-capability.ensures c.in_ok-area.ensures.0 c.in_ok-area.ensures.1 (c.deref.ensures.value ∙ c.in_ok-message.ensures) c.in_ok-signature.ensures.signs in
+    delegated c.args.key c.args.to c.args.area _ _ _ _ c.in_ok-capability.capability c.in_ok-area.area c.deref.result.now c.in_ok-signature.signature
+    c.in_ok-capability.ensures c.in_ok-area.ensures.0 c.in_ok-area.ensures.1 (c.deref.ensures.value ∙ c.in_ok-message.ensures) c.in_ok-signature.ensures.signs in
     told c.args.key c.args.to c.args.area _ _ _ _ _ _ _ c.tell_longer.result made c.tell_longer.ensures

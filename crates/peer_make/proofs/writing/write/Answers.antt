@@ -12,8 +12,8 @@ returns-in_err-row-clause-meets g c =
 pub returns-clause-meets : goal.returns-clause-meets
 returns-clause-meets g c =
     let made =
-        signed_row c.args.key (record { path = c.args.path; time = c.args.time; payload_length = c.args.length; digest = c.args.digest; subspace = c.args.subspace }) _ _ _ _
-        c.in_ok-capability.capability c.deref.result.now c.in_ok-signature.signature c.in_ok-row.row
-        c.in_ok-row.ensures.token c.in_ok-capability.ensures (search rules)
-        (c.deref.ensures.value ∙ c.in_ok-message.ensures ∙ ap entry_message (sym c.in_ok-row.ensures.entry)) c.in_ok-signature.ensures.signs in
+    signed_row c.args.key (record { path = c.args.path; time = c.args.time; payload_length = c.args.length; digest = c.args.digest; subspace = c.args.subspace }) _ _ _ _
+    c.in_ok-capability.capability c.deref.result.now c.in_ok-signature.signature c.in_ok-row.row
+    c.in_ok-row.ensures.token c.in_ok-capability.ensures (search rules)
+    (c.deref.ensures.value ∙ c.in_ok-message.ensures ∙ ap entry_message (sym c.in_ok-row.ensures.entry)) c.in_ok-signature.ensures.signs in
     framed _ _ _ _ _ _ _ _ _ c.tell_row.result made c.tell_row.ensures

@@ -1,4 +1,3 @@
-use Rattle.std.proofs.Common.{◌≡◌, ap, arith, refl}
 use Rattle.peer_rows.proofs.Joined.{shown_framed, is_join}
 use Rattle.peer_rows.proofs.joining.join_bytes.Goals as goal
 

@@ -1,4 +1,3 @@
-use Rattle.std.proofs.Common.{◌≡◌, ap, arith}
 use Rattle.std.proofs.lemmas.Result.{err_from_is_err_and}
 use Rattle.peer_rows.proofs.Streams.{HasSeen-start, HasSeen-goes, stops}
 use Rattle.peer_rows.proofs.joining.store_rows.Goals as goal

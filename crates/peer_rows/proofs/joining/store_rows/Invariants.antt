@@ -1,5 +1,4 @@
-use Rattle.std.proofs.Common.{◌≡◌, ◌≤◌, ◌++◌, List, length, reverse, vec_len, ℕ}
-use Rattle.cap_codec.specs.Rows.{RawValue}
+use Rattle.std.proofs.Common.{vec_len}
 use Rattle.peer_rows.proofs.Streams.{HasSeen}
 use Rattle.peer_rows.proofs.joining.store_rows.Given as goal
 

@@ -1,4 +1,4 @@
-use Rattle.std.proofs.Common.{◌≡◌, ap, arith}
+use Rattle.std.proofs.Common.{arith}
 use Rattle.cap_codec.specs.Rows.{row_of}
 use Rattle.willow_entry.proofs.Between.{covering_from_at}
 use Rattle.peer_rows.specs.Logged.{rows_of}

@@ -1,4 +1,3 @@
-use Rattle.std.proofs.Common.{◌≡◌, sym, ap}
 use Rattle.peer_rows.specs.Logged.{rows_of}
 use Rattle.peer_rows.proofs.Logged.{IsLogOf-refused}
 use Rattle.peer_rows.proofs.log.Log.offer.Goals as goal

@@ -1,0 +1,95 @@
+-- What `show` does: the listing of the authorised rows of the image that the input is.
+use Rattle.std.specs.Prelude.{◌≡◌, ℕ, ◌+◌, ◌⊎◌, List, ◌++◌, length, map, None, Result, Ok, Err}
+use Rattle.std.specs.List.{flat_map}
+use Rattle.std.specs.Global.{Vec}
+use Rattle.willow_outside.specs.Counts.{Rose}
+use Rattle.willow_outside.specs.Facts.{SourceFacts, SinkFacts}
+use Rattle.lms_core.specs.Use.{peer_rules}
+use Rattle.cap_codec.specs.Rows.{RawValue, row_of}
+use Rattle.auth_entry.specs.Authorised.{authorised}
+use Rattle.peer_text.specs.Listing.{listing_head, listing_line}
+use Rattle.peer_image.specs.ImageReading.{IsImage, IsWrong, IsMisordered}
+use Rattle.peer_image.specs.Order.{order_refusal}
+use Rattle.peer_image.specs.declared.refusal.ImageRefusal.{ImageRefusal}
+use Rattle.peer_image.specs.declared.refusal.ImageRefusal.TheVariants as refusal
+use Rattle.peer_rows.specs.Logged.{first_refused}
+use Rattle.peer_rows.specs.Join.{IsReadSomewhat}
+use Rattle.peer_stage.specs.Stages.{IsInput, IsReadWhole, IsReadTooFar, IsReadToFault, IsWritten, IsPartlyWritten}
+use Rattle.peer_stage.specs.declared.stage.TheConstants.{INPUT_LIMIT}
+use Rattle.peer_stage.specs.declared.outcome.ShowCounts.{ShowCounts}
+use Rattle.peer_stage.specs.declared.outcome.Done.{Done}
+use Rattle.peer_stage.specs.declared.outcome.Done.TheVariants as done
+use Rattle.peer_stage.specs.declared.outcome.Stop.{Stop}
+use Rattle.peer_stage.specs.declared.outcome.Stop.TheVariants as stop
+
+-- the lines of the rows that are authorised in the namespace, in order
+abbrev pub listing_lines : List ℕ → List RawValue → List ℕ
+listing_lines n rows = flat_map (λ r. listing_line r.entry) (authorised peer_rules n rows)
+
+-- the head, which counts the rows that are authorised in the namespace, and the lines of these in order
+abbrev pub listing : List ℕ → List RawValue → List ℕ
+listing n rows = listing_head n (length (authorised peer_rules n rows)) ++ listing_lines n rows
+
+-- the report's numbers: every row, those that are not authorised, and the first of these
+pub record AreShown (namespace : List ℕ) (rows : List RawValue) (counts : ShowCounts) : Type 0 where
+  pub all : counts.rows ≡ length rows
+  pub refused : length (authorised peer_rules namespace rows) + counts.refused ≡ length rows
+  pub first : counts.first ≡ first_refused namespace rows
+
+-- ---- over bytes
+
+-- the bytes are an image of rows in order, whose listing is this text, with these numbers
+pub record IsShownOf (bytes text : List ℕ) (counts : ShowCounts) : Type 0 where
+  pub namespace : List ℕ
+  pub rows : List RawValue
+  pub is_image : IsImage bytes namespace rows
+  pub in_order : order_refusal (map row_of rows) ≡ None
+  pub counted : AreShown namespace rows counts
+  pub is_listing : text ≡ listing namespace rows
+
+-- how the showing of bytes ends
+abbrev pub ShowsBytes : List ℕ → Result (Vec ℕ × ShowCounts) Stop → Type 0
+ShowsBytes bytes (Ok x) = IsShownOf bytes x.0.items x.1
+ShowsBytes bytes (Err (stop.BadInput origin at)) = IsWrong bytes at × IsInput origin
+ShowsBytes bytes (Err (stop.NotRising origin row)) = IsMisordered bytes (refusal.NotRising row) × IsInput origin
+ShowsBytes bytes (Err (stop.Pruned origin row by)) = IsMisordered bytes (refusal.Pruned row by) × IsInput origin
+ShowsBytes bytes (Err stop.NoMemory) = Unit {0}
+ShowsBytes bytes (Err e) = ⊥
+
+-- ---- over the outside
+
+-- the showing came to its end: the input was read whole, and the listing is written
+pub record IsShown (i i' : SourceFacts) (o o' : SinkFacts) (counts : ShowCounts) : Type 0 where
+  pub bytes : List ℕ
+  pub read : IsReadWhole i i' bytes
+  pub text : List ℕ
+  pub shown : IsShownOf bytes text counts
+  pub written : IsWritten o o' text
+
+-- the input was read whole, and a front of the listing is written
+pub record IsShownPartly (i i' : SourceFacts) (o o' : SinkFacts) : Type 0 where
+  pub bytes : List ℕ
+  pub read : IsReadWhole i i' bytes
+  pub text : List ℕ
+  pub counts : ShowCounts
+  pub shown : IsShownOf bytes text counts
+  pub written : IsPartlyWritten o o' text
+
+-- the input passes the limit, which is told as its place, or was read whole and goes wrong at this place
+abbrev pub IsBadImage : SourceFacts → SourceFacts → ℕ → Type 0
+IsBadImage i i' at = (bytes : List ℕ) × ((IsReadTooFar i i' bytes × (at ≡ INPUT_LIMIT)) ⊎ (IsReadWhole i i' bytes × IsWrong bytes at))
+
+-- the input was read whole, and is an image of rows that are refused just so for their order
+abbrev pub IsReadMisordered : SourceFacts → SourceFacts → ImageRefusal → Type 0
+IsReadMisordered i i' refused = (bytes : List ℕ) × IsReadWhole i i' bytes × IsMisordered bytes refused
+
+-- how the input and the output stand at each end of a showing
+abbrev pub ShowMeets : SourceFacts → SourceFacts → SinkFacts → SinkFacts → Result Done Stop → Type 0
+ShowMeets i i' o o' (Ok (done.Shown counts)) = IsShown i i' o o' counts
+ShowMeets i i' o o' (Err stop.WriteFault) = IsShownPartly i i' o o' × Rose o.faults o'.faults
+ShowMeets i i' o o' (Err stop.ReadFault) = ((bytes : List ℕ) × IsReadToFault i i' bytes) × (o' ≡ o)
+ShowMeets i i' o o' (Err (stop.BadInput origin at)) = IsBadImage i i' at × IsInput origin × (o' ≡ o)
+ShowMeets i i' o o' (Err (stop.NotRising origin row)) = IsReadMisordered i i' (refusal.NotRising row) × IsInput origin × (o' ≡ o)
+ShowMeets i i' o o' (Err (stop.Pruned origin row by)) = IsReadMisordered i i' (refusal.Pruned row by) × IsInput origin × (o' ≡ o)
+ShowMeets i i' o o' (Err stop.NoMemory) = IsReadSomewhat i i' × ((o' ≡ o) ⊎ IsShownPartly i i' o o')
+ShowMeets i i' o o' e = ⊥

@@ -1,0 +1,152 @@
+//! `show`: the listing of the authorised rows of the input's image.
+
+ghost use Rattle.std.specs.Prelude.{◌≡◌, ◌+◌, ◌-◌, ◌≤◌, ◌<◌, ◌^◌, ◌∷◌, [], ◌++◌, List, length, IfOk, OnOk};
+ghost use Rattle.lms_core.specs.Use.{peer_rules};
+ghost use Rattle.cap_codec.specs.Rows.{RawValue};
+ghost use Rattle.auth_entry.specs.Authorised.{row_refusal};
+ghost use Rattle.peer_rows.specs.Show.{ShowMeets, ShowsBytes};
+ghost use Rattle.peer_rows.specs.Listed.{IsListed, IsListing, with_listed, with_left_out};
+
+use crate::log::first_of;
+use auth_entry::{RowRefusal, check_row};
+use cap_codec::RawRow;
+use lms_core::PeerScheme;
+use peer_image::{ImageRefusal, read_image};
+use peer_stage::{Done, Origin, RefusedRow, ShowCounts, Stop, read_input, write_output};
+use peer_text::{listing_head, listing_line};
+use spelling::{End, NoMemory, put_bytes};
+use std::alloc::Global;
+use willow_entry::Row;
+use willow_outside::{Sink, Source};
+use willow_path::NamespaceKey;
+
+/// Reads an image from the input and writes the listing of those of its rows that are authorised in its
+/// namespace: a head with their number, and the line of each, in the order of the image. Told are the numbers of
+/// all rows and of those left out, with the first of these, counted from 1.
+pub fn show<I: Source, O: Sink>(alloc: Global, input: &mut I, output: &mut O) -> Result<Done, Stop>
+    ensures { ShowMeets (I.facts input.old) (I.facts input.new) (O.facts output.old) (O.facts output.new) result }
+{
+    let bytes = read_input(alloc, input)?;
+    let (text, counts) = show_bytes(alloc, &bytes)?;
+    write_output(output, &text)?;
+    Ok(Done::Shown(counts))
+}
+
+// The listing and the numbers of an image.
+fn show_bytes(alloc: Global, bytes: &[u8]) -> Result<(Vec<u8>, ShowCounts), Stop>
+    ensures { ShowsBytes bytes.now result }
+{
+    match read_image(alloc, bytes) {
+        Ok(image) => Ok(list_rows(alloc, &image.namespace, &image.rows)?),
+        Err(End::Refused(ImageRefusal::BadImage { at })) => Err(Stop::BadInput {
+            origin: Origin::Input,
+            at,
+        }),
+        Err(End::Refused(ImageRefusal::NotRising { at })) => Err(Stop::NotRising {
+            origin: Origin::Input,
+            row: at,
+        }),
+        Err(End::Refused(ImageRefusal::Pruned { at, by })) => Err(Stop::Pruned {
+            origin: Origin::Input,
+            row: at,
+            by,
+        }),
+        Err(End::NoMemory) => Err(Stop::NoMemory),
+    }
+}
+
+// The listing of the rows, and their numbers.
+fn list_rows(
+    alloc: Global,
+    namespace: &NamespaceKey,
+    rows: &[RawRow],
+) -> Result<(Vec<u8>, ShowCounts), NoMemory>
+    requires { length rows.now < 2 ^ 32 }
+    ensures { IfOk result (λ made. IsListing namespace.now rows.now made.0.items made.1) }
+{
+    let listing = Listing::of_rows(alloc, namespace, rows)?;
+    let counts = listing.counts;
+    let mut text = Vec::new(alloc);
+    listing_head(namespace, counts.rows - counts.refused, &mut text)?;
+    put_bytes(&mut text, &listing.lines)?;
+    Ok((text, counts))
+}
+
+// The lines of the authorised rows so far, and the numbers of all of them.
+#[derive(Drop)]
+struct Listing {
+    lines: Vec<u8>,
+    counts: ShowCounts,
+}
+
+impl Listing {
+    // The lines of the rows, and their numbers.
+    fn of_rows(
+        alloc: Global,
+        namespace: &NamespaceKey,
+        rows: &[RawRow],
+    ) -> Result<Listing, NoMemory>
+        requires { length rows.now < 2 ^ 32 }
+        ensures { IfOk result (λ listing. IsListed namespace.now rows.now listing.lines.items listing.counts) }
+    {
+        let counts = ShowCounts {
+            rows: 0,
+            refused: 0,
+            first: None,
+        };
+        let mut listing = Listing {
+            lines: Vec::new(alloc),
+            counts,
+        };
+        for row in rows {
+            listing.add(alloc, namespace, row)?;
+        }
+        Ok(listing)
+    }
+
+    // Adds a row: one that is not authorised is left out and counted.
+    fn add(&mut self, alloc: Global, namespace: &NamespaceKey, row: &RawRow) -> Result<(), NoMemory>
+        requires rows { self.old.counts.rows < 2 ^ 64 - 1 }
+        requires refused { self.old.counts.refused ≤ self.old.counts.rows }
+        ensures { (seen : List RawValue) → IsListed namespace.now seen self.old.lines.items self.old.counts
+            → OnOk result (IsListed namespace.now (seen ++ row.now ∷ []) self.new.lines.items self.new.counts) }
+    {
+        match check_row(alloc, &PeerScheme, namespace, row) {
+            Ok(()) => {
+                listing_line(row.entry(), &mut self.lines)?;
+                self.counts = listed(&self.counts);
+                Ok(())
+            }
+            Err(End::Refused(refusal)) => {
+                self.counts = left_out(&self.counts, refusal);
+                Ok(())
+            }
+            Err(End::NoMemory) => Err(NoMemory),
+        }
+    }
+}
+
+// The numbers with one row more that is authorised.
+fn listed(counts: &ShowCounts) -> ShowCounts
+    requires { counts.now.rows < 2 ^ 64 - 1 }
+    ensures { result ≡ with_listed counts.now }
+{
+    ShowCounts {
+        rows: counts.rows + 1,
+        ..*counts
+    }
+}
+
+// The numbers with one row more that is not authorised.
+fn left_out(counts: &ShowCounts, refusal: RowRefusal) -> ShowCounts
+    requires rows { counts.now.rows < 2 ^ 64 - 1 }
+    requires refused { counts.now.refused ≤ counts.now.rows }
+    ensures { result ≡ with_left_out refusal counts.now }
+{
+    let row = counts.rows + 1;
+    ShowCounts {
+        rows: row,
+        refused: counts.refused + 1,
+        first: first_of(counts.first, RefusedRow { row, refusal }),
+    }
+}

@@ -1,0 +1,108 @@
+//! The options of a command.
+
+ghost use Rattle.std.specs.Prelude.{◌≡◌, List, MatchOption, option_copied};
+ghost use Rattle.peer_words.specs.Options.{Setting, settings_of, value_of, is_value, are_settings, IsSpelled, Gives, MayGive};
+ghost use Rattle.peer_words.specs.Verbs.{names_of};
+ghost use Rattle.peer_words.specs.Words.{texts, Reads};
+
+use crate::command::Usage;
+use crate::verb::Verb;
+use crate::word::Word;
+use std::alloc::Global;
+use std::marker::Model;
+use willow_path::End;
+
+/// Options that are set. A contract sees their names and values, in the order of the words.
+#[derive(Drop)]
+pub(crate) struct Options<'a> {
+    words: &'a [String],
+}
+
+impl<'a> Model for Options<'a> {
+    ghost use Rattle.std.specs.Prelude.{List};
+    ghost use Rattle.peer_words.specs.Options.{Setting, settings_of};
+    ghost use Rattle.peer_words.specs.Words.{texts};
+
+    ghost Value = { List Setting };
+
+    ghost view = { λ o. settings_of (texts o.words.now) };
+}
+
+impl<'a> Options<'a> {
+    /// The options that the words set, behind the word of a command; none where they are no options of it,
+    /// each at most once, with a value each.
+    pub(crate) fn read(verb: Verb, words: &'a [String]) -> Option<Options<'a>>
+        ensures { MatchOption result ((settings : List Setting) → IsSpelled (names_of verb) (texts words.now) settings → ⊥) (IsSpelled (names_of verb) (texts words.now)) }
+    {
+        if words.len() % 2 != 0 {
+            return None;
+        }
+        if !are_settings(verb, words) {
+            return None;
+        }
+        Some(Options { words })
+    }
+
+    /// The value behind a name.
+    pub(crate) fn value_of(&self, name: &str) -> Option<&'a str>
+        ensures { option_copied result ≡ value_of name.now self.now }
+    {
+        let mut left = self.words;
+        while let [option, value, others @ ..] = left {
+            if option.as_str() == name {
+                return Some(value.as_str());
+            }
+            left = others;
+        }
+        None
+    }
+
+    /// What the value behind a name spells; refused where the name does not stand, or its value spells nothing.
+    pub(crate) fn given<T: Word>(&self, alloc: Global, name: &str) -> Result<T, End<Usage>>
+        ensures { Reads (Gives T.spells self.now name.now) result }
+    {
+        match self.value_of(name) {
+            Some(word) => T::of_word(alloc, word),
+            None => Err(End::Refused(Usage)),
+        }
+    }
+
+    /// What the value behind a name spells, where the name stands; refused where its value spells nothing.
+    pub(crate) fn given_if<T: Word>(
+        &self,
+        alloc: Global,
+        name: &str,
+    ) -> Result<Option<T>, End<Usage>>
+        ensures { Reads (MayGive T.spells self.now name.now) result }
+    {
+        match self.value_of(name) {
+            Some(word) => Ok(Some(T::of_word(alloc, word)?)),
+            None => Ok(None),
+        }
+    }
+}
+
+// Whether the words are pairs of a name of the command's options and a value, each name at most once.
+fn are_settings(verb: Verb, words: &[String]) -> bool
+    ensures { result ≡ are_settings (names_of verb) (settings_of (texts words.now)) }
+{
+    let mut left = words;
+    while let [option, value, others @ ..] = left {
+        let name = option.as_str();
+        if !verb.has_option(name) || !is_value(value) || (Options { words: others }).value_of(name).is_some() {
+            return false;
+        }
+        left = others;
+    }
+    true
+}
+
+// Whether the word may stand as a value.
+fn is_value(word: &str) -> bool
+    ensures { result ≡ is_value word.now }
+{
+    match word.as_bytes() {
+        [] => false,
+        [first, ..] => *first != b'-',
+    }
+}

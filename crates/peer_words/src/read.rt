@@ -1,0 +1,214 @@
+//! Words to commands.
+
+ghost use Rattle.std.specs.Prelude.{◌≡◌, List, not};
+ghost use Rattle.scheme_core.specs.Open.{is_communal};
+ghost use Rattle.peer_words.specs.Commands.{IsOf, ReadsWords};
+ghost use Rattle.peer_words.specs.Words.{Reads, texts};
+ghost use Rattle.peer_words.specs.declared.verb.Verb.TheVariants as verbs;
+
+use crate::area::area_of;
+use crate::command::{Command, SignerWord, Usage};
+use crate::name::{Name, Place};
+use crate::number::Links;
+use crate::options::Options;
+use crate::verb::{Verb, verb_at};
+use lms_core::Height;
+use mc_cap::Mode;
+use std::alloc::Global;
+use willow_path::{Digest, End, NamespaceKey, Path, UserKey};
+
+/// The command that the words spell: its word, and then its options in any order, each at most once, a name
+/// and a value each. `Usage` comes exactly where the words spell no command.
+pub fn read_words(alloc: Global, words: &[String]) -> Result<Command, End<Usage>>
+    ensures { ReadsWords (texts words.now) result }
+{
+    if words.is_empty() {
+        return Err(End::Refused(Usage));
+    }
+    let (_, others) = words.split_at(1);
+    let Some(verb) = verb_at(&words[0]) else {
+        return Err(End::Refused(Usage));
+    };
+    let Some(options) = Options::read(verb, others) else {
+        return Err(End::Refused(Usage));
+    };
+    command_of(alloc, verb, &options)
+}
+
+// The command with what its options give.
+fn command_of(alloc: Global, verb: Verb, options: &Options) -> Result<Command, End<Usage>>
+    ensures { Reads (IsOf verb options.now) result }
+{
+    match verb {
+        Verb::Join => join(alloc, options),
+        Verb::Show => show(alloc, options),
+        Verb::Key => key(alloc, options),
+        Verb::Grant => grant(alloc, options),
+        Verb::Delegate => delegate(alloc, options),
+        Verb::Write => write(alloc, options),
+        Verb::Gen => generate(alloc, options),
+        Verb::Drill => drill(alloc, options),
+        Verb::Meet => meet(alloc, options),
+        Verb::Sync => sync(alloc, options),
+        Verb::Serve => serve(alloc, options),
+        Verb::Watch => watch(alloc, options),
+    }
+}
+
+fn join(alloc: Global, options: &Options) -> Result<Command, End<Usage>>
+    ensures { Reads (IsOf verbs.Join options.now) result }
+{
+    let namespace = options.given::<NamespaceKey>(alloc, "--namespace")?;
+    Ok(Command::Join { namespace })
+}
+
+fn show(alloc: Global, options: &Options) -> Result<Command, End<Usage>>
+    ensures { Reads (IsOf verbs.Show options.now) result }
+{
+    let newest = options.given_if::<u32>(alloc, "--newest")?;
+    Ok(Command::Show { newest })
+}
+
+fn key(alloc: Global, options: &Options) -> Result<Command, End<Usage>>
+    ensures { Reads (IsOf verbs.Key options.now) result }
+{
+    let height = options.given::<Height>(alloc, "--height")?;
+    let name = options.given::<Name>(alloc, "--name")?.0;
+    Ok(Command::Key { name, height })
+}
+
+fn grant(alloc: Global, options: &Options) -> Result<Command, End<Usage>>
+    ensures { Reads (IsOf verbs.Grant options.now) result }
+{
+    let namespace = options.given::<NamespaceKey>(alloc, "--namespace")?;
+    let mode = options.given::<Mode>(alloc, "--mode")?;
+    let user = options.given::<UserKey>(alloc, "--user")?;
+    let key = options.given_if::<SignerWord>(alloc, "--key")?;
+    if key.is_some() == is_communal(&namespace) {
+        return Err(End::Refused(Usage));
+    }
+    Ok(Command::Grant {
+        namespace,
+        mode,
+        user,
+        key,
+    })
+}
+
+// Whether the namespace belongs to everybody.
+#[tactic(auto, unfolding(scheme_core::specs::Open::is_communal))]
+fn is_communal(namespace: &NamespaceKey) -> bool
+    ensures { result ≡ is_communal namespace.now }
+{
+    namespace.to_bytes()[32] % 2 == 0
+}
+
+fn delegate(alloc: Global, options: &Options) -> Result<Command, End<Usage>>
+    ensures { Reads (IsOf verbs.Delegate options.now) result }
+{
+    let to = options.given::<UserKey>(alloc, "--to")?;
+    let key = options.given::<SignerWord>(alloc, "--key")?;
+    let area = area_of(alloc, options)?;
+    Ok(Command::Delegate { key, to, area })
+}
+
+fn write(alloc: Global, options: &Options) -> Result<Command, End<Usage>>
+    ensures { Reads (IsOf verbs.Write options.now) result }
+{
+    let time = options.given::<u64>(alloc, "--time")?;
+    let length = options.given::<u64>(alloc, "--length")?;
+    let digest = options.given::<Digest>(alloc, "--digest")?;
+    let subspace = options.given_if::<UserKey>(alloc, "--subspace")?;
+    let key = options.given::<SignerWord>(alloc, "--key")?;
+    let path = options.given::<Path>(alloc, "--path")?;
+    Ok(Command::Write {
+        key,
+        path,
+        time,
+        length,
+        digest,
+        subspace,
+    })
+}
+
+fn generate(alloc: Global, options: &Options) -> Result<Command, End<Usage>>
+    ensures { Reads (IsOf verbs.Gen options.now) result }
+{
+    let rows = options.given::<u32>(alloc, "--rows")?;
+    Ok(Command::Gen { rows })
+}
+
+fn drill(alloc: Global, options: &Options) -> Result<Command, End<Usage>>
+    ensures { Reads (IsOf verbs.Drill options.now) result }
+{
+    let rows = options.given::<u32>(alloc, "--rows")?;
+    Ok(Command::Drill { rows })
+}
+
+fn meet(alloc: Global, options: &Options) -> Result<Command, End<Usage>>
+    ensures { Reads (IsOf verbs.Meet options.now) result }
+{
+    let left = options.given::<Name>(alloc, "--left")?.0;
+    let right = options.given::<Name>(alloc, "--right")?.0;
+    let left_cap = options.given::<Name>(alloc, "--left-cap")?.0;
+    let right_cap = options.given::<Name>(alloc, "--right-cap")?.0;
+    let left_out = options.given::<Name>(alloc, "--left-out")?.0;
+    let right_out = options.given::<Name>(alloc, "--right-out")?.0;
+    let area = area_of(alloc, options)?;
+    Ok(Command::Meet {
+        left,
+        right,
+        left_cap,
+        right_cap,
+        left_out,
+        right_out,
+        area,
+    })
+}
+
+fn sync(alloc: Global, options: &Options) -> Result<Command, End<Usage>>
+    ensures { Reads (IsOf verbs.Sync options.now) result }
+{
+    let image = options.given::<Name>(alloc, "--image")?.0;
+    let cap = options.given::<Name>(alloc, "--cap")?.0;
+    let key = options.given::<SignerWord>(alloc, "--key")?;
+    let to = options.given::<Place>(alloc, "--to")?.0;
+    let area = area_of(alloc, options)?;
+    Ok(Command::Sync {
+        image,
+        cap,
+        key,
+        to,
+        area,
+    })
+}
+
+fn serve(alloc: Global, options: &Options) -> Result<Command, End<Usage>>
+    ensures { Reads (IsOf verbs.Serve options.now) result }
+{
+    let links = options.given::<Links>(alloc, "--links")?.0;
+    let image = options.given::<Name>(alloc, "--image")?.0;
+    let cap = options.given::<Name>(alloc, "--cap")?.0;
+    let key = options.given::<SignerWord>(alloc, "--key")?;
+    let at = options.given::<Place>(alloc, "--at")?.0;
+    let area = area_of(alloc, options)?;
+    Ok(Command::Serve {
+        image,
+        cap,
+        key,
+        at,
+        links,
+        area,
+    })
+}
+
+fn watch(alloc: Global, options: &Options) -> Result<Command, End<Usage>>
+    ensures { Reads (IsOf verbs.Watch options.now) result }
+{
+    let image = options.given::<Name>(alloc, "--image")?.0;
+    let area = area_of(alloc, options)?;
+    if area.until == Some(Some(0)) {
+        return Err(End::Refused(Usage));
+    }
+    Ok(Command::Watch { image, area })
+}
