@@ -15,3 +15,6 @@ mod word;
 
 pub use command::{AreaWords, Command, SignerWord, Usage};
 pub use read::read_words;
+
+#[cfg(test)]
+mod tests;
