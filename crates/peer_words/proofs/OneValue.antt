@@ -41,7 +41,7 @@ pub times_are : (settings : List Setting) (start : Option ℕ) (end : Option (Op
     → AreRising other later → AreRising start end
 times_are settings start end other later a b c d rising =
     subst (λ (s : Option ℕ). AreRising s end) (may_give_one IsNumber one_number settings (codes "--from") other start c a)
-      (subst (λ (e : Option (Option ℕ)). AreRising other e) (may_give_one IsNumberOrNone one_end settings (codes "--until") later end d b) rising)
+    (subst (λ (e : Option (Option ℕ)). AreRising other e) (may_give_one IsNumberOrNone one_end settings (codes "--until") later end d b) rising)
 
 -- an end that passes the test for 0 is 0
 pub ends_at_0 : (end : Option (Option ℕ)) → true ≡ option_eq (option_eq eqb) end (Some (Some 0)) → end ≡ Some (Some 0)

@@ -83,7 +83,7 @@ next_part word left path n front is end whole spelled =
     by_rest found.0 found.1 (subst (λ (w : List ℕ). AreParts w found.0) is found.2)
   where
     by_rest : (rest : List (List ℕ)) → whole ≡ path ++ rest → AreParts (47 ∷ drop 1 left) rest
-      → (part : List ℕ) × (others : List (List ℕ)) × (whole ≡ path ++ (part ∷ others)) × (decode_of (take n (drop 1 left)) ≡ Ok part) × AreParts (drop n (drop 1 left)) others
+        → (part : List ℕ) × (others : List (List ℕ)) × (whole ≡ path ++ (part ∷ others)) × (decode_of (take n (drop 1 left)) ≡ Ok part) × AreParts (drop n (drop 1 left)) others
     by_rest [] same parts = absurd (empty_apart (drop 1 left) parts)
     by_rest (part ∷ others) same parts = let more = opened (drop 1 left) n part others end parts in (part, others, same, more.0, more.1)
 
@@ -97,11 +97,12 @@ front_grows word left path n part longer rest front some slash end decoded grown
           subst (λ (whole : List (List ℕ)). AreParts word whole) (regroup path part parts ∙ ap (λ (p : List (List ℕ)). p ++ parts) (sym grown)) (front.goes_on (part ∷ parts) (subst (λ (w : List ℕ). AreParts w (part ∷ parts)) (sym is) here));
       only = λ whole spelled.
           let next = next_part word left path n front is end whole spelled in
-          let same : next.0 ≡ part = same_ok (decode_of (take n (drop 1 left))) next.0 part next.3 decoded in
-          (next.1,
-          next.2 ∙ (regroup path next.0 next.1 ∙ (ap (λ (p : List ℕ). (path ++ p ∷ []) ++ next.1) same ∙ ap (λ (p : List (List ℕ)). p ++ next.1) (sym grown))),
-          subst (λ (w : List ℕ). AreParts w next.1) (sym cut) next.4);
-      is_path = fits
+          let same : next.0 ≡ part = same_ok (decode_of (take n (drop 1 left))) next.0 part next.3 decoded in (
+            next.1,
+            next.2 ∙ (regroup path next.0 next.1 ∙ (ap (λ (p : List ℕ). (path ++ p ∷ []) ++ next.1) same ∙ ap (λ (p : List (List ℕ)). p ++ next.1) (sym grown))),
+            subst (λ (w : List ℕ). AreParts w next.1) (sym cut) next.4,
+          );
+      is_path = fits;
     }
 
 -- ---- refusals

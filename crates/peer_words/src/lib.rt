@@ -4,9 +4,9 @@
 
 mod area;
 mod command;
-mod options;
 mod name;
 mod number;
+mod options;
 mod path;
 mod read;
 mod signer;

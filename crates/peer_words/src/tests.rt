@@ -4,13 +4,7 @@ use std::test::*;
 use willow_path::End;
 
 // A front, a piece so many times, and an end.
-fn long_word(
-    alloc: Global,
-    front: &str,
-    piece: &str,
-    count: usize,
-    end: &str,
-) -> Option<String> {
+fn long_word(alloc: Global, front: &str, piece: &str, count: usize, end: &str) -> Option<String> {
     let mut text = String::from_str(alloc, front).ok()?;
     for _ in 0..count {
         text.push_str(piece).ok()?;
@@ -192,7 +186,12 @@ fn ends_in(alloc: Global, line: &str) -> Option<(u8, u8)> {
 // The time, the length and the number of components and bytes of the path to write.
 fn numbers_in(alloc: Global, line: &str) -> Option<(u64, u64, usize, usize)> {
     match command_in(alloc, line)?? {
-        Command::Write { path, time, length, .. } => Some((time, length, path.count(), path.total())),
+        Command::Write {
+            path,
+            time,
+            length,
+            ..
+        } => Some((time, length, path.count(), path.total())),
         _ => None,
     }
 }
@@ -208,7 +207,10 @@ fn times_in(alloc: Global, line: &str) -> Option<(Option<u64>, Option<Option<u64
 // The kind and the body's first byte of the open key that signs, where one does.
 fn signer_in(alloc: Global, line: &str) -> Option<(u8, u8)> {
     match command_in(alloc, line)?? {
-        Command::Grant { key: Some(SignerWord::OpenKey(key)), .. } => Some((key.to_bytes()[0], key.to_bytes()[1])),
+        Command::Grant { key, .. } => match key? {
+            SignerWord::OpenKey(key) => Some((key.to_bytes()[0], key.to_bytes()[1])),
+            SignerWord::LmsFile(_) => None,
+        },
         _ => None,
     }
 }
@@ -216,7 +218,11 @@ fn signer_in(alloc: Global, line: &str) -> Option<(u8, u8)> {
 // Whether two files that a line names are these.
 fn names_files(alloc: Global, line: &str, one: &str, two: &str) -> Option<bool> {
     match command_in(alloc, line)?? {
-        Command::Meet { left_cap, right_out, .. } => Some(left_cap.as_str() == one && right_out.as_str() == two),
+        Command::Meet {
+            left_cap,
+            right_out,
+            ..
+        } => Some(left_cap.as_str() == one && right_out.as_str() == two),
         Command::Serve { cap, at, .. } => Some(cap.as_str() == one && at.as_str() == two),
         _ => None,
     }
@@ -228,7 +234,10 @@ fn what_commands_say(rt: HostRuntime) -> Result<(), Fail> {
     assert_eq!(rt; rows_in(rt.alloc(), "drill --rows 65536"), Some(65536));
     assert_eq!(rt; rows_in(rt.alloc(), "show --newest 7"), Some(7));
     assert_eq!(rt; rows_in(rt.alloc(), "show"), None);
-    assert_eq!(rt; ends_in(rt.alloc(), "join --namespace UPPER"), Some((0, 0x4e)));
+    assert_eq!(rt;
+        ends_in(rt.alloc(), "join --namespace UPPER"),
+        Some((0, 0x4e))
+    );
     let write = "write --digest DIGEST --length 18446744073709551615 --time 0 --key OPEN --path";
     let deep = text_of(rt.alloc(), write, " /61/6A6b//").ok_or("there is memory")?;
     assert_eq!(rt; ends_in(rt.alloc(), &deep), Some((0x1f, 0x1f)));
