@@ -26,7 +26,7 @@ pub record IsFront (word : List ℕ) (path : List (List ℕ)) (left : List ℕ) 
 
 -- ---- where the first component ends
 
-abbrev is_slash : ℕ → Bool
+abbrev pub is_slash : ℕ → Bool
 is_slash b = b == 47
 
 abbrev at_slash : List ℕ → Bool
@@ -51,7 +51,7 @@ ends_there (c ∷ cs) rest all slash =
     ∙ omega (arith, ends_there cs rest (λ k d lt. all (suc k) d (omega arith)) slash)
 
 -- the digits up to there are the first component, and the others follow
-opened : (others : List ℕ) (n : ℕ) (part : List ℕ) (parts : List (List ℕ)) → n ≡ position_or_len is_slash others → AreParts (47 ∷ others) (part ∷ parts)
+pub opened : (others : List ℕ) (n : ℕ) (part : List ℕ) (parts : List (List ℕ)) → n ≡ position_or_len is_slash others → AreParts (47 ∷ others) (part ∷ parts)
     → (decode_of (take n others) ≡ Ok part) × AreParts (drop n others) parts
 opened others n part parts end is =
     let behind : others ≡ is.0 ++ is.1 = ap (λ (word : List ℕ). drop 1 word) is.2 in
@@ -62,14 +62,14 @@ opened others n part parts end is =
 
 -- ---- one component more
 
-front_of : (left : List ℕ) → 1 ≤ length left → get_or left 0 0 ≡ 47 → left ≡ 47 ∷ drop 1 left
+pub front_of : (left : List ℕ) → 1 ≤ length left → get_or left 0 0 ≡ 47 → left ≡ 47 ∷ drop 1 left
 front_of [] some slash = absurd (omega arith)
 front_of (c ∷ cs) some slash = ap (λ (d : ℕ). d ∷ cs) slash
 
 empty_apart : (others : List ℕ) → (47 ∷ others) ≡ [] → ⊥
 empty_apart others same = absurd (omega (arith, ap length same))
 
-same_ok : (r : Result (List ℕ) FromHexError) (a b : List ℕ) → r ≡ Ok a → r ≡ Ok b → a ≡ b
+pub same_ok : (r : Result (List ℕ) FromHexError) (a b : List ℕ) → r ≡ Ok a → r ≡ Ok b → a ≡ b
 same_ok r a b p q = cc
 
 regroup : (path : List (List ℕ)) (part : List ℕ) (rest : List (List ℕ)) → path ++ (part ∷ rest) ≡ (path ++ part ∷ []) ++ rest

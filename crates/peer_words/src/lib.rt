@@ -4,6 +4,7 @@
 
 mod area;
 mod command;
+mod laws;
 mod name;
 mod number;
 mod options;
@@ -14,6 +15,7 @@ mod verb;
 mod word;
 
 pub use command::{AreaWords, Command, SignerWord, Usage};
+pub use laws::one_command;
 pub use read::read_words;
 
 #[cfg(test)]
