@@ -1,10 +1,10 @@
 -- A command of a given word has the fields of that command.
-use Rattle.std.proofs.Common.{◌≡◌, ℕ, List, Option, codes, String}
+use Rattle.std.proofs.Common.{ℕ, List, Option, codes, String}
 use Rattle.std.specs.declared.alloc.Global.{Global}
 use Rattle.lms_core.specs.declared.height.Height.{Height}
 use Rattle.mc_cap.specs.declared.capability.Mode.{Mode}
 use Rattle.willow_path.specs.declared.key.Digest.{Digest}
-use Rattle.peer_words.specs.Commands.{verb_of, IsOf, HasKey, HasGrant, HasDelegate, HasWrite, HasMeet, HasSync, HasServe, HasWatch}
+use Rattle.peer_words.specs.Commands.{IsOf, HasKey, HasGrant, HasDelegate, HasWrite, HasMeet, HasSync, HasServe, HasWatch}
 use Rattle.peer_words.specs.Options.{Setting, Gives, MayGive}
 use Rattle.peer_words.specs.Values.{IsKeyWord, IsCount}
 use Rattle.peer_words.specs.declared.command.AreaWords.{AreaWords}

@@ -1,7 +1,7 @@
 -- The front of a word tells which signer it can be.
-use Rattle.std.proofs.Common.{◌≡◌, ℕ, List, ◌∷◌, ◌++◌, codes, String, get_or, ap, arith, sym, subst, ◌∙◌}
+use Rattle.std.proofs.Common.{◌≡◌, ℕ, List, ◌++◌, codes, String, get_or, ap, arith, sym, subst, ◌∙◌}
 use Rattle.std.specs.declared.alloc.Global.{Global}
-use Rattle.peer_words.specs.Signers.{IsSignerWord, IsOpenWord, IsOpenBody, IsFileWord}
+use Rattle.peer_words.specs.Signers.{IsSignerWord, IsOpenBody}
 use Rattle.peer_words.specs.Values.{IsNameWord}
 use Rattle.peer_words.specs.declared.command.SignerWord.{SignerWord}
 use Rattle.peer_words.specs.declared.command.SignerWord.TheVariants.{OpenKey, LmsFile}

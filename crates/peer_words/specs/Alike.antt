@@ -1,5 +1,5 @@
 -- Commands with the same fields. Texts are compared by their bytes.
-use Rattle.std.specs.Prelude.{◌≡◌, List, Option, Some, None, String}
+use Rattle.std.specs.Prelude.{◌≡◌, Option, Some, None, String}
 use Rattle.std.specs.String.{string_bytes}
 use Rattle.std.specs.declared.alloc.Global.{Global}
 use Rattle.peer_words.specs.declared.command.Command.{Command}

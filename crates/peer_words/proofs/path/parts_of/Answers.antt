@@ -1,4 +1,4 @@
-use Rattle.std.proofs.Common.{◌≡◌, ◌==◌, ◌≤◌, List, ℕ, length, ap, sym, subst, ◌∙◌, arith, Ok, [], ◌∷◌, ◌++◌, take, drop}
+use Rattle.std.proofs.Common.{◌≡◌, ◌==◌, ◌≤◌, List, ℕ, length, ap, sym, ◌∙◌, arith, [], ◌∷◌, ◌++◌, take, drop}
 use Rattle.std.specs.List.{position_or_len}
 use Rattle.std.proofs.lemmas.Bool.Decides.{nat_tests}
 use Rattle.hex.specs.Hex.{decode_of}

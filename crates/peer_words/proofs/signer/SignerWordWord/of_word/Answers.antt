@@ -1,4 +1,4 @@
-use Rattle.std.proofs.Common.{◌≡◌, ℕ, List, ◌++◌, codes, drop, ap, sym, ◌∙◌, arith, String}
+use Rattle.std.proofs.Common.{ℕ, List, ◌++◌, codes, ap, sym, ◌∙◌}
 use Rattle.peer_words.specs.Signers.{IsSignerWord}
 use Rattle.peer_words.specs.Values.{IsNameWord}
 use Rattle.peer_words.proofs.Endings.{passed_on}
