@@ -1,5 +1,6 @@
 -- The two parts of a cut have what is below the point, and the rest.
-use Rattle.std.proofs.Common.{◌≡◌, ℕ, Bool, true, false, ◌&&◌, List, Option, Some, None, nat_cmp, refl, sym, ap, ◌∙◌, ◌↔◌, IsTrue}
+use Rattle.std.proofs.Common.{◌≡◌, ℕ, Bool, true, false, not, ◌&&◌, List, Option, Some, None, Result, Ok, Err, nat_cmp, refl, ◌↔◌, IsTrue}
+use Rattle.std.specs.Prelude.{IfOk}
 use Rattle.std.specs.declared.cmp.Ordering.{Ordering}
 use Rattle.std.specs.Ordering.{is_lt, is_le}
 use Rattle.std.specs.Cmp.{IsTotalOrder}
@@ -8,7 +9,10 @@ use Rattle.willow_path.specs.Path.{part_cmp, path_cmp}
 use Rattle.willow_path.proofs.PathOrder.{part_cmp_total, path_cmp_total}
 use Rattle.willow_area.specs.Range.{Range, in_range, is_before_end, is_inside, lower, upper}
 use Rattle.willow_area.specs.Boxes.{Ranges, in_box}
-use Rattle.willow_area.specs.Cuts.{can_cut, lower_part, upper_part, is_below}
+use Rattle.willow_area.specs.Cuts.{can_cut, cut_refusal, lower_part, upper_part, is_below, HasWhatIsBelow, HasTheRest}
+use Rattle.spelling.specs.Answers.{Answers, cause_if}
+use Rattle.spelling.specs.declared.ending.End.{End}
+use Rattle.willow_area.specs.declared.cut.CutOutside.{CutOutside}
 use Rattle.willow_area.specs.declared.cut.CutAt.{CutAt}
 use Rattle.willow_area.specs.declared.cut.CutAt.TheVariants.{Subspace, Path, Time}
 use Rattle.willow_area.proofs.Membership.{both_of, and_of}
@@ -119,3 +123,19 @@ upper_part_has ranges (Time point) subspace path time can =
       (λ h. let p = passes_box ranges subspace path time h.0 in
           box_passes part subspace path time (record { key_in = p.key_in; path_in = p.path_in; time_in = m.1 (p.time_in, h.1) })),
     )
+
+-- ---- what a call answers
+
+can_where_none : (can : Bool) (e : CutOutside) → cause_if (not can) e ≡ None → can ≡ true
+can_where_none true e h = refl
+can_where_none false e h = absurd cc
+
+pub answers_below : {T : Type 0} (part : T → Ranges) (ranges : Ranges) (at : CutAt) (answer : Result T (End CutOutside)) → Answers answer (cut_refusal ranges at)
+    → IfOk answer (λ parts. part parts ≡ lower_part ranges at) → IfOk answer (λ parts. HasWhatIsBelow (part parts) ranges at)
+answers_below part ranges at (Ok parts) h e = λ subspace path time. rw e (lower_part_has ranges at subspace path time (can_where_none (can_cut ranges at) (record {}) h))
+answers_below part ranges at (Err refusal) h e = tt
+
+pub answers_rest : {T : Type 0} (part : T → Ranges) (ranges : Ranges) (at : CutAt) (answer : Result T (End CutOutside)) → Answers answer (cut_refusal ranges at)
+    → IfOk answer (λ parts. part parts ≡ upper_part ranges at) → IfOk answer (λ parts. HasTheRest (part parts) ranges at)
+answers_rest part ranges at (Ok parts) h e = λ subspace path time. rw e (upper_part_has ranges at subspace path time (can_where_none (can_cut ranges at) (record {}) h))
+answers_rest part ranges at (Err refusal) h e = tt
