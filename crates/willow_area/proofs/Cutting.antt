@@ -68,10 +68,9 @@ box_passes ranges subspace path time p =
     and_of (in_range part_cmp ranges.keys subspace) (in_range path_cmp ranges.paths path && in_range nat_cmp ranges.times time) p.key_in
     (and_of (in_range path_cmp ranges.paths path) (in_range nat_cmp ranges.times time) p.path_in p.time_in)
 
-pub lower_part_has : (ranges : Ranges) (at : CutAt) (subspace : List ℕ) (path : List (List ℕ)) (time : ℕ) → IsTrue (can_cut ranges at)
-    → IsTrue (in_box (lower_part ranges at) subspace path time) ↔ (IsTrue (in_box ranges subspace path time) × IsTrue (is_below at subspace path time))
+pub lower_part_has : (ranges : Ranges) (at : CutAt) → IsTrue (can_cut ranges at) → HasWhatIsBelow (lower_part ranges at) ranges at
 unfolding can_cut lower_part is_below
-lower_part_has ranges (Subspace key) subspace path time can =
+lower_part_has ranges (Subspace key) can subspace path time =
     let m = lower_has part_cmp part_cmp_total ranges.keys key subspace can in
     let part : Ranges = record { keys = lower ranges.keys key; paths = ranges.paths; times = ranges.times } in (
       (λ h. let p = passes_box part subspace path time h in let k = m.0 p.key_in in
@@ -79,7 +78,7 @@ lower_part_has ranges (Subspace key) subspace path time can =
       (λ h. let p = passes_box ranges subspace path time h.0 in
           box_passes part subspace path time (record { key_in = m.1 (p.key_in, h.1); path_in = p.path_in; time_in = p.time_in })),
     )
-lower_part_has ranges (Path point) subspace path time can =
+lower_part_has ranges (Path point) can subspace path time =
     let m = lower_has path_cmp path_cmp_total ranges.paths point path can in
     let part : Ranges = record { keys = ranges.keys; paths = lower ranges.paths point; times = ranges.times } in (
       (λ h. let p = passes_box part subspace path time h in let k = m.0 p.path_in in
@@ -87,7 +86,7 @@ lower_part_has ranges (Path point) subspace path time can =
       (λ h. let p = passes_box ranges subspace path time h.0 in
           box_passes part subspace path time (record { key_in = p.key_in; path_in = m.1 (p.path_in, h.1); time_in = p.time_in })),
     )
-lower_part_has ranges (Time point) subspace path time can =
+lower_part_has ranges (Time point) can subspace path time =
     let m = lower_has nat_cmp nat_cmp_total ranges.times point time can in
     let part : Ranges = record { keys = ranges.keys; paths = ranges.paths; times = lower ranges.times point } in (
       (λ h. let p = passes_box part subspace path time h in let k = m.0 p.time_in in
@@ -96,10 +95,9 @@ lower_part_has ranges (Time point) subspace path time can =
           box_passes part subspace path time (record { key_in = p.key_in; path_in = p.path_in; time_in = m.1 (p.time_in, h.1) })),
     )
 
-pub upper_part_has : (ranges : Ranges) (at : CutAt) (subspace : List ℕ) (path : List (List ℕ)) (time : ℕ) → IsTrue (can_cut ranges at)
-    → IsTrue (in_box (upper_part ranges at) subspace path time) ↔ (IsTrue (in_box ranges subspace path time) × (is_below at subspace path time ≡ false))
+pub upper_part_has : (ranges : Ranges) (at : CutAt) → IsTrue (can_cut ranges at) → HasTheRest (upper_part ranges at) ranges at
 unfolding can_cut upper_part is_below
-upper_part_has ranges (Subspace key) subspace path time can =
+upper_part_has ranges (Subspace key) can subspace path time =
     let m = upper_has part_cmp part_cmp_total ranges.keys key subspace can in
     let part : Ranges = record { keys = upper ranges.keys key; paths = ranges.paths; times = ranges.times } in (
       (λ h. let p = passes_box part subspace path time h in let k = m.0 p.key_in in
@@ -107,7 +105,7 @@ upper_part_has ranges (Subspace key) subspace path time can =
       (λ h. let p = passes_box ranges subspace path time h.0 in
           box_passes part subspace path time (record { key_in = m.1 (p.key_in, h.1); path_in = p.path_in; time_in = p.time_in })),
     )
-upper_part_has ranges (Path point) subspace path time can =
+upper_part_has ranges (Path point) can subspace path time =
     let m = upper_has path_cmp path_cmp_total ranges.paths point path can in
     let part : Ranges = record { keys = ranges.keys; paths = upper ranges.paths point; times = ranges.times } in (
       (λ h. let p = passes_box part subspace path time h in let k = m.0 p.path_in in
@@ -115,7 +113,7 @@ upper_part_has ranges (Path point) subspace path time can =
       (λ h. let p = passes_box ranges subspace path time h.0 in
           box_passes part subspace path time (record { key_in = p.key_in; path_in = m.1 (p.path_in, h.1); time_in = p.time_in })),
     )
-upper_part_has ranges (Time point) subspace path time can =
+upper_part_has ranges (Time point) can subspace path time =
     let m = upper_has nat_cmp nat_cmp_total ranges.times point time can in
     let part : Ranges = record { keys = ranges.keys; paths = ranges.paths; times = upper ranges.times point } in (
       (λ h. let p = passes_box part subspace path time h in let k = m.0 p.time_in in
@@ -132,10 +130,10 @@ can_where_none false e h = absurd cc
 
 pub answers_below : {T : Type 0} (part : T → Ranges) (ranges : Ranges) (at : CutAt) (answer : Result T (End CutOutside)) → Answers answer (cut_refusal ranges at)
     → IfOk answer (λ parts. part parts ≡ lower_part ranges at) → IfOk answer (λ parts. HasWhatIsBelow (part parts) ranges at)
-answers_below part ranges at (Ok parts) h e = λ subspace path time. rw e (lower_part_has ranges at subspace path time (can_where_none (can_cut ranges at) (record {}) h))
+answers_below part ranges at (Ok parts) h e = rw e (lower_part_has ranges at (can_where_none (can_cut ranges at) (record {}) h))
 answers_below part ranges at (Err refusal) h e = tt
 
 pub answers_rest : {T : Type 0} (part : T → Ranges) (ranges : Ranges) (at : CutAt) (answer : Result T (End CutOutside)) → Answers answer (cut_refusal ranges at)
     → IfOk answer (λ parts. part parts ≡ upper_part ranges at) → IfOk answer (λ parts. HasTheRest (part parts) ranges at)
-answers_rest part ranges at (Ok parts) h e = λ subspace path time. rw e (upper_part_has ranges at subspace path time (can_where_none (can_cut ranges at) (record {}) h))
+answers_rest part ranges at (Ok parts) h e = rw e (upper_part_has ranges at (can_where_none (can_cut ranges at) (record {}) h))
 answers_rest part ranges at (Err refusal) h e = tt

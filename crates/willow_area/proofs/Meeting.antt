@@ -185,9 +185,8 @@ parts area other both h =
     let f = fields (meet_subspace area.subspace other.subspace) (meet_path area.path other.path) (meet_times area.times other.times) both h in
     record { subspace_is = f.0; path_is = f.1; times_are = f.2 }
 
-pub meet_area-some : (area other both : Area) (subspace : List ℕ) (path : List (List ℕ)) (time : ℕ) → meet_area area other ≡ Some both
-    → IsTrue (in_area both subspace path time) ↔ IsTrue (in_area area subspace path time) × IsTrue (in_area other subspace path time)
-meet_area-some area other both subspace path time h =
+pub meet_area-some : (area other both : Area) → meet_area area other ≡ Some both → HasTriplesOfBoth both area other
+meet_area-some area other both h subspace path time =
     let p = parts area other both h in
     let s = subspaces_meet area.subspace other.subspace both.subspace subspace p.subspace_is in
     let q = paths_meet area.path other.path both.path path p.path_is in
@@ -254,7 +253,7 @@ nothing : (area other : Area) → IsArea area → IsArea other → AreApart area
 nothing area other f g no_triple None h = refl
 nothing area other f g no_triple (Some both) h =
     let i = inhabited both (meet_area-fits area other both h f g) in
-    let b = (meet_area-some area other both i.0 i.1 i.2 h).0 i.4 in
+    let b = (meet_area-some area other both h i.0 i.1 i.2).0 i.4 in
     absurd (no_triple i.0 i.1 i.2 i.3 b.0 b.1)
 
 pub meet_area-none : (area other : Area) → IsArea area → IsArea other → (meet_area area other ≡ None) ↔ AreApart area other
@@ -264,7 +263,7 @@ meet_area-none area other f g = (apart area other, λ n. nothing area other f g 
 
 both_of_some : (area other : Area) (meet : Option Area) → meet ≡ meet_area area other → IfSome meet (λ both. HasTriplesOfBoth both area other)
 both_of_some area other None e = tt
-both_of_some area other (Some both) e = λ subspace path time _. meet_area-some area other both subspace path time (sym e)
+both_of_some area other (Some both) e = meet_area-some area other both (sym e)
 
 pub answers_both : {E : Type 0} (area other : Area) (answer : Result (Option Area) E) → IfOk answer (λ meet. meet ≡ meet_area area other)
     → IfOk answer (λ meet. IfSome meet (λ both. HasTriplesOfBoth both area other))

@@ -13,4 +13,4 @@ AreApart area other = (subspace : List ℕ) (path : List (List ℕ)) (time : ℕ
 
 -- the first area has exactly the triples that are in both others
 abbrev pub HasTriplesOfBoth : Area → Area → Area → Type 0
-HasTriplesOfBoth both area other = (subspace : List ℕ) (path : List (List ℕ)) (time : ℕ) → IsTriple subspace path time → IsTrue (in_area both subspace path time) ↔ (IsTrue (in_area area subspace path time) × IsTrue (in_area other subspace path time))
+HasTriplesOfBoth both area other = (subspace : List ℕ) (path : List (List ℕ)) (time : ℕ) → IsTrue (in_area both subspace path time) ↔ (IsTrue (in_area area subspace path time) × IsTrue (in_area other subspace path time))
