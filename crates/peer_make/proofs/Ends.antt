@@ -1,5 +1,5 @@
 -- What the ends of several commands rest on.
-use Rattle.std.proofs.Common.{◌≡◌, ℕ, ◌⊎◌, inl, inr, List, refl}
+use Rattle.std.proofs.Common.{ℕ, inr, List}
 use Rattle.willow_outside.specs.Facts.{ShelfFacts, SourceFacts}
 use Rattle.mc_cap.specs.declared.capability.Capability.{Capability}
 use Rattle.peer_words.specs.declared.command.SignerWord.{SignerWord}

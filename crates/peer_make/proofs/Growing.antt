@@ -1,9 +1,9 @@
 -- The first refusal of a capability with one delegation more, whose area is not within what was granted.
-use Rattle.std.proofs.Common.{◌≡◌, ℕ, ◌+◌, ◌≤◌, ◌<◌, Bool, true, false, not, cond, nat_lt, List, [], ◌∷◌, ◌++◌, length, take, Option, Some, None, unwrap_or, refl, sym, ap, ◌∙◌, arith}
+use Rattle.std.proofs.Common.{◌≡◌, ℕ, ◌+◌, ◌≤◌, ◌<◌, Bool, true, false, not, cond, nat_lt, List, [], ◌∷◌, length, Option, Some, None, unwrap_or, refl, sym, ap, ◌∙◌, arith}
 use Rattle.std.proofs.lemmas.List.{length-append, take-append-le, take_all}
 use Rattle.std.proofs.lemmas.Bool.{ltb-false, le-ltb}
 use Rattle.spelling.specs.Answers.{or_else, cause_if, first_some}
-use Rattle.spelling.proofs.Causes.{first_some-push, first_some-cons, first_some-nil, or_else_assoc}
+use Rattle.spelling.proofs.Causes.{first_some-push, first_some-cons, first_some-nil}
 use Rattle.scheme_core.specs.Rules.{Rules}
 use Rattle.willow_area.specs.Area.{includes_area}
 use Rattle.willow_area.specs.declared.area.Area.{Area}
@@ -13,7 +13,7 @@ use Rattle.mc_cap.specs.Valid.{chain_refusal, start_refusal, start_by, step_refu
 use Rattle.mc_cap.specs.declared.capability.Capability.{Capability}
 use Rattle.mc_cap.specs.declared.chain.Delegation.{Delegation}
 use Rattle.mc_cap.specs.declared.check.ChainRefusal.{ChainRefusal}
-use Rattle.mc_cap.specs.declared.check.ChainRefusal.TheVariants.{AreaGrows, BadSignature, TooManyDelegations}
+use Rattle.mc_cap.specs.declared.check.ChainRefusal.TheVariants.{AreaGrows, TooManyDelegations}
 use Rattle.peer_make.specs.Delegating.{growing_refusal}
 
 -- causes that agree at each place of a list have the same first one

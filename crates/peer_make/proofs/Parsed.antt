@@ -1,5 +1,5 @@
 -- Bytes behind a capability are told as no capability.
-use Rattle.std.proofs.Common.{◌≡◌, ◌≢◌, ℕ, ◌≤◌, List, [], ◌∷◌, ◌++◌, length, take, drop, refl, sym, ap, ◌∙◌, arith}
+use Rattle.std.proofs.Common.{◌≡◌, ◌≢◌, ℕ, ◌≤◌, List, [], ◌++◌, length, take, drop, sym, ap, ◌∙◌, arith}
 use Rattle.std.proofs.lemmas.List.{take-append-drop, length-drop, take_all, append-nil}
 use Rattle.spelling.proofs.Joining.{one_spelling}
 use Rattle.mc_cap.specs.Forms.{IsCapability, capability_spelling}

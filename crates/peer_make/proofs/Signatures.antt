@@ -1,5 +1,5 @@
 -- Signers of one index, and the signatures of open keys.
-use Rattle.std.proofs.Common.{◌≡◌, ℕ, ◌==◌, bytes_eq, true, false, Bool, ◌&&◌, List, [], ◌∷◌, ◌++◌, length, slice_index, refl, sym, ap, ◌∙◌}
+use Rattle.std.proofs.Common.{◌≡◌, ℕ, ◌==◌, bytes_eq, true, false, Bool, ◌&&◌, List, [], ◌∷◌, ◌++◌, length, slice_index, sym, ap, ◌∙◌}
 use Rattle.std.proofs.lemmas.Slice.Eq.{bytes_eq-Decides}
 use Rattle.scheme_core.specs.Open.{open_accepts, open_signature}
 use Rattle.willow_outside.specs.Facts.{ShelfFacts}

@@ -1,5 +1,5 @@
 -- What `delegate` does: a capability with one delegation more.
-use Rattle.std.specs.Prelude.{◌≡◌, ℕ, ◌+◌, ◌⊎◌, Bool, true, false, List, length, Option, Some, None, Result, Ok, Err, nat_lt, unwrap_or, if◌then◌else◌}
+use Rattle.std.specs.Prelude.{◌≡◌, ℕ, ◌+◌, ◌⊎◌, Bool, true, false, List, length, Some, Result, Ok, Err, nat_lt, unwrap_or, if◌then◌else◌}
 use Rattle.willow_outside.specs.Counts.{Rose}
 use Rattle.willow_outside.specs.Facts.{ShelfFacts, SourceFacts, SinkFacts}
 use Rattle.scheme_core.specs.Rules.{Rules}
@@ -101,7 +101,8 @@ DelegateMeets key to words h h' i i' o o' (Err stop.WriteFault) =
     (IsUnsigned key words h h' i i' stop.WriteFault × (o' ≡ o))
     ⊎ ((c : Capability) × IsDelegated key to words h h' i i' c × IsToldPartly o o' c × Rose o.faults o'.faults)
 DelegateMeets key to words h h' i i' o o' (Err stop.NoMemory) =
-    (IsReadSomewhat i i' × UsesAtMostOne key h h' × (o' ≡ o))
-    ⊎ ((c : Capability) × IsDelegated key to words h h' i i' c × IsToldPartly o o' c)
+    (IsReadSomewhat i i' × (h' ≡ h) × (o' ≡ o))
+    ⊎ ((((c : Capability) × IsAsked words i i' c) × UsesAtMostOne key h h' × (o' ≡ o))
+    ⊎ ((c : Capability) × IsDelegated key to words h h' i i' c × IsToldPartly o o' c))
 DelegateMeets key to words h h' i i' o o' (Ok d) = ⊥
 DelegateMeets key to words h h' i i' o o' (Err e) = ⊥

@@ -1,8 +1,6 @@
 //! `key`: a new key under a name, and its user key.
 
 ghost use Rattle.std.specs.Prelude.{◌≡◌, ◌≤◌, IfOk};
-ghost use Rattle.std.specs.String.{string_bytes};
-ghost use Rattle.willow_outside.specs.Counts.{HasCause};
 ghost use Rattle.peer_make.specs.Making.{KeyMeets, LooksUp, DrawsKey, DrawsOne, PutsFile, user_key_line};
 
 use lms_core::{Height, LmsKey};
@@ -28,6 +26,7 @@ pub fn make_key<H: Shelf, N: Noise, O: Sink>(
     ensures read_faults { (H.facts shelf.old).read_faults ≤ (H.facts shelf.new).read_faults }
     ensures write_faults { (H.facts shelf.old).write_faults ≤ (H.facts shelf.new).write_faults }
     ensures noise_faults { (N.facts noise.old).faults ≤ (N.facts noise.new).faults }
+    ensures output_faults { (O.facts output.old).faults ≤ (O.facts output.new).faults }
 {
     if is_taken(shelf, name.as_str())? {
         return Err(Stop::Taken { name });

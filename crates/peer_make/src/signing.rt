@@ -1,10 +1,7 @@
 //! How messages are signed: by an open key, or with the next index of a key file.
 
-ghost use Rattle.std.specs.Prelude.{◌≡◌, ◌≤◌, [], ◌∷◌, length, slice_index};
-ghost use Rattle.std.specs.String.{string_bytes};
+ghost use Rattle.std.specs.Prelude.{◌≡◌, ◌≤◌, length, slice_index};
 ghost use Rattle.peer_words.specs.Signers.{IsSigner};
-ghost use Rattle.lms_core.specs.Use.{Use};
-ghost use Rattle.lms_core.specs.Reserve.{Reserves};
 ghost use Rattle.peer_make.specs.Signing.{Signs, SignsOpen, SignsNext, SignsOnce, HandsNext, stop_of};
 
 use lms_core::{KeyRefusal, OneUse, reserve_keys};

@@ -1,7 +1,7 @@
 //! Keys, capabilities and rows against bytes made elsewhere. The fills 4e and 4f are those of a communal and
 //! of an owned namespace, 55 and 56 those of users.
 
-ghost use Rattle.std.specs.Prelude.{◌≡◌, slice_index, IfSome, IfOk};
+ghost use Rattle.std.specs.Prelude.{◌≡◌, slice_index, IfSome};
 ghost use Rattle.peer_words.specs.Signers.{IsSigner};
 
 use super::*;
@@ -153,6 +153,7 @@ fn handed_for_none(alloc: Global) -> Option<RowRefusal> {
 
 #[test]
 fn capabilities_are_granted_and_handed_on(rt: HostRuntime) {
+    empty_areas_count_as_growing();
     let alloc = rt.alloc();
     assert_eq!(rt;
         granted(alloc, 0x4e, None).ok(),

@@ -1,5 +1,5 @@
 -- The status and the report's lines for each end of a run.
-use Rattle.std.specs.Prelude.{◌≡◌, ℕ, ◌==◌, nat_le, if◌then◌else◌, ◌⊎◌, List, [], ◌∷◌, ◌++◌, codes, Option, Some, None, Result, Ok, Err}
+use Rattle.std.specs.Prelude.{◌≡◌, ℕ, ◌<◌, ◌==◌, nat_le, length, if◌then◌else◌, ◌⊎◌, List, [], ◌∷◌, ◌++◌, codes, Option, Some, None, Result, Ok, Err}
 use Rattle.std.specs.Fmt.{decimal}
 use Rattle.std.specs.String.{string_bytes}
 use Rattle.willow_outside.specs.Counts.{Rose}
@@ -109,9 +109,10 @@ pub record IsReported (old new : SinkFacts) (end : Result Done Stop) (status : �
   pub status_is : status ≡ status_of end
   pub written : IsWritten old new (report_of end)
 
--- the report failed, after a front of the lines
+-- the report failed, after a front of the lines, of which there are some
 pub record IsReportFault (old new : SinkFacts) (end : Result Done Stop) (status : ℕ) : Type 0 where
   pub status_is : status ≡ after_report_fault (status_of end)
+  pub some_lines : 0 < length (report_of end)
   pub written : IsPartlyWritten old new (report_of end)
   pub fault : Rose old.faults new.faults
 

@@ -1,6 +1,6 @@
 //! The status of a run, and its report.
 
-ghost use Rattle.std.specs.Prelude.{◌≡◌};
+ghost use Rattle.std.specs.Prelude.{◌≡◌, ◌≤◌};
 ghost use Rattle.peer_report.specs.Report.{status_of, after_report_fault, refused_status, Reports};
 
 use crate::lines::report_of;
@@ -49,7 +49,8 @@ fn after_report_fault(status: u8) -> u8
 /// authorised or what was to be made is refused; 2 to 9 by the cause of the stop. Where the report fails the
 /// status is 4 in place of 0 or 1, and where no memory is found for it, 7.
 pub fn end_run<E: Sink>(alloc: Global, end: &Result<Done, Stop>, report: &mut E) -> u8
-    ensures { Reports (E.facts report.old) (E.facts report.new) end.now result }
+    ensures reports { Reports (E.facts report.old) (E.facts report.new) end.now result }
+    ensures faults { (E.facts report.old).faults ≤ (E.facts report.new).faults }
 {
     let Ok(lines) = report_of(alloc, end) else {
         return 7;

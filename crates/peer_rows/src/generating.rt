@@ -13,7 +13,8 @@ use willow_outside::Sink;
 /// Writes the frames of the first `rows` rows of the generator, from row 0 on. There are at most 65,536.
 pub fn generate<O: Sink>(alloc: Global, rows: u32, output: &mut O) -> Result<Done, Stop>
     requires { rows ≤ 65536 }
-    ensures { GenMeets rows (O.facts output.old) (O.facts output.new) result }
+    ensures meets { GenMeets rows (O.facts output.old) (O.facts output.new) result }
+    ensures output_faults { (O.facts output.old).faults ≤ (O.facts output.new).faults }
 {
     let frames = generated_frames(alloc, rows)?;
     write_output(output, &frames)?;

@@ -1,6 +1,6 @@
 //! `join`: the image of the live rows among the authorised rows of the input.
 
-ghost use Rattle.std.specs.Prelude.{◌≡◌};
+ghost use Rattle.std.specs.Prelude.{◌≡◌, ◌≤◌};
 ghost use Rattle.peer_rows.specs.Join.{JoinMeets, JoinsBytes};
 ghost use Rattle.peer_rows.specs.Stored.{Stores};
 
@@ -21,7 +21,10 @@ pub fn join<I: Source, O: Sink>(
     input: &mut I,
     output: &mut O,
 ) -> Result<Done, Stop>
-    ensures { JoinMeets namespace.now (I.facts input.old) (I.facts input.new) (O.facts output.old) (O.facts output.new) result }
+    ensures meets { JoinMeets namespace.now (I.facts input.old) (I.facts input.new) (O.facts output.old) (O.facts output.new) result }
+    ensures input_faults { (I.facts input.old).faults ≤ (I.facts input.new).faults }
+    ensures input_ends { (I.facts input.old).ends ≤ (I.facts input.new).ends }
+    ensures output_faults { (O.facts output.old).faults ≤ (O.facts output.new).faults }
 {
     let bytes = read_input(alloc, input)?;
     let (image, counts) = join_bytes(alloc, namespace, &bytes)?;

@@ -24,7 +24,10 @@ use willow_path::NamespaceKey;
 /// namespace: a head with their number, and the line of each, in the order of the image. Told are the numbers of
 /// all rows and of those left out, with the first of these, counted from 1.
 pub fn show<I: Source, O: Sink>(alloc: Global, input: &mut I, output: &mut O) -> Result<Done, Stop>
-    ensures { ShowMeets (I.facts input.old) (I.facts input.new) (O.facts output.old) (O.facts output.new) result }
+    ensures meets { ShowMeets (I.facts input.old) (I.facts input.new) (O.facts output.old) (O.facts output.new) result }
+    ensures input_faults { (I.facts input.old).faults ≤ (I.facts input.new).faults }
+    ensures input_ends { (I.facts input.old).ends ≤ (I.facts input.new).ends }
+    ensures output_faults { (O.facts output.old).faults ≤ (O.facts output.new).faults }
 {
     let bytes = read_input(alloc, input)?;
     let (text, counts) = show_bytes(alloc, &bytes)?;

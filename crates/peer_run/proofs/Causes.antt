@@ -12,7 +12,7 @@ use Rattle.peer_report.specs.Report.{Reports, status_of, after_report_fault}
 use Rattle.peer_words.specs.Commands.{IsWords, IsNoCommand}
 use Rattle.peer_words.specs.declared.command.Command.{Command}
 use Rattle.peer_words.specs.declared.command.Command.TheVariants as cmd
-use Rattle.peer_run.specs.Meets.{Meets}
+use Rattle.peer_run.specs.Meets.{Meets, IsUnbuilt}
 use Rattle.peer_run.specs.Runs.{Runs, RunsWords}
 use Rattle.peer_run.specs.Statuses.{HasEnded, HasStopped, HasReadFault, HasWriteFault, IsNoRun, IsBadStop, IsLogFull, IsKeySpent, IsUnbuiltCommand}
 use Rattle.peer_run.proofs.Ends.{own_status, after_is, memory_end, is_end, StopsSo, IsUsage, IsReadFault, IsWriteFault, usage_end, read_end, write_end, bad_end, full_end, spent_end, known}
@@ -87,6 +87,10 @@ unbuilt (cmd.Sync image cap key to area) old new meets = (tt, meets)
 unbuilt (cmd.Serve image cap key at links area) old new meets = (tt, meets)
 unbuilt (cmd.Watch image area) old new meets = (tt, meets)
 
+only : (old new : World) (end : Result Done Stop) → IsUnbuilt old new end → end ≡ Err stop.Usage
+only old new (Err stop.Usage) is = refl
+only old new end is = absurd is
+
 pub usage : (words : List (List ℕ)) (old new : World) (r r' : SinkFacts) (s : ℕ) → RunsWords words old new r r' s → s ≡ 2 → IsNoRun words × (new ≡ old)
 usage words old new r r' s (inr (inl misused)) is = (inl misused.no_command, misused.same)
 usage words old new r r' s (inr (inr none)) is =
@@ -96,10 +100,33 @@ usage words old new r r' s (inl runs) is = go runs.end runs.meets (usage_end run
   go (Err stop.Usage) meets stops = let both = unbuilt runs.command old new meets in (inr (runs.command, runs.is_words, both.0), both.1)
   go end meets stops = absurd stops
 
-pub is_command : (words : List (List ℕ)) (old new : World) (r r' : SinkFacts) (s : ℕ) → RunsWords words old new r r' s → s ≢ 2 → s ≢ 4 → s ≢ 7 → (command : Command) × IsWords words command
-is_command words old new r r' s (inl runs) two four seven = (runs.command, runs.is_words)
-is_command words old new r r' s (inr (inl misused)) two four seven = absurd (two (no_command r r' s misused.reports four seven))
-is_command words old new r r' s (inr (inr none)) two four seven = absurd (seven (memory_end r r' s none.reports))
+-- without a command the status is 2
+misused_end : (r r' : SinkFacts) (s : ℕ) → Reports r r' (Err stop.Usage) s → s ≢ 7 → s ≡ 2
+misused_end r r' s (inl told) memory = told.status_is
+misused_end r r' s (inr (inl fault)) memory = fault.status_is
+misused_end r r' s (inr (inr none)) memory = absurd (memory none.status_is)
+
+-- a command that is not built ends as no command
+unbuilt_end : (c : Command) (old new : World) (end : Result Done Stop) → Meets c old new end → IsUnbuiltCommand c → end ≡ Err stop.Usage
+unbuilt_end (cmd.Join n) old new end meets is = absurd is
+unbuilt_end (cmd.Show None) old new end meets is = absurd is
+unbuilt_end (cmd.Key name height) old new end meets is = absurd is
+unbuilt_end (cmd.Grant n mode user key) old new end meets is = absurd is
+unbuilt_end (cmd.Delegate key to area) old new end meets is = absurd is
+unbuilt_end (cmd.Write key path time payload_length digest subspace) old new end meets is = absurd is
+unbuilt_end (cmd.Gen rows) old new end meets is = absurd is
+unbuilt_end (cmd.Show (Some newest)) old new end meets is = only old new end meets
+unbuilt_end (cmd.Drill rows) old new end meets is = only old new end meets
+unbuilt_end (cmd.Meet a b c d e f area) old new end meets is = only old new end meets
+unbuilt_end (cmd.Sync image cap key to area) old new end meets is = only old new end meets
+unbuilt_end (cmd.Serve image cap key at links area) old new end meets is = only old new end meets
+unbuilt_end (cmd.Watch image area) old new end meets is = only old new end meets
+
+pub is_command : (words : List (List ℕ)) (old new : World) (r r' : SinkFacts) (s : ℕ) → RunsWords words old new r r' s → s ≢ 2 → s ≢ 7 → (command : Command) × IsWords words command × (IsUnbuiltCommand command → ⊥)
+is_command words old new r r' s (inl runs) two seven =
+    (runs.command, runs.is_words, λ unbuilt. two (misused_end r r' s (subst (λ (end : Result Done Stop). Reports r r' end s) (unbuilt_end runs.command old new runs.end runs.meets unbuilt) runs.reports) seven))
+is_command words old new r r' s (inr (inl misused)) two seven = absurd (two (misused_end r r' s misused.reports seven))
+is_command words old new r r' s (inr (inr none)) two seven = absurd (seven (memory_end r r' s none.reports))
 
 -- ---- 3 and 4
 

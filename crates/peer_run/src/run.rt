@@ -2,13 +2,14 @@
 
 ghost use Rattle.std.specs.Prelude.{◌≡◌, ◌≢◌, ◌⊎◌, ℕ, List, ◌≤◌};
 ghost use Rattle.willow_outside.specs.Facts.{ShelfFacts, DoorFacts, NoiseFacts};
+ghost use Rattle.peer_stage.specs.World.{NeverFall};
 ghost use Rattle.peer_words.specs.Words.{texts};
 ghost use Rattle.peer_words.specs.Commands.{IsWords};
 ghost use Rattle.peer_words.specs.declared.command.Command.{Command};
 ghost use Rattle.peer_words.specs.declared.command.Command.TheVariants as cmd;
 ghost use Rattle.peer_run.specs.Meets.{Meets, MeetsShow, world};
 ghost use Rattle.peer_run.specs.Runs.{RunsWords};
-ghost use Rattle.peer_run.specs.Statuses.{IsWholeJoin, HasEnded, IsNoRun, HasReadFault, HasWriteFault, HasStopped, IsBadStop, IsLogFull, IsKeySpent, HasNoFault, CanEnd, CanJoin};
+ghost use Rattle.peer_run.specs.Statuses.{IsWholeJoin, HasEnded, IsNoRun, IsUnbuiltCommand, HasReadFault, HasWriteFault, HasStopped, IsBadStop, IsLogFull, IsKeySpent, HasNoFault, CanEnd};
 
 use peer_make::{delegate, grant, make_key, write};
 use peer_report::end_run;
@@ -29,7 +30,8 @@ fn run_command<H: Shelf, I: Source, O: Sink, N: Noise>(
     noise: &mut N,
 ) -> Result<Done, Stop>
     requires { (words : List (List ℕ)) × IsWords words command }
-    ensures { (door : DoorFacts) → Meets command (world (H.facts shelf.old) (I.facts input.old) (O.facts output.old) door (N.facts noise.old)) (world (H.facts shelf.new) (I.facts input.new) (O.facts output.new) door (N.facts noise.new)) result }
+    ensures meets { (door : DoorFacts) → Meets command (world (H.facts shelf.old) (I.facts input.old) (O.facts output.old) door (N.facts noise.old)) (world (H.facts shelf.new) (I.facts input.new) (O.facts output.new) door (N.facts noise.new)) result }
+    ensures counts { (door : DoorFacts) → NeverFall (world (H.facts shelf.old) (I.facts input.old) (O.facts output.old) door (N.facts noise.old)) (world (H.facts shelf.new) (I.facts input.new) (O.facts output.new) door (N.facts noise.new)) }
 {
     match command {
         Command::Join { namespace } => join(alloc, &namespace, input, output),
@@ -66,7 +68,10 @@ fn run_show<I: Source, O: Sink>(
     input: &mut I,
     output: &mut O,
 ) -> Result<Done, Stop>
-    ensures { (shelf : ShelfFacts) (door : DoorFacts) (noise : NoiseFacts) → MeetsShow newest (world shelf (I.facts input.old) (O.facts output.old) door noise) (world shelf (I.facts input.new) (O.facts output.new) door noise) result }
+    ensures meets { (shelf : ShelfFacts) (door : DoorFacts) (noise : NoiseFacts) → MeetsShow newest (world shelf (I.facts input.old) (O.facts output.old) door noise) (world shelf (I.facts input.new) (O.facts output.new) door noise) result }
+    ensures input_faults { (I.facts input.old).faults ≤ (I.facts input.new).faults }
+    ensures input_ends { (I.facts input.old).ends ≤ (I.facts input.new).ends }
+    ensures output_faults { (O.facts output.old).faults ≤ (O.facts output.new).faults }
 {
     match newest {
         None => show(alloc, input, output),
@@ -84,7 +89,9 @@ fn run_words<H: Shelf, I: Source, O: Sink, E: Sink, N: Noise>(
     report: &mut E,
     noise: &mut N,
 ) -> u8
-    ensures { (door : DoorFacts) → RunsWords (texts words.now) (world (H.facts shelf.old) (I.facts input.old) (O.facts output.old) door (N.facts noise.old)) (world (H.facts shelf.new) (I.facts input.new) (O.facts output.new) door (N.facts noise.new)) (E.facts report.old) (E.facts report.new) result }
+    ensures runs { (door : DoorFacts) → RunsWords (texts words.now) (world (H.facts shelf.old) (I.facts input.old) (O.facts output.old) door (N.facts noise.old)) (world (H.facts shelf.new) (I.facts input.new) (O.facts output.new) door (N.facts noise.new)) (E.facts report.old) (E.facts report.new) result }
+    ensures counts { (door : DoorFacts) → NeverFall (world (H.facts shelf.old) (I.facts input.old) (O.facts output.old) door (N.facts noise.old)) (world (H.facts shelf.new) (I.facts input.new) (O.facts output.new) door (N.facts noise.new)) }
+    ensures report { (E.facts report.old).faults ≤ (E.facts report.new).faults }
 {
     match read_words(alloc, words) {
         Ok(command) => {
@@ -121,7 +128,7 @@ pub fn peer_run<H: Shelf, I: Source, O: Sink, E: Sink, D: Door, N: Noise>(
     ensures ended { result ≤ 1 → HasEnded (texts words.now) (world (H.facts shelf.old) (I.facts input.old) (O.facts output.old) (D.facts door.old) (N.facts noise.old)) (world (H.facts shelf.new) (I.facts input.new) (O.facts output.new) (D.facts door.new) (N.facts noise.new)) (E.facts report.old) (E.facts report.new) result }
     ensures usage { result ≡ 2 → IsNoRun (texts words.now) }
     ensures untouched { result ≡ 2 → world (H.facts shelf.new) (I.facts input.new) (O.facts output.new) (D.facts door.new) (N.facts noise.new) ≡ world (H.facts shelf.old) (I.facts input.old) (O.facts output.old) (D.facts door.old) (N.facts noise.old) }
-    ensures command { result ≢ 2 → result ≢ 4 → result ≢ 7 → (command : Command) × IsWords (texts words.now) command }
+    ensures command { result ≢ 2 → result ≢ 7 → (command : Command) × IsWords (texts words.now) command × (IsUnbuiltCommand command → ⊥) }
     ensures read_fault { result ≡ 3 → HasReadFault (world (H.facts shelf.old) (I.facts input.old) (O.facts output.old) (D.facts door.old) (N.facts noise.old)) (world (H.facts shelf.new) (I.facts input.new) (O.facts output.new) (D.facts door.new) (N.facts noise.new)) }
     ensures write_fault { result ≡ 4 → HasWriteFault (world (H.facts shelf.old) (I.facts input.old) (O.facts output.old) (D.facts door.old) (N.facts noise.old)) (world (H.facts shelf.new) (I.facts input.new) (O.facts output.new) (D.facts door.new) (N.facts noise.new)) (E.facts report.old) (E.facts report.new) }
     ensures bad_input { result ≡ 5 → HasStopped IsBadStop (texts words.now) (world (H.facts shelf.old) (I.facts input.old) (O.facts output.old) (D.facts door.old) (N.facts noise.old)) (world (H.facts shelf.new) (I.facts input.new) (O.facts output.new) (D.facts door.new) (N.facts noise.new)) }
@@ -129,11 +136,12 @@ pub fn peer_run<H: Shelf, I: Source, O: Sink, E: Sink, D: Door, N: Noise>(
     ensures key_spent { result ≡ 9 → HasStopped IsKeySpent (texts words.now) (world (H.facts shelf.old) (I.facts input.old) (O.facts output.old) (D.facts door.old) (N.facts noise.old)) (world (H.facts shelf.new) (I.facts input.new) (O.facts output.new) (D.facts door.new) (N.facts noise.new)) }
     ensures statuses { (result ≤ 5) ⊎ ((7 ≤ result) × (result ≤ 9)) }
 
-    // Where nothing is against a command it comes to its end, but for want of memory.
-    ensures complete { CanEnd (texts words.now) (world (H.facts shelf.old) (I.facts input.old) (O.facts output.old) (D.facts door.old) (N.facts noise.old)) (world (H.facts shelf.new) (I.facts input.new) (O.facts output.new) (D.facts door.new) (N.facts noise.new))
-        → HasNoFault (world (H.facts shelf.old) (I.facts input.old) (O.facts output.old) (D.facts door.old) (N.facts noise.old)) (world (H.facts shelf.new) (I.facts input.new) (O.facts output.new) (D.facts door.new) (N.facts noise.new)) (E.facts report.old) (E.facts report.new)
-        → result ≢ 7 → result ≤ 1 }
-    ensures joins { (namespace : List ℕ) → IsWords (texts words.now) (cmd.Join namespace) → CanJoin namespace (world (H.facts shelf.old) (I.facts input.old) (O.facts output.old) (D.facts door.old) (N.facts noise.old))
+    // No count falls.
+    ensures counts { NeverFall (world (H.facts shelf.old) (I.facts input.old) (O.facts output.old) (D.facts door.old) (N.facts noise.old)) (world (H.facts shelf.new) (I.facts input.new) (O.facts output.new) (D.facts door.new) (N.facts noise.new)) }
+    ensures report_faults { (E.facts report.old).faults ≤ (E.facts report.new).faults }
+
+    // A command that is ready comes to its end, but for faults and want of memory.
+    ensures complete { CanEnd (texts words.now) (world (H.facts shelf.old) (I.facts input.old) (O.facts output.old) (D.facts door.old) (N.facts noise.old))
         → HasNoFault (world (H.facts shelf.old) (I.facts input.old) (O.facts output.old) (D.facts door.old) (N.facts noise.old)) (world (H.facts shelf.new) (I.facts input.new) (O.facts output.new) (D.facts door.new) (N.facts noise.new)) (E.facts report.old) (E.facts report.new)
         → result ≢ 7 → result ≤ 1 }
 {

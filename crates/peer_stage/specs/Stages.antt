@@ -22,10 +22,11 @@ pub record IsReadTooFar (old new : SourceFacts) (bytes : List ℕ) : Type 0 wher
   pub taken : Consumes old.left new.left bytes
   pub beyond : INPUT_LIMIT < length bytes
 
--- these bytes were taken, within the limit, before a read failed
+-- these bytes were taken, within the limit, before a read failed; the end was not met
 pub record IsReadToFault (old new : SourceFacts) (bytes : List ℕ) : Type 0 where
   pub taken : Consumes old.left new.left bytes
   pub within : length bytes ≤ INPUT_LIMIT
+  pub not_ended : new.ends ≡ old.ends
   pub fault : Rose old.faults new.faults
 
 -- the bytes came from the input
@@ -51,9 +52,9 @@ pub record IsPartlyWritten (old new : SinkFacts) (bytes : List ℕ) : Type 0 whe
   pub within : count ≤ length bytes
   pub written : Appends old.held new.held (take count bytes)
 
--- how the writing of some bytes ends
+-- how the writing of some bytes ends; where there is nothing to write nothing fails
 abbrev pub WritesOutput : SinkFacts → SinkFacts → List ℕ → Result (Unit {0}) Stop → Type 0
 WritesOutput old new bytes (Ok u) = IsWritten old new bytes
-WritesOutput old new bytes (Err stop.WriteFault) = IsPartlyWritten old new bytes × Rose old.faults new.faults
+WritesOutput old new bytes (Err stop.WriteFault) = IsPartlyWritten old new bytes × Rose old.faults new.faults × (0 < length bytes)
 WritesOutput old new bytes (Err stop.NoMemory) = IsPartlyWritten old new bytes
 WritesOutput old new bytes (Err e) = ⊥

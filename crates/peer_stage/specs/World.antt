@@ -1,4 +1,5 @@
 -- What a command finds and leaves of the objects outside, but for the report, on which only its end is told.
+use Rattle.std.specs.Prelude.{◌≤◌}
 use Rattle.willow_outside.specs.Facts.{ShelfFacts, SourceFacts, SinkFacts, NoiseFacts, DoorFacts}
 
 pub record World : Type 0 where
@@ -7,3 +8,13 @@ pub record World : Type 0 where
   pub output : SinkFacts
   pub door : DoorFacts
   pub noise : NoiseFacts
+
+-- no count of an object falls
+pub record NeverFall (old new : World) : Type 0 where
+  pub shelf_reads : old.shelf.read_faults ≤ new.shelf.read_faults
+  pub shelf_writes : old.shelf.write_faults ≤ new.shelf.write_faults
+  pub input_faults : old.input.faults ≤ new.input.faults
+  pub input_ends : old.input.ends ≤ new.input.ends
+  pub output_faults : old.output.faults ≤ new.output.faults
+  pub door_faults : old.door.faults ≤ new.door.faults
+  pub noise_faults : old.noise.faults ≤ new.noise.faults

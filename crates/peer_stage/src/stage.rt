@@ -1,5 +1,6 @@
 //! The stages that commands share: reading the input and writing the output.
 
+ghost use Rattle.std.specs.Prelude.{◌≤◌};
 ghost use Rattle.peer_stage.specs.Stages.{ReadsInput, WritesOutput};
 
 use crate::outcome::{Origin, Stop};
@@ -12,7 +13,9 @@ pub const INPUT_LIMIT: u64 = 4_294_967_295;
 
 /// All of the input.
 pub fn read_input<I: Source>(alloc: Global, input: &mut I) -> Result<Vec<u8>, Stop>
-    ensures { ReadsInput (I.facts input.old) (I.facts input.new) result }
+    ensures reads { ReadsInput (I.facts input.old) (I.facts input.new) result }
+    ensures faults { (I.facts input.old).faults ≤ (I.facts input.new).faults }
+    ensures ends { (I.facts input.old).ends ≤ (I.facts input.new).ends }
 {
     match read_all(alloc, input, INPUT_LIMIT) {
         Ok(bytes) => Ok(bytes),
@@ -25,10 +28,14 @@ pub fn read_input<I: Source>(alloc: Global, input: &mut I) -> Result<Vec<u8>, St
     }
 }
 
-/// Writes all of the bytes.
+/// Writes all of the bytes. Where there are none the output is not called.
 pub fn write_output<O: Sink>(output: &mut O, bytes: &[u8]) -> Result<(), Stop>
-    ensures { WritesOutput (O.facts output.old) (O.facts output.new) bytes.now result }
+    ensures writes { WritesOutput (O.facts output.old) (O.facts output.new) bytes.now result }
+    ensures faults { (O.facts output.old).faults ≤ (O.facts output.new).faults }
 {
+    if bytes.is_empty() {
+        return Ok(());
+    }
     match write_whole(output, bytes) {
         Ok(()) => Ok(()),
         Err(Fault::Failed) => Err(Stop::WriteFault),

@@ -1,4 +1,4 @@
-use Rattle.std.proofs.Common.{refl, arith}
+use Rattle.std.proofs.Common.{refl}
 use Rattle.peer_make.proofs.Parsed.{goes_on}
 use Rattle.peer_make.proofs.reading.parse.Goals as goal
 
