@@ -7,9 +7,8 @@ mod digests;
 mod keys;
 
 use std::alloc::Global;
-use std::env;
-use std::io;
 use std::process::ExitCode;
+use std::{env, io};
 
 // The front of what came out, as a number.
 fn front_of(bytes: &[u8; 32]) -> u64 {

@@ -112,10 +112,10 @@ call_rises name n count held after before behind (Ok signers) rest t h v u f =
     let all = rises_uses k k.next count rest behind_all in
     let low : n ≤ k.next = u k h.1.held.key was in
     rises_weaker n k.next (map (λ s. s.index) signers.items ++ rest) low (rw (← h.1.signers_are) at all)
-call_rises name n count held after before behind (Err (Refused ShelfRead)) rest t h v u f = f n (idle n held after (kept_held before.names behind.names name held after t v h.1) u)
-call_rises name n count held after before behind (Err (Refused Missing)) rest t h v u f = f n (idle n held after (kept_held before.names behind.names name held after t v h.1) u)
-call_rises name n count held after before behind (Err (Refused BadKeyFile)) rest t h v u f = f n (idle n held after (kept_held before.names behind.names name held after t v h.1) u)
-call_rises name n count held after before behind (Err (Refused (KeySpent next))) rest t h v u f = f n (idle n held after (kept_held before.names behind.names name held after t v h.1.kept) u)
+call_rises name n count held after before behind (Err (Refused ShelfRead)) rest t h v u f = f n (idle n held after (kept_held before.names behind.names name held after t v h.1.names) u)
+call_rises name n count held after before behind (Err (Refused Missing)) rest t h v u f = f n (idle n held after (kept_held before.names behind.names name held after t v h.1.names) u)
+call_rises name n count held after before behind (Err (Refused BadKeyFile)) rest t h v u f = f n (idle n held after (kept_held before.names behind.names name held after t v h.1.names) u)
+call_rises name n count held after before behind (Err (Refused (KeySpent next))) rest t h v u f = f n (idle n held after (kept_held before.names behind.names name held after t v h.1.kept.names) u)
 call_rises name n count held after before behind (Err (Refused ShelfWrite)) rest t h v u f =
     let k = h.0 in
     let was = got_held before.names name held _ t h.1.held.file in

@@ -27,6 +27,11 @@ PutsKey old new name k = new.names ≡ option_map (name_put name (key_file k)) o
 abbrev pub KeepsNames : ShelfFacts → ShelfFacts → Type 0
 KeepsNames old new = new.names ≡ old.names
 
+-- No name was put: all hold what they held, and no write failed.
+pub record IsOnlyRead (old new : ShelfFacts) : Type 0 where
+  pub names : KeepsNames old new
+  pub write_faults : new.write_faults ≡ old.write_faults
+
 -- The signers of the next indices are handed out, in order, and the file's next index is higher by as many.
 pub record HandsOut (name : List ℕ) (count : ℕ) (old new : ShelfFacts) (signers : List Use) (k : Key) : Type 0 where
   pub held : HoldsKey old name k
@@ -39,7 +44,7 @@ pub record IsSpent (name : List ℕ) (count next : ℕ) (old new : ShelfFacts) (
   pub held : HoldsKey old name k
   pub short : leaves k.height < k.next + count
   pub told : next ≡ k.next
-  pub kept : KeepsNames old new
+  pub kept : IsOnlyRead old new
 
 -- The write failed, and the file is the old or the new one.
 pub record FailsToPut (name : List ℕ) (count : ℕ) (old new : ShelfFacts) (k : Key) : Type 0 where
@@ -56,9 +61,9 @@ pub record HoldsNoKey (name : List ℕ) (old : ShelfFacts) (bytes : List ℕ) : 
 -- what a call for so many indices of the key under a name answers, and what it does to the shelf
 abbrev pub Reserves : List ℕ → ℕ → ShelfFacts → ShelfFacts → Result (Vec Use Global) (End KeyRefusal) → Type 0
 Reserves name count old new (Ok signers) = (k : Key) × HandsOut name count old new signers.items k
-Reserves name count old new (Err (Refused ShelfRead)) = Rose old.read_faults new.read_faults × KeepsNames old new
-Reserves name count old new (Err (Refused Missing)) = GetsName old.names name None × KeepsNames old new
-Reserves name count old new (Err (Refused BadKeyFile)) = ((bytes : List ℕ) × HoldsNoKey name old bytes) × KeepsNames old new
+Reserves name count old new (Err (Refused ShelfRead)) = Rose old.read_faults new.read_faults × IsOnlyRead old new
+Reserves name count old new (Err (Refused Missing)) = GetsName old.names name None × IsOnlyRead old new
+Reserves name count old new (Err (Refused BadKeyFile)) = ((bytes : List ℕ) × HoldsNoKey name old bytes) × IsOnlyRead old new
 Reserves name count old new (Err (Refused (KeySpent next))) = (k : Key) × IsSpent name count next old new k
 Reserves name count old new (Err (Refused ShelfWrite)) = (k : Key) × FailsToPut name count old new k
 Reserves name count old new (Err NoMemory) = KeepsNames old new

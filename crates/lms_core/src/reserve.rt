@@ -10,20 +10,26 @@ use crate::key::LmsKey;
 use crate::one_use::OneUse;
 use spelling::{End, NoMemory};
 use std::alloc::Global;
+use thiserror::Error;
 use willow_outside::{Fault, Shelf};
 
 /// Why no signer was handed out, in the order in which the causes are looked for.
-#[derive(Clone, Copy, Debug, PartialEq, Eq)]
+#[derive(Clone, Copy, Debug, PartialEq, Eq, Error)]
 pub enum KeyRefusal {
     /// The shelf's read failed, as its count of read faults shows.
+    #[error("the shelf could not be read")]
     ShelfRead,
     /// There is no such name.
+    #[error("the shelf has no such name")]
     Missing,
     /// The name holds no key file.
+    #[error("the name holds no key file")]
     BadKeyFile,
     /// The key has fewer indices left than were asked for: `next` is the first that is not used.
+    #[error("from index {next} on the key has too few indices left")]
     KeySpent { next: u32 },
     /// The shelf's write failed, as its count of write faults shows; the name holds the old or the new file.
+    #[error("the shelf could not be written")]
     ShelfWrite,
 }
 

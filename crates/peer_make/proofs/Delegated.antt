@@ -25,7 +25,7 @@ use Rattle.peer_make.specs.Signing.{Signed, StopsSigning}
 use Rattle.peer_make.specs.Granting.{Tells}
 use Rattle.peer_make.specs.Reading.{IsRead}
 use Rattle.peer_make.specs.Delegating.{asked, is_empty, IsAsked, IsDelegated, DelegateMeets}
-use Rattle.peer_make.proofs.Ends.{signed_uses, read_somewhat}
+use Rattle.peer_make.proofs.Ends.{signed_uses}
 
 -- a chain of eight or more is too long with one more
 pub too_many : (rules : Rules) (c : Capability) (area : Area) (user signature : List ℕ) → 8 ≤ length c.chain → chain_refusal rules (extended c area user signature) ≡ Some TooManyDelegations
@@ -52,14 +52,14 @@ delegated key to words h h' i i' c area message signature read is_area has_times
 -- no signature was made
 pub unsigned : (key : SignerWord) (to : List ℕ) (words : AreaWords) (h h' : ShelfFacts) (i i' : SourceFacts) (o : SinkFacts) (c : Capability) (e : Stop)
     → IsAsked words i i' c → StopsSigning key h h' e → DelegateMeets key to words h h' i i' o o (Err e)
-unsigned (OpenKey key) to words h h' i i' o c stop.NoMemory a s = inl (read_somewhat i i' c a.read, s, refl)
+unsigned (OpenKey key) to words h h' i i' o c stop.NoMemory a s = inr (inl ((c, a), s, refl))
 unsigned (LmsFile name) to words h h' i i' o c stop.ReadFault a s = (inr ((c, a), s), refl)
 unsigned (LmsFile name) to words h h' i i' o c (stop.Missing other) a s = (((c, a), s), refl)
 unsigned (LmsFile name) to words h h' i i' o c (stop.BadInput origin.Input at) a s = absurd s.0
 unsigned (LmsFile name) to words h h' i i' o c (stop.BadInput (origin.Name other) at) a s = (((c, a), s), refl)
 unsigned (LmsFile name) to words h h' i i' o c stop.KeySpent a s = (((c, a), s), refl)
 unsigned (LmsFile name) to words h h' i i' o c stop.WriteFault a s = inl (((c, a), s), refl)
-unsigned (LmsFile name) to words h h' i i' o c stop.NoMemory a s = inl (read_somewhat i i' c a.read, s, refl)
+unsigned (LmsFile name) to words h h' i i' o c stop.NoMemory a s = inr (inl ((c, a), s, refl))
 unsigned key to words h h' i i' o c e a s = absurd s
 
 -- the longer capability was checked and written
@@ -69,6 +69,6 @@ told key to words h h' i i' o o' c (Ok done.Made) d t = (c, d, t)
 told key to words h h' i i' o o' c (Err (stop.Refused (Chain r))) d t = (inr (c, d, t.0), t.1)
 told key to words h h' i i' o o' c (Err stop.WriteFault) d t = inr (c, d, t.0, t.1)
 told key to words h h' i i' o o' c (Err stop.NoMemory) d (inl same) =
-    inl (read_somewhat i i' d.so_far d.is_asked.read, signed_uses key h h' _ d.signature d.signed, same)
-told key to words h h' i i' o o' c (Err stop.NoMemory) d (inr partly) = inr (c, d, partly)
+    inr (inl ((d.so_far, d.is_asked), signed_uses key h h' _ d.signature d.signed, same))
+told key to words h h' i i' o o' c (Err stop.NoMemory) d (inr partly) = inr (inr (c, d, partly))
 told key to words h h' i i' o o' c end d t = absurd t

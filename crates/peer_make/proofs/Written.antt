@@ -14,7 +14,7 @@ use Rattle.peer_stage.specs.declared.outcome.Stop.TheVariants as stop
 use Rattle.peer_make.specs.Signing.{Signed}
 use Rattle.peer_make.specs.Reading.{IsRead}
 use Rattle.peer_make.specs.Writing.{EntryWords, entry_under, IsSignedRow, Frames, WriteMeets}
-use Rattle.peer_make.proofs.Ends.{signed_uses, read_somewhat}
+use Rattle.peer_make.proofs.Ends.{signed_uses}
 
 -- a body that a frame may carry
 pub body_fits : (r : RawValue) → FitsFrame r → length (row_body (row_of r)) ≤ 131072
@@ -42,11 +42,11 @@ framed key words h h' i i' o o' r (Ok done.Made) s t = (r, s, t)
 framed key words h h' i i' o o' r (Err (stop.Refused refusal)) s t = (r, s, t.0, t.1)
 framed key words h h' i i' o o' r (Err stop.WriteFault) s t = inr (r, s, t.0, t.1)
 framed key words h h' i i' o o' r (Err stop.NoMemory) s (inl same) =
-    inl (read_somewhat i i' _ s.read, signed_uses key h h' _ _ s.signed, same)
-framed key words h h' i i' o o' r (Err stop.NoMemory) s (inr partly) = inr (r, s, partly)
+    inr (inl ((_, s.read), signed_uses key h h' _ _ s.signed, same))
+framed key words h h' i i' o o' r (Err stop.NoMemory) s (inr partly) = inr (inr (r, s, partly))
 framed key words h h' i i' o o' r end s t = absurd t
 
 -- there was no memory for the row
 pub no_row : (key : SignerWord) (words : EntryWords) (h h' : ShelfFacts) (i i' : SourceFacts) (o : SinkFacts) (c : Capability) (message signature : List ℕ)
     → IsRead i i' c → Signed key h h' message signature → WriteMeets key words h h' i i' o o (Err stop.NoMemory)
-no_row key words h h' i i' o c message signature read signed = inl (read_somewhat i i' c read, signed_uses key h h' message signature signed, refl)
+no_row key words h h' i i' o c message signature read signed = inr (inl ((c, read), signed_uses key h h' message signature signed, refl))

@@ -101,7 +101,8 @@ DelegateMeets key to words h h' i i' o o' (Err stop.WriteFault) =
     (IsUnsigned key words h h' i i' stop.WriteFault × (o' ≡ o))
     ⊎ ((c : Capability) × IsDelegated key to words h h' i i' c × IsToldPartly o o' c × Rose o.faults o'.faults)
 DelegateMeets key to words h h' i i' o o' (Err stop.NoMemory) =
-    (IsReadSomewhat i i' × UsesAtMostOne key h h' × (o' ≡ o))
-    ⊎ ((c : Capability) × IsDelegated key to words h h' i i' c × IsToldPartly o o' c)
+    (IsReadSomewhat i i' × (h' ≡ h) × (o' ≡ o))
+    ⊎ ((((c : Capability) × IsAsked words i i' c) × UsesAtMostOne key h h' × (o' ≡ o))
+    ⊎ ((c : Capability) × IsDelegated key to words h h' i i' c × IsToldPartly o o' c))
 DelegateMeets key to words h h' i i' o o' (Ok d) = ⊥
 DelegateMeets key to words h h' i i' o o' (Err e) = ⊥

@@ -10,7 +10,7 @@ use Rattle.willow_outside.specs.Facts.{ShelfFacts, NoiseFacts, SinkFacts}
 use Rattle.willow_outside.specs.Names.{GetsName}
 use Rattle.lms_core.specs.Key.{Key}
 use Rattle.lms_core.specs.Use.{user_key_of}
-use Rattle.lms_core.specs.Reserve.{KeepsNames, PutsKey}
+use Rattle.lms_core.specs.Reserve.{KeepsNames, IsOnlyRead, PutsKey}
 use Rattle.lms_core.specs.declared.height.Height.{Height}
 use Rattle.peer_stage.specs.Stages.{IsWritten, IsPartlyWritten}
 use Rattle.peer_stage.specs.declared.outcome.Done.{Done}
@@ -44,22 +44,22 @@ pub record IsDrawn (height : Height) (old new : NoiseFacts) (k : Key) : Type 0 w
 
 -- ---- the stages
 
--- the name holds nothing, and the names are as they were
+-- the name holds nothing, and no name was put
 pub record IsAbsent (name : List ℕ) (old new : ShelfFacts) : Type 0 where
   pub nothing : GetsName old.names name None
-  pub kept : KeepsNames old new
+  pub kept : IsOnlyRead old new
 
--- the name holds some bytes, and the names are as they were
+-- the name holds some bytes, and no name was put
 pub record IsTaken (name : List ℕ) (old new : ShelfFacts) : Type 0 where
   pub bytes : List ℕ
   pub held : GetsName old.names name (Some bytes)
-  pub kept : KeepsNames old new
+  pub kept : IsOnlyRead old new
 
 -- whether a name is taken
 abbrev pub LooksUp : List ℕ → ShelfFacts → ShelfFacts → Result Bool Stop → Type 0
 LooksUp name old new (Ok true) = IsTaken name old new
 LooksUp name old new (Ok false) = IsAbsent name old new
-LooksUp name old new (Err stop.ReadFault) = Rose old.read_faults new.read_faults × KeepsNames old new
+LooksUp name old new (Err stop.ReadFault) = Rose old.read_faults new.read_faults × IsOnlyRead old new
 LooksUp name old new (Err stop.NoMemory) = KeepsNames old new
 LooksUp name old new (Err e) = ⊥
 
@@ -99,9 +99,15 @@ pub record FailsToDraw (name : List ℕ) (h h' : ShelfFacts) (n n' : NoiseFacts)
 
 -- the name could not be looked up, and nothing is changed
 pub record FailsToLookUp (h h' : ShelfFacts) (n n' : NoiseFacts) : Type 0 where
-  pub kept : KeepsNames h h'
+  pub kept : IsOnlyRead h h'
   pub fault : Rose h.read_faults h'.read_faults
   pub no_draw : n' ≡ n
+
+-- the name was absent, it and the others are as they were, and at most two draws are taken off
+pub record IsUnmade (name : List ℕ) (h h' : ShelfFacts) (n n' : NoiseFacts) : Type 0 where
+  pub absent : GetsName h.names name None
+  pub kept : KeepsNames h h'
+  pub taken : TakesAtMost 2 n n'
 
 -- the key was made, and its file could not be put: the name holds it or is absent
 pub record FailsToKeep (name : List ℕ) (height : Height) (h h' : ShelfFacts) (n n' : NoiseFacts) : Type 0 where
@@ -133,6 +139,7 @@ KeyMeets name height h h' n n' o o' (Err stop.WriteFault) =
     (FailsToKeep (string_bytes name) height h h' n n' × (o' ≡ o))
     ⊎ (IsKeyToldPartly (string_bytes name) height h h' n n' o o' × Rose o.faults o'.faults)
 KeyMeets name height h h' n n' o o' (Err stop.NoMemory) =
-    (KeepsNames h h' × TakesAtMost 2 n n' × (o' ≡ o)) ⊎ IsKeyToldPartly (string_bytes name) height h h' n n' o o'
+    (KeepsNames h h' × (n' ≡ n) × (o' ≡ o))
+    ⊎ ((IsUnmade (string_bytes name) h h' n n' × (o' ≡ o)) ⊎ IsKeyToldPartly (string_bytes name) height h h' n n' o o')
 KeyMeets name height h h' n n' o o' (Ok d) = ⊥
 KeyMeets name height h h' n n' o o' (Err e) = ⊥

@@ -9,7 +9,7 @@ use Rattle.willow_outside.specs.Facts.{ShelfFacts}
 use Rattle.willow_outside.specs.Names.{GetsName}
 use Rattle.lms_core.specs.Key.{Key}
 use Rattle.lms_core.specs.Use.{Use, use_signature}
-use Rattle.lms_core.specs.Reserve.{KeepsNames, HandsOut, HoldsNoKey, IsSpent, FailsToPut}
+use Rattle.lms_core.specs.Reserve.{KeepsNames, IsOnlyRead, HandsOut, HoldsNoKey, IsSpent, FailsToPut}
 use Rattle.lms_core.specs.declared.reserve.KeyRefusal.{KeyRefusal}
 use Rattle.lms_core.specs.declared.reserve.KeyRefusal.TheVariants.{ShelfRead, Missing, BadKeyFile, KeySpent, ShelfWrite}
 use Rattle.peer_words.specs.declared.command.SignerWord.{SignerWord}
@@ -51,7 +51,7 @@ IsOfName (origin.Name other) name = other ≡ name
 pub record HoldsOther (name : List ℕ) (old new : ShelfFacts) : Type 0 where
   pub bytes : List ℕ
   pub no_key : HoldsNoKey name old bytes
-  pub kept : KeepsNames old new
+  pub kept : IsOnlyRead old new
 
 -- The name's key file has no index left.
 pub record HoldsSpent (name : List ℕ) (old new : ShelfFacts) : Type 0 where
@@ -61,8 +61,8 @@ pub record HoldsSpent (name : List ℕ) (old new : ShelfFacts) : Type 0 where
 
 -- why no signature was made with the key file under a name, and what that left
 abbrev pub StopsNext : String Global → ShelfFacts → ShelfFacts → Stop → Type 0
-StopsNext name old new stop.ReadFault = Rose old.read_faults new.read_faults × KeepsNames old new
-StopsNext name old new (stop.Missing other) = (other ≡ name) × GetsName old.names (string_bytes name) None × KeepsNames old new
+StopsNext name old new stop.ReadFault = Rose old.read_faults new.read_faults × IsOnlyRead old new
+StopsNext name old new (stop.Missing other) = (other ≡ name) × GetsName old.names (string_bytes name) None × IsOnlyRead old new
 StopsNext name old new (stop.BadInput from at) = IsOfName from name × (at ≡ 0) × HoldsOther (string_bytes name) old new
 StopsNext name old new stop.KeySpent = HoldsSpent (string_bytes name) old new
 StopsNext name old new stop.WriteFault = (key : Key) × FailsToPut (string_bytes name) 1 old new key

@@ -90,6 +90,8 @@ WriteMeets key words h h' i i' o o' (Err stop.WriteFault) =
     (IsUnwritten key h h' i i' stop.WriteFault × (o' ≡ o))
     ⊎ ((r : RawValue) × IsSignedRow key words h h' i i' r × IsFramedPartly o o' r × Rose o.faults o'.faults)
 WriteMeets key words h h' i i' o o' (Err stop.NoMemory) =
-    (IsReadSomewhat i i' × UsesAtMostOne key h h' × (o' ≡ o)) ⊎ ((r : RawValue) × IsSignedRow key words h h' i i' r × IsFramedPartly o o' r)
+    (IsReadSomewhat i i' × (h' ≡ h) × (o' ≡ o))
+    ⊎ ((((c : Capability) × IsRead i i' c) × UsesAtMostOne key h h' × (o' ≡ o))
+    ⊎ ((r : RawValue) × IsSignedRow key words h h' i i' r × IsFramedPartly o o' r))
 WriteMeets key words h h' i i' o o' (Ok d) = ⊥
 WriteMeets key words h h' i i' o o' (Err e) = ⊥

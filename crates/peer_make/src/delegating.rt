@@ -40,6 +40,9 @@ pub fn delegate<H: Shelf, I: Source, O: Sink>(
     ensures meets { DelegateMeets key to area (H.facts shelf.old) (H.facts shelf.new) (I.facts input.old) (I.facts input.new) (O.facts output.old) (O.facts output.new) result }
     ensures read_faults { (H.facts shelf.old).read_faults ≤ (H.facts shelf.new).read_faults }
     ensures write_faults { (H.facts shelf.old).write_faults ≤ (H.facts shelf.new).write_faults }
+    ensures input_faults { (I.facts input.old).faults ≤ (I.facts input.new).faults }
+    ensures input_ends { (I.facts input.old).ends ≤ (I.facts input.new).ends }
+    ensures output_faults { (O.facts output.old).faults ≤ (O.facts output.new).faults }
 {
     let capability = read_one(alloc, input)?;
     let area = ask(&capability, area)?;
@@ -106,7 +109,8 @@ fn tell_longer<O: Sink>(
     delegation: Delegation,
     output: &mut O,
 ) -> Result<Done, Stop>
-    ensures { Tells (O.facts output.old) (O.facts output.new) (extended capability delegation.area delegation.user delegation.signature) result }
+    ensures tells { Tells (O.facts output.old) (O.facts output.new) (extended capability delegation.area delegation.user delegation.signature) result }
+    ensures output_faults { (O.facts output.old).faults ≤ (O.facts output.new).faults }
 {
     let mut longer = capability;
     if longer.chain.len() >= MAX_DELEGATIONS {

@@ -33,6 +33,7 @@ pub fn grant<H: Shelf, O: Sink>(
     ensures meets { GrantMeets namespace mode user key (H.facts shelf.old) (H.facts shelf.new) (O.facts output.old) (O.facts output.new) result }
     ensures read_faults { (H.facts shelf.old).read_faults ≤ (H.facts shelf.new).read_faults }
     ensures write_faults { (H.facts shelf.old).write_faults ≤ (H.facts shelf.new).write_faults }
+    ensures output_faults { (O.facts output.old).faults ≤ (O.facts output.new).faults }
 {
     let message = initial_message(mode, &user);
     let initial = begin(alloc, shelf, key, &message)?;
@@ -73,7 +74,8 @@ pub(crate) fn tell<O: Sink>(
     capability: &Capability,
     output: &mut O,
 ) -> Result<Done, Stop>
-    ensures { Tells (O.facts output.old) (O.facts output.new) capability.now result }
+    ensures tells { Tells (O.facts output.old) (O.facts output.new) capability.now result }
+    ensures output_faults { (O.facts output.old).faults ≤ (O.facts output.new).faults }
 {
     match capability.check(&PeerScheme) {
         Ok(()) => {}

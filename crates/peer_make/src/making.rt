@@ -26,6 +26,7 @@ pub fn make_key<H: Shelf, N: Noise, O: Sink>(
     ensures read_faults { (H.facts shelf.old).read_faults ≤ (H.facts shelf.new).read_faults }
     ensures write_faults { (H.facts shelf.old).write_faults ≤ (H.facts shelf.new).write_faults }
     ensures noise_faults { (N.facts noise.old).faults ≤ (N.facts noise.new).faults }
+    ensures output_faults { (O.facts output.old).faults ≤ (O.facts output.new).faults }
 {
     if is_taken(shelf, name.as_str())? {
         return Err(Stop::Taken { name });

@@ -1,6 +1,6 @@
 //! The input of a command that is to be one capability.
 
-ghost use Rattle.std.specs.Prelude.{◌≡◌};
+ghost use Rattle.std.specs.Prelude.{◌≡◌, ◌≤◌};
 ghost use Rattle.peer_stage.specs.declared.outcome.Stop.TheVariants as stop;
 ghost use Rattle.peer_stage.specs.declared.outcome.Origin.TheVariants as origin;
 ghost use Rattle.peer_make.specs.Reading.{Parses, ReadsOne};
@@ -14,7 +14,9 @@ use willow_outside::Source;
 
 /// The capability that all of the input is.
 pub(crate) fn read_one<I: Source>(alloc: Global, input: &mut I) -> Result<Capability, Stop>
-    ensures { ReadsOne (I.facts input.old) (I.facts input.new) result }
+    ensures reads { ReadsOne (I.facts input.old) (I.facts input.new) result }
+    ensures input_faults { (I.facts input.old).faults ≤ (I.facts input.new).faults }
+    ensures input_ends { (I.facts input.old).ends ≤ (I.facts input.new).ends }
 {
     let bytes = read_input(alloc, input)?;
     parse(alloc, &bytes)

@@ -39,6 +39,9 @@ pub fn write<H: Shelf, I: Source, O: Sink>(
     ensures meets { WriteMeets key (record { path = path; time = time; payload_length = length; digest = digest; subspace = subspace }) (H.facts shelf.old) (H.facts shelf.new) (I.facts input.old) (I.facts input.new) (O.facts output.old) (O.facts output.new) result }
     ensures read_faults { (H.facts shelf.old).read_faults ≤ (H.facts shelf.new).read_faults }
     ensures write_faults { (H.facts shelf.old).write_faults ≤ (H.facts shelf.new).write_faults }
+    ensures input_faults { (I.facts input.old).faults ≤ (I.facts input.new).faults }
+    ensures input_ends { (I.facts input.old).ends ≤ (I.facts input.new).ends }
+    ensures output_faults { (O.facts output.old).faults ≤ (O.facts output.new).faults }
 {
     let capability = read_one(alloc, input)?;
     let entry = Entry {
@@ -72,7 +75,8 @@ fn entry_message(alloc: Global, entry: &Entry) -> Result<Vec<u8>, NoMemory>
 
 // Writes the row's frame, where it is authorised in the namespace of its capability.
 fn tell_row<O: Sink>(alloc: Global, row: RawRow, output: &mut O) -> Result<Done, Stop>
-    ensures { Frames (O.facts output.old) (O.facts output.new) row result }
+    ensures frames { Frames (O.facts output.old) (O.facts output.new) row result }
+    ensures output_faults { (O.facts output.old).faults ≤ (O.facts output.new).faults }
 {
     let namespace = row.token().capability.namespace;
     let authorised = match authorise(alloc, &PeerScheme, &namespace, row) {

@@ -1,3 +1,4 @@
 pub mod Meets
 pub mod Runs
+pub mod Ready
 pub mod Statuses

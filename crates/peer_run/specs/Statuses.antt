@@ -5,7 +5,6 @@ use Rattle.willow_outside.specs.Facts.{SinkFacts}
 use Rattle.cap_codec.specs.Rows.{RawValue, AreFrames}
 use Rattle.peer_stage.specs.World.{World}
 use Rattle.peer_stage.specs.Stages.{IsReadWhole, IsWritten}
-use Rattle.peer_stage.specs.declared.stage.TheConstants.{INPUT_LIMIT}
 use Rattle.peer_stage.specs.declared.outcome.JoinCounts.{JoinCounts}
 use Rattle.peer_stage.specs.declared.outcome.Done.{Done}
 use Rattle.peer_stage.specs.declared.outcome.Done.TheVariants as done
@@ -18,6 +17,7 @@ use Rattle.peer_words.specs.Commands.{IsWords, IsNoCommand}
 use Rattle.peer_words.specs.declared.command.Command.{Command}
 use Rattle.peer_words.specs.declared.command.Command.TheVariants as cmd
 use Rattle.peer_run.specs.Meets.{Meets}
+use Rattle.peer_run.specs.Ready.{Ready}
 
 -- ---- 0 and 1
 
@@ -116,25 +116,15 @@ pub record HasStopped (IsOne : Stop → Type 0) (words : List (List ℕ)) (old n
 
 -- ---- completeness
 
--- What may keep a command from its end, but for faults and want of memory.
+-- what may keep a command from its end, but for faults, want of memory and a refusal of what is made
 abbrev pub IsCondition : Stop → Type 0
 IsCondition stop.Usage = Unit {0}
 IsCondition stop.LogFull = Unit {0}
 IsCondition stop.KeySpent = Unit {0}
 IsCondition e = IsBadStop e
 
--- the words are a command, and no condition keeps it from its end
-pub record CanEnd (words : List (List ℕ)) (old new : World) : Type 0 where
+-- The words are a command, and it is ready: no condition keeps it from its end.
+pub record CanEnd (words : List (List ℕ)) (old : World) : Type 0 where
   pub some_command : Command
   pub is_words : IsWords words some_command
-  pub no_condition : (command : Command) (e : Stop) → IsWords words command → IsCondition e → Meets command old new (Err e) → ⊥
-
--- What a join needs to come to its end, told of the words and the input as they were: the input has the
--- frames of rows, not too many bytes, and the rows fit the log.
-pub record CanJoin (namespace : List ℕ) (old : World) : Type 0 where
-  pub had : List ℕ
-  pub told : old.input.left ≡ Some had
-  pub within : length had ≤ INPUT_LIMIT
-  pub rows : List RawValue
-  pub frames : AreFrames had rows
-  pub fits_log : FitsLog namespace rows
+  pub is_ready : (command : Command) → IsWords words command → Ready command old

@@ -9,7 +9,7 @@ ghost use Rattle.peer_words.specs.declared.command.Command.{Command};
 ghost use Rattle.peer_words.specs.declared.command.Command.TheVariants as cmd;
 ghost use Rattle.peer_run.specs.Meets.{Meets, MeetsShow, world};
 ghost use Rattle.peer_run.specs.Runs.{RunsWords};
-ghost use Rattle.peer_run.specs.Statuses.{IsWholeJoin, HasEnded, IsNoRun, IsUnbuiltCommand, HasReadFault, HasWriteFault, HasStopped, IsBadStop, IsLogFull, IsKeySpent, HasNoFault, CanEnd, CanJoin};
+ghost use Rattle.peer_run.specs.Statuses.{IsWholeJoin, HasEnded, IsNoRun, IsUnbuiltCommand, HasReadFault, HasWriteFault, HasStopped, IsBadStop, IsLogFull, IsKeySpent, HasNoFault, CanEnd};
 
 use peer_make::{delegate, grant, make_key, write};
 use peer_report::end_run;
@@ -140,11 +140,8 @@ pub fn peer_run<H: Shelf, I: Source, O: Sink, E: Sink, D: Door, N: Noise>(
     ensures counts { NeverFall (world (H.facts shelf.old) (I.facts input.old) (O.facts output.old) (D.facts door.old) (N.facts noise.old)) (world (H.facts shelf.new) (I.facts input.new) (O.facts output.new) (D.facts door.new) (N.facts noise.new)) }
     ensures report_faults { (E.facts report.old).faults ≤ (E.facts report.new).faults }
 
-    // Where nothing is against a command it comes to its end, but for want of memory.
-    ensures complete { CanEnd (texts words.now) (world (H.facts shelf.old) (I.facts input.old) (O.facts output.old) (D.facts door.old) (N.facts noise.old)) (world (H.facts shelf.new) (I.facts input.new) (O.facts output.new) (D.facts door.new) (N.facts noise.new))
-        → HasNoFault (world (H.facts shelf.old) (I.facts input.old) (O.facts output.old) (D.facts door.old) (N.facts noise.old)) (world (H.facts shelf.new) (I.facts input.new) (O.facts output.new) (D.facts door.new) (N.facts noise.new)) (E.facts report.old) (E.facts report.new)
-        → result ≢ 7 → result ≤ 1 }
-    ensures joins { (namespace : List ℕ) → IsWords (texts words.now) (cmd.Join namespace) → CanJoin namespace (world (H.facts shelf.old) (I.facts input.old) (O.facts output.old) (D.facts door.old) (N.facts noise.old))
+    // A command that is ready comes to its end, but for faults and want of memory.
+    ensures complete { CanEnd (texts words.now) (world (H.facts shelf.old) (I.facts input.old) (O.facts output.old) (D.facts door.old) (N.facts noise.old))
         → HasNoFault (world (H.facts shelf.old) (I.facts input.old) (O.facts output.old) (D.facts door.old) (N.facts noise.old)) (world (H.facts shelf.new) (I.facts input.new) (O.facts output.new) (D.facts door.new) (N.facts noise.new)) (E.facts report.old) (E.facts report.new)
         → result ≢ 7 → result ≤ 1 }
 {

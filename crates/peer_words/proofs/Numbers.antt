@@ -1,5 +1,5 @@
 -- Decimal digits without a leading zero.
-use Rattle.std.proofs.Common.{◌≡◌, ℕ, zero, suc, ◌<◌, ◌≤◌, ◌^◌, List, [], ◌∷◌, length, get_or, Option, Some, None, MatchOption, Result, Ok, Err, refl, sym, ap, ◌∙◌, arith, subst}
+use Rattle.std.proofs.Common.{◌≡◌, ℕ, zero, suc, ◌<◌, ◌≤◌, ◌^◌, List, length, get_or, Option, MatchOption, Result, Ok, Err, sym, ap, ◌∙◌, arith, subst}
 use Rattle.std.specs.Fmt.{decimal}
 use Rattle.std.specs.Result.{result_ok}
 use Rattle.std.specs.Str.Parse.{AllDigits, digits_value, ParsesUnsigned}
@@ -44,9 +44,9 @@ number_read {E} word (Ok x) o parses is some plain lone =
 number_read {E} word (Err e) o parses is some plain lone =
     let unread = parse_plain own {E = E} 64 word (Err e) parses plain in
     let none : (n : ℕ) → IsNumber word n → ⊥ = λ n number.
-        let all : AllDigits 10 word = subst (λ (w : List ℕ). AllDigits 10 w) (sym number.digits) (digits_decimal own n number.fits) in
-        let value : digits_value 10 word ≡ n = ap (digits_value 10) number.digits ∙ digits_value-decimal own n number.fits in
-        unread (all, some, omega (arith, number.fits)) in
+    let all : AllDigits 10 word = subst (λ (w : List ℕ). AllDigits 10 w) (sym number.digits) (digits_decimal own n number.fits) in
+    let value : digits_value 10 word ≡ n = ap (digits_value 10) number.digits ∙ digits_value-decimal own n number.fits in
+    unread (all, some, omega (arith, number.fits)) in
     subst (λ (found : Option ℕ). MatchOption found ((n : ℕ) → IsNumber word n → ⊥) (IsNumber word)) (sym is) none
 
 -- a word spells one number

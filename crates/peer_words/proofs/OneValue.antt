@@ -1,5 +1,5 @@
 -- A value spells one thing.
-use Rattle.std.proofs.Common.{◌≡◌, ℕ, ◌<◌, ◌≤◌, List, length, get_or, Bool, true, false, eqb, Option, Some, None, codes, refl, sym, ap, ◌∙◌, arith, subst}
+use Rattle.std.proofs.Common.{◌≡◌, ℕ, List, get_or, true, eqb, Option, Some, None, codes, refl, sym, ap, ◌∙◌, arith, subst}
 use Rattle.std.specs.Option.{option_eq}
 use Rattle.std.proofs.lemmas.Bool.{false≢true}
 use Rattle.std.proofs.lemmas.Bool.Decides.{nat_tests}
@@ -15,12 +15,16 @@ IsSingle {A} P = (word : List ℕ) (x y : A) → P word x → P word y → x ≡
 some_same : {A : Type 0} (o : Option A) (x y : A) → o ≡ Some x → o ≡ Some y → x ≡ y
 some_same o x y p q = cc
 
-none_some : {A : Type 0} (o : Option A) (x : A) → o ≡ None → o ≡ Some x → ⊥
+pub none_some : {A : Type 0} (o : Option A) (x : A) → o ≡ None → o ≡ Some x → ⊥
 none_some o x p q = cc
 
-pub gives_one : {A : Type 0} (P : List ℕ → A → Type 0) → IsSingle P → (settings : List Setting) (name : List ℕ) (x y : A) → Gives P settings name x → Gives P settings name y → x ≡ y
-gives_one P one settings name x y a b =
+-- what a name gives twice is alike
+pub gives_same : {A : Type 0} (R : A → A → Type 0) (P : List ℕ → A → Type 0) → ((word : List ℕ) (x y : A) → P word x → P word y → R x y) → (settings : List Setting) (name : List ℕ) (x y : A) → Gives P settings name x → Gives P settings name y → R x y
+gives_same R P one settings name x y a b =
     one b.0 x y (subst (λ (word : List ℕ). P word x) (some_same (value_of name settings) a.0 b.0 a.1 b.1) a.2) b.2
+
+pub gives_one : {A : Type 0} (P : List ℕ → A → Type 0) → IsSingle P → (settings : List Setting) (name : List ℕ) (x y : A) → Gives P settings name x → Gives P settings name y → x ≡ y
+gives_one P one settings name x y a b = gives_same (λ v w. v ≡ w) P one settings name x y a b
 
 pub may_give_one : {A : Type 0} (P : List ℕ → A → Type 0) → IsSingle P → (settings : List Setting) (name : List ℕ) (x y : Option A) → MayGive P settings name x → MayGive P settings name y → x ≡ y
 may_give_one P one settings name None None a b = refl
@@ -41,7 +45,7 @@ pub times_are : (settings : List Setting) (start : Option ℕ) (end : Option (Op
     → AreRising other later → AreRising start end
 times_are settings start end other later a b c d rising =
     subst (λ (s : Option ℕ). AreRising s end) (may_give_one IsNumber one_number settings (codes "--from") other start c a)
-      (subst (λ (e : Option (Option ℕ)). AreRising other e) (may_give_one IsNumberOrNone one_end settings (codes "--until") later end d b) rising)
+    (subst (λ (e : Option (Option ℕ)). AreRising other e) (may_give_one IsNumberOrNone one_end settings (codes "--until") later end d b) rising)
 
 -- an end that passes the test for 0 is 0
 pub ends_at_0 : (end : Option (Option ℕ)) → true ≡ option_eq (option_eq eqb) end (Some (Some 0)) → end ≡ Some (Some 0)

@@ -1,6 +1,6 @@
 -- A word of components, read from the left.
-use Rattle.std.proofs.Common.{◌≡◌, ◌≢◌, ℕ, zero, suc, ◌+◌, ◌<◌, ◌≤◌, Bool, true, false, ◌==◌, cond, not, List, [], ◌∷◌, ◌++◌, length, get_or, take, drop, Result, Ok, Err, Option, Some, None, inl, inr, refl, sym, ap, ◌∙◌, arith, subst, append_assoc}
-use Rattle.std.specs.List.{position_or_len, AllPass}
+use Rattle.std.proofs.Common.{◌≡◌, ℕ, suc, ◌+◌, ◌<◌, ◌≤◌, Bool, true, false, ◌==◌, cond, not, List, [], ◌∷◌, ◌++◌, length, get_or, take, drop, Result, Ok, Err, Option, Some, None, inl, inr, refl, sym, ap, ◌∙◌, arith, subst, append_assoc}
+use Rattle.std.specs.List.{position_or_len}
 use Rattle.std.proofs.Math.Seq.{take-append_seam, drop-append_seam, get_or-append_seam}
 use Rattle.std.proofs.lemmas.Bool.{false≢true, cases_eq}
 use Rattle.std.proofs.lemmas.Bool.Decides.{nat_tests}
@@ -8,9 +8,8 @@ use Rattle.std.proofs.lemmas.List.{take-append-drop, length-append}
 use Rattle.hex.specs.Hex.{decode_of, is_hex_digit}
 use Rattle.hex.specs.declared.error.FromHexError.{FromHexError}
 use Rattle.hex.proofs.HexLemmas.{decode_of-ok}
-use Rattle.willow_path.specs.Path.{IsPath, total}
+use Rattle.willow_path.specs.Path.{IsPath}
 use Rattle.willow_path.specs.PathPush.{push_refusal, HasRoom}
-use Rattle.willow_path.specs.declared.limits.TheConstants.{MAX_PART, MAX_PARTS, MAX_TOTAL}
 use Rattle.willow_path.specs.declared.path.PathRefusal.{PathRefusal}
 use Rattle.willow_path.specs.Answers.{Answers}
 use Rattle.spelling.specs.declared.ending.End.{End}
@@ -26,7 +25,7 @@ pub record IsFront (word : List ℕ) (path : List (List ℕ)) (left : List ℕ) 
 
 -- ---- where the first component ends
 
-abbrev is_slash : ℕ → Bool
+abbrev pub is_slash : ℕ → Bool
 is_slash b = b == 47
 
 abbrev at_slash : List ℕ → Bool
@@ -51,7 +50,7 @@ ends_there (c ∷ cs) rest all slash =
     ∙ omega (arith, ends_there cs rest (λ k d lt. all (suc k) d (omega arith)) slash)
 
 -- the digits up to there are the first component, and the others follow
-opened : (others : List ℕ) (n : ℕ) (part : List ℕ) (parts : List (List ℕ)) → n ≡ position_or_len is_slash others → AreParts (47 ∷ others) (part ∷ parts)
+pub opened : (others : List ℕ) (n : ℕ) (part : List ℕ) (parts : List (List ℕ)) → n ≡ position_or_len is_slash others → AreParts (47 ∷ others) (part ∷ parts)
     → (decode_of (take n others) ≡ Ok part) × AreParts (drop n others) parts
 opened others n part parts end is =
     let behind : others ≡ is.0 ++ is.1 = ap (λ (word : List ℕ). drop 1 word) is.2 in
@@ -62,14 +61,14 @@ opened others n part parts end is =
 
 -- ---- one component more
 
-front_of : (left : List ℕ) → 1 ≤ length left → get_or left 0 0 ≡ 47 → left ≡ 47 ∷ drop 1 left
+pub front_of : (left : List ℕ) → 1 ≤ length left → get_or left 0 0 ≡ 47 → left ≡ 47 ∷ drop 1 left
 front_of [] some slash = absurd (omega arith)
 front_of (c ∷ cs) some slash = ap (λ (d : ℕ). d ∷ cs) slash
 
 empty_apart : (others : List ℕ) → (47 ∷ others) ≡ [] → ⊥
 empty_apart others same = absurd (omega (arith, ap length same))
 
-same_ok : (r : Result (List ℕ) FromHexError) (a b : List ℕ) → r ≡ Ok a → r ≡ Ok b → a ≡ b
+pub same_ok : (r : Result (List ℕ) FromHexError) (a b : List ℕ) → r ≡ Ok a → r ≡ Ok b → a ≡ b
 same_ok r a b p q = cc
 
 regroup : (path : List (List ℕ)) (part : List ℕ) (rest : List (List ℕ)) → path ++ (part ∷ rest) ≡ (path ++ part ∷ []) ++ rest
@@ -83,7 +82,7 @@ next_part word left path n front is end whole spelled =
     by_rest found.0 found.1 (subst (λ (w : List ℕ). AreParts w found.0) is found.2)
   where
     by_rest : (rest : List (List ℕ)) → whole ≡ path ++ rest → AreParts (47 ∷ drop 1 left) rest
-      → (part : List ℕ) × (others : List (List ℕ)) × (whole ≡ path ++ (part ∷ others)) × (decode_of (take n (drop 1 left)) ≡ Ok part) × AreParts (drop n (drop 1 left)) others
+        → (part : List ℕ) × (others : List (List ℕ)) × (whole ≡ path ++ (part ∷ others)) × (decode_of (take n (drop 1 left)) ≡ Ok part) × AreParts (drop n (drop 1 left)) others
     by_rest [] same parts = absurd (empty_apart (drop 1 left) parts)
     by_rest (part ∷ others) same parts = let more = opened (drop 1 left) n part others end parts in (part, others, same, more.0, more.1)
 
@@ -97,11 +96,12 @@ front_grows word left path n part longer rest front some slash end decoded grown
           subst (λ (whole : List (List ℕ)). AreParts word whole) (regroup path part parts ∙ ap (λ (p : List (List ℕ)). p ++ parts) (sym grown)) (front.goes_on (part ∷ parts) (subst (λ (w : List ℕ). AreParts w (part ∷ parts)) (sym is) here));
       only = λ whole spelled.
           let next = next_part word left path n front is end whole spelled in
-          let same : next.0 ≡ part = same_ok (decode_of (take n (drop 1 left))) next.0 part next.3 decoded in
-          (next.1,
-          next.2 ∙ (regroup path next.0 next.1 ∙ (ap (λ (p : List ℕ). (path ++ p ∷ []) ++ next.1) same ∙ ap (λ (p : List (List ℕ)). p ++ next.1) (sym grown))),
-          subst (λ (w : List ℕ). AreParts w next.1) (sym cut) next.4);
-      is_path = fits
+          let same : next.0 ≡ part = same_ok (decode_of (take n (drop 1 left))) next.0 part next.3 decoded in (
+            next.1,
+            next.2 ∙ (regroup path next.0 next.1 ∙ (ap (λ (p : List ℕ). (path ++ p ∷ []) ++ next.1) same ∙ ap (λ (p : List (List ℕ)). p ++ next.1) (sym grown))),
+            subst (λ (w : List ℕ). AreParts w next.1) (sym cut) next.4,
+          );
+      is_path = fits;
     }
 
 -- ---- refusals

@@ -24,6 +24,6 @@ place_read word r x (Some n) answer cut found short some is_port same =
     subst (λ (b : Bool). MatchBool b (IsPlace word) (IsPlace word → ⊥)) (sym same) place
 place_read word r x None answer cut found short some no_port same =
     let none : IsPlace word → ⊥ = λ is.
-        let halves = subst (λ (o : Option (Bor (List ℕ) × Bor (List ℕ))). MatchOption o ⊥ (λ y. (y.0.now ≡ is.parts.host) × (y.1.now ≡ is.parts.digits))) found (cut_there word r cut is) in
-        no_port is.parts.port (subst (λ (digits : List ℕ). IsNumberWithin 1 65535 digits is.parts.port) (sym halves.1) is.parts.is_port) in
+    let halves = subst (λ (o : Option (Bor (List ℕ) × Bor (List ℕ))). MatchOption o ⊥ (λ y. (y.0.now ≡ is.parts.host) × (y.1.now ≡ is.parts.digits))) found (cut_there word r cut is) in
+    no_port is.parts.port (subst (λ (digits : List ℕ). IsNumberWithin 1 65535 digits is.parts.port) (sym halves.1) is.parts.is_port) in
     subst (λ (b : Bool). MatchBool b (IsPlace word) (IsPlace word → ⊥)) (sym same) none

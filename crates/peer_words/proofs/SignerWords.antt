@@ -1,18 +1,18 @@
 -- The front of a word tells which signer it can be.
-use Rattle.std.proofs.Common.{◌≡◌, ℕ, List, ◌∷◌, ◌++◌, codes, String, get_or, ap, arith, sym, subst, ◌∙◌}
+use Rattle.std.proofs.Common.{◌≡◌, ℕ, List, ◌++◌, codes, String, get_or, ap, arith, sym, subst, ◌∙◌}
 use Rattle.std.specs.declared.alloc.Global.{Global}
-use Rattle.peer_words.specs.Signers.{IsSignerWord, IsOpenWord, IsOpenBody, IsFileWord}
+use Rattle.peer_words.specs.Signers.{IsSignerWord, IsOpenBody}
 use Rattle.peer_words.specs.Values.{IsNameWord}
 use Rattle.peer_words.specs.declared.command.SignerWord.{SignerWord}
 use Rattle.peer_words.specs.declared.command.SignerWord.TheVariants.{OpenKey, LmsFile}
 
-behind_open : (a b : List ℕ) → codes "open:" ++ a ≡ codes "open:" ++ b → a ≡ b
+pub behind_open : (a b : List ℕ) → codes "open:" ++ a ≡ codes "open:" ++ b → a ≡ b
 behind_open a b same = cc
 
-behind_lms : (a b : List ℕ) → codes "lms:" ++ a ≡ codes "lms:" ++ b → a ≡ b
+pub behind_lms : (a b : List ℕ) → codes "lms:" ++ a ≡ codes "lms:" ++ b → a ≡ b
 behind_lms a b same = cc
 
-apart : (a b : List ℕ) → codes "open:" ++ a ≡ codes "lms:" ++ b → ⊥
+pub apart : (a b : List ℕ) → codes "open:" ++ a ≡ codes "lms:" ++ b → ⊥
 apart a b same =
     let first : ◌≡◌ {A = ℕ} 111 108 = ap (λ (word : List ℕ). get_or word 0 0) same in
     absurd (omega arith)

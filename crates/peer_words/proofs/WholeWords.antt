@@ -1,5 +1,5 @@
 -- The words of a command, from the parts that were read.
-use Rattle.std.proofs.Common.{◌≡◌, ℕ, ◌<◌, ◌≤◌, List, [], ◌∷◌, length, get_or, drop, Option, Some, None, Result, Ok, Err, String, sym, ap, ◌∙◌, arith, subst}
+use Rattle.std.proofs.Common.{◌≡◌, ℕ, ◌≤◌, List, [], ◌∷◌, length, get_or, drop, Option, Some, Result, Ok, Err, String, sym, ap, ◌∙◌, arith, subst}
 use Rattle.std.specs.String.{string_bytes}
 use Rattle.std.specs.declared.alloc.Global.{Global}
 use Rattle.spelling.specs.declared.ending.End.{End}
@@ -31,7 +31,7 @@ same_others : (x y : List ℕ) (xs ys : List (List ℕ)) → x ∷ xs ≡ y ∷ 
 same_others x y xs ys same = cc
 
 -- a command that the words spell is of the verb, with the options
-is_of : (words : List (List ℕ)) (word : List ℕ) (others : List (List ℕ)) (verb : Verb) (options : List Setting) (command : Command) → words ≡ word ∷ others
+pub is_of : (words : List (List ℕ)) (word : List ℕ) (others : List (List ℕ)) (verb : Verb) (options : List Setting) (command : Command) → words ≡ word ∷ others
     → verb_at word ≡ Some verb → IsSpelled (names_of verb) others options → IsWords words command → IsOf verb options command
 is_of words word others verb options command front named spelled is =
     let same = sym is.spelled ∙ front in

@@ -1,5 +1,5 @@
 -- Which words are which command.
-use Rattle.std.specs.Prelude.{◌≡◌, ◌≢◌, ℕ, List, ◌∷◌, Option, Some, None, is_some, not, Result, codes, String}
+use Rattle.std.specs.Prelude.{◌≡◌, ◌≢◌, ℕ, List, ◌∷◌, Option, Some, is_some, not, Result, codes, String}
 use Rattle.std.specs.declared.alloc.Global.{Global}
 use Rattle.spelling.specs.declared.ending.End.{End}
 use Rattle.lms_core.specs.declared.height.Height.{Height}

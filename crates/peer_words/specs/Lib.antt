@@ -5,3 +5,4 @@ pub mod Values
 pub mod Signers
 pub mod Areas
 pub mod Commands
+pub mod Alike

@@ -1,5 +1,5 @@
 -- The forms of a value.
-use Rattle.std.specs.Prelude.{◌≡◌, ◌≢◌, ℕ, ◌<◌, ◌≤◌, ◌^◌, Bool, ◌&&◌, ◌||◌, List, [], ◌∷◌, ◌++◌, length, slice_index, EachIndex, Option, Some, None, Ok, codes, nat_lt, nat_le, ◌==◌, IsTrue, String}
+use Rattle.std.specs.Prelude.{◌≡◌, ◌≢◌, ℕ, ◌<◌, ◌≤◌, ◌^◌, Bool, ◌&&◌, ◌||◌, List, [], ◌∷◌, ◌++◌, length, slice_index, EachIndex, Option, Some, None, Ok, codes, nat_le, ◌==◌, IsTrue, String}
 use Rattle.std.specs.Fmt.{decimal}
 use Rattle.std.specs.List.{list_all}
 use Rattle.std.specs.String.{string_bytes}

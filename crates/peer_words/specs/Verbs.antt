@@ -1,5 +1,5 @@
 -- The words that name the commands, and the options of each.
-use Rattle.std.specs.Prelude.{ℕ, List, [], ◌∷◌, ◌++◌, Option, Some, None, if◌then◌else◌, codes}
+use Rattle.std.specs.Prelude.{ℕ, List, [], ◌∷◌, Option, Some, None, if◌then◌else◌, codes}
 use Rattle.std.specs.Str.{bytes_eq}
 use Rattle.peer_words.specs.declared.verb.Verb.{Verb}
 use Rattle.peer_words.specs.declared.verb.Verb.TheVariants.{Join, Show, Key, Grant, Delegate, Write, Gen, Drill, Meet, Sync, Serve, Watch}

@@ -33,27 +33,33 @@ pub struct AreaWords {
 /// A command with its options.
 #[derive(Debug, Drop)]
 pub enum Command {
+    /// Joins the rows of the input into the image of a store of this namespace.
     Join {
         namespace: NamespaceKey,
     },
+    /// Lists the rows of an image, or so many of them, the newest first.
     Show {
         newest: Option<u32>,
     },
+    /// Makes a key file of this name and height.
     Key {
         name: String,
         height: Height,
     },
+    /// Makes a first capability; there is a signer exactly where the namespace is not communal.
     Grant {
         namespace: NamespaceKey,
         mode: Mode,
         user: UserKey,
         key: Option<SignerWord>,
     },
+    /// Hands a capability on to a user, for an area.
     Delegate {
         key: SignerWord,
         to: UserKey,
         area: AreaWords,
     },
+    /// Makes a row; without a subspace it is that of the receiver of the capability.
     Write {
         key: SignerWord,
         path: Path,
@@ -62,12 +68,15 @@ pub enum Command {
         digest: Digest,
         subspace: Option<UserKey>,
     },
+    /// Makes so many rows.
     Gen {
         rows: u32,
     },
+    /// Lets two stores of so many made rows meet.
     Drill {
         rows: u32,
     },
+    /// Lets two images meet: their names, those of the capabilities, and those of the new images.
     Meet {
         left: String,
         right: String,
@@ -77,6 +86,7 @@ pub enum Command {
         right_out: String,
         area: AreaWords,
     },
+    /// Calls a peer at a place.
     Sync {
         image: String,
         cap: String,
@@ -84,6 +94,7 @@ pub enum Command {
         to: String,
         area: AreaWords,
     },
+    /// Answers so many peers at a place.
     Serve {
         image: String,
         cap: String,
@@ -92,6 +103,7 @@ pub enum Command {
         links: u32,
         area: AreaWords,
     },
+    /// Tells the rows of an area as they come.
     Watch {
         image: String,
         area: AreaWords,

@@ -4,9 +4,10 @@
 
 mod area;
 mod command;
-mod options;
+mod laws;
 mod name;
 mod number;
+mod options;
 mod path;
 mod read;
 mod signer;
@@ -14,4 +15,8 @@ mod verb;
 mod word;
 
 pub use command::{AreaWords, Command, SignerWord, Usage};
+pub use laws::one_command;
 pub use read::read_words;
+
+#[cfg(test)]
+mod tests;

@@ -89,7 +89,10 @@ fn are_settings(verb: Verb, words: &[String]) -> bool
     let mut left = words;
     while let [option, value, others @ ..] = left {
         let name = option.as_str();
-        if !verb.has_option(name) || !is_value(value) || (Options { words: others }).value_of(name).is_some() {
+        if !verb.has_option(name)
+            || !is_value(value)
+            || (Options { words: others }).value_of(name).is_some()
+        {
             return false;
         }
         left = others;

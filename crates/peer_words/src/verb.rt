@@ -53,53 +53,65 @@ impl Verb {
             Verb::Show => ["--newest"].contains(&name),
             Verb::Key => ["--name", "--height"].contains(&name),
             Verb::Grant => ["--namespace", "--mode", "--user", "--key"].contains(&name),
-            Verb::Delegate =>
-                ["--key", "--to", "--subspace", "--under", "--from", "--until"].contains(&name),
-            Verb::Write =>
-                ["--key", "--path", "--time", "--length", "--digest", "--subspace"].contains(&name),
+            Verb::Delegate => [
+                "--key",
+                "--to",
+                "--subspace",
+                "--under",
+                "--from",
+                "--until",
+            ]
+            .contains(&name),
+            Verb::Write => [
+                "--key",
+                "--path",
+                "--time",
+                "--length",
+                "--digest",
+                "--subspace",
+            ]
+            .contains(&name),
             Verb::Gen => ["--rows"].contains(&name),
             Verb::Drill => ["--rows"].contains(&name),
-            Verb::Meet =>
-                [
-                    "--left",
-                    "--right",
-                    "--left-cap",
-                    "--right-cap",
-                    "--left-out",
-                    "--right-out",
-                    "--subspace",
-                    "--under",
-                    "--from",
-                    "--until",
-                ]
-                .contains(&name),
-            Verb::Sync =>
-                [
-                    "--image",
-                    "--cap",
-                    "--key",
-                    "--to",
-                    "--subspace",
-                    "--under",
-                    "--from",
-                    "--until",
-                ]
-                .contains(&name),
-            Verb::Serve =>
-                [
-                    "--image",
-                    "--cap",
-                    "--key",
-                    "--at",
-                    "--links",
-                    "--subspace",
-                    "--under",
-                    "--from",
-                    "--until",
-                ]
-                .contains(&name),
-            Verb::Watch =>
-                ["--image", "--subspace", "--under", "--from", "--until"].contains(&name),
+            Verb::Meet => [
+                "--left",
+                "--right",
+                "--left-cap",
+                "--right-cap",
+                "--left-out",
+                "--right-out",
+                "--subspace",
+                "--under",
+                "--from",
+                "--until",
+            ]
+            .contains(&name),
+            Verb::Sync => [
+                "--image",
+                "--cap",
+                "--key",
+                "--to",
+                "--subspace",
+                "--under",
+                "--from",
+                "--until",
+            ]
+            .contains(&name),
+            Verb::Serve => [
+                "--image",
+                "--cap",
+                "--key",
+                "--at",
+                "--links",
+                "--subspace",
+                "--under",
+                "--from",
+                "--until",
+            ]
+            .contains(&name),
+            Verb::Watch => ["--image", "--subspace", "--under", "--from", "--until"].contains(
+                &name,
+            ),
         }
     }
 }

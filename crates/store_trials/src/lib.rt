@@ -3,4 +3,12 @@
 #![tactic(auto)]
 
 #[cfg(test)]
+mod boxes;
+#[cfg(test)]
+mod lists;
+#[cfg(test)]
+mod pairs;
+#[cfg(test)]
+mod rows;
+#[cfg(test)]
 mod tests;

@@ -1,13 +1,9 @@
 -- The reader of an area goes with its spelling.
 use Rattle.std.proofs.Common.{◌≡◌, ℕ, List, ◌++◌, Option, refl, ap}
-use Rattle.std.specs.Prelude.{IfSome}
-use Rattle.spelling.specs.Front.{Front, Whole, ◌>>=◌}
+use Rattle.spelling.specs.Front.{Whole, ◌>>=◌}
 use Rattle.spelling.specs.Form.{IsForm}
-use Rattle.spelling.specs.Reading.{option_at}
-use Rattle.spelling.specs.Spelling.{option_spelling}
 use Rattle.spelling.proofs.Joining.{Reads, Reads-then, Reads-last, Reads-is, one_spelling}
 use Rattle.spelling.proofs.Repeated.{option-reads}
-use Rattle.willow_path.specs.Key.{IsKey, key_at}
 use Rattle.willow_path.specs.Path.{IsPath}
 use Rattle.willow_path.specs.PathSpelling.{path_at, path_spelling}
 use Rattle.willow_path.proofs.PathReads.{key-reads, path-reads}

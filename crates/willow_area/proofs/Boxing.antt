@@ -1,27 +1,24 @@
 -- The box of an area includes just the area's triples.
-use Rattle.std.proofs.Common.{◌≡◌, ℕ, zero, suc, ◌<◌, Bool, true, false, ◌&&◌, List, [], ◌∷◌, length, Option, Some, None, nat_eq, nat_cmp, replicate, refl, sym, ap, subst, ◌∙◌, ◌↔◌, IsTrue, arith}
+use Rattle.std.proofs.Common.{◌≡◌, ℕ, zero, suc, true, List, [], ◌∷◌, length, Option, Some, None, nat_cmp, replicate, refl, ap, subst, ◌↔◌, arith}
 use Rattle.std.specs.Prelude.{IfSome}
 use Rattle.std.specs.declared.cmp.Ordering.{Ordering}
 use Rattle.std.specs.declared.cmp.Ordering.TheVariants.{Less, Equal, Greater}
-use Rattle.std.specs.Ordering.{ordering_then, ordering_reverse, is_lt, is_le, is_gt}
-use Rattle.std.specs.Cmp.Lexicographic.{slice_cmp, pointwise}
-use Rattle.std.proofs.lemmas.Bool.Decides.{nat_tests}
+use Rattle.std.specs.Ordering.{ordering_then, is_le}
 use Rattle.willow_path.specs.Key.{IsKey}
 use Rattle.willow_path.specs.Path.{IsPath, is_prefix, part_cmp, path_cmp}
-use Rattle.willow_path.specs.Successor.{IsAfterKey, IsLeastAboveKey, IsBelow, after, key_after}
+use Rattle.willow_path.specs.Successor.{IsAfterKey, IsBelow, after, key_after}
 use Rattle.willow_path.proofs.PathOrder.{part_cmp_total, part_cmp_equal, part_eq_decides}
 use Rattle.willow_path.proofs.PartSuccessor.{key_after_is}
 use Rattle.willow_path.proofs.PathSuccessor.{extensions_between}
-use Rattle.willow_area.specs.Range.{Range, in_range, is_before_end, IsRising}
-use Rattle.willow_area.specs.Times.{in_times}
-use Rattle.willow_area.specs.Area.{in_area, fits_subspace, IsArea, IsTriple}
-use Rattle.willow_area.specs.Boxes.{Ranges, in_box, IsBox}
+use Rattle.willow_area.specs.Range.{in_range, is_before_end}
+use Rattle.willow_area.specs.Area.{fits_subspace, IsArea}
+use Rattle.willow_area.specs.Boxes.{IsBox}
 use Rattle.willow_area.specs.AreaBox.{key_range, path_range, area_box, HasTriplesOf}
 use Rattle.willow_area.specs.declared.area.Area.{Area}
-use Rattle.willow_area.proofs.Membership.{both_of, and_of, below_holds, PassesArea, passes_area, area_passes}
+use Rattle.willow_area.proofs.Membership.{both_of, and_of, below_holds, passes_area, area_passes}
 use Rattle.willow_area.proofs.Including.{prefix_itself}
 use Rattle.willow_area.proofs.Orders.{less_is, is_less, not_greater, at_most_is, not_below}
-use Rattle.willow_area.proofs.Cutting.{PassesBox, passes_box, box_passes}
+use Rattle.willow_area.proofs.Cutting.{passes_box, box_passes}
 
 -- ---- keys
 

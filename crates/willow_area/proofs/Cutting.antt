@@ -1,5 +1,6 @@
 -- The two parts of a cut have what is below the point, and the rest.
-use Rattle.std.proofs.Common.{◌≡◌, ℕ, Bool, true, false, ◌&&◌, List, Option, Some, None, nat_cmp, refl, sym, ap, ◌∙◌, ◌↔◌, IsTrue}
+use Rattle.std.proofs.Common.{◌≡◌, ℕ, Bool, true, false, not, ◌&&◌, List, Option, Some, None, Result, Ok, Err, nat_cmp, refl, ◌↔◌, IsTrue}
+use Rattle.std.specs.Prelude.{IfOk}
 use Rattle.std.specs.declared.cmp.Ordering.{Ordering}
 use Rattle.std.specs.Ordering.{is_lt, is_le}
 use Rattle.std.specs.Cmp.{IsTotalOrder}
@@ -8,7 +9,10 @@ use Rattle.willow_path.specs.Path.{part_cmp, path_cmp}
 use Rattle.willow_path.proofs.PathOrder.{part_cmp_total, path_cmp_total}
 use Rattle.willow_area.specs.Range.{Range, in_range, is_before_end, is_inside, lower, upper}
 use Rattle.willow_area.specs.Boxes.{Ranges, in_box}
-use Rattle.willow_area.specs.Cuts.{can_cut, lower_part, upper_part, is_below}
+use Rattle.willow_area.specs.Cuts.{can_cut, cut_refusal, lower_part, upper_part, is_below, HasWhatIsBelow, HasTheRest}
+use Rattle.spelling.specs.Answers.{Answers, cause_if}
+use Rattle.spelling.specs.declared.ending.End.{End}
+use Rattle.willow_area.specs.declared.cut.CutOutside.{CutOutside}
 use Rattle.willow_area.specs.declared.cut.CutAt.{CutAt}
 use Rattle.willow_area.specs.declared.cut.CutAt.TheVariants.{Subspace, Path, Time}
 use Rattle.willow_area.proofs.Membership.{both_of, and_of}
@@ -64,10 +68,9 @@ box_passes ranges subspace path time p =
     and_of (in_range part_cmp ranges.keys subspace) (in_range path_cmp ranges.paths path && in_range nat_cmp ranges.times time) p.key_in
     (and_of (in_range path_cmp ranges.paths path) (in_range nat_cmp ranges.times time) p.path_in p.time_in)
 
-pub lower_part_has : (ranges : Ranges) (at : CutAt) (subspace : List ℕ) (path : List (List ℕ)) (time : ℕ) → IsTrue (can_cut ranges at)
-    → IsTrue (in_box (lower_part ranges at) subspace path time) ↔ (IsTrue (in_box ranges subspace path time) × IsTrue (is_below at subspace path time))
+pub lower_part_has : (ranges : Ranges) (at : CutAt) → IsTrue (can_cut ranges at) → HasWhatIsBelow (lower_part ranges at) ranges at
 unfolding can_cut lower_part is_below
-lower_part_has ranges (Subspace key) subspace path time can =
+lower_part_has ranges (Subspace key) can subspace path time =
     let m = lower_has part_cmp part_cmp_total ranges.keys key subspace can in
     let part : Ranges = record { keys = lower ranges.keys key; paths = ranges.paths; times = ranges.times } in (
       (λ h. let p = passes_box part subspace path time h in let k = m.0 p.key_in in
@@ -75,7 +78,7 @@ lower_part_has ranges (Subspace key) subspace path time can =
       (λ h. let p = passes_box ranges subspace path time h.0 in
           box_passes part subspace path time (record { key_in = m.1 (p.key_in, h.1); path_in = p.path_in; time_in = p.time_in })),
     )
-lower_part_has ranges (Path point) subspace path time can =
+lower_part_has ranges (Path point) can subspace path time =
     let m = lower_has path_cmp path_cmp_total ranges.paths point path can in
     let part : Ranges = record { keys = ranges.keys; paths = lower ranges.paths point; times = ranges.times } in (
       (λ h. let p = passes_box part subspace path time h in let k = m.0 p.path_in in
@@ -83,7 +86,7 @@ lower_part_has ranges (Path point) subspace path time can =
       (λ h. let p = passes_box ranges subspace path time h.0 in
           box_passes part subspace path time (record { key_in = p.key_in; path_in = m.1 (p.path_in, h.1); time_in = p.time_in })),
     )
-lower_part_has ranges (Time point) subspace path time can =
+lower_part_has ranges (Time point) can subspace path time =
     let m = lower_has nat_cmp nat_cmp_total ranges.times point time can in
     let part : Ranges = record { keys = ranges.keys; paths = ranges.paths; times = lower ranges.times point } in (
       (λ h. let p = passes_box part subspace path time h in let k = m.0 p.time_in in
@@ -92,10 +95,9 @@ lower_part_has ranges (Time point) subspace path time can =
           box_passes part subspace path time (record { key_in = p.key_in; path_in = p.path_in; time_in = m.1 (p.time_in, h.1) })),
     )
 
-pub upper_part_has : (ranges : Ranges) (at : CutAt) (subspace : List ℕ) (path : List (List ℕ)) (time : ℕ) → IsTrue (can_cut ranges at)
-    → IsTrue (in_box (upper_part ranges at) subspace path time) ↔ (IsTrue (in_box ranges subspace path time) × (is_below at subspace path time ≡ false))
+pub upper_part_has : (ranges : Ranges) (at : CutAt) → IsTrue (can_cut ranges at) → HasTheRest (upper_part ranges at) ranges at
 unfolding can_cut upper_part is_below
-upper_part_has ranges (Subspace key) subspace path time can =
+upper_part_has ranges (Subspace key) can subspace path time =
     let m = upper_has part_cmp part_cmp_total ranges.keys key subspace can in
     let part : Ranges = record { keys = upper ranges.keys key; paths = ranges.paths; times = ranges.times } in (
       (λ h. let p = passes_box part subspace path time h in let k = m.0 p.key_in in
@@ -103,7 +105,7 @@ upper_part_has ranges (Subspace key) subspace path time can =
       (λ h. let p = passes_box ranges subspace path time h.0 in
           box_passes part subspace path time (record { key_in = m.1 (p.key_in, h.1); path_in = p.path_in; time_in = p.time_in })),
     )
-upper_part_has ranges (Path point) subspace path time can =
+upper_part_has ranges (Path point) can subspace path time =
     let m = upper_has path_cmp path_cmp_total ranges.paths point path can in
     let part : Ranges = record { keys = ranges.keys; paths = upper ranges.paths point; times = ranges.times } in (
       (λ h. let p = passes_box part subspace path time h in let k = m.0 p.path_in in
@@ -111,7 +113,7 @@ upper_part_has ranges (Path point) subspace path time can =
       (λ h. let p = passes_box ranges subspace path time h.0 in
           box_passes part subspace path time (record { key_in = p.key_in; path_in = m.1 (p.path_in, h.1); time_in = p.time_in })),
     )
-upper_part_has ranges (Time point) subspace path time can =
+upper_part_has ranges (Time point) can subspace path time =
     let m = upper_has nat_cmp nat_cmp_total ranges.times point time can in
     let part : Ranges = record { keys = ranges.keys; paths = ranges.paths; times = upper ranges.times point } in (
       (λ h. let p = passes_box part subspace path time h in let k = m.0 p.time_in in
@@ -119,3 +121,19 @@ upper_part_has ranges (Time point) subspace path time can =
       (λ h. let p = passes_box ranges subspace path time h.0 in
           box_passes part subspace path time (record { key_in = p.key_in; path_in = p.path_in; time_in = m.1 (p.time_in, h.1) })),
     )
+
+-- ---- what a call answers
+
+can_where_none : (can : Bool) (e : CutOutside) → cause_if (not can) e ≡ None → can ≡ true
+can_where_none true e h = refl
+can_where_none false e h = absurd cc
+
+pub answers_below : {T : Type 0} (part : T → Ranges) (ranges : Ranges) (at : CutAt) (answer : Result T (End CutOutside)) → Answers answer (cut_refusal ranges at)
+    → IfOk answer (λ parts. part parts ≡ lower_part ranges at) → IfOk answer (λ parts. HasWhatIsBelow (part parts) ranges at)
+answers_below part ranges at (Ok parts) h e = rw e (lower_part_has ranges at (can_where_none (can_cut ranges at) (record {}) h))
+answers_below part ranges at (Err refusal) h e = tt
+
+pub answers_rest : {T : Type 0} (part : T → Ranges) (ranges : Ranges) (at : CutAt) (answer : Result T (End CutOutside)) → Answers answer (cut_refusal ranges at)
+    → IfOk answer (λ parts. part parts ≡ upper_part ranges at) → IfOk answer (λ parts. HasTheRest (part parts) ranges at)
+answers_rest part ranges at (Ok parts) h e = rw e (upper_part_has ranges at (can_where_none (can_cut ranges at) (record {}) h))
+answers_rest part ranges at (Err refusal) h e = tt

@@ -1,13 +1,12 @@
 -- An area includes another exactly where each triple of the other is in it.
-use Rattle.std.proofs.Common.{◌≡◌, ℕ, ◌-◌, ◌^◌, ◌<◌, ◌≤◌, Bool, true, false, ◌&&◌, cond, List, [], ◌∷◌, Option, Some, None, nat_eq, nat_le, nat_cmp, refl, sym, ◌∙◌, ◌↔◌, IsTrue, arith, lit≤, replicate, append-nil}
+use Rattle.std.proofs.Common.{◌≡◌, ℕ, ◌-◌, ◌^◌, ◌<◌, ◌≤◌, Bool, true, false, ◌&&◌, cond, List, [], ◌∷◌, Option, Some, None, nat_eq, nat_le, refl, sym, ◌∙◌, ◌↔◌, IsTrue, arith, replicate, append-nil}
 use Rattle.std.specs.Prelude.{IfSome}
 use Rattle.std.specs.Cmp.Lexicographic.{pointwise}
 use Rattle.willow_path.specs.Key.{IsKey}
 use Rattle.willow_path.specs.Path.{is_prefix}
-use Rattle.willow_path.proofs.PathOrder.{is_prefix_decides, is_prefix-append}
-use Rattle.willow_area.specs.Range.{is_before_end}
+use Rattle.willow_path.proofs.PathOrder.{is_prefix_decides}
 use Rattle.willow_area.specs.Times.{Times, in_times, IsTimes, includes_times, ends_later}
-use Rattle.willow_area.specs.Area.{in_area, includes_area, fits_subspace, includes_subspace, IsArea, IsTriple}
+use Rattle.willow_area.specs.Area.{includes_area, fits_subspace, includes_subspace, IsArea}
 use Rattle.willow_area.specs.AreaMeaning.{Includes}
 use Rattle.willow_area.specs.declared.area.Area.{Area}
 use Rattle.willow_area.proofs.Membership.{both_of, and_of, is_key, key_is, subspace_every, prefix_on, times_every, time_in, in_time, IsBefore, below, below_holds, not_later_holds, PassesArea, passes_area, area_passes}
@@ -133,3 +132,7 @@ only area other own fits inc =
 
 pub includes_area-means : (area other : Area) → IsArea area → IsArea other → IsTrue (includes_area area other) ↔ Includes area other
 includes_area-means area other own fits = (every area other, only area other own fits)
+
+-- the same of a test that answers for it
+pub includes_area-by : (test : Bool) (area other : Area) → IsArea area → IsArea other → test ≡ includes_area area other → IsTrue test ↔ Includes area other
+includes_area-by test area other own fits e = rw e (includes_area-means area other own fits)

@@ -1,16 +1,14 @@
 -- The intersection of two areas has exactly the triples that both have.
-use Rattle.std.proofs.Common.{◌≡◌, ℕ, ◌+◌, ◌^◌, ◌<◌, ◌≤◌, Bool, true, false, ◌&&◌, if◌then◌else◌, List, [], ◌∷◌, ◌++◌, Option, Some, None, nat_eq, nat_le, nat_cmp, max, min, refl, sym, ap, subst, ◌∙◌, ◌↔◌, IsTrue, arith}
-use Rattle.std.specs.Prelude.{IfSome}
+use Rattle.std.proofs.Common.{◌≡◌, ℕ, ◌^◌, ◌<◌, ◌≤◌, Bool, true, false, if◌then◌else◌, List, Option, Some, None, nat_eq, max, min, refl, sym, ap, subst, ◌∙◌, ◌↔◌, IsTrue, arith}
+use Rattle.std.specs.Prelude.{IfOk, IfSome, Result, Ok, Err}
 use Rattle.std.specs.Cmp.Lexicographic.{pointwise}
-use Rattle.std.proofs.lemmas.Bool.Decides.{nat_tests}
 use Rattle.willow_path.specs.Key.{IsKey}
 use Rattle.willow_path.specs.Path.{is_prefix, IsPath}
-use Rattle.willow_area.specs.Range.{is_before_end}
-use Rattle.willow_area.specs.Times.{Times, in_times, IsTimes, meet_times, times_of, earlier_end, ends_by}
+use Rattle.willow_area.specs.Times.{Times, in_times, IsTimes, meet_times, earlier_end, ends_by}
 use Rattle.willow_area.specs.Area.{in_area, meet_area, area_of, fits_subspace, meet_subspace, meet_path, IsArea, IsTriple}
-use Rattle.willow_area.specs.AreaMeaning.{AreApart}
+use Rattle.willow_area.specs.AreaMeaning.{AreApart, HasTriplesOfBoth}
 use Rattle.willow_area.specs.declared.area.Area.{Area}
-use Rattle.willow_area.proofs.Membership.{both_of, and_of, is_key, key_is, prefix_on, prefixes_of_one, time_in, in_time, IsBefore, below, below_holds, not_later, later, PassesArea, passes_area, area_passes}
+use Rattle.willow_area.proofs.Membership.{is_key, key_is, prefix_on, prefixes_of_one, time_in, in_time, IsBefore, below, below_holds, not_later, later, passes_area, area_passes}
 use Rattle.willow_area.proofs.Including.{least_key, least_fits, first_time, prefix_itself}
 
 some_is : {A : Type 0} (x y : A) → Some x ≡ Some y → x ≡ y
@@ -187,9 +185,8 @@ parts area other both h =
     let f = fields (meet_subspace area.subspace other.subspace) (meet_path area.path other.path) (meet_times area.times other.times) both h in
     record { subspace_is = f.0; path_is = f.1; times_are = f.2 }
 
-pub meet_area-some : (area other both : Area) (subspace : List ℕ) (path : List (List ℕ)) (time : ℕ) → meet_area area other ≡ Some both
-    → IsTrue (in_area both subspace path time) ↔ IsTrue (in_area area subspace path time) × IsTrue (in_area other subspace path time)
-meet_area-some area other both subspace path time h =
+pub meet_area-some : (area other both : Area) → meet_area area other ≡ Some both → HasTriplesOfBoth both area other
+meet_area-some area other both h subspace path time =
     let p = parts area other both h in
     let s = subspaces_meet area.subspace other.subspace both.subspace subspace p.subspace_is in
     let q = paths_meet area.path other.path both.path path p.path_is in
@@ -256,8 +253,24 @@ nothing : (area other : Area) → IsArea area → IsArea other → AreApart area
 nothing area other f g no_triple None h = refl
 nothing area other f g no_triple (Some both) h =
     let i = inhabited both (meet_area-fits area other both h f g) in
-    let b = (meet_area-some area other both i.0 i.1 i.2 h).0 i.4 in
+    let b = (meet_area-some area other both h i.0 i.1 i.2).0 i.4 in
     absurd (no_triple i.0 i.1 i.2 i.3 b.0 b.1)
 
 pub meet_area-none : (area other : Area) → IsArea area → IsArea other → (meet_area area other ≡ None) ↔ AreApart area other
 meet_area-none area other f g = (apart area other, λ n. nothing area other f g n (meet_area area other) refl)
+
+-- ---- the same of what a call answers
+
+both_of_some : (area other : Area) (meet : Option Area) → meet ≡ meet_area area other → IfSome meet (λ both. HasTriplesOfBoth both area other)
+both_of_some area other None e = tt
+both_of_some area other (Some both) e = meet_area-some area other both (sym e)
+
+pub answers_both : {E : Type 0} (area other : Area) (answer : Result (Option Area) E) → IfOk answer (λ meet. meet ≡ meet_area area other)
+    → IfOk answer (λ meet. IfSome meet (λ both. HasTriplesOfBoth both area other))
+answers_both area other (Ok meet) h = both_of_some area other meet h
+answers_both area other (Err e) h = tt
+
+pub answers_none : {E : Type 0} (area other : Area) (answer : Result (Option Area) E) → IsArea area → IsArea other → IfOk answer (λ meet. meet ≡ meet_area area other)
+    → IfOk answer (λ meet. (meet ≡ None) ↔ AreApart area other)
+answers_none area other (Ok meet) f g h = rw h (meet_area-none area other f g)
+answers_none area other (Err e) f g h = tt

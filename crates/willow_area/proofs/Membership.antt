@@ -1,16 +1,14 @@
 -- What the tests of fields mean: which subspaces, paths and times pass.
-use Rattle.std.proofs.Common.{◌≡◌, ◌≢◌, ℕ, ◌+◌, ◌-◌, ◌^◌, ◌<◌, ◌≤◌, Bool, true, false, ◌&&◌, if◌then◌else◌, List, [], ◌∷◌, ◌++◌, Option, Some, None, nat_eq, nat_lt, nat_le, max, min, nat_cmp, refl, sym, ap, ◌∙◌, ◌↔◌, IsTrue, append_assoc, arith}
-use Rattle.std.specs.Prelude.{IfSome}
+use Rattle.std.proofs.Common.{◌≡◌, ℕ, ◌<◌, ◌≤◌, Bool, true, false, ◌&&◌, if◌then◌else◌, List, [], ◌∷◌, ◌++◌, Option, Some, None, nat_eq, nat_le, nat_cmp, refl, sym, ap, ◌∙◌, append_assoc, arith}
 use Rattle.std.proofs.lemmas.Bool.Decides.{nat_tests}
-use Rattle.std.specs.Bool.{Decides}
 use Rattle.std.specs.Cmp.Lexicographic.{pointwise, bytes_decides}
-use Rattle.willow_path.specs.Path.{is_prefix, IsPrefix}
-use Rattle.willow_path.proofs.PathOrder.{is_prefix_decides, IsPrefix-from_test, is_prefix-append}
-use Rattle.willow_area.specs.Range.{in_range, is_before_end}
-use Rattle.willow_area.specs.Times.{Times, in_times, includes_times, ends_later, meet_times, times_of, earlier_end, ends_by}
+use Rattle.willow_path.specs.Path.{is_prefix}
+use Rattle.willow_path.proofs.PathOrder.{is_prefix_decides, IsPrefix-from_test}
+use Rattle.willow_area.specs.Range.{is_before_end}
+use Rattle.willow_area.specs.Times.{Times, in_times, includes_times, ends_later}
 use Rattle.std.specs.Ordering.{is_le, is_lt}
 use Rattle.willow_area.specs.declared.area.Area.{Area}
-use Rattle.willow_area.specs.Area.{in_area, fits_subspace, includes_subspace, meet_subspace, meet_path}
+use Rattle.willow_area.specs.Area.{in_area, fits_subspace, includes_subspace}
 
 pub both_of : (a b : Bool) → (a && b) ≡ true → (a ≡ true) × (b ≡ true)
 both_of true true h = (refl, refl)

@@ -1,8 +1,7 @@
 -- The reader of a range of times goes with its spelling.
-use Rattle.std.proofs.Common.{◌≡◌, ℕ, ◌+◌, ◌^◌, ◌<◌, ◌≤◌, min, Bool, true, false, List, [], ◌∷◌, ◌++◌, length, get_or, take, drop, Option, Some, None, Result, Ok, Err, if◌then◌else◌, nat_lt, cond, ltb, slice_index_or, refl, sym, ap, subst, ◌∙◌, arith, length-append}
+use Rattle.std.proofs.Common.{◌≡◌, ℕ, ◌^◌, ◌<◌, ◌≤◌, min, Bool, true, false, List, [], ◌∷◌, ◌++◌, length, get_or, take, drop, Option, Result, Ok, Err, if◌then◌else◌, nat_lt, cond, ltb, refl, ap, ◌∙◌, arith}
 use Rattle.std.specs.Prelude.{IfSome, IfOk, ⊤}
 use Rattle.std.specs.Int.{w64, from_be_bytes, to_be_bytes}
-use Rattle.std.proofs.lemmas.Bool.Decides.{nat_tests}
 use Rattle.std.proofs.lemmas.Bool.{ltb-false, ltb-true, lt-ltb, le-ltb}
 use Rattle.std.proofs.lemmas.List.{get_or_append_left, get_or_past, get_or_default}
 use Rattle.spelling.specs.Front.{Front, Whole, Part, Wrong, ◌>>=◌}
@@ -12,7 +11,7 @@ use Rattle.spelling.specs.declared.input.Unread.{Unread}
 use Rattle.spelling.specs.declared.input.Unread.TheVariants as unread
 use Rattle.spelling.specs.Spelling.{option_spelling}
 use Rattle.spelling.proofs.Lists.{byte_below}
-use Rattle.spelling.proofs.Joining.{Takes, Reads, Reads-then, Reads-made, Reads-last, Reads-is, whole_value, whole_rest}
+use Rattle.spelling.proofs.Joining.{Reads, Reads-then, Reads-last, Reads-is}
 use Rattle.spelling.proofs.Fields.{u64-reads, wide64}
 use Rattle.spelling.proofs.Repeated.{option-reads}
 use Rattle.willow_area.specs.Times.{Times, IsTimes}

@@ -1,11 +1,10 @@
 -- How a box is cut in two at a point of one of its ranges.
-use Rattle.std.specs.Prelude.{ℕ, Bool, List, Option, not}
+use Rattle.std.specs.Prelude.{◌≡◌, ◌↔◌, ℕ, Bool, false, List, Option, IsTrue, not}
 use Rattle.std.specs.Ordering.{is_lt, nat_cmp}
-use Rattle.std.specs.declared.cmp.Ordering.{Ordering}
 use Rattle.spelling.specs.Answers.{cause_if}
 use Rattle.willow_path.specs.Path.{part_cmp, path_cmp}
-use Rattle.willow_area.specs.Range.{Range, is_inside, lower, upper}
-use Rattle.willow_area.specs.Boxes.{Ranges}
+use Rattle.willow_area.specs.Range.{is_inside, lower, upper}
+use Rattle.willow_area.specs.Boxes.{Ranges, in_box}
 use Rattle.willow_area.specs.declared.cut.CutAt.{CutAt}
 use Rattle.willow_area.specs.declared.cut.CutAt.TheVariants.{Subspace, Path, Time}
 use Rattle.willow_area.specs.declared.cut.CutOutside.{CutOutside}
@@ -37,3 +36,11 @@ unfoldable pub is_below : CutAt → List ℕ → List (List ℕ) → ℕ → Boo
 is_below (Subspace key) subspace path time = is_lt (part_cmp subspace key)
 is_below (Path point) subspace path time = is_lt (path_cmp path point)
 is_below (Time point) subspace path time = is_lt (nat_cmp time point)
+
+-- the part has exactly the triples of the box that are below the point
+abbrev pub HasWhatIsBelow : Ranges → Ranges → CutAt → Type 0
+HasWhatIsBelow part ranges at = (subspace : List ℕ) (path : List (List ℕ)) (time : ℕ) → IsTrue (in_box part subspace path time) ↔ (IsTrue (in_box ranges subspace path time) × IsTrue (is_below at subspace path time))
+
+-- the part has exactly the triples of the box that are not below the point
+abbrev pub HasTheRest : Ranges → Ranges → CutAt → Type 0
+HasTheRest part ranges at = (subspace : List ℕ) (path : List (List ℕ)) (time : ℕ) → IsTrue (in_box part subspace path time) ↔ (IsTrue (in_box ranges subspace path time) × (is_below at subspace path time ≡ false))

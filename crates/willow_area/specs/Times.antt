@@ -1,5 +1,5 @@
 -- Ranges of times.
-use Rattle.std.specs.Prelude.{◌≡◌, ℕ, ◌<◌, ◌^◌, max, min, Bool, true, false, ◌&&◌, Option, Some, None, IfSome, nat_le, if◌then◌else◌}
+use Rattle.std.specs.Prelude.{ℕ, ◌<◌, ◌^◌, max, min, Bool, true, false, ◌&&◌, Option, Some, None, IfSome, nat_le, if◌then◌else◌}
 use Rattle.std.specs.Ordering.{nat_cmp}
 use Rattle.willow_area.specs.Range.{Range, in_range}
 

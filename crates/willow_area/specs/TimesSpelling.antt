@@ -1,5 +1,5 @@
 -- How a range of times is spelled, and how it is read.
-use Rattle.std.specs.Prelude.{◌≡◌, ℕ, ◌<◌, ◌^◌, min, List, [], ◌∷◌, ◌++◌, nat_lt, slice_index_or}
+use Rattle.std.specs.Prelude.{ℕ, min, List, [], ◌∷◌, ◌++◌, nat_lt, slice_index_or}
 use Rattle.std.specs.Int.{w64, from_be_bytes, to_be_bytes}
 use Rattle.spelling.specs.Front.{Front, Whole, ◌>>=◌}
 use Rattle.spelling.specs.Reading.{guard, number_at, option_at}

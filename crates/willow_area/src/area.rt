@@ -1,8 +1,9 @@
 //! Areas.
 
-ghost use Rattle.std.specs.Prelude.{◌≡◌, [], Some, None, IfOk, IfSome, MatchOption};
+ghost use Rattle.std.specs.Prelude.{◌≡◌, ◌↔◌, [], Some, None, IsTrue, IfOk, IfSome, MatchOption};
 ghost use Rattle.willow_path.specs.Key.{IsKey};
 ghost use Rattle.willow_area.specs.Area.{IsArea, in_area, includes_area, meet_area, fits_subspace, includes_subspace, meet_subspace, meet_path};
+ghost use Rattle.willow_area.specs.AreaMeaning.{Includes, AreApart, HasTriplesOfBoth};
 
 use crate::times::TimeRange;
 use std::alloc::Global;
@@ -55,8 +56,18 @@ impl Area {
     }
 
     /// Whether each triple of the other area is in this one.
-    #[tactic(auto, unfolding(crate::specs::Area::includes_area))]
     pub fn includes_area(&self, other: &Area) -> bool
+        ensures fields { result ≡ includes_area self.now other.now }
+        ensures triples { IsTrue result ↔ Includes self.now other.now }
+    {
+        self.known();
+        other.known();
+        self.includes_fields(other)
+    }
+
+    // Whether the area includes the other, field by field.
+    #[tactic(auto, unfolding(crate::specs::Area::includes_area))]
+    fn includes_fields(&self, other: &Area) -> bool
         ensures { result ≡ includes_area self.now other.now }
     {
         includes_subspace(&self.subspace, &other.subspace)
@@ -65,8 +76,19 @@ impl Area {
     }
 
     /// The area of the triples that are in both areas; None exactly where no triple is in both.
-    #[tactic(auto, unfolding(crate::specs::Area::meet_area))]
     pub fn intersect(&self, other: &Area) -> Result<Option<Area>, NoMemory>
+        ensures fields { IfOk result (λ both. both ≡ meet_area self.now other.now) }
+        ensures triples { IfOk result (λ both. IfSome both (λ area. HasTriplesOfBoth area self.now other.now)) }
+        ensures none { IfOk result (λ both. (both ≡ None) ↔ AreApart self.now other.now) }
+    {
+        self.known();
+        other.known();
+        self.meet(other)
+    }
+
+    // What both areas have in common, field by field.
+    #[tactic(auto, unfolding(crate::specs::Area::meet_area))]
+    fn meet(&self, other: &Area) -> Result<Option<Area>, NoMemory>
         ensures { IfOk result (λ area. area ≡ meet_area self.now other.now) }
     {
         let Some(subspace) = meet_subspace(&self.subspace, &other.subspace) else {

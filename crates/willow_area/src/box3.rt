@@ -8,7 +8,7 @@ ghost use Rattle.willow_area.specs.Range.{is_before_end, in_range, is_inside, Is
 ghost use Rattle.willow_area.specs.Times.{IsTimes};
 ghost use Rattle.willow_area.specs.AreaBox.{HasTriplesOf, area_box, key_range};
 ghost use Rattle.willow_area.specs.Boxes.{IsBox, in_box};
-ghost use Rattle.willow_area.specs.Cuts.{can_cut, cut_refusal, lower_part, upper_part};
+ghost use Rattle.willow_area.specs.Cuts.{cut_refusal, lower_part, upper_part, HasWhatIsBelow, HasTheRest};
 
 use crate::area::Area;
 use crate::cut::{CutAt, CutOutside};
@@ -97,8 +97,19 @@ impl Box3 {
 
     /// The part of the box below the point, and the part from the point on. It is refused exactly where the
     /// point is at most the start, or at least the end, of its range.
-    #[tactic(auto, unfolding(crate::specs::Cuts::can_cut, crate::specs::Cuts::lower_part, crate::specs::Cuts::upper_part))]
     pub fn cut(&self, at: &CutAt) -> Result<(Box3, Box3), End<CutOutside>>
+        ensures answer { Answers result (cut_refusal self.now at.now) }
+        ensures lower { IfOk result (λ parts. parts.0 ≡ lower_part self.now at.now) }
+        ensures upper { IfOk result (λ parts. parts.1 ≡ upper_part self.now at.now) }
+        ensures below { IfOk result (λ parts. HasWhatIsBelow parts.0 self.now at.now) }
+        ensures rest { IfOk result (λ parts. HasTheRest parts.1 self.now at.now) }
+    {
+        self.parts(at)
+    }
+
+    // Both parts of a cut.
+    #[tactic(auto, unfolding(crate::specs::Cuts::can_cut, crate::specs::Cuts::lower_part, crate::specs::Cuts::upper_part))]
+    fn parts(&self, at: &CutAt) -> Result<(Box3, Box3), End<CutOutside>>
         ensures answer { Answers result (cut_refusal self.now at.now) }
         ensures lower { IfOk result (λ parts. parts.0 ≡ lower_part self.now at.now) }
         ensures upper { IfOk result (λ parts. parts.1 ≡ upper_part self.now at.now) }

@@ -1,14 +1,14 @@
 //! What the definitions mean, and what follows from them. These functions do nothing: each is called,
 //! if at all, for its clauses.
 
-ghost use Rattle.std.specs.Prelude.{◌≡◌, ◌↔◌, ℕ, List, IsTrue, Some, None, false};
+ghost use Rattle.std.specs.Prelude.{◌≡◌, ◌↔◌, IsTrue, Some, None};
 ghost use Rattle.spelling.specs.Form.{IsForm};
-ghost use Rattle.willow_area.specs.Area.{IsArea, in_area, includes_area, meet_area};
-ghost use Rattle.willow_area.specs.AreaMeaning.{Includes, AreApart};
+ghost use Rattle.willow_area.specs.Area.{IsArea, includes_area, meet_area};
+ghost use Rattle.willow_area.specs.AreaMeaning.{Includes, AreApart, HasTriplesOfBoth};
 ghost use Rattle.willow_area.specs.AreaBox.{HasTriplesOf, area_box};
 ghost use Rattle.willow_area.specs.AreaSpelling.{area_spelling};
-ghost use Rattle.willow_area.specs.Boxes.{Ranges, in_box};
-ghost use Rattle.willow_area.specs.Cuts.{can_cut, is_below, lower_part, upper_part};
+ghost use Rattle.willow_area.specs.Boxes.{Ranges};
+ghost use Rattle.willow_area.specs.Cuts.{can_cut, lower_part, upper_part, HasWhatIsBelow, HasTheRest};
 ghost use Rattle.willow_area.specs.declared.area.Area.{Area};
 ghost use Rattle.willow_area.specs.declared.cut.CutAt.{CutAt};
 
@@ -21,8 +21,7 @@ pub fn inclusion()
 /// The intersection of two areas has exactly the triples that both have, and there is none exactly
 /// where no triple is in both.
 pub fn intersection()
-    ensures some { (area other both : Area) (subspace : List ℕ) (path : List (List ℕ)) (time : ℕ) → meet_area area other ≡ Some both
-        → IsTrue (in_area both subspace path time) ↔ IsTrue (in_area area subspace path time) × IsTrue (in_area other subspace path time) }
+    ensures some { (area other both : Area) → meet_area area other ≡ Some both → HasTriplesOfBoth both area other }
     ensures none { (area other : Area) → IsArea area → IsArea other → (meet_area area other ≡ None) ↔ AreApart area other }
 {}
 
@@ -36,10 +35,8 @@ pub fn one_spelling()
 /// the rest.
 #[tactic(auto, using(crate::proofs::Cutting::lower_part_has, crate::proofs::Cutting::upper_part_has))]
 pub fn cuts()
-    ensures lower { (ranges : Ranges) (at : CutAt) (subspace : List ℕ) (path : List (List ℕ)) (time : ℕ) → IsTrue (can_cut ranges at)
-        → IsTrue (in_box (lower_part ranges at) subspace path time) ↔ (IsTrue (in_box ranges subspace path time) × IsTrue (is_below at subspace path time)) }
-    ensures upper { (ranges : Ranges) (at : CutAt) (subspace : List ℕ) (path : List (List ℕ)) (time : ℕ) → IsTrue (can_cut ranges at)
-        → IsTrue (in_box (upper_part ranges at) subspace path time) ↔ (IsTrue (in_box ranges subspace path time) × (is_below at subspace path time ≡ false)) }
+    ensures lower { (ranges : Ranges) (at : CutAt) → IsTrue (can_cut ranges at) → HasWhatIsBelow (lower_part ranges at) ranges at }
+    ensures upper { (ranges : Ranges) (at : CutAt) → IsTrue (can_cut ranges at) → HasTheRest (upper_part ranges at) ranges at }
 {}
 
 /// The box of an area includes a triple exactly where the area does.

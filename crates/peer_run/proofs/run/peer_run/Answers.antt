@@ -1,5 +1,5 @@
 use Rattle.peer_run.proofs.Causes.{ended, usage, is_command, read_fault, write_fault, bad_input, log_full, key_spent, statuses}
-use Rattle.peer_run.proofs.Complete.{completes, joins, whole_join}
+use Rattle.peer_run.proofs.Complete.{completes, whole_join}
 use Rattle.peer_run.proofs.run.peer_run.Goals as goal
 
 pub returns-clause-joined : goal.returns-clause-joined
@@ -38,5 +38,5 @@ returns-clause-statuses g c = statuses _ _ _ _ _ _ (c.run_words.ensures.runs (g.
 pub returns-clause-complete : goal.returns-clause-complete
 returns-clause-complete g c = λ can none memory. completes _ _ _ _ _ _ (c.run_words.ensures.runs (g.D.Door.facts c.args.door.now)) can none memory
 
-pub returns-clause-joins : goal.returns-clause-joins
-returns-clause-joins g c = λ namespace is_join can none memory. joins _ _ _ _ _ _ namespace (c.run_words.ensures.runs (g.D.Door.facts c.args.door.now)) is_join can none memory
+pub returns-clause-counts : goal.returns-clause-counts
+returns-clause-counts g c = c.run_words.ensures.counts (g.D.Door.facts c.args.door.now)

@@ -1,4 +1,3 @@
-use Rattle.peer_words.specs.Areas.{AreRising}
 use Rattle.peer_words.proofs.OneValue.{times_are}
 use Rattle.peer_words.proofs.area.area_of.Goals as goal
 

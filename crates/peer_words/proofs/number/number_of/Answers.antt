@@ -27,5 +27,5 @@ returns c =
     let some : 0 < length c.args.word.now = grind (arith, nat_tests) in
     let plain : get_or c.args.word.now 0 0 ≡ 43 → ⊥ = λ plus. c.if-bytes-eq43.false (omega arith) in
     let lone : get_or c.args.word.now 0 0 ≡ 48 → length c.args.word.now ≤ 1 = λ zero.
-        elim c.else-bytes-eq48.branch [ else-bytes-eq48-via-then-bytes-eq48+else-bytes-gt1 w ↦ omega arith | else-bytes-eq48-via-else-bytes-eq48 w ↦ absurd (w.if-bytes-eq48.false (omega arith)) ] in
+    elim c.else-bytes-eq48.branch [ else-bytes-eq48-via-then-bytes-eq48+else-bytes-gt1 w ↦ omega arith | else-bytes-eq48-via-else-bytes-eq48 w ↦ absurd (w.if-bytes-eq48.false (omega arith)) ] in
     number_read c.args.word.now c.parse.result c.ok.result c.parse.ensures.value.0 c.ok.ensures.value some plain lone

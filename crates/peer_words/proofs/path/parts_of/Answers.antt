@@ -1,4 +1,4 @@
-use Rattle.std.proofs.Common.{◌≡◌, ◌==◌, ◌≤◌, List, ℕ, length, ap, sym, subst, ◌∙◌, arith, Ok, [], ◌∷◌, ◌++◌, take, drop}
+use Rattle.std.proofs.Common.{◌≡◌, ◌==◌, ◌≤◌, List, ℕ, length, ap, sym, ◌∙◌, arith, [], ◌∷◌, ◌++◌, take, drop}
 use Rattle.std.specs.List.{position_or_len}
 use Rattle.std.proofs.lemmas.Bool.Decides.{nat_tests}
 use Rattle.hex.specs.Hex.{decode_of}
@@ -20,7 +20,7 @@ returns-in_err-part c =
     let end : c.part_end.result ≡ position_or_len (λ b. b == 47) (drop 1 c.loop-left.left.now) = c.part_end.ensures.value ∙ ap (λ (w : List ℕ). position_or_len (λ b. b == 47) w) others in
     let digits : c.split_at-in-loop-left.result.0.now ≡ take c.part_end.result (drop 1 c.loop-left.left.now) = c.split_at-in-loop-left.ensures.front ∙ ap (λ (w : List ℕ). take c.part_end.result w) others in
     passed_on _ (IsParts c.args.word.now) c.in_err-part.field-0.0 c.from_residual.result c.from_residual.ensures.1 c.in_err-part.ensures
-      (λ none. no_digits c.args.word.now c.loop-left.left.now c.loop-left.path c.part_end.result c.loop-left.invariant some c.if-left-ne47.false end (λ part decoded. none part (ap decode_of digits ∙ decoded)))
+    (λ none. no_digits c.args.word.now c.loop-left.left.now c.loop-left.path c.part_end.result c.loop-left.invariant some c.if-left-ne47.false end (λ part decoded. none part (ap decode_of digits ∙ decoded)))
 
 pub returns-in-Err-Refused : goal.returns-in-Err-Refused
 returns-in-Err-Refused c =
@@ -30,7 +30,7 @@ returns-in-Err-Refused c =
     let digits : c.split_at-in-loop-left.result.0.now ≡ take c.part_end.result (drop 1 c.loop-left.left.now) = c.split_at-in-loop-left.ensures.front ∙ ap (λ (w : List ℕ). take c.part_end.result w) others in
     let why = refused_push c.in-Err-Refused.field-0 c.in-Err-Refused.field-0-0 (push_refusal c.loop-left.path c.deref.result.now) c.in-Err-Refused.ensures.answer c.in-Err-Refused.field-0-is in
     no_room c.args.word.now c.loop-left.left.now c.loop-left.path c.part_end.result c.in_ok-part.part.items c.in-Err-Refused.field-0-0 c.loop-left.invariant some c.if-left-ne47.false end
-      (ap decode_of (sym digits) ∙ c.in_ok-part.ensures) (ap (push_refusal c.loop-left.path) (sym c.deref.ensures.value) ∙ why)
+    (ap decode_of (sym digits) ∙ c.in_ok-part.ensures) (ap (push_refusal c.loop-left.path) (sym c.deref.ensures.value) ∙ why)
 
 pub loop-left-preserved : goal.loop-left-preserved
 loop-left-preserved c =
@@ -39,4 +39,4 @@ loop-left-preserved c =
     let end : c.part_end.result ≡ position_or_len (λ b. b == 47) (drop 1 c.loop-left.left.now) = c.part_end.ensures.value ∙ ap (λ (w : List ℕ). position_or_len (λ b. b == 47) w) others in
     let digits : c.split_at-in-loop-left.result.0.now ≡ take c.part_end.result (drop 1 c.loop-left.left.now) = c.split_at-in-loop-left.ensures.front ∙ ap (λ (w : List ℕ). take c.part_end.result w) others in
     front_grows c.args.word.now c.loop-left.left.now c.loop-left.path c.part_end.result c.in_ok-part.part.items c.push.new.self c.split_at-in-loop-left.result.1.now c.loop-left.invariant some c.if-left-ne47.false end
-      (ap decode_of (sym digits) ∙ c.in_ok-part.ensures) (c.in-Ok.ensures.added ∙ ap (λ (part : List ℕ). c.loop-left.path ++ part ∷ []) c.deref.ensures.value) c.push.ensures.path (c.split_at-in-loop-left.ensures.back ∙ ap (λ (w : List ℕ). drop c.part_end.result w) others)
+    (ap decode_of (sym digits) ∙ c.in_ok-part.ensures) (c.in-Ok.ensures.added ∙ ap (λ (part : List ℕ). c.loop-left.path ++ part ∷ []) c.deref.ensures.value) c.push.ensures.path (c.split_at-in-loop-left.ensures.back ∙ ap (λ (w : List ℕ). drop c.part_end.result w) others)

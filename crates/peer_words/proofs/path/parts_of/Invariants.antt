@@ -1,6 +1,4 @@
-use Rattle.std.proofs.Common.{◌≡◌, ℕ, List, ◌++◌, length}
-use Rattle.willow_path.specs.Path.{IsPath}
-use Rattle.peer_words.specs.Values.{AreParts}
+use Rattle.std.proofs.Common.{length}
 use Rattle.peer_words.proofs.PathWords.{IsFront}
 use Rattle.peer_words.proofs.path.parts_of.Given as goal
 

@@ -7,9 +7,9 @@ use Rattle.peer_words.proofs.read.delegate.Goals as goal
 pub returns-in_err-to : goal.returns-in_err-to
 returns-in_err-to c =
     passed_on _ (IsOf verbs.Delegate c.args.options.now) c.in_err-to.field-0.0 c.from_residual.result c.from_residual.ensures.1 c.in_err-to.ensures
-      (λ none command is. of_delegate c.args.options.now command is (λ key to area has. none to has.to_given))
+    (λ none command is. of_delegate (λ _. ⊥) c.args.options.now command is (λ key to area has. none to has.to_given))
 
 pub returns-in_err-key : goal.returns-in_err-key
 returns-in_err-key c =
     passed_on _ (IsOf verbs.Delegate c.args.options.now) c.in_err-key.field-0.0 c.from_residual-in_err-key.result c.from_residual-in_err-key.ensures.1 c.in_err-key.ensures
-      (λ none command is. of_delegate c.args.options.now command is (λ key to area has. none key has.key_given))
+    (λ none command is. of_delegate (λ _. ⊥) c.args.options.now command is (λ key to area has. none key has.key_given))

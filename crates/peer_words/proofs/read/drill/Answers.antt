@@ -7,4 +7,4 @@ use Rattle.peer_words.proofs.read.drill.Goals as goal
 pub returns-in_err-rows : goal.returns-in_err-rows
 returns-in_err-rows c =
     passed_on _ (IsOf verbs.Drill c.args.options.now) c.in_err-rows.field-0.0 c.from_residual.result c.from_residual.ensures.1 c.in_err-rows.ensures
-      (λ none command is. of_drill c.args.options.now command is (λ rows has. none rows has))
+    (λ none command is. of_drill (λ _. ⊥) c.args.options.now command is (λ rows has. none rows has))

@@ -7,14 +7,14 @@ use Rattle.peer_words.proofs.read.grant.Goals as goal
 pub returns-in_err-namespace : goal.returns-in_err-namespace
 returns-in_err-namespace c =
     passed_on _ (IsOf verbs.Grant c.args.options.now) c.in_err-namespace.field-0.0 c.from_residual.result c.from_residual.ensures.1 c.in_err-namespace.ensures
-      (λ none command is. of_grant c.args.options.now command is (λ namespace mode user key has. none namespace has.namespace_given))
+    (λ none command is. of_grant (λ _. ⊥) c.args.options.now command is (λ namespace mode user key has. none namespace has.namespace_given))
 
 pub returns-in_err-mode : goal.returns-in_err-mode
 returns-in_err-mode c =
     passed_on _ (IsOf verbs.Grant c.args.options.now) c.in_err-mode.field-0.0 c.from_residual-in_err-mode.result c.from_residual-in_err-mode.ensures.1 c.in_err-mode.ensures
-      (λ none command is. of_grant c.args.options.now command is (λ namespace mode user key has. none mode has.mode_given))
+    (λ none command is. of_grant (λ _. ⊥) c.args.options.now command is (λ namespace mode user key has. none mode has.mode_given))
 
 pub returns-in_err-user : goal.returns-in_err-user
 returns-in_err-user c =
     passed_on _ (IsOf verbs.Grant c.args.options.now) c.in_err-user.field-0.0 c.from_residual-in_err-user.result c.from_residual-in_err-user.ensures.1 c.in_err-user.ensures
-      (λ none command is. of_grant c.args.options.now command is (λ namespace mode user key has. none user has.user_given))
+    (λ none command is. of_grant (λ _. ⊥) c.args.options.now command is (λ namespace mode user key has. none user has.user_given))

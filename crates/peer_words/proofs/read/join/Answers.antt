@@ -7,4 +7,4 @@ use Rattle.peer_words.proofs.read.join.Goals as goal
 pub returns-in_err-namespace : goal.returns-in_err-namespace
 returns-in_err-namespace c =
     passed_on _ (IsOf verbs.Join c.args.options.now) c.in_err-namespace.field-0.0 c.from_residual.result c.from_residual.ensures.1 c.in_err-namespace.ensures
-      (λ none command is. of_join c.args.options.now command is (λ namespace has. none namespace has))
+    (λ none command is. of_join (λ _. ⊥) c.args.options.now command is (λ namespace has. none namespace has))

@@ -8,9 +8,9 @@ use Rattle.peer_words.proofs.read.watch.Goals as goal
 pub returns-in_err-image : goal.returns-in_err-image
 returns-in_err-image c =
     passed_on _ (IsOf verbs.Watch c.args.options.now) c.in_err-image.field-0.0 c.from_residual.result c.from_residual.ensures.1 c.in_err-image.ensures
-      (λ none command is. of_watch c.args.options.now command is (λ image area has. none (record { 0 = image }) has.image_given))
+    (λ none command is. of_watch (λ _. ⊥) c.args.options.now command is (λ image area has. none (record { 0 = image }) has.image_given))
 
 pub returns-then-eq : goal.returns-then-eq
 returns-then-eq c =
-    λ command is. of_watch c.args.options.now command is
-      (λ image area has. has.some_time (given_end c.args.options.now area.until c.in_ok-area.area.until has.area_given.end (c.in_ok-area.ensures).end c.if-eq.ensures))
+    λ command is. of_watch (λ _. ⊥) c.args.options.now command is
+    (λ image area has. has.some_time (given_end c.args.options.now area.until c.in_ok-area.area.until has.area_given.end (c.in_ok-area.ensures).end c.if-eq.ensures))

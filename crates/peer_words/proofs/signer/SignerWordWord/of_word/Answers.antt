@@ -1,4 +1,4 @@
-use Rattle.std.proofs.Common.{◌≡◌, ℕ, List, ◌++◌, codes, drop, ap, sym, ◌∙◌, arith, String}
+use Rattle.std.proofs.Common.{ℕ, List, ◌++◌, codes, ap, sym, ◌∙◌}
 use Rattle.peer_words.specs.Signers.{IsSignerWord}
 use Rattle.peer_words.specs.Values.{IsNameWord}
 use Rattle.peer_words.proofs.Endings.{passed_on}
@@ -15,4 +15,4 @@ returns-in_err-of_word c =
     let cut = c.in-Some-strip_prefix.ensures.cases in
     let file = c.in-Some-strip_prefix.file.now in
     passed_on (λ name. IsNameWord file name.0) (IsSignerWord c.args.word.now) c.in_err-of_word.field-0.0 c.from_residual.result c.from_residual.ensures.1 c.in_err-of_word.ensures
-      (λ none. no_file c.args.word.now file (cut.1.1 ∙ ap (λ (rest : List ℕ). codes "lms:" ++ rest) (sym cut.2)) (λ name is. none (record { 0 = name }) is))
+    (λ none. no_file c.args.word.now file (cut.1.1 ∙ ap (λ (rest : List ℕ). codes "lms:" ++ rest) (sym cut.2)) (λ name is. none (record { 0 = name }) is))

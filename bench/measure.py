@@ -1,0 +1,109 @@
+"""Times the executables `hash_bench` and `willow_peer`, and prints a table in Markdown.
+
+Each figure is the best of ROUNDS runs; the runs of all commands take turns, so that what else the machine does
+falls on all of them alike. A hash is one block of SHA-256, that is one call of its compression function: a message
+of n bytes takes (n + 72) // 64 of them.
+"""
+import os
+import struct
+import subprocess
+import sys
+import tempfile
+import time
+from hashlib import sha256
+
+ROUNDS = 5
+BLOCKS = 2_000_000
+KEYS = 8
+CHECKS = 500
+ROWS = 65_536
+NAMESPACE = "00" + "4f" * 32
+
+# LMS_SHA256_M32_H5 with LMOTS_SHA256_N32_W8 (RFC 8554), in blocks:
+CHAINS = 34  # one for each byte of a hash, and two for the checksum
+STEP = 1  # identifier 16, index 4, chain 2, step 1, value 32: 55 bytes
+ONE_TIME_KEY = 18  # identifier 16, index 4, tag 2, 34 values: 1,110 bytes
+LEAF = 1  # identifier 16, node 4, tag 2, key 32: 54 bytes
+INNER = 2  # identifier 16, node 4, tag 2, two values: 86 bytes
+PUBLIC = 2  # the digest of the public key of 56 bytes, which is the user key
+RANDOMIZER = 2  # tag 1, seed 32, index 4, message 32: 69 bytes
+MESSAGE_HASH = 2  # identifier 16, index 4, tag 2, randomizer 32, message 32: 86 bytes
+
+# Each leaf has its chains' starts, which are a hash of the seed each, and 255 steps.
+TREE = 32 * (CHAINS * (1 + 255) * STEP + ONE_TIME_KEY + LEAF) + 31 * INNER
+MAKE = TREE + PUBLIC
+# The leaf that signs is hashed once, and its values are taken on the way.
+SIGN = TREE + RANDOMIZER + MESSAGE_HASH
+
+# A row of the generator: 33 + 35 bytes for the grant, 33 + 1 + 120 (or 118) for the entry.
+ROW = 2 + 3
+
+
+def verify_blocks():
+    """What one verification hashes of the key, the index and the message that `hash_bench verify` signs."""
+    identifier, index = b"\x09" * 16, struct.pack(">I", 0)
+    seed, message = bytes(4) + b"\x07" * 28, b"a message of the length of a sum"
+    randomizer = sha256(b"\x43" + seed + index + message).digest()
+    digest = sha256(identifier + index + b"\x81\x81" + randomizer + message).digest()
+    checksum = sum(255 - byte for byte in digest)
+    digits = digest + struct.pack(">H", checksum)
+    steps = sum(255 - digit for digit in digits)
+    return MESSAGE_HASH + steps * STEP + ONE_TIME_KEY + LEAF + 5 * INNER + PUBLIC
+
+
+def run(command, given=None, made=None):
+    with open(given or os.devnull, "rb") as source, open(made or os.devnull, "wb") as sink:
+        begun = time.perf_counter()
+        subprocess.run(command, stdin=source, stdout=sink, stderr=subprocess.DEVNULL, check=True)
+        return time.perf_counter() - begun
+
+
+def best(commands):
+    times = {name: [] for name in commands}
+    for _ in range(ROUNDS):
+        for name, (command, given) in commands.items():
+            times[name].append(run(command, given))
+    return {name: min(found) for name, found in times.items()}
+
+
+def show(hash_bench, peer, folder):
+    rows, image, listing = (os.path.join(folder, name) for name in ("rows", "image", "listing"))
+    run([peer, "gen", "--rows", str(ROWS)], made=rows)
+    run([peer, "join", "--namespace", NAMESPACE], rows, image)
+    run([peer, "show"], image, listing)
+    with open(listing, encoding="ascii") as lines:
+        kept = int(lines.readline().split()[-1])
+    took = best({
+        "blocks": ([hash_bench, "blocks", str(BLOCKS)], None),
+        "make": ([hash_bench, "make", str(KEYS)], None),
+        "sign": ([hash_bench, "sign", str(KEYS)], None),
+        "verify": ([hash_bench, "verify", str(CHECKS)], None),
+        "verify nothing": ([hash_bench, "verify", "0"], None),
+        "rows": ([hash_bench, "rows", str(ROWS)], None),
+        "kept rows": ([hash_bench, "rows", str(kept)], None),
+        "gen": ([peer, "gen", "--rows", str(ROWS)], None),
+        "join": ([peer, "join", "--namespace", NAMESPACE], rows),
+        "show": ([peer, "show"], image),
+    })
+    plain = BLOCKS / took["blocks"]
+    print("| Keys of height 5 | hashes each | seconds each | hashes per second | of the plain loop |")
+    print("|---|---|---|---|---|")
+    print(f"| plain loop over one block | 1 | | {plain:,.0f} | 1.00 |")
+    for name, hashes, count, seconds in (
+        ("make a key", MAKE, KEYS, took["make"]),
+        ("sign", SIGN, KEYS, took["sign"]),
+        ("verify", verify_blocks(), CHECKS, took["verify"] - took["verify nothing"]),
+    ):
+        speed = hashes * count / seconds
+        print(f"| {name} | {hashes:,} | {seconds / count:.5f} | {speed:,.0f} | {speed / plain:.2f} |")
+    print()
+    print("| Rows | rows | hashes | seconds | seconds of SHA-256 alone | times that |")
+    print("|---|---|---|---|---|---|")
+    for name, count, alone in (("gen", ROWS, "rows"), ("join", ROWS, "rows"), ("show", kept, "kept rows")):
+        times = took[name] / took[alone]
+        print(f"| {name} | {count:,} | {count * ROW:,} | {took[name]:.3f} | {took[alone]:.3f} | {times:.1f} |")
+
+
+if __name__ == "__main__":
+    with tempfile.TemporaryDirectory() as temporary:
+        show(os.path.abspath(sys.argv[1]), os.path.abspath(sys.argv[2]), temporary)

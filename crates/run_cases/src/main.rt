@@ -1,0 +1,34 @@
+//! Runs each case on standard input and prints for how many of them everything came as expected, and the name of each
+//! of which it did not. A line is one case: fields with one space between, `-` for nothing, bytes in hexadecimal.
+//!
+//! 1. A name, and the words joined by commas.
+//! 2. What lies on the shelf, each as `NAME:BYTES`, and the draws of noise, each of 32 bytes; both joined by commas.
+//! 3. The input.
+//! 4. The calls that fail, joined by commas: a letter for the object (`i` input, `o` output, `r` report, `s` shelf, `n` noise)
+//!    and the number of its call, from 1.
+//! 5. What is expected: the output, the report, the status, and what lies on the shelf behind the run. A name of the words that
+//!    is not there is absent.
+//!
+//! Input and output move at most 100 bytes a call, the report 7. The cases were made by a program that shares no code with
+//! this one. It promises nothing: what a run does is the contract of `peer_run`.
+#![tactic(auto)]
+
+mod case;
+mod fields;
+mod objects;
+
+use std::io;
+
+fn main(rt: HostRuntime) -> io::Result<()> {
+    let mut agreed = 0u64;
+    let mut cases = 0u64;
+    for line in rt.lines(rt.alloc()) {
+        let line = line?;
+        cases = cases.saturating_add(1);
+        match case::differs(rt.alloc(), line.as_str()) {
+            None => agreed = agreed.saturating_add(1),
+            Some(part) => println!(rt; "{}: another {part}", fields::name_of(line.as_str()))?,
+        }
+    }
+    println!(rt; "{agreed} of {cases}")
+}

@@ -1,0 +1,76 @@
+//! The objects that a case is run over.
+
+use crate::fields::{bytes_of, draws_of, fails_of, names_of};
+use hex::FromHexError;
+use std::alloc::Global;
+use willow_outside::{MemNoise, MemShelf, MemSink, MemSource, Shelf};
+
+/// The objects outside, but for the door, at which no command of the cases asks.
+#[derive(Drop)]
+pub struct Objects {
+    pub shelf: MemShelf,
+    pub input: MemSource,
+    pub output: MemSink,
+    pub report: MemSink,
+    pub noise: MemNoise,
+}
+
+fn output_of(alloc: Global, faults: &str) -> Result<MemSink, FromHexError> {
+    let fails = fails_of(alloc, faults, 'o')?;
+    Ok(MemSink::new(alloc, Vec::new(alloc), fails, 100))
+}
+
+fn report_of(alloc: Global, faults: &str) -> Result<MemSink, FromHexError> {
+    let fails = fails_of(alloc, faults, 'r')?;
+    Ok(MemSink::new(alloc, Vec::new(alloc), fails, 7))
+}
+
+fn shelf_of(alloc: Global, names: &str, faults: &str) -> Result<MemShelf, FromHexError> {
+    let names = names_of(alloc, names)?;
+    let fails = fails_of(alloc, faults, 's')?;
+    Ok(MemShelf::new(alloc, names, fails))
+}
+
+fn input_of(alloc: Global, bytes: &str, faults: &str) -> Result<MemSource, FromHexError> {
+    let bytes = bytes_of(alloc, bytes)?;
+    let fails = fails_of(alloc, faults, 'i')?;
+    Ok(MemSource::new(alloc, bytes, fails, 100))
+}
+
+fn noise_of(alloc: Global, draws: &str, faults: &str) -> Result<MemNoise, FromHexError> {
+    let draws = draws_of(alloc, draws)?;
+    let fails = fails_of(alloc, faults, 'n')?;
+    Ok(MemNoise::new(alloc, draws, fails))
+}
+
+impl Objects {
+    /// The objects that the fields say.
+    pub fn new(
+        alloc: Global,
+        names: &str,
+        draws: &str,
+        input: &str,
+        faults: &str,
+    ) -> Result<Objects, FromHexError> {
+        let shelf = shelf_of(alloc, names, faults)?;
+        let noise = noise_of(alloc, draws, faults)?;
+        let input = input_of(alloc, input, faults)?;
+        let output = output_of(alloc, faults)?;
+        let report = report_of(alloc, faults)?;
+        Ok(Objects {
+            shelf,
+            input,
+            output,
+            report,
+            noise,
+        })
+    }
+}
+
+/// The bytes under a name, asked for twice where the first call fails.
+pub fn held(shelf: &mut MemShelf, name: &str) -> Option<Vec<u8>> {
+    if let Ok(found) = shelf.get(name) {
+        return found;
+    }
+    shelf.get(name).unwrap_or(None)
+}

@@ -1,0 +1,99 @@
+//! Four rows, and those of them that a box includes.
+
+use crate::rows::{Rank, path_of_bytes, row_of, user};
+use block_store::{BlockStore, Snapshot};
+use std::alloc::Global;
+use willow_area::{Area, Box3, TimeRange, box_of};
+use willow_entry::{BareRow, same};
+
+// Offers a row of this subspace, path and time to the store.
+fn offer(
+    alloc: Global,
+    store: &mut BlockStore<BareRow>,
+    subspace: u8,
+    parts: &[u8],
+    time: u64,
+) -> Option<()> {
+    let rank = Rank {
+        time,
+        length: 1,
+        digest: 0x11,
+    };
+    let row = row_of(alloc, subspace, path_of_bytes(alloc, parts)?, rank, 0)?;
+    if store.len() > 1000 {
+        return None;
+    }
+    let _placed = store.ingest(row).ok()?;
+    Some(())
+}
+
+// The snapshot of rows at /a, /a/b and /b of one subspace, and at /a of the next, in this order.
+fn snapshot(alloc: Global) -> Option<Snapshot<BareRow>> {
+    let mut store = BlockStore::new(alloc);
+    offer(alloc, &mut store, 2, b"a", 6)?;
+    offer(alloc, &mut store, 1, b"b", 7)?;
+    offer(alloc, &mut store, 1, b"a", 5)?;
+    offer(alloc, &mut store, 1, b"ab", 5)?;
+    store.snapshot().ok()
+}
+
+// The box of any subspace, or the one of this byte, of the extensions of a path, and of a range of times.
+fn area_box(
+    alloc: Global,
+    subspace: Option<u8>,
+    parts: &[u8],
+    start: u64,
+    end: Option<u64>,
+) -> Option<Box3> {
+    let subspace = match subspace {
+        None => None,
+        Some(byte) => Some(user(byte)?),
+    };
+    let area = Area {
+        subspace,
+        path: path_of_bytes(alloc, parts)?,
+        times: TimeRange::new(start, end)?,
+    };
+    box_of(&area).ok()
+}
+
+// How many of the four rows the box includes, and the positions of the first five that it includes.
+fn positions(rows: &Snapshot<BareRow>, area: &Box3) -> (u32, [Option<u32>; 5]) {
+    (
+        rows.count_in(area),
+        [
+            rows.nth_in(area, 0),
+            rows.nth_in(area, 1),
+            rows.nth_in(area, 2),
+            rows.nth_in(area, 3),
+            rows.nth_in(area, 4),
+        ],
+    )
+}
+
+// An area: its subspace, its path, the start and the end of its times.
+pub(crate) type Place<'a> = (Option<u8>, &'a [u8], u64, Option<u64>);
+
+// The same for the box of an area.
+pub(crate) fn found(alloc: Global, place: &Place) -> Option<(u32, [Option<u32>; 5])> {
+    let area = area_box(alloc, place.0, place.1, place.2, place.3)?;
+    Some(positions(&snapshot(alloc)?, &area))
+}
+
+// Whether two snapshots have the same rows in the same order.
+fn have_the_same(one: &Snapshot<BareRow>, other: &Snapshot<BareRow>) -> bool {
+    for at in 0..one.len() {
+        match (one.get(at), other.get(at)) {
+            (Some(row), Some(other)) if same(row, other) => {}
+            _ => return false,
+        }
+    }
+    one.len() == other.len()
+}
+
+// How many rows the shared snapshot has where it is equal to the first.
+pub(crate) fn shared(alloc: Global) -> Option<u32> {
+    let rows = snapshot(alloc)?;
+    let again = rows.share().ok()?;
+    have_the_same(&rows, &again).then_some(again.len())
+}

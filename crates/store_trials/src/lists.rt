@@ -1,0 +1,130 @@
+//! Lists of rows that look random, and what both stores make of them.
+
+use crate::rows::{Rank, path_of, row_of};
+use block_store::BlockStore;
+use flat_store::FlatStore;
+use std::alloc::Global;
+use willow_entry::{BareRow, Placed, same};
+use willow_path::Path;
+
+// How many rows a list has.
+const LENGTH: usize = 40;
+
+const PARTS: [&[u8]; 4] = [b"a", b"b", b"ab", b""];
+
+// The next number of a list.
+fn next(number: u64) -> u64 {
+    number
+        .wrapping_mul(6_364_136_223_846_793_005)
+        .wrapping_add(1_442_695_040_888_963_407)
+}
+
+// The path that a number tells: up to two components.
+fn path_at(alloc: Global, number: u64) -> Option<Path> {
+    let first = PARTS[(number % 4) as usize];
+    let second = PARTS[(number / 8 % 4) as usize];
+    match number / 64 % 8 {
+        0 => path_of(alloc, &[]),
+        1 | 2 | 3 => path_of(alloc, &[first]),
+        _ => path_of(alloc, &[first, second]),
+    }
+}
+
+// The row that a number tells by its higher half.
+fn row_at(alloc: Global, number: u64) -> Option<BareRow> {
+    let high = number / 4_294_967_296;
+    let subspace = if high % 2 == 0 { 1 } else { 2 };
+    let token = if high / 2 % 2 == 0 { 0 } else { 7 };
+    let digest = if high / 4 % 2 == 0 { 0x11 } else { 0x12 };
+    let rank = Rank {
+        time: high / 8 % 8,
+        length: high / 64 % 2,
+        digest,
+    };
+    row_of(alloc, subspace, path_at(alloc, high / 128)?, rank, token)
+}
+
+// Offers a list's rows to the plain store, and answers what became of each row.
+fn offer_flat(alloc: Global, store: &mut FlatStore<BareRow>, list: u64) -> Option<Vec<Placed>> {
+    let mut answers = Vec::new(alloc);
+    let mut number = list;
+    for _ in 0..LENGTH {
+        number = next(number);
+        let row = row_at(alloc, number)?;
+        if store.rows().len() > LENGTH {
+            return None;
+        }
+        answers.push(store.ingest(row).ok()?).ok()?;
+    }
+    Some(answers)
+}
+
+// Offers a list's rows to the store of shared rows, and answers what became of each row.
+fn offer_shared(alloc: Global, store: &mut BlockStore<BareRow>, list: u64) -> Option<Vec<Placed>> {
+    let mut answers = Vec::new(alloc);
+    let mut number = list;
+    for _ in 0..LENGTH {
+        number = next(number);
+        let row = row_at(alloc, number)?;
+        if store.len() > LENGTH as u32 {
+            return None;
+        }
+        answers.push(store.ingest(row).ok()?).ok()?;
+    }
+    Some(answers)
+}
+
+// Whether both stores hold the same rows in the same order.
+fn hold_the_same(flat: &FlatStore<BareRow>, shared: &BlockStore<BareRow>) -> bool {
+    let mut at = 0u32;
+    for row in flat.rows() {
+        match shared.get(at) {
+            Some(other) if same(other, row) => at = at.saturating_add(1),
+            _ => return false,
+        }
+    }
+    shared.len() == at
+}
+
+// What became of a list: how many rows were kept out, the sum of the positions of the rows that they were
+// kept out by, how many rows were pruned, and how many are left.
+#[derive(Clone, Copy, Debug, PartialEq, Eq)]
+pub(crate) struct Outcome {
+    pub(crate) kept: u32,
+    pub(crate) by: u32,
+    pub(crate) pruned: u32,
+    pub(crate) left: u32,
+}
+
+// The outcome of these answers.
+fn outcome_of(answers: &[Placed], left: u32) -> Outcome {
+    let mut outcome = Outcome {
+        kept: 0,
+        by: 0,
+        pruned: 0,
+        left,
+    };
+    for answer in answers {
+        match answer {
+            Placed::Kept { by } => {
+                outcome.kept = outcome.kept.saturating_add(1);
+                outcome.by = outcome.by.saturating_add(*by);
+            }
+            Placed::Stored { pruned } => outcome.pruned = outcome.pruned.saturating_add(*pruned),
+        }
+    }
+    outcome
+}
+
+// The outcome of a list where both stores agree on it.
+pub(crate) fn outcome_in_both(alloc: Global, list: u64) -> Option<Outcome> {
+    let mut flat = FlatStore::new(alloc);
+    let mut shared = BlockStore::new(alloc);
+    let answers = offer_flat(alloc, &mut flat, list)?;
+    let others = offer_shared(alloc, &mut shared, list)?;
+    if answers.as_slice() == others.as_slice() && hold_the_same(&flat, &shared) {
+        Some(outcome_of(&answers, shared.len()))
+    } else {
+        None
+    }
+}

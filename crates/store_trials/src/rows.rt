@@ -1,0 +1,67 @@
+//! Rows made of few numbers.
+
+use std::alloc::Global;
+use willow_entry::{BareRow, Entry};
+use willow_path::{Digest, NamespaceKey, Path, UserKey};
+
+// An open key with this byte throughout its body.
+fn key(byte: u8) -> [u8; 33] {
+    let mut bytes = [byte; 33];
+    bytes[0] = 0;
+    bytes
+}
+
+// The user key of this byte.
+pub(crate) fn user(byte: u8) -> Option<UserKey> {
+    UserKey::from_bytes(key(byte))
+}
+
+// The path of these components.
+pub(crate) fn path_of(alloc: Global, parts: &[&[u8]]) -> Option<Path> {
+    let mut path = Path::empty(alloc);
+    for part in parts {
+        path.push(part).ok()?;
+    }
+    Some(path)
+}
+
+// The path of these components of one byte each.
+pub(crate) fn path_of_bytes(alloc: Global, bytes: &[u8]) -> Option<Path> {
+    let mut path = Path::empty(alloc);
+    for byte in bytes {
+        path.push(&[*byte]).ok()?;
+    }
+    Some(path)
+}
+
+// What an entry has beside its place: the timestamp, the length and the bytes of its digest.
+#[derive(Clone, Copy)]
+pub(crate) struct Rank {
+    pub(crate) time: u64,
+    pub(crate) length: u64,
+    pub(crate) digest: u8,
+}
+
+// The entry at this path of the subspace of this byte.
+fn entry_of(subspace: u8, path: Path, rank: Rank) -> Option<Entry> {
+    Some(Entry {
+        namespace: NamespaceKey::from_bytes(key(0x4e))?,
+        subspace: user(subspace)?,
+        path,
+        timestamp: rank.time,
+        length: rank.length,
+        digest: Digest([rank.digest; 32]),
+    })
+}
+
+// The row of the entry with a token of one byte.
+pub(crate) fn row_of(
+    alloc: Global,
+    subspace: u8,
+    path: Path,
+    rank: Rank,
+    token: u8,
+) -> Option<BareRow> {
+    let entry = entry_of(subspace, path, rank)?;
+    BareRow::new(entry, Vec::from_slice(alloc, &[token]).ok()?).ok()
+}
