@@ -1,6 +1,6 @@
 //! How entries are spelled as bytes, and read back.
 
-ghost use Rattle.std.specs.Prelude.{◌≡◌, ◌<◌, ◌^◌, ◌++◌, OnOk, OnErr, IfOk};
+ghost use Rattle.std.specs.Prelude.{◌≡◌, ◌<◌, ◌≤◌, ◌^◌, ◌++◌, take, vec_len, OnOk, OnErr};
 ghost use Rattle.std.specs.Int.{w64, to_be_bytes};
 ghost use Rattle.spelling.specs.Form.{Decodes};
 ghost use Rattle.spelling.specs.Reading.{Gives};
@@ -8,7 +8,7 @@ ghost use Rattle.spelling.specs.Spelling.{AreSoManyBytes};
 ghost use Rattle.willow_entry.specs.EntryForm.{entry_at, entry_spelling, IsEntry};
 
 use crate::entry::Entry;
-use spelling::{End, Input, NoMemory, NotHere, Unread};
+use spelling::{End, Input, NoMemory, NotHere, Unread, put_bytes, put_u64};
 use std::alloc::Global;
 use willow_path::{read_digest, read_namespace_key, read_path, read_user_key};
 
@@ -22,9 +22,14 @@ impl Entry {
         ensures fits { IsEntry self.now }
     {
         see_limits(self);
-        let text = spelled(*out.allocator(), self)?;
-        out.extend_from_slice(&text)?;
-        Ok(())
+        let begun = out.len();
+        match spell(self, out) {
+            Ok(()) => Ok(()),
+            Err(NoMemory) => {
+                out.truncate(begun);
+                Err(NoMemory)
+            }
+        }
     }
 
     /// The entry that is spelled at the front of the bytes, with the number of bytes taken. It is not here
@@ -78,26 +83,26 @@ fn see_digest(digest: &[u8; 32])
     let _first = digest.as_slice()[0];
 }
 
-// The entry's spelling.
+// Appends the spelling, or without memory a part of it.
 #[tactic(auto, unfolding(crate::specs::EntryForm::entry_spelling))]
-pub(crate) fn spelled(alloc: Global, entry: &Entry) -> Result<Vec<u8>, NoMemory>
-    ensures { IfOk result (λ text. text.items ≡ entry_spelling entry.now) }
+fn spell(entry: &Entry, out: &mut Vec<u8>) -> Result<(), NoMemory>
+    ensures spelled { OnOk result (out.new.items ≡ out.old.items ++ entry_spelling entry.now) }
+    ensures kept { take (vec_len out.old) out.new.items ≡ out.old.items }
 {
-    let numbers = spelled_numbers(alloc, entry)?;
-    let mut text = Vec::from_slice(alloc, &entry.namespace.to_bytes())?;
-    text.extend_from_slice(&entry.subspace.to_bytes())?;
-    entry.path.encode(&mut text)?;
-    text.extend_from_slice(&numbers)?;
-    Ok(text)
+    put_bytes(out, &entry.namespace.to_bytes())?;
+    put_bytes(out, &entry.subspace.to_bytes())?;
+    entry.path.encode(out)?;
+    spell_numbers(entry, out)
 }
 
-// Timestamp, payload length and digest.
-fn spelled_numbers(alloc: Global, entry: &Entry) -> Result<Vec<u8>, NoMemory>
-    ensures { IfOk result (λ text. text.items
-        ≡ to_be_bytes w64 entry.now.timestamp ++ (to_be_bytes w64 entry.now.length ++ entry.now.digest.0)) }
+// Appends timestamp, payload length and digest, or without memory a part of them.
+fn spell_numbers(entry: &Entry, out: &mut Vec<u8>) -> Result<(), NoMemory>
+    ensures spelled { OnOk result (out.new.items ≡ out.old.items
+        ++ (to_be_bytes w64 entry.now.timestamp ++ (to_be_bytes w64 entry.now.length ++ entry.now.digest.0))) }
+    ensures kept { take (vec_len out.old) out.new.items ≡ out.old.items }
+    ensures longer { vec_len out.old ≤ vec_len out.new }
 {
-    let mut text = Vec::from_slice(alloc, &entry.timestamp.to_be_bytes())?;
-    text.extend_from_slice(&entry.length.to_be_bytes())?;
-    text.extend_from_slice(&entry.digest.0)?;
-    Ok(text)
+    put_u64(out, entry.timestamp)?;
+    put_u64(out, entry.length)?;
+    put_bytes(out, &entry.digest.0)
 }
