@@ -12,6 +12,9 @@ use spelling::{put_byte, put_bytes, put_u16};
 use willow_area::Area;
 use willow_path::{NoMemory, UserKey};
 
+// The room that is taken at first: most capabilities have two keys, a signature of 32 bytes and no delegation.
+const USUAL_ROOM: usize = 128;
+
 /// What a namespace signs for an owned capability: the letter I, a byte for the mode (0 to read, 1 to
 /// write), and the key of the user who has it first.
 pub fn initial_message(mode: Mode, user: &UserKey) -> [u8; 35]
@@ -34,7 +37,7 @@ impl Capability {
         ensures spelled { OnOk result (out.new.items ≡ out.old.items ++ capability_spelling self.now) }
         ensures err { OnErr result (out.new.items ≡ out.old.items) }
     {
-        let mut text = Vec::new(*out.allocator());
+        let mut text = Vec::with_capacity(*out.allocator(), USUAL_ROOM)?;
         self.spell(&mut text)?;
         put_bytes(out, &text)
     }
