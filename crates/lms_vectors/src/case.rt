@@ -6,7 +6,7 @@ use std::alloc::Global;
 
 /// Whether the answer for the signature of a line is the expected one; an error where a field is no
 /// hexadecimal text.
-pub fn agrees(alloc: Global, line: &str) -> Result<bool, FromHexError> {
+pub(crate) fn agrees(alloc: Global, line: &str) -> Result<bool, FromHexError> {
     let mut fields = line.split(' ');
     let public = <[u8; 56] as FromHex>::from_hex(fields.next().unwrap_or(""))?;
     let message = hex::decode(alloc, fields.next().unwrap_or(""))?;

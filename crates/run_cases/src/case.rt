@@ -104,6 +104,6 @@ fn differs_in(alloc: Global, line: &str) -> Result<Option<&'static str>, FromHex
 }
 
 /// The first part of a line's run that is not as expected.
-pub fn differs(alloc: Global, line: &str) -> Option<&'static str> {
+pub(crate) fn differs(alloc: Global, line: &str) -> Option<&'static str> {
     differs_in(alloc, line).unwrap_or(Some("line"))
 }

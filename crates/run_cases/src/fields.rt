@@ -5,12 +5,12 @@ use std::alloc::{AllocError, Global};
 use std::collections::BTreeMap;
 
 /// The name of a case.
-pub fn name_of(line: &str) -> &str {
+pub(crate) fn name_of(line: &str) -> &str {
     line.split(' ').next().unwrap_or("")
 }
 
 /// The bytes of a field; `-` is none.
-pub fn bytes_of(alloc: Global, field: &str) -> Result<Vec<u8>, FromHexError> {
+pub(crate) fn bytes_of(alloc: Global, field: &str) -> Result<Vec<u8>, FromHexError> {
     if field == "-" {
         return Ok(Vec::new(alloc));
     }
@@ -18,7 +18,7 @@ pub fn bytes_of(alloc: Global, field: &str) -> Result<Vec<u8>, FromHexError> {
 }
 
 /// The words of a field, joined by commas; `-` is no word.
-pub fn words_of(alloc: Global, field: &str) -> Result<Vec<String>, AllocError> {
+pub(crate) fn words_of(alloc: Global, field: &str) -> Result<Vec<String>, AllocError> {
     let mut words = Vec::new(alloc);
     if field == "-" {
         return Ok(words);
@@ -31,7 +31,10 @@ pub fn words_of(alloc: Global, field: &str) -> Result<Vec<String>, AllocError> {
 }
 
 /// The bytes under each name, `NAME:BYTES` joined by commas; `-` is no name.
-pub fn names_of(alloc: Global, field: &str) -> Result<BTreeMap<String, Vec<u8>>, FromHexError> {
+pub(crate) fn names_of(
+    alloc: Global,
+    field: &str,
+) -> Result<BTreeMap<String, Vec<u8>>, FromHexError> {
     let mut names = BTreeMap::new(alloc);
     for item in field.split(',') {
         if let Some((name, bytes)) = item.split_once(':') {
@@ -46,7 +49,7 @@ pub fn names_of(alloc: Global, field: &str) -> Result<BTreeMap<String, Vec<u8>>,
 }
 
 /// The draws of a field, joined by commas; `-` is no draw.
-pub fn draws_of(alloc: Global, field: &str) -> Result<Vec<[u8; 32]>, FromHexError> {
+pub(crate) fn draws_of(alloc: Global, field: &str) -> Result<Vec<[u8; 32]>, FromHexError> {
     let mut draws = Vec::new(alloc);
     if field == "-" {
         return Ok(draws);
@@ -59,7 +62,7 @@ pub fn draws_of(alloc: Global, field: &str) -> Result<Vec<[u8; 32]>, FromHexErro
 }
 
 /// The numbers of the calls of one object that fail, by its letter.
-pub fn fails_of(alloc: Global, field: &str, object: char) -> Result<Vec<u64>, AllocError> {
+pub(crate) fn fails_of(alloc: Global, field: &str, object: char) -> Result<Vec<u64>, AllocError> {
     let mut fails = Vec::new(alloc);
     for item in field.split(',') {
         if let Some(number) = item.strip_prefix(object) {

@@ -45,7 +45,7 @@ fn noise_of(alloc: Global, draws: &str, faults: &str) -> Result<MemNoise, FromHe
 
 impl Objects {
     /// The objects that the fields say.
-    pub fn new(
+    pub(crate) fn new(
         alloc: Global,
         names: &str,
         draws: &str,
@@ -68,7 +68,7 @@ impl Objects {
 }
 
 /// The bytes under a name, asked for twice where the first call fails.
-pub fn held(shelf: &mut MemShelf, name: &str) -> Option<Vec<u8>> {
+pub(crate) fn held(shelf: &mut MemShelf, name: &str) -> Option<Vec<u8>> {
     if let Ok(found) = shelf.get(name) {
         return found;
     }
