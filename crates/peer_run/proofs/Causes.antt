@@ -32,6 +32,7 @@ ended words old new r r' s (inr (inr none)) small =
 ended words old new r r' s (inl runs) small = go runs.reports where
   is : s ≡ status_of runs.end
   is = own_status r r' runs.end s runs.reports (λ e. omega (arith, e, small)) (λ e. omega (arith, e, small))
+
   go : Reports r r' runs.end s → HasEnded words old new r r' s
   go (inl told) = record {
     command = runs.command;
@@ -134,15 +135,16 @@ pub read_fault : (words : List (List ℕ)) (old new : World) (r r' : SinkFacts) 
 read_fault words old new r r' s runs is =
     let met = stopped IsReadFault 3 read_end (λ e. omega (arith, e)) (λ e. omega (arith, e)) (λ e. omega (arith, e)) words old new r r' (subst (RunsWords words old new r r') is runs) in
     go met.command met.stop met.is_one met.meets where
-  go : (c : Command) (e : Stop) → IsReadFault e → Meets c old new (Err e) → HasReadFault old new
-  go c stop.ReadFault is_one meets = faults.read_fault c old new meets
-  go c e is_one meets = absurd is_one
+      go : (c : Command) (e : Stop) → IsReadFault e → Meets c old new (Err e) → HasReadFault old new
+      go c stop.ReadFault is_one meets = faults.read_fault c old new meets
+      go c e is_one meets = absurd is_one
 
 pub write_fault : (words : List (List ℕ)) (old new : World) (r r' : SinkFacts) (s : ℕ) → RunsWords words old new r r' s → s ≡ 4 → HasWriteFault old new r r'
 write_fault words old new r r' s (inl runs) is = go runs.end runs.meets runs.reports where
   met : (end : Result Done Stop) → Meets runs.command old new end → StopsSo IsWriteFault end → HasWriteFault old new r r'
   met (Err stop.WriteFault) meets stops = faults.write_fault runs.command old new r r' meets
   met end meets stops = absurd stops
+
   go : (end : Result Done Stop) → Meets runs.command old new end → Reports r r' end s → HasWriteFault old new r r'
   go end meets (inl told) = met end meets (write_end end (sym told.status_is ∙ is))
   go end meets (inr (inl fault)) = inr (inr fault.fault)
@@ -169,6 +171,7 @@ statuses words old new r r' s runs = go runs where
     | inr same ↦ subst (λ (k : ℕ). (k ≤ 5) ⊎ ((7 ≤ k) × (k ≤ 9))) (sym same.0) (known end)
   ]
   of_end end (inr (inr none)) = inr (omega (arith, none.status_is), omega (arith, none.status_is))
+
   go : RunsWords words old new r r' s → (s ≤ 5) ⊎ ((7 ≤ s) × (s ≤ 9))
   go (inl r1) = of_end r1.end r1.reports
   go (inr (inl m)) = of_end (Err stop.Usage) m.reports

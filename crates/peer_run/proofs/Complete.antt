@@ -40,6 +40,7 @@ completes words old new r r' s (inr (inr unread)) can none memory = absurd (memo
 completes words old new r r' s (inl runs) can none memory = go runs.end runs.meets runs.reports where
   no : (e : Stop) → IsCondition e → Meets runs.command old new (Err e) → ⊥
   no e condition meets = ready runs.command old new e (can.is_ready runs.command runs.is_words) condition meets
+
   go : (end : Result Done Stop) → Meets runs.command old new end → Reports r r' end s → s ≤ 1
   go (Ok d) meets reports = small_end r r' (Ok d) s reports (done_small d) old new none memory
   go (Err (stop.Refused refusal)) meets reports = small_end r r' (Err (stop.Refused refusal)) s reports (omega arith) old new none memory

@@ -20,8 +20,8 @@ same_settings (x ∷ xs) (y ∷ ys) e =
     let r : flat_map setting_words xs ≡ flat_map setting_words ys = cc in
     joined x y xs ys p q (same_settings xs ys r)
   where
-  joined : (x y : Setting) (xs ys : List Setting) → x.name ≡ y.name → x.value ≡ y.value → xs ≡ ys → (x ∷ xs) ≡ (y ∷ ys)
-  joined x y xs ys p q more = ap (λ (n : List ℕ). record { name = n; value = x.value } ∷ xs) p ∙ ap (λ (v : List ℕ). record { name = y.name; value = v } ∷ xs) q ∙ ap (λ (l : List Setting). y ∷ l) more
+    joined : (x y : Setting) (xs ys : List Setting) → x.name ≡ y.name → x.value ≡ y.value → xs ≡ ys → (x ∷ xs) ≡ (y ∷ ys)
+    joined x y xs ys p q more = ap (λ (n : List ℕ). record { name = n; value = x.value } ∷ xs) p ∙ ap (λ (v : List ℕ). record { name = y.name; value = v } ∷ xs) q ∙ ap (λ (l : List Setting). y ∷ l) more
 
 -- the key behind a name is one
 same_key : (settings others : List Setting) (n m : List ℕ) → settings ≡ others → Gives IsKeyWord settings (codes "--namespace") n → Gives IsKeyWord others (codes "--namespace") m → n ≡ m
@@ -36,8 +36,10 @@ one_join words n c join other = go c other (verb_is join other)
   where
     heads : (a b : List ℕ) (xs ys : List (List ℕ)) → words ≡ a ∷ xs → words ≡ b ∷ ys → (a ≡ b) × (xs ≡ ys)
     heads a b xs ys p q = (cc, cc)
+
     verb_is : IsWords words (cmd.Join n) → IsWords words c → Some (verb_of (cmd.Join n)) ≡ Some (verb_of c)
     verb_is j o = sym j.named ∙ ap verb_at (heads j.word o.word j.others o.others j.spelled o.spelled).0 ∙ o.named
+
     go : (c : Command) → IsWords words c → Some (verb_of (cmd.Join n)) ≡ Some (verb_of c) → c ≡ cmd.Join n
     go (cmd.Join m) o e =
         let others = (heads join.word o.word join.others o.others join.spelled o.spelled).1 in

@@ -51,7 +51,9 @@ fn run_command<H: Shelf, I: Source, O: Sink, N: Noise>(
             length,
             digest,
             subspace,
-        } => write(alloc, key, path, time, length, digest, subspace, shelf, input, output),
+        } => write(
+            alloc, key, path, time, length, digest, subspace, shelf, input, output,
+        ),
         Command::Gen { rows } => generate(alloc, rows, output),
         Command::Drill { .. } => Err(Stop::Usage),
         Command::Meet { .. } => Err(Stop::Usage),
