@@ -1,19 +1,17 @@
 -- What each status says of a run.
-use Rattle.std.proofs.Common.{◌≡◌, ◌≢◌, ℕ, ◌≤◌, ◌<◌, ◌⊎◌, inl, inr, List, ◌++◌, refl, sym, ap, ◌∙◌, subst, arith}
+use Rattle.std.proofs.Common.{◌≡◌, ◌≢◌, ℕ, ◌≤◌, ◌⊎◌, inl, inr, List, refl, sym, ◌∙◌, subst, arith}
 use Rattle.std.specs.Prelude.{Some, None, Result, Ok, Err}
 use Rattle.willow_outside.specs.Facts.{SinkFacts}
 use Rattle.peer_stage.specs.World.{World}
-use Rattle.peer_stage.specs.Stages.{IsWritten}
 use Rattle.peer_stage.specs.declared.outcome.Done.{Done}
-use Rattle.peer_stage.specs.declared.outcome.Done.TheVariants as done
 use Rattle.peer_stage.specs.declared.outcome.Stop.{Stop}
 use Rattle.peer_stage.specs.declared.outcome.Stop.TheVariants as stop
-use Rattle.peer_report.specs.Report.{Reports, status_of, after_report_fault}
-use Rattle.peer_words.specs.Commands.{IsWords, IsNoCommand}
+use Rattle.peer_report.specs.Report.{Reports, status_of}
+use Rattle.peer_words.specs.Commands.{IsWords}
 use Rattle.peer_words.specs.declared.command.Command.{Command}
 use Rattle.peer_words.specs.declared.command.Command.TheVariants as cmd
 use Rattle.peer_run.specs.Meets.{Meets, IsUnbuilt}
-use Rattle.peer_run.specs.Runs.{Runs, RunsWords}
+use Rattle.peer_run.specs.Runs.{RunsWords}
 use Rattle.peer_run.specs.Statuses.{HasEnded, HasStopped, HasReadFault, HasWriteFault, IsNoRun, IsBadStop, IsLogFull, IsKeySpent, IsUnbuiltCommand}
 use Rattle.peer_run.proofs.Ends.{own_status, after_is, memory_end, is_end, StopsSo, IsUsage, IsReadFault, IsWriteFault, usage_end, read_end, write_end, bad_end, full_end, spent_end, known}
 use Rattle.peer_run.proofs.Faults as faults

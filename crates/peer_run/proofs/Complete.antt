@@ -1,27 +1,19 @@
 -- A command that nothing is against comes to its end.
-use Rattle.std.proofs.Common.{◌≡◌, ◌≢◌, ℕ, ◌≤◌, ◌<◌, ◌⊎◌, inl, inr, List, [], ◌∷◌, ◌++◌, length, Option, Some, None, refl, sym, ap, ◌∙◌, subst, arith, length-append}
+use Rattle.std.proofs.Common.{◌≡◌, ◌≢◌, ℕ, ◌≤◌, inl, inr, List, sym, ◌∙◌, subst, arith}
 use Rattle.std.specs.Prelude.{Result, Ok, Err}
-use Rattle.std.specs.Io.KnownBytes.{Consumes, IsAtEnd}
-use Rattle.std.proofs.lemmas.List.{append-nil}
-use Rattle.willow_outside.specs.Facts.{SourceFacts, SinkFacts}
-use Rattle.cap_codec.specs.Rows.{RawValue, AreFrames}
-use Rattle.cap_codec.specs.Streams.{StopsAt}
-use Rattle.cap_codec.proofs.Frames.{same_rows, never_both}
+use Rattle.willow_outside.specs.Facts.{SinkFacts}
 use Rattle.peer_stage.specs.World.{World}
-use Rattle.peer_stage.specs.Stages.{IsReadWhole}
 use Rattle.peer_stage.specs.declared.outcome.Done.{Done}
 use Rattle.peer_stage.specs.declared.outcome.Done.TheVariants as done
 use Rattle.peer_stage.specs.declared.outcome.Stop.{Stop}
 use Rattle.peer_stage.specs.declared.outcome.Stop.TheVariants as stop
 use Rattle.peer_report.specs.Report.{Reports, status_of, report_of}
-use Rattle.peer_rows.specs.Logged.{PassesLog}
-use Rattle.peer_rows.specs.Join.{IsBadStream, IsTooFull, joined}
 use Rattle.peer_words.specs.Commands.{IsWords}
 use Rattle.peer_words.specs.declared.command.Command.{Command}
 use Rattle.peer_words.specs.declared.command.Command.TheVariants as cmd
 use Rattle.peer_stage.specs.Stages.{IsWritten}
 use Rattle.peer_run.specs.Meets.{Meets}
-use Rattle.peer_run.specs.Runs.{Runs, RunsWords}
+use Rattle.peer_run.specs.Runs.{RunsWords}
 use Rattle.peer_run.specs.Statuses.{CanEnd, IsCondition, HasNoFault, HasEnded, IsEnd, IsWholeJoin}
 use Rattle.peer_run.proofs.Ends.{done_small, memory_end, refused_none, refused_some}
 use Rattle.peer_run.proofs.Faults as faults

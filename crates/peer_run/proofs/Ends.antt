@@ -1,17 +1,15 @@
 -- From the status of a run back to how its command ended.
-use Rattle.std.proofs.Common.{◌≡◌, ◌≢◌, ℕ, ◌≤◌, ◌<◌, Bool, true, false, cond, eqb, ◌⊎◌, inl, inr, refl, sym, ap, ◌∙◌, arith}
+use Rattle.std.proofs.Common.{◌≡◌, ◌≢◌, ℕ, ◌≤◌, ◌<◌, Bool, true, false, cond, eqb, ◌⊎◌, inl, inr, refl, sym, arith}
 use Rattle.std.specs.Prelude.{Result, Ok, Err, nat_le}
 use Rattle.std.proofs.lemmas.Bool.{eqb-true}
 use Rattle.std.proofs.lemmas.Bool.Decides.{nat_tests}
-use Rattle.willow_outside.specs.Counts.{Rose}
 use Rattle.willow_outside.specs.Facts.{SinkFacts}
-use Rattle.peer_stage.specs.Stages.{IsWritten}
 use Rattle.peer_stage.specs.declared.outcome.Done.{Done}
 use Rattle.peer_stage.specs.declared.outcome.Done.TheVariants as done
 use Rattle.peer_stage.specs.declared.outcome.Stop.{Stop}
 use Rattle.peer_stage.specs.declared.outcome.Stop.TheVariants as stop
-use Rattle.peer_report.specs.Report.{Reports, status_of, refused_status, report_of, after_report_fault}
-use Rattle.peer_run.specs.Statuses.{IsEnd, IsBadStop, IsLogFull, IsKeySpent, IsCondition}
+use Rattle.peer_report.specs.Report.{Reports, status_of, refused_status, after_report_fault}
+use Rattle.peer_run.specs.Statuses.{IsEnd, IsBadStop, IsLogFull, IsKeySpent}
 
 -- ---- refused rows
 

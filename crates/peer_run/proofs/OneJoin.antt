@@ -1,10 +1,10 @@
 -- Words that are a join are no other command.
-use Rattle.std.proofs.Common.{◌≡◌, ℕ, Bool, true, false, cond, List, [], ◌∷◌, ◌++◌, Option, Some, None, refl, sym, ap, ◌∙◌, subst}
-use Rattle.std.specs.Prelude.{codes, flat_map, Result, Ok}
+use Rattle.std.proofs.Common.{◌≡◌, ℕ, List, [], ◌∷◌, Some, refl, sym, ap, ◌∙◌}
+use Rattle.std.specs.Prelude.{codes, flat_map, Ok}
 use Rattle.hex.specs.Hex.{decode_sized}
 use Rattle.peer_words.specs.Options.{Setting, setting_words, Gives, value_of}
 use Rattle.peer_words.specs.Values.{IsKeyWord}
-use Rattle.peer_words.specs.Commands.{IsWords, verb_of, HasValues}
+use Rattle.peer_words.specs.Commands.{IsWords, verb_of}
 use Rattle.peer_words.specs.Verbs.{verb_at}
 use Rattle.peer_words.specs.declared.command.Command.{Command}
 use Rattle.peer_words.specs.declared.command.Command.TheVariants as cmd

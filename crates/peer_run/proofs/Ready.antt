@@ -1,22 +1,21 @@
 -- A command that is ready meets no condition that keeps it from its end.
-use Rattle.std.proofs.Common.{◌≡◌, ◌≢◌, ℕ, ◌+◌, ◌≤◌, ◌<◌, ◌⊎◌, inl, inr, true, false, List, [], ◌∷◌, ◌++◌, length, Option, Some, None, refl, sym, ap, ◌∙◌, subst, arith, length-append}
-use Rattle.std.specs.Prelude.{Result, Ok, Err}
+use Rattle.std.proofs.Common.{◌≡◌, ℕ, ◌+◌, ◌≤◌, ◌<◌, ◌⊎◌, inl, inr, true, false, List, [], ◌++◌, length, Option, Some, None, sym, ap, ◌∙◌, subst, arith, length-append}
+use Rattle.std.specs.Prelude.{Err}
 use Rattle.std.specs.Io.KnownBytes.{Consumes, IsAtEnd}
 use Rattle.std.specs.String.{string_bytes}
 use Rattle.std.proofs.lemmas.List.{append-nil}
 use Rattle.willow_outside.specs.Facts.{Names, ShelfFacts, SourceFacts}
 use Rattle.willow_outside.specs.Names.{GetsName}
 use Rattle.lms_core.specs.Accepts.{leaves}
-use Rattle.lms_core.specs.Key.{Key, IsKey, key_file}
+use Rattle.lms_core.specs.Key.{Key, key_file}
 use Rattle.lms_core.proofs.Files.{file_once}
-use Rattle.mc_cap.specs.Forms.{capability_spelling, IsCapability}
 use Rattle.mc_cap.specs.declared.capability.Capability.{Capability}
 use Rattle.cap_codec.specs.Rows.{RawValue}
 use Rattle.cap_codec.specs.Streams.{StopsAt}
 use Rattle.cap_codec.proofs.Frames.{same_rows, never_both}
 use Rattle.cap_codec.proofs.CapReads.{capability-reads}
 use Rattle.spelling.proofs.Joining.{one_spelling}
-use Rattle.peer_image.specs.ImageReading.{IsImage, IsWrong, IsMisordered, rows_of}
+use Rattle.peer_image.specs.ImageReading.{IsImage, IsWrong, rows_of}
 use Rattle.peer_image.specs.Order.{order_refusal}
 use Rattle.peer_image.specs.declared.refusal.ImageRefusal.{ImageRefusal}
 use Rattle.peer_image.proofs.Stops.{one_image}
@@ -27,8 +26,8 @@ use Rattle.peer_stage.specs.declared.outcome.Origin.TheVariants as origin
 use Rattle.peer_stage.specs.declared.outcome.Stop.{Stop}
 use Rattle.peer_stage.specs.declared.outcome.Stop.TheVariants as stop
 use Rattle.peer_rows.specs.Logged.{PassesLog}
-use Rattle.peer_rows.specs.Join.{IsBadStream, IsTooFull, JoinMeets}
-use Rattle.peer_rows.specs.Show.{IsBadImage, IsReadMisordered, ShowMeets}
+use Rattle.peer_rows.specs.Join.{IsBadStream, IsTooFull}
+use Rattle.peer_rows.specs.Show.{IsBadImage, IsReadMisordered}
 use Rattle.peer_make.specs.Reading.{IsSpelled, IsRead, IsUnfit}
 use Rattle.peer_make.specs.Signing.{StopsSigning}
 use Rattle.peer_make.specs.Delegating.{asked, is_empty, IsUnsigned}
@@ -38,7 +37,7 @@ use Rattle.peer_words.specs.declared.command.AreaWords.{AreaWords}
 use Rattle.peer_words.specs.declared.command.Command.{Command}
 use Rattle.peer_words.specs.declared.command.Command.TheVariants as cmd
 use Rattle.peer_run.specs.Meets.{Meets}
-use Rattle.peer_run.specs.Ready.{HasInput, CanJoin, CanShow, HasCapability, HasIndex, CanSign, Ready}
+use Rattle.peer_run.specs.Ready.{HasInput, CanJoin, CanShow, HasCapability, CanSign, Ready}
 use Rattle.peer_run.specs.Statuses.{IsCondition}
 
 -- ---- the input

@@ -2,7 +2,7 @@
 use Rattle.std.specs.Prelude.{◌≡◌, ℕ, ◌+◌, ◌≤◌, ◌⊎◌, true, List, length, Option, Some, None}
 use Rattle.std.specs.String.{string_bytes}
 use Rattle.willow_outside.specs.Facts.{Names, ShelfFacts, SourceFacts}
-use Rattle.cap_codec.specs.Rows.{RawValue, AreFrames, row_of}
+use Rattle.cap_codec.specs.Rows.{RawValue, AreFrames}
 use Rattle.lms_core.specs.Accepts.{leaves}
 use Rattle.lms_core.specs.Key.{Key, IsKey, key_file}
 use Rattle.mc_cap.specs.declared.capability.Capability.{Capability}

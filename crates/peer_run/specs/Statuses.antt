@@ -1,5 +1,5 @@
 -- What each status says of a run: the causes, told of the words and the objects alone.
-use Rattle.std.specs.Prelude.{◌≡◌, ℕ, ◌<◌, ◌≤◌, ◌⊎◌, List, ◌++◌, length, Option, Some, None, Result, Ok, Err}
+use Rattle.std.specs.Prelude.{◌≡◌, ℕ, ◌<◌, ◌⊎◌, List, ◌++◌, None, Result, Ok, Err}
 use Rattle.willow_outside.specs.Counts.{Rose}
 use Rattle.willow_outside.specs.Facts.{SinkFacts}
 use Rattle.cap_codec.specs.Rows.{RawValue, AreFrames}
@@ -7,7 +7,6 @@ use Rattle.peer_stage.specs.World.{World}
 use Rattle.peer_stage.specs.Stages.{IsReadWhole, IsWritten}
 use Rattle.peer_stage.specs.declared.outcome.JoinCounts.{JoinCounts}
 use Rattle.peer_stage.specs.declared.outcome.Done.{Done}
-use Rattle.peer_stage.specs.declared.outcome.Done.TheVariants as done
 use Rattle.peer_stage.specs.declared.outcome.Stop.{Stop}
 use Rattle.peer_stage.specs.declared.outcome.Stop.TheVariants as stop
 use Rattle.peer_report.specs.Report.{rows_line, first_line, report_of, status_of}
