@@ -1,6 +1,7 @@
 -- A command that nothing is against comes to its end.
 use Rattle.std.proofs.Common.{◌≡◌, ◌≢◌, ℕ, ◌≤◌, inl, inr, List, sym, ◌∙◌, subst, arith}
 use Rattle.std.specs.Prelude.{Result, Ok, Err}
+use Rattle.willow_outside.specs.Counts.{Rose}
 use Rattle.willow_outside.specs.Facts.{SinkFacts}
 use Rattle.peer_stage.specs.World.{World}
 use Rattle.peer_stage.specs.declared.outcome.Done.{Done}
@@ -21,12 +22,12 @@ use Rattle.peer_run.proofs.OneJoin.{one_join}
 use Rattle.peer_run.proofs.Ready.{ready}
 
 -- an end with status 0 or 1 is told so, but for a fault of the report and want of memory
-small_end : (r r' : SinkFacts) (end : Result Done Stop) (s : ℕ) → Reports r r' end s → status_of end ≤ 1 → (old new : World) → HasNoFault old new r r' → s ≢ 7 → s ≤ 1
-small_end r r' end s (inl told) small old new none memory = omega (arith, told.status_is, small)
-small_end r r' end s (inr (inl fault)) small old new none memory = absurd (none.writes (inr (inr fault.fault)))
-small_end r r' end s (inr (inr seven)) small old new none memory = absurd (memory seven.status_is)
+small_end : (r r' : SinkFacts) (end : Result Done Stop) (s : ℕ) → Reports r r' end s → status_of end ≤ 1 → (Rose r.faults r'.faults → ⊥) → s ≢ 7 → s ≤ 1
+small_end r r' end s (inl told) small none memory = omega (arith, told.status_is, small)
+small_end r r' end s (inr (inl fault)) small none memory = absurd (none fault.fault)
+small_end r r' end s (inr (inr seven)) small none memory = absurd (memory seven.status_is)
 
-pub completes : (words : List (List ℕ)) (old new : World) (r r' : SinkFacts) (s : ℕ) → RunsWords words old new r r' s → CanEnd words old → HasNoFault old new r r' → s ≢ 7 → s ≤ 1
+pub completes : (words : List (List ℕ)) (old new : World) (r r' : SinkFacts) (s : ℕ) → RunsWords words old new r r' s → CanEnd words old → HasNoFault words old new r r' → s ≢ 7 → s ≤ 1
 completes words old new r r' s (inr (inl misused)) can none memory = absurd (misused.no_command can.some_command can.is_words)
 completes words old new r r' s (inr (inr unread)) can none memory = absurd (memory (memory_end r r' s unread.reports))
 completes words old new r r' s (inl runs) can none memory = go runs.end runs.meets runs.reports where
@@ -34,10 +35,10 @@ completes words old new r r' s (inl runs) can none memory = go runs.end runs.mee
   no e condition meets = ready runs.command old new e (can.is_ready runs.command runs.is_words) condition meets
 
   go : (end : Result Done Stop) → Meets runs.command old new end → Reports r r' end s → s ≤ 1
-  go (Ok d) meets reports = small_end r r' (Ok d) s reports (done_small d) old new none memory
-  go (Err (stop.Refused refusal)) meets reports = small_end r r' (Err (stop.Refused refusal)) s reports (omega arith) old new none memory
-  go (Err stop.ReadFault) meets reports = absurd (none.reads (faults.read_fault runs.command old new meets))
-  go (Err stop.WriteFault) meets reports = absurd (none.writes (faults.write_fault runs.command old new r r' meets))
+  go (Ok d) meets reports = small_end r r' (Ok d) s reports (done_small d) none.report_stands memory
+  go (Err (stop.Refused refusal)) meets reports = small_end r r' (Err (stop.Refused refusal)) s reports (omega arith) none.report_stands memory
+  go (Err stop.ReadFault) meets reports = absurd (none.reads runs.command runs.is_words (faults.own_read_fault runs.command old new meets))
+  go (Err stop.WriteFault) meets reports = absurd (none.writes runs.command runs.is_words (faults.own_write_fault runs.command old new meets))
   go (Err stop.NoMemory) meets reports = absurd (memory (memory_end r r' s reports))
   go (Err e) meets reports = absurd (no e tt meets)
 

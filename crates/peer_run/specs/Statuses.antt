@@ -1,5 +1,5 @@
 -- What each status says of a run: the causes, told of the words and the objects alone.
-use Rattle.std.specs.Prelude.{◌≡◌, ℕ, ◌<◌, ◌⊎◌, List, ◌++◌, None, Result, Ok, Err}
+use Rattle.std.specs.Prelude.{◌≡◌, ℕ, ◌<◌, ◌⊎◌, List, ◌++◌, None, Result, Ok, Err, Option, Some}
 use Rattle.willow_outside.specs.Counts.{Rose}
 use Rattle.willow_outside.specs.Facts.{SinkFacts}
 use Rattle.cap_codec.specs.Rows.{RawValue, AreFrames}
@@ -14,6 +14,8 @@ use Rattle.peer_rows.specs.Logged.{AreCounts, FitsLog}
 use Rattle.peer_rows.specs.Join.{joined}
 use Rattle.peer_words.specs.Commands.{IsWords, IsNoCommand}
 use Rattle.peer_words.specs.declared.command.Command.{Command}
+use Rattle.peer_words.specs.declared.command.SignerWord.{SignerWord}
+use Rattle.peer_words.specs.declared.command.SignerWord.TheVariants.{OpenKey, LmsFile}
 use Rattle.peer_words.specs.declared.command.Command.TheVariants as cmd
 use Rattle.peer_run.specs.Meets.{Meets}
 use Rattle.peer_run.specs.Ready.{Ready}
@@ -81,10 +83,42 @@ abbrev pub HasWriteFault : World → World → SinkFacts → SinkFacts → Type 
 HasWriteFault old new report report' =
     Rose old.shelf.write_faults new.shelf.write_faults ⊎ (Rose old.output.faults new.output.faults ⊎ Rose report.faults report'.faults)
 
--- no count of faults rose in the run
-pub record HasNoFault (old new : World) (report report' : SinkFacts) : Type 0 where
-  pub reads : HasReadFault old new → ⊥
-  pub writes : HasWriteFault old new report report' → ⊥
+-- a count of what a signer calls rose: an open key calls nothing, a key file the shelf
+abbrev pub SignerRose : SignerWord → ℕ → ℕ → Type 0
+SignerRose (OpenKey key) before now = ⊥
+SignerRose (LmsFile name) before now = Rose before now
+
+-- the same where there is a signer
+abbrev pub BeginningRose : Option SignerWord → ℕ → ℕ → Type 0
+BeginningRose None before now = ⊥
+BeginningRose (Some key) before now = SignerRose key before now
+
+-- a count of what the command reads rose
+abbrev pub CommandReadFault : Command → World → World → Type 0
+CommandReadFault (cmd.Join n) old new = Rose old.input.faults new.input.faults
+CommandReadFault (cmd.Show newest) old new = Rose old.input.faults new.input.faults
+CommandReadFault (cmd.Key name height) old new = Rose old.shelf.read_faults new.shelf.read_faults ⊎ Rose old.noise.faults new.noise.faults
+CommandReadFault (cmd.Grant n mode user key) old new = BeginningRose key old.shelf.read_faults new.shelf.read_faults
+CommandReadFault (cmd.Delegate key to area) old new = SignerRose key old.shelf.read_faults new.shelf.read_faults ⊎ Rose old.input.faults new.input.faults
+CommandReadFault (cmd.Write key path time payload_length digest subspace) old new = SignerRose key old.shelf.read_faults new.shelf.read_faults ⊎ Rose old.input.faults new.input.faults
+CommandReadFault command old new = ⊥
+
+-- a count of what the command writes rose, but for the report
+abbrev pub CommandWriteFault : Command → World → World → Type 0
+CommandWriteFault (cmd.Join n) old new = Rose old.output.faults new.output.faults
+CommandWriteFault (cmd.Show newest) old new = Rose old.output.faults new.output.faults
+CommandWriteFault (cmd.Gen rows) old new = Rose old.output.faults new.output.faults
+CommandWriteFault (cmd.Key name height) old new = Rose old.shelf.write_faults new.shelf.write_faults ⊎ Rose old.output.faults new.output.faults
+CommandWriteFault (cmd.Grant n mode user key) old new = BeginningRose key old.shelf.write_faults new.shelf.write_faults ⊎ Rose old.output.faults new.output.faults
+CommandWriteFault (cmd.Delegate key to area) old new = SignerRose key old.shelf.write_faults new.shelf.write_faults ⊎ Rose old.output.faults new.output.faults
+CommandWriteFault (cmd.Write key path time payload_length digest subspace) old new = SignerRose key old.shelf.write_faults new.shelf.write_faults ⊎ Rose old.output.faults new.output.faults
+CommandWriteFault command old new = ⊥
+
+-- no count of faults rose in the run, of the objects that its command calls and of the report
+pub record HasNoFault (words : List (List ℕ)) (old new : World) (report report' : SinkFacts) : Type 0 where
+  pub reads : (command : Command) → IsWords words command → CommandReadFault command old new → ⊥
+  pub writes : (command : Command) → IsWords words command → CommandWriteFault command old new → ⊥
+  pub report_stands : Rose report.faults report'.faults → ⊥
 
 -- ---- 5, 8 and 9
 

@@ -144,7 +144,7 @@ pub fn peer_run<H: Shelf, I: Source, O: Sink, E: Sink, D: Door, N: Noise>(
 
     // A command that is ready comes to its end, but for faults and want of memory.
     ensures complete { CanEnd (texts words.now) (world (H.facts shelf.old) (I.facts input.old) (O.facts output.old) (D.facts door.old) (N.facts noise.old))
-        → HasNoFault (world (H.facts shelf.old) (I.facts input.old) (O.facts output.old) (D.facts door.old) (N.facts noise.old)) (world (H.facts shelf.new) (I.facts input.new) (O.facts output.new) (D.facts door.new) (N.facts noise.new)) (E.facts report.old) (E.facts report.new)
+        → HasNoFault (texts words.now) (world (H.facts shelf.old) (I.facts input.old) (O.facts output.old) (D.facts door.old) (N.facts noise.old)) (world (H.facts shelf.new) (I.facts input.new) (O.facts output.new) (D.facts door.new) (N.facts noise.new)) (E.facts report.old) (E.facts report.new)
         → result ≢ 7 → result ≤ 1 }
 {
     run_words(alloc, words, shelf, input, output, report, noise)
