@@ -96,7 +96,7 @@ frame_whole bytes input body left r taken are same h is n =
 
 -- ---- a stream of frames
 
-frame_long : (r : RawValue) → 4 ≤ length (frame r)
+pub frame_long : (r : RawValue) → 4 ≤ length (frame r)
 frame_long r = omega (arith, length-append (to_be_bytes w32 (length (raw_spelling r))) (raw_spelling r))
 
 nothing_left : HasNoFrame []

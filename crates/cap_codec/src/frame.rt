@@ -107,8 +107,8 @@ pub fn frames_in_front(alloc: Global, bytes: &[u8]) -> Result<(Vec<RawRow>, &[u8
     Ok((rows, left))
 }
 
-// The bytes behind the first ones.
-fn behind(bytes: &[u8], taken: usize) -> &[u8]
+/// The bytes behind the first ones, of which there are at least so many.
+pub fn behind(bytes: &[u8], taken: usize) -> &[u8]
     requires { taken ≤ length bytes.now }
     ensures { result.now ≡ drop taken bytes.now }
 {

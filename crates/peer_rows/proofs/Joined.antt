@@ -2,12 +2,13 @@
 use Rattle.std.proofs.Common.{◌≡◌, ℕ, List, sym, ap, ◌∙◌, subst}
 use Rattle.std.specs.List.{AllByRecursion}
 use Rattle.willow_entry.specs.Row.{live}
-use Rattle.cap_codec.specs.Rows.{RawValue, AreFrames}
+use Rattle.cap_codec.specs.Rows.{RawValue}
+use Rattle.std.specs.Prelude.{Ok}
 use Rattle.auth_entry.specs.Authorised.{AuthorisedValue}
 use Rattle.peer_image.specs.Image.{image, HasFrame}
 use Rattle.peer_rows.specs.declared.log.Log.{Log}
 use Rattle.peer_rows.specs.Logged.{accepted, rows_of}
-use Rattle.peer_rows.specs.Stored.{IsWholeLog}
+use Rattle.peer_rows.specs.Stored.{IsWholeLog, LogsBytes}
 use Rattle.peer_rows.specs.Join.{IsJoinOf}
 use Rattle.peer_rows.proofs.Framed.{live_framed}
 
@@ -15,15 +16,14 @@ use Rattle.peer_rows.proofs.Framed.{live_framed}
 held : (n : List ℕ) (rows : List RawValue) (log : Log) (shown : List AuthorisedValue) → IsWholeLog n rows log → shown ≡ log.store → rows_of shown ≡ live (accepted n rows)
 held n rows log shown whole same = ap rows_of same ∙ whole.is_log.held_is
 
-pub shown_framed : (n bytes : List ℕ) (rows : List RawValue) (log : Log) (shown : List AuthorisedValue) → AreFrames bytes rows → IsWholeLog n rows log → shown ≡ log.store → AllByRecursion HasFrame (rows_of shown)
-shown_framed n bytes rows log shown frames whole same = subst (AllByRecursion HasFrame) (sym (held n rows log shown whole same)) (live_framed n rows frames.fit)
+pub shown_framed : (n bytes : List ℕ) (log : Log) (shown : List AuthorisedValue) → LogsBytes n bytes (Ok log) → shown ≡ log.store → AllByRecursion HasFrame (rows_of shown)
+shown_framed n bytes log shown h same = subst (AllByRecursion HasFrame) (sym (held n h.0 log shown h.2 same)) (live_framed n h.0 h.1.fit)
 
-pub is_join : (n bytes written : List ℕ) (rows : List RawValue) (log : Log) (shown : List AuthorisedValue) → AreFrames bytes rows → IsWholeLog n rows log → shown ≡ log.store
-    → written ≡ image n (rows_of shown) → IsJoinOf n bytes written log.counts
-is_join n bytes written rows log shown frames whole same is = record {
-  rows = rows;
-  frames = frames;
-  fits_log = whole.fits_log;
-  counted = whole.is_log.counted;
-  is_image = is ∙ ap (image n) (held n rows log shown whole same);
+pub is_join : (n bytes written : List ℕ) (log : Log) (shown : List AuthorisedValue) → LogsBytes n bytes (Ok log) → shown ≡ log.store → written ≡ image n (rows_of shown) → IsJoinOf n bytes written log.counts
+is_join n bytes written log shown h same is = record {
+  rows = h.0;
+  frames = h.1;
+  fits_log = h.2.fits_log;
+  counted = h.2.is_log.counted;
+  is_image = is ∙ ap (image n) (held n h.0 log shown h.2 same);
 }
