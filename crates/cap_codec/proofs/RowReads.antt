@@ -1,6 +1,6 @@
 -- The reader of a row's body goes with its spelling, and what a whole body tells.
 use Rattle.std.proofs.Common.{◌≡◌, ℕ, ◌-◌, ◌≤◌, ◌<◌, List, [], ◌∷◌, ◌++◌, length, take, drop, Result, Ok, Err, refl, sym, ap, subst, ◌∙◌, arith}
-use Rattle.std.proofs.lemmas.List.{append-nil, take-append-drop, take_all, append_cancel_left, length-drop}
+use Rattle.std.proofs.lemmas.List.{append-nil, length-append, take_at, drop_at}
 use Rattle.std.specs.Result.{IsErrAnd}
 use Rattle.std.proofs.lemmas.Result.{err_from_is_err_and}
 use Rattle.spelling.specs.Front.{Front, Whole, Part, Wrong, ◌>>=◌}
@@ -100,12 +100,11 @@ empty : (left : List ℕ) → length left ≤ 0 → left ≡ []
 empty [] h = refl
 empty (b ∷ left) h = absurd (omega (arith, h))
 
--- the parts of a body that is a row
+-- a body that is a row, whose entry has so many bytes
 pub record Parts (body : List ℕ) (e : Entry) (t : WriteToken) (n : ℕ) : Type 0 where
   pub fits : IsRaw (raw e t)
-  pub entry : take n body ≡ entry_spelling e
-  pub token : take (length body - n) (drop n body) ≡ token_spelling t
   pub spelled : body ≡ raw_spelling (raw e t)
+  pub entry_long : n ≡ length (entry_spelling e)
   pub within : n ≤ length body
 
 -- a body read to its end, of which so many bytes were the entry's
@@ -115,15 +114,23 @@ parts body input e rest t left n are same h k end is =
     let entry = entry-reads.takes body e rest are (ap entry_at (sym same) ∙ h) in
     let token = token-reads.takes rest t left entry.rest_are k in
     let rest_is : rest ≡ token_spelling t = token.parts ∙ ap (λ (l : List ℕ). token_spelling t ++ l) (empty left end) ∙ append-nil (token_spelling t) in
-    let front : take n body ≡ entry_spelling e = ap (λ (i : ℕ). take i body) is ∙ take_front body (entry_spelling e) rest entry.parts in
-    let halves : entry_spelling e ++ drop n body ≡ entry_spelling e ++ rest = ap (λ (l : List ℕ). l ++ drop n body) (sym front) ∙ take-append-drop n body ∙ entry.parts in
     record {
       fits = record { entry_fits = entry.fits; token_fits = token.fits };
-      entry = front;
-      token = take_all (length body - n) (drop n body) (omega (arith, length-drop n body)) ∙ append_cancel_left (entry_spelling e) (drop n body) rest halves ∙ rest_is;
       spelled = entry.parts ∙ ap (λ (l : List ℕ). entry_spelling e ++ l) rest_is;
+      entry_long = omega (arith, is, ap length entry.parts, length-append (entry_spelling e) rest);
       within = omega (arith, is);
     }
+
+-- the entry's bytes stand in front of a body
+pub entry_part : (body : List ℕ) (r : RawValue) (n : ℕ) → body ≡ raw_spelling r → n ≡ length (entry_spelling r.entry) → take n body ≡ entry_spelling r.entry
+entry_part body r n spelled long = ap (λ (l : List ℕ). take n l) spelled ∙ take_at (entry_spelling r.entry) (token_spelling r.token) n (sym long)
+
+-- and the token's behind them
+pub token_part : (body : List ℕ) (r : RawValue) (n : ℕ) → body ≡ raw_spelling r → n ≡ length (entry_spelling r.entry) → drop n body ≡ token_spelling r.token
+token_part body r n spelled long = ap (λ (l : List ℕ). drop n l) spelled ∙ drop_at (entry_spelling r.entry) (token_spelling r.token) n (sym long)
+
+pub entry_within : (body : List ℕ) (r : RawValue) (n : ℕ) → body ≡ raw_spelling r → n ≡ length (entry_spelling r.entry) → n ≤ length body
+entry_within body r n spelled long = omega (arith, long, ap length spelled, length-append (entry_spelling r.entry) (token_spelling r.token))
 
 -- ---- rows as a store sees them
 

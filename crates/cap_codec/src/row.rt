@@ -15,22 +15,22 @@ use willow_entry::{Entry, Row, RowForm, read_entry};
 pub struct RawRow {
     entry: Entry,
     token: WriteToken,
-    entry_bytes: Vec<u8>,
-    token_bytes: Vec<u8>,
+    body: Vec<u8>,
+    entry_len: usize,
 }
 
 impl Model for RawRow {
-    ghost use Rattle.std.specs.Prelude.{◌≡◌};
+    ghost use Rattle.std.specs.Prelude.{◌≡◌, length};
     ghost use Rattle.willow_entry.specs.EntryForm.{entry_spelling};
-    ghost use Rattle.cap_codec.specs.Rows.{RawValue, IsRaw, token_spelling};
+    ghost use Rattle.cap_codec.specs.Rows.{RawValue, IsRaw, raw_spelling};
 
     ghost Value = { RawValue };
 
     ghost view = { λ r. record { entry = r.entry; token = r.token } };
 
     ghost invariant = { λ r. IsRaw (record { entry = r.entry; token = r.token })
-        × (r.entry_bytes.items ≡ entry_spelling r.entry)
-        × (r.token_bytes.items ≡ token_spelling r.token) };
+        × (r.body.items ≡ raw_spelling (record { entry = r.entry; token = r.token }))
+        × (r.entry_len ≡ length (entry_spelling r.entry)) };
 }
 
 impl RawRow {
@@ -39,15 +39,15 @@ impl RawRow {
         ensures entry { IfOk result (λ row. row.entry ≡ entry) }
         ensures token { IfOk result (λ row. row.token ≡ token) }
     {
-        let mut entry_bytes = Vec::new(alloc);
-        entry.encode(&mut entry_bytes)?;
-        let mut token_bytes = Vec::new(alloc);
-        token.encode(&mut token_bytes)?;
+        let mut body = Vec::new(alloc);
+        entry.encode(&mut body)?;
+        let entry_len = body.len();
+        token.encode(&mut body)?;
         Ok(RawRow {
             entry,
             token,
-            entry_bytes,
-            token_bytes,
+            body,
+            entry_len,
         })
     }
 
@@ -66,8 +66,8 @@ impl RawRow {
         Ok(RawRow {
             entry,
             token,
-            entry_bytes: Vec::from_slice(alloc, &body[..entry_len])?,
-            token_bytes: Vec::from_slice(alloc, &body[entry_len..])?,
+            body: Vec::from_slice(alloc, body)?,
+            entry_len,
         })
     }
 
@@ -93,8 +93,8 @@ impl RawRow {
         Ok(RawRow {
             entry: self.entry.copy()?,
             token: self.token.copy()?,
-            entry_bytes: Vec::from_slice(*self.entry_bytes.allocator(), &self.entry_bytes)?,
-            token_bytes: Vec::from_slice(*self.token_bytes.allocator(), &self.token_bytes)?,
+            body: Vec::from_slice(*self.body.allocator(), &self.body)?,
+            entry_len: self.entry_len,
         })
     }
 }
@@ -107,11 +107,11 @@ impl Row for RawRow {
     }
 
     fn entry_bytes(&self) -> &[u8] {
-        &self.entry_bytes
+        &self.body[..self.entry_len]
     }
 
     fn token_bytes(&self) -> &[u8] {
-        &self.token_bytes
+        &self.body[self.entry_len..]
     }
 
     fn copy(&self) -> Result<RawRow, NoMemory> {

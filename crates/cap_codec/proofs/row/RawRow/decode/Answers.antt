@@ -24,7 +24,7 @@ pub invariant_of-result : goal.invariant_of-result
 invariant_of-result c =
     let p = parts c.args.body.now c.new-input.result c.in_ok-entry.entry c.read_entry.new.input c.in_ok-token.token c.read_token.new.input c.taken_of-entry_len.result
     (are_bytes c.args.body.now c.type_inv.body) c.new-input.ensures c.in_ok-entry.ensures c.in_ok-token.ensures (omega (arith, c.if-len-gt0.false, c.len.ensures)) c.taken_of-entry_len.ensures in
-    (p.fits, c.in_ok-from_slice.ensures.items ∙ p.entry, c.in_ok-from_slice-2.ensures.items ∙ p.token)
+    (p.fits, c.in_ok-from_slice.ensures.items ∙ p.spelled, p.entry_long)
 
 pub returns : goal.returns
 returns c =
