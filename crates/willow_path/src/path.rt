@@ -12,10 +12,16 @@ ghost use Rattle.willow_path.specs.Answers.{Answers};
 
 use crate::limits::{MAX_PART, MAX_PARTS, MAX_TOTAL};
 use spelling::{End, NoMemory};
+use smallvec::SmallVec;
 use std::alloc::Global;
 use std::cmp::Ordering;
 use std::marker::Model;
 use thiserror::Error;
+
+// Most paths have a few short components. So many, of so many bytes each, stand in the path itself and take no memory.
+const INLINE_PARTS: usize = 2;
+
+const INLINE_PART: usize = 14;
 
 /// Why a component cannot be added to a path.
 #[derive(Debug, Clone, Copy, PartialEq, Eq, Error)]
@@ -36,7 +42,7 @@ pub enum PathRefusal {
 /// A path is below its extensions; else the first components that differ decide, as byte strings.
 #[derive(Debug, Drop)]
 pub struct Path {
-    parts: Vec<Vec<u8>>,
+    parts: SmallVec<SmallVec<u8, INLINE_PART>, INLINE_PARTS>,
     byte_count: usize,
 }
 
@@ -59,7 +65,7 @@ impl Path {
         ensures path { IsPath result }
     {
         Path {
-            parts: Vec::new(alloc),
+            parts: SmallVec::new(alloc),
             byte_count: 0,
         }
     }
@@ -88,7 +94,7 @@ impl Path {
         ensures path { IsPath self.new }
         ensures err { OnErr result (self.new ≡ self.old) }
     {
-        let added = Vec::from_slice(*self.parts.allocator(), part)?;
+        let added = SmallVec::from_slice(*self.parts.allocator(), part)?;
         self.parts.push(added)?;
         self.byte_count += part.len();
         Ok(())
@@ -138,14 +144,14 @@ impl Path {
         requires { i < length self.now }
         ensures { result.now ≡ slice_index_or self.now i [] }
     {
-        &self.parts[i]
+        self.parts[i].as_slice()
     }
 
     /// Whether the other path is this one followed by further components, or by none.
     pub fn is_prefix_of(&self, other: &Path) -> bool
         ensures { result ≡ is_prefix self.now other.now }
     {
-        other.parts.starts_with(&self.parts)
+        other.parts.as_slice().starts_with(self.parts.as_slice())
     }
 
     /// An equal path.
