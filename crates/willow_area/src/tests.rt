@@ -204,6 +204,75 @@ fn boxes_are_not_cut_outside(rt: HostRuntime) -> Result<(), Fail> {
     Ok(())
 }
 
+// Whether the paths of a box start at this one and end at that one, where it is given.
+fn has_paths(alloc: Global, b: &Box3, start: &[&[u8]], end: Option<&[&[u8]]>) -> Option<bool> {
+    let start = path_of(alloc, start)?;
+    let end = match end {
+        None => None,
+        Some(parts) => Some(path_of(alloc, parts)?),
+    };
+    Some(*b.path_start() == start && b.path_end() == end.as_ref())
+}
+
+// Whether the keys of a box start at this one and end at that one, where it is given.
+fn has_keys(b: &Box3, start: &UserKey, end: Option<&UserKey>) -> bool {
+    b.key_start() == start && b.key_end() == end
+}
+
+// The least key above that of kind 0 whose body is 32 times the byte 07.
+fn key_after() -> Option<UserKey> {
+    let mut bytes = [7; 33];
+    bytes[0] = 0;
+    bytes[32] = 8;
+    UserKey::from_bytes(bytes)
+}
+
+// Whether a copy of the box of one user's area at a path tells its keys, this path, this end and its times.
+fn copy_tells(alloc: Global, parts: &[&[u8]], end: Option<&[&[u8]]>) -> Option<bool> {
+    let area = area_of(key_of(0, 7), path_of(alloc, parts)?, 3, Some(10))?;
+    let copy = box_of(&area).ok()?.copy().ok()?;
+    let keys = has_keys(&copy, &key_of(0, 7)?, key_after().as_ref());
+    let times = *copy.times() == TimeRange::new(3, Some(10))?;
+    Some(keys && times && has_paths(alloc, &copy, parts, end)?)
+}
+
+// Whether the box of everything, cut at a key, has the keys below it and those from it on, and every path.
+fn is_cut_at_key(alloc: Global, kind: u8, byte: u8) -> Option<bool> {
+    let key = key_of(kind, byte)?;
+    let whole = box_of(&Area::full(alloc)).ok()?;
+    let (lower, upper) = whole.cut(&CutAt::Subspace(key)).ok()?;
+    let below = has_keys(&lower, &key_of(0, 0)?, Some(&key));
+    let above = has_keys(&upper, &key, None);
+    let paths = has_paths(alloc, &lower, &[], None)? && has_paths(alloc, &upper, &[], None)?;
+    Some(below && above && paths)
+}
+
+#[test]
+fn boxes_tell_their_ranges(rt: HostRuntime) {
+    let alloc = rt.alloc();
+    let rows: [(&[&[u8]], Option<&[&[u8]]>); 3] = [
+        (&[], None),
+        (&[b"a"], Some(&[b"a\0"])),
+        (&[b"a", b"b"], Some(&[b"a", b"b\0"])),
+    ];
+    for (parts, end) in rows {
+        assert_eq!(rt; copy_tells(alloc, parts, end), Some(true));
+    }
+    for (kind, byte) in [(0, 1), (0, 7), (1, 0xff)] {
+        assert_eq!(rt; is_cut_at_key(alloc, kind, byte), Some(true));
+    }
+    assert_eq!(rt; is_cut_at_key(alloc, 0, 0), None);
+}
+
+#[test]
+fn laws_can_be_called() {
+    boxes();
+    cuts();
+    inclusion();
+    intersection();
+    one_spelling();
+}
+
 // The area of one user, one component and times with an end.
 fn spelled_area(alloc: Global) -> Option<Area> {
     area_of(key_of(1, 9), path_of(alloc, &[b"a"])?, 5, Some(258))
