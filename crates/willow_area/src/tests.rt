@@ -144,7 +144,7 @@ fn boxes_of_areas(rt: HostRuntime) -> Result<(), Fail> {
     for (kind, end) in [(1, None), (0, key_of(1, 0))] {
         let last = key_of(kind, 0xff);
         let area = area_of(last, Path::empty(alloc), 0, None).ok_or("an area")?;
-        assert_eq!(rt; box_of(&area)?.key_end(), end.as_ref());
+        assert_eq!(rt; box_of(alloc, &area)?.key_end(), end.as_ref());
     }
     Ok(())
 }
@@ -152,7 +152,7 @@ fn boxes_of_areas(rt: HostRuntime) -> Result<(), Fail> {
 // The box of one user's area, its paths unbounded and its times below 10.
 fn whole_box(alloc: Global) -> Option<Box3> {
     let area = area_of(key_of(0, 7), Path::empty(alloc), 0, Some(10))?;
-    box_of(&area).ok()
+    box_of(alloc, &area).ok()
 }
 
 // Whether the halves of that box, cut at a path of one component, include this path.
@@ -230,7 +230,7 @@ fn key_after() -> Option<UserKey> {
 // Whether a copy of the box of one user's area at a path tells its keys, this path, this end and its times.
 fn copy_tells(alloc: Global, parts: &[&[u8]], end: Option<&[&[u8]]>) -> Option<bool> {
     let area = area_of(key_of(0, 7), path_of(alloc, parts)?, 3, Some(10))?;
-    let copy = box_of(&area).ok()?.copy().ok()?;
+    let copy = box_of(alloc, &area).ok()?.copy().ok()?;
     let keys = has_keys(&copy, &key_of(0, 7)?, key_after().as_ref());
     let times = *copy.times() == TimeRange::new(3, Some(10))?;
     Some(keys && times && has_paths(alloc, &copy, parts, end)?)
@@ -239,7 +239,7 @@ fn copy_tells(alloc: Global, parts: &[&[u8]], end: Option<&[&[u8]]>) -> Option<b
 // Whether the box of everything, cut at a key, has the keys below it and those from it on, and every path.
 fn is_cut_at_key(alloc: Global, kind: u8, byte: u8) -> Option<bool> {
     let key = key_of(kind, byte)?;
-    let whole = box_of(&Area::full(alloc)).ok()?;
+    let whole = box_of(alloc, &Area::full(alloc)).ok()?;
     let (lower, upper) = whole.cut(&CutAt::Subspace(key)).ok()?;
     let below = has_keys(&lower, &key_of(0, 0)?, Some(&key));
     let above = has_keys(&upper, &key, None);

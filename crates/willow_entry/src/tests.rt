@@ -41,7 +41,7 @@ fn entry(alloc: Global, parts: &[u8], time: u64, digest: u8, length: u64) -> Res
 fn row(alloc: Global, parts: &[u8], time: u64, token: u8) -> Result<BareRow, Fail> {
     let entry = entry(alloc, parts, time, 0x11, 1)?;
     let token = Vec::from_slice(alloc, &[token]).ok().ok_or("memory")?;
-    Ok(BareRow::new(entry, token).ok().ok_or("memory")?)
+    Ok(BareRow::new(alloc, entry, token).ok().ok_or("memory")?)
 }
 
 fn is_newer(alloc: Global, e: (u64, u8, u64), f: (u64, u8, u64)) -> Result<bool, Fail> {
