@@ -4,7 +4,7 @@ ghost use Rattle.std.specs.Prelude.{◌≡◌, IfOk};
 ghost use Rattle.willow_entry.specs.RowBody.{IsBareRow};
 
 use crate::entry::Entry;
-use crate::row::Row;
+use crate::row::{Row, SharedRow};
 use crate::row_form::RowForm;
 use std::alloc::Global;
 use std::marker::Model;
@@ -71,6 +71,8 @@ impl Row for BareRow {
         })
     }
 }
+
+impl SharedRow for BareRow {}
 
 /// The bodies of bare rows: an entry within its limits, and any bytes as token.
 pub struct BareRows;

@@ -1,8 +1,8 @@
 //! Entries and rows against worked rows.
 
 use crate::{
-    BareRow, BareRows, Entry, LogRow, Placed, Row, RowForm, by_place, cover, covers, dominates,
-    newer, read_entry, same,
+    BareRow, BareRows, Entry, LogRow, Placed, Row, RowForm, SharedRow, by_place, cover, covers,
+    dominates, newer, read_entry, same,
 };
 use spelling::Input;
 use std::alloc::Global;
@@ -100,12 +100,18 @@ fn covering_rows(rt: HostRuntime) -> Result<(), Fail> {
     Ok(())
 }
 
+// The timestamp of a row that threads may share.
+fn shared_timestamp<R: SharedRow>(row: &R) -> u64 {
+    row.entry().timestamp
+}
+
 #[test]
 fn copies(rt: HostRuntime) -> Result<(), Fail> {
     let made = row(rt.alloc(), b"a", 6, 0)?;
     let copy = made.copy().ok().ok_or("memory")?;
     assert!(rt; same(&made, &copy) && covers(&made, &copy));
     assert_eq!(rt; by_place(&made, &copy), Ordering::Equal);
+    assert_eq!(rt; shared_timestamp(&copy), 6);
     let logged = LogRow { pass: 3, row: copy };
     assert_eq!(rt; logged.row.entry().timestamp, 6);
     assert!(rt; Placed::Kept { by: 1 } != Placed::Stored { pruned: 1 });
