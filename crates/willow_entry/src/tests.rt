@@ -1,4 +1,4 @@
-//! Entries and rows against worked rows.
+//! Which of two entries is newer, which rows dominate others, and how entries and rows are spelled and read.
 
 use crate::{
     BareRow, BareRows, Entry, LogRow, Placed, Row, RowForm, SharedRow, by_place, cover, covers,
