@@ -4,3 +4,4 @@ mod Extensions
 mod Removing
 mod Positions
 mod Copies
+mod Numbering

@@ -3,6 +3,7 @@
 #![tactic(auto)]
 
 mod boxes;
+pub mod laws;
 mod search;
 mod shared;
 mod snapshot;

@@ -16,6 +16,13 @@ use std::sync::Arc;
 use willow_entry::{Placed, Row, dominates};
 use willow_path::NoMemory;
 
+// Whether the held row goes where the row is stored.
+fn prunes<R: Row>(row: &R, held: &R) -> bool
+    ensures { result ≡ is_dominating (R.value row.now) (R.value held.now) }
+{
+    dominates(row, held)
+}
+
 // Removes the rows from `at` on that the row dominates. From `end` on there are none.
 fn remove_dominated<R: Row>(rows: &mut Vec<Arc<R>>, row: &R, at: usize, end: usize)
     requires from { at ≤ end }
@@ -29,7 +36,7 @@ fn remove_dominated<R: Row>(rows: &mut Vec<Arc<R>>, row: &R, at: usize, end: usi
     let mut i = end;
     while i > at {
         i -= 1;
-        if dominates(row, &*rows[i]) {
+        if prunes(row, &*rows[i]) {
             rows.remove(i);
         }
     }
@@ -111,7 +118,7 @@ fn dominated<R: Row>(alloc: Global, rows: &[Arc<R>], row: &R) -> Result<Vec<u32>
     let end = run_end(rows, row, at);
     let mut found = Vec::new(alloc);
     for i in at..end {
-        note(&mut found, i as u32, dominates(row, &*rows[i]))?;
+        note(&mut found, i as u32, prunes(row, &*rows[i]))?;
     }
     Ok(found)
 }

@@ -54,7 +54,7 @@ fn area_box(
         path: path_of_bytes(alloc, parts)?,
         times: TimeRange::new(start, end)?,
     };
-    box_of(&area).ok()
+    box_of(alloc, &area).ok()
 }
 
 // How many of the four rows the box includes, and the positions of the first five that it includes.

@@ -63,5 +63,5 @@ pub(crate) fn row_of(
     token: u8,
 ) -> Option<BareRow> {
     let entry = entry_of(subspace, path, rank)?;
-    BareRow::new(entry, Vec::from_slice(alloc, &[token]).ok()?).ok()
+    BareRow::new(alloc, entry, Vec::from_slice(alloc, &[token]).ok()?).ok()
 }

@@ -13,6 +13,7 @@ ghost use Rattle.willow_area.specs.Cuts.{cut_refusal, lower_part, upper_part, Ha
 use crate::area::Area;
 use crate::cut::{CutAt, CutOutside};
 use crate::times::TimeRange;
+use std::alloc::Global;
 use std::marker::Model;
 use willow_path::{End, NoMemory, Path, UserKey};
 
@@ -269,8 +270,9 @@ fn copy_end(end: &Option<Path>) -> Result<Option<Path>, NoMemory>
 }
 
 /// The box of an area: it includes an entry exactly where the area does. Its keys are all, or just the
-/// area's; its paths are the extensions of the area's path; its times are the area's.
-pub fn box_of(area: &Area) -> Result<Box3, NoMemory>
+/// area's; its paths are the extensions of the area's path; its times are the area's. The box takes its
+/// memory where the area's path does.
+pub fn box_of(_alloc: Global, area: &Area) -> Result<Box3, NoMemory>
     ensures ranges { IfOk result (λ b. b ≡ area_box area.now) }
     ensures same { IfOk result (λ b. HasTriplesOf b area.now) }
 {

@@ -5,8 +5,11 @@ use willow_path::{Path, UserKey};
 /// Where a box is cut: at a key, at a path or at a time.
 #[derive(Debug, Drop)]
 pub enum CutAt {
+    /// At this key.
     Subspace(UserKey),
+    /// At this path.
     Path(Path),
+    /// At this time.
     Time(u64),
 }
 

@@ -144,7 +144,7 @@ fn boxes_of_areas(rt: HostRuntime) -> Result<(), Fail> {
     for (kind, end) in [(1, None), (0, key_of(1, 0))] {
         let last = key_of(kind, 0xff);
         let area = area_of(last, Path::empty(alloc), 0, None).ok_or("an area")?;
-        assert_eq!(rt; box_of(&area)?.key_end(), end.as_ref());
+        assert_eq!(rt; box_of(alloc, &area)?.key_end(), end.as_ref());
     }
     Ok(())
 }
@@ -152,7 +152,7 @@ fn boxes_of_areas(rt: HostRuntime) -> Result<(), Fail> {
 // The box of one user's area, its paths unbounded and its times below 10.
 fn whole_box(alloc: Global) -> Option<Box3> {
     let area = area_of(key_of(0, 7), Path::empty(alloc), 0, Some(10))?;
-    box_of(&area).ok()
+    box_of(alloc, &area).ok()
 }
 
 // Whether the halves of that box, cut at a path of one component, include this path.
@@ -202,6 +202,75 @@ fn boxes_are_not_cut_outside(rt: HostRuntime) -> Result<(), Fail> {
         assert_eq!(rt; whole.cut(at).err(), Some(End::Refused(CutOutside)));
     }
     Ok(())
+}
+
+// Whether the paths of a box start at this one and end at that one, where it is given.
+fn has_paths(alloc: Global, b: &Box3, start: &[&[u8]], end: Option<&[&[u8]]>) -> Option<bool> {
+    let start = path_of(alloc, start)?;
+    let end = match end {
+        None => None,
+        Some(parts) => Some(path_of(alloc, parts)?),
+    };
+    Some(*b.path_start() == start && b.path_end() == end.as_ref())
+}
+
+// Whether the keys of a box start at this one and end at that one, where it is given.
+fn has_keys(b: &Box3, start: &UserKey, end: Option<&UserKey>) -> bool {
+    b.key_start() == start && b.key_end() == end
+}
+
+// The least key above that of kind 0 whose body is 32 times the byte 07.
+fn key_after() -> Option<UserKey> {
+    let mut bytes = [7; 33];
+    bytes[0] = 0;
+    bytes[32] = 8;
+    UserKey::from_bytes(bytes)
+}
+
+// Whether a copy of the box of one user's area at a path tells its keys, this path, this end and its times.
+fn copy_tells(alloc: Global, parts: &[&[u8]], end: Option<&[&[u8]]>) -> Option<bool> {
+    let area = area_of(key_of(0, 7), path_of(alloc, parts)?, 3, Some(10))?;
+    let copy = box_of(alloc, &area).ok()?.copy().ok()?;
+    let keys = has_keys(&copy, &key_of(0, 7)?, key_after().as_ref());
+    let times = *copy.times() == TimeRange::new(3, Some(10))?;
+    Some(keys && times && has_paths(alloc, &copy, parts, end)?)
+}
+
+// Whether the box of everything, cut at a key, has the keys below it and those from it on, and every path.
+fn is_cut_at_key(alloc: Global, kind: u8, byte: u8) -> Option<bool> {
+    let key = key_of(kind, byte)?;
+    let whole = box_of(alloc, &Area::full(alloc)).ok()?;
+    let (lower, upper) = whole.cut(&CutAt::Subspace(key)).ok()?;
+    let below = has_keys(&lower, &key_of(0, 0)?, Some(&key));
+    let above = has_keys(&upper, &key, None);
+    let paths = has_paths(alloc, &lower, &[], None)? && has_paths(alloc, &upper, &[], None)?;
+    Some(below && above && paths)
+}
+
+#[test]
+fn boxes_tell_their_ranges(rt: HostRuntime) {
+    let alloc = rt.alloc();
+    let rows: [(&[&[u8]], Option<&[&[u8]]>); 3] = [
+        (&[], None),
+        (&[b"a"], Some(&[b"a\0"])),
+        (&[b"a", b"b"], Some(&[b"a", b"b\0"])),
+    ];
+    for (parts, end) in rows {
+        assert_eq!(rt; copy_tells(alloc, parts, end), Some(true));
+    }
+    for (kind, byte) in [(0, 1), (0, 7), (1, 0xff)] {
+        assert_eq!(rt; is_cut_at_key(alloc, kind, byte), Some(true));
+    }
+    assert_eq!(rt; is_cut_at_key(alloc, 0, 0), None);
+}
+
+#[test]
+fn laws_can_be_called() {
+    boxes();
+    cuts();
+    inclusion();
+    intersection();
+    one_spelling();
 }
 
 // The area of one user, one component and times with an end.

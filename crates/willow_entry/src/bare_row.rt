@@ -4,7 +4,7 @@ ghost use Rattle.std.specs.Prelude.{◌≡◌, IfOk};
 ghost use Rattle.willow_entry.specs.RowBody.{IsBareRow};
 
 use crate::entry::Entry;
-use crate::row::Row;
+use crate::row::{Row, SharedRow};
 use crate::row_form::RowForm;
 use std::alloc::Global;
 use std::marker::Model;
@@ -34,11 +34,11 @@ impl Model for BareRow {
 
 impl BareRow {
     /// The row of this entry and this token.
-    pub fn new(entry: Entry, token: Vec<u8>) -> Result<BareRow, NoMemory>
+    pub fn new(alloc: Global, entry: Entry, token: Vec<u8>) -> Result<BareRow, NoMemory>
         ensures entry { IfOk result (λ row. row.entry ≡ entry) }
         ensures token { IfOk result (λ row. row.token ≡ token.items) }
     {
-        let mut spelled = Vec::new(*token.allocator());
+        let mut spelled = Vec::new(alloc);
         entry.encode(&mut spelled)?;
         Ok(BareRow {
             entry,
@@ -72,6 +72,8 @@ impl Row for BareRow {
     }
 }
 
+impl SharedRow for BareRow {}
+
 /// The bodies of bare rows: an entry within its limits, and any bytes as token.
 pub struct BareRows;
 
@@ -84,7 +86,7 @@ impl RowForm for BareRows {
         match Entry::decode(alloc, body) {
             Ok((entry, taken)) => {
                 let token = Vec::from_slice(alloc, &body[taken..])?;
-                Ok(Some(BareRow::new(entry, token)?))
+                Ok(Some(BareRow::new(alloc, entry, token)?))
             }
             Err(End::Refused(NotHere)) => Ok(None),
             Err(End::NoMemory) => Err(NoMemory),

@@ -102,6 +102,8 @@ fn first_cover<R: Row>(rows: &[R], s: &R) -> Option<usize>
 /// A row with the number of the pass that offered it.
 #[derive(Drop)]
 pub struct LogRow<R> {
+    /// The number of the pass.
     pub pass: u32,
+    /// The row that it offered.
     pub row: R,
 }

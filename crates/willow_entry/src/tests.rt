@@ -1,8 +1,8 @@
-//! Entries and rows against worked rows.
+//! Which of two entries is newer, which rows dominate others, and how entries and rows are spelled and read.
 
 use crate::{
-    BareRow, BareRows, Entry, LogRow, Placed, Row, RowForm, by_place, cover, covers, dominates,
-    newer, read_entry, same,
+    BareRow, BareRows, Entry, LogRow, Placed, Row, RowForm, SharedRow, by_place, cover, covers,
+    dominates, newer, read_entry, same,
 };
 use spelling::Input;
 use std::alloc::Global;
@@ -41,7 +41,7 @@ fn entry(alloc: Global, parts: &[u8], time: u64, digest: u8, length: u64) -> Res
 fn row(alloc: Global, parts: &[u8], time: u64, token: u8) -> Result<BareRow, Fail> {
     let entry = entry(alloc, parts, time, 0x11, 1)?;
     let token = Vec::from_slice(alloc, &[token]).ok().ok_or("memory")?;
-    Ok(BareRow::new(entry, token).ok().ok_or("memory")?)
+    Ok(BareRow::new(alloc, entry, token).ok().ok_or("memory")?)
 }
 
 fn is_newer(alloc: Global, e: (u64, u8, u64), f: (u64, u8, u64)) -> Result<bool, Fail> {
@@ -100,12 +100,18 @@ fn covering_rows(rt: HostRuntime) -> Result<(), Fail> {
     Ok(())
 }
 
+// The timestamp of a row that threads may share.
+fn shared_timestamp<R: SharedRow>(row: &R) -> u64 {
+    row.entry().timestamp
+}
+
 #[test]
 fn copies(rt: HostRuntime) -> Result<(), Fail> {
     let made = row(rt.alloc(), b"a", 6, 0)?;
     let copy = made.copy().ok().ok_or("memory")?;
     assert!(rt; same(&made, &copy) && covers(&made, &copy));
     assert_eq!(rt; by_place(&made, &copy), Ordering::Equal);
+    assert_eq!(rt; shared_timestamp(&copy), 6);
     let logged = LogRow { pass: 3, row: copy };
     assert_eq!(rt; logged.row.entry().timestamp, 6);
     assert!(rt; Placed::Kept { by: 1 } != Placed::Stored { pruned: 1 });

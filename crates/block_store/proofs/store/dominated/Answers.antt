@@ -21,8 +21,8 @@ loop-i-preserved g c =
     let held = c.index-rows-i.result in
     let inside : i < length rows = omega (arith, length-map c.args.rows.now value) in
     let here : get_or rows i (value held) ≡ value held = get_or-map value c.args.rows.now i held (value held) (omega arith) ∙ ap value (sym c.index-rows-i.is) in
-    let passes : c.dominates.result ≡ is_dominating r (get_or rows i (value held)) =
-    c.dominates.ensures ∙ ap (λ x. is_dominating r (g.R.Row.value x)) c.deref.ensures ∙ ap (is_dominating r) (sym here) in
+    let passes : c.prunes.result ≡ is_dominating r (get_or rows i (value held)) =
+    c.prunes.ensures ∙ ap (λ x. is_dominating r (g.R.Row.value x)) c.deref.ensures ∙ ap (is_dominating r) (sym here) in
     record {
       found = c.in_ok-note.ensures ∙ ap₂ (λ l b. l ++ cond b (i ∷ []) []) c.loop-i.invariant.found passes ∙ sym (positions-more (is_dominating r) rows i (value held) inside);
     }

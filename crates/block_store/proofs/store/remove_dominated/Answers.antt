@@ -9,8 +9,8 @@ use Rattle.block_store.proofs.store.remove_dominated.Goals as goal
 abbrev stays_by : RowValue → RowValue → Bool
 stays_by r = λ s. not (is_dominating r s)
 
-pub loop-i-preserved-then-dominates : goal.loop-i-preserved-then-dominates
-loop-i-preserved-then-dominates g c =
+pub loop-i-preserved-then-prunes : goal.loop-i-preserved-then-prunes
+loop-i-preserved-then-prunes g c =
     let value : Arc g.row.R.Denot Global → RowValue = λ a. g.R.Row.value a.value in
     let r = g.R.Row.value c.args.row.now in
     let rows = map value c.args.rows.now.items in
@@ -19,7 +19,7 @@ loop-i-preserved-then-dominates g c =
     let held = c.index.result.now in
     let left : map value c.loop-i.rows.items ≡ filtered_from (stays_by r) rows (suc i) = c.loop-i.invariant.left ∙ ap (filtered_from (stays_by r) rows) next in
     let inside : i < length rows = omega (arith, length-map c.args.rows.now.items value) in
-    let test : stays_by r (value held) ≡ false = ap not (ap (λ x. is_dominating r (g.R.Row.value x)) (sym c.deref.ensures) ∙ sym c.dominates.ensures ∙ c.if-dominates.true) in
+    let test : stays_by r (value held) ≡ false = ap not (ap (λ x. is_dominating r (g.R.Row.value x)) (sym c.deref.ensures) ∙ sym c.prunes.ensures ∙ c.if-prunes.true) in
     record {
       from = omega arith;
       within = omega arith;
@@ -39,7 +39,7 @@ loop-i-preserved g c =
     let held = c.index.result.now in
     let left : map value c.loop-i.rows.items ≡ filtered_from (stays_by r) rows (suc i) = c.loop-i.invariant.left ∙ ap (filtered_from (stays_by r) rows) next in
     let inside : i < length rows = omega (arith, length-map c.args.rows.now.items value) in
-    let test : stays_by r (value held) ≡ true = ap not (ap (λ x. is_dominating r (g.R.Row.value x)) (sym c.deref.ensures) ∙ sym c.dominates.ensures ∙ c.if-dominates.false) in
+    let test : stays_by r (value held) ≡ true = ap not (ap (λ x. is_dominating r (g.R.Row.value x)) (sym c.deref.ensures) ∙ sym c.prunes.ensures ∙ c.if-prunes.false) in
     record {
       from = omega arith;
       within = omega arith;
