@@ -3,6 +3,7 @@
 ghost use Rattle.std.specs.Prelude.{◌≡◌, ◌++◌, ◌≤◌, ℕ, List, length, true, slice_index, IfOk, IsErrOf};
 ghost use Rattle.spelling.specs.declared.ending.End.TheVariants as ends;
 ghost use Rattle.scheme_core.specs.Open.{open_accepts, open_rules, open_signature};
+ghost use Rattle.scheme_core.specs.OpenLaws.{open_accepts-short};
 
 use crate::scheme::{Scheme, Verify};
 use crate::signer::{MAX_SIGNATURE, SignRefusal, Signer};
@@ -103,4 +104,6 @@ impl Signer for OpenSigner {
     fn left(&self) -> u64 {
         1
     }
+
+    ghost gives_short = { open_accepts-short };
 }

@@ -3,6 +3,7 @@
 ghost use Rattle.std.specs.Prelude.{◌≡◌, ℕ, ◌≤◌, ◌↔◌, Bool, true, List, length, IfOk, OnErr, IsErrOf};
 ghost use Rattle.willow_outside.specs.Counts.{Rose};
 ghost use Rattle.spelling.specs.declared.ending.End.TheVariants as ends;
+ghost use Rattle.scheme_core.specs.declared.signer.TheConstants.{MAX_SIGNATURE};
 
 use std::alloc::Global;
 use willow_path::End;
@@ -42,4 +43,7 @@ pub trait Signer: Drop {
     /// How many signatures are left.
     fn left(&self) -> u64
         ensures { result ≡ left self.now };
+
+    /// whatever the signer may give has at most MAX_SIGNATURE bytes
+    ghost gives_short: { (s : Self) (message signature : List ℕ) → gives s message signature ≡ true → length signature ≤ MAX_SIGNATURE };
 }
