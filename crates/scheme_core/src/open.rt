@@ -89,6 +89,7 @@ impl Signer for OpenSigner {
     ghost faults = { λ _. 0 };
 
     /// Signs a message. It never refuses, and the signer stays as it was.
+    #[tactic(auto, using(crate::proofs::OpenSignatures::open_accepts_own))]
     fn sign(&mut self, alloc: Global, message: &[u8]) -> Result<Vec<u8>, End<SignRefusal>>
         ensures given { IfOk result (λ signature. open_accepts self.old message.now signature.items ≡ true) }
         ensures short { IfOk result (λ signature. length signature.items ≤ MAX_SIGNATURE) }
