@@ -1,9 +1,15 @@
 //! What holds of the formats: each value has one spelling, and no spelling begins another.
 
 ghost use Rattle.spelling.specs.Form.{IsForm};
+ghost use Rattle.mc_cap.specs.Signature.{signature_spelling, IsSignature};
 ghost use Rattle.mc_cap.specs.Forms.{capability_spelling, IsCapability};
 ghost use Rattle.cap_codec.specs.Rows.{token_spelling, IsToken, raw_spelling, IsRaw, frame, FitsFrame, HaveOneReading};
 ghost use Rattle.cap_codec.specs.Streams.{AreNeverBoth, HaveOneStop};
+
+/// A signature field has one spelling, which begins that of no other.
+pub fn one_signature()
+    ensures { IsForm signature_spelling IsSignature }
+{}
 
 /// A capability has one spelling, which begins that of no other.
 pub fn one_capability()

@@ -5,5 +5,6 @@ pub mod Accepts
 pub mod Signer
 pub mod Key
 pub mod Use
+pub mod UseLaws
 pub mod Reserve
 pub mod Calls

@@ -5,6 +5,7 @@ ghost use Rattle.spelling.specs.declared.ending.End.TheVariants as ends;
 ghost use Rattle.willow_outside.specs.Counts.{Rose};
 ghost use Rattle.lms_core.specs.Accepts.{leaves};
 ghost use Rattle.lms_core.specs.Use.{user_key_of, use_gives, use_signature};
+ghost use Rattle.lms_core.specs.UseLaws.{use_gives-short};
 
 use crate::tree::Tree;
 use scheme_core::{SignRefusal, Signer};
@@ -85,4 +86,6 @@ impl Signer for OneUse {
     fn left(&self) -> u64 {
         self.left
     }
+
+    ghost gives_short = { use_gives-short };
 }

@@ -1,10 +1,12 @@
 //! Open keys: a signature is a digest that anyone can make. They are insecure by design.
 
-ghost use Rattle.std.specs.Prelude.{◌≡◌, ◌++◌, ℕ, List, slice_index};
+ghost use Rattle.std.specs.Prelude.{◌≡◌, ◌++◌, ◌≤◌, ℕ, List, length, true, slice_index, IfOk, IsErrOf};
+ghost use Rattle.spelling.specs.declared.ending.End.TheVariants as ends;
 ghost use Rattle.scheme_core.specs.Open.{open_accepts, open_rules, open_signature};
+ghost use Rattle.scheme_core.specs.OpenLaws.{open_accepts-short};
 
 use crate::scheme::{Scheme, Verify};
-use crate::signer::{SignRefusal, Signer};
+use crate::signer::{MAX_SIGNATURE, SignRefusal, Signer};
 use sha2::{Digest, Sha256};
 use std::alloc::Global;
 use std::marker::Model;
@@ -86,7 +88,16 @@ impl Signer for OpenSigner {
 
     ghost faults = { λ _. 0 };
 
-    fn sign(&mut self, alloc: Global, message: &[u8]) -> Result<Vec<u8>, End<SignRefusal>> {
+    /// Signs a message. It never refuses, and the signer stays as it was.
+    #[tactic(auto, using(crate::proofs::OpenSignatures::open_accepts_own))]
+    fn sign(&mut self, alloc: Global, message: &[u8]) -> Result<Vec<u8>, End<SignRefusal>>
+        ensures given { IfOk result (λ signature. open_accepts self.old message.now signature.items ≡ true) }
+        ensures short { IfOk result (λ signature. length signature.items ≤ MAX_SIGNATURE) }
+        ensures same { open_accepts self.new ≡ open_accepts self.old }
+        ensures spent { IsErrOf result (ends.Refused SignRefusal.Spent) → ⊥ }
+        ensures failed { IsErrOf result (ends.Refused SignRefusal.Failed) → ⊥ }
+        ensures kept { self.new ≡ self.old }
+    {
         let signature = open_signature(&self.key.to_bytes(), message);
         Ok(Vec::from_slice(alloc, &signature)?)
     }
@@ -94,4 +105,6 @@ impl Signer for OpenSigner {
     fn left(&self) -> u64 {
         1
     }
+
+    ghost gives_short = { open_accepts-short };
 }
