@@ -1,8 +1,8 @@
 -- Words that are a join are no other command.
-use Rattle.std.proofs.Common.{◌≡◌, ℕ, List, [], ◌∷◌, Some, refl, sym, ap, ◌∙◌}
+use Rattle.std.proofs.Common.{◌≡◌, ℕ, List, [], ◌∷◌, Some, refl, sym, ap, ◌∙◌, subst}
 use Rattle.std.specs.Prelude.{codes, flat_map, Ok}
 use Rattle.hex.specs.Hex.{decode_sized}
-use Rattle.peer_words.specs.Options.{Setting, setting_words, Gives, value_of}
+use Rattle.peer_words.specs.Options.{Setting, setting_words, HaveOwnNames, IsSet, Gives}
 use Rattle.peer_words.specs.Values.{IsKeyWord}
 use Rattle.peer_words.specs.Commands.{IsWords, verb_of}
 use Rattle.peer_words.specs.Verbs.{verb_at}
@@ -24,10 +24,10 @@ same_settings (x ∷ xs) (y ∷ ys) e =
     joined x y xs ys p q more = ap (λ (n : List ℕ). record { name = n; value = x.value } ∷ xs) p ∙ ap (λ (v : List ℕ). record { name = y.name; value = v } ∷ xs) q ∙ ap (λ (l : List Setting). y ∷ l) more
 
 -- the key behind a name is one
-same_key : (settings others : List Setting) (n m : List ℕ) → settings ≡ others → Gives IsKeyWord settings (codes "--namespace") n → Gives IsKeyWord others (codes "--namespace") m → n ≡ m
-same_key settings others n m same given other =
-    let word : Some given.0 ≡ Some other.0 = sym given.1 ∙ ap (value_of (codes "--namespace")) same ∙ other.1 in
-    let one : given.0 ≡ other.0 = cc in
+same_key : (settings others : List Setting) (n m : List ℕ) → HaveOwnNames settings → settings ≡ others → Gives IsKeyWord settings (codes "--namespace") n → Gives IsKeyWord others (codes "--namespace") m → n ≡ m
+same_key settings others n m own same given other =
+    let again : IsSet settings (codes "--namespace") other.0 = subst (λ (ss : List Setting). IsSet ss (codes "--namespace") other.0) (sym same) other.1 in
+    let one : given.0 ≡ other.0 = one_word settings own (codes "--namespace") given.0 other.0 given.1 again in
     let read : Ok n ≡ Ok m = sym given.2.digits ∙ ap (λ (w : List ℕ). decode_sized w 33) one ∙ other.2.digits in
     cc
 
@@ -44,5 +44,5 @@ one_join words n c join other = go c other (verb_is join other)
     go (cmd.Join m) o e =
         let others = (heads join.word o.word join.others o.others join.spelled o.spelled).1 in
         let settings = same_settings join.settings o.settings (sym join.options.spelled ∙ others ∙ o.options.spelled) in
-        ap cmd.Join (sym (same_key join.settings o.settings n m settings join.values o.values))
+        ap cmd.Join (sym (same_key join.settings o.settings n m join.options.are_settings.once settings join.values o.values))
     go c o e = absurd cc
