@@ -17,7 +17,9 @@ use willow_path::{NamespaceKey, read_namespace_key};
 /// rows are of that namespace, or authorised.
 #[derive(Debug, Drop)]
 pub struct Image {
+    /// The key behind the text WIM1.
     pub namespace: NamespaceKey,
+    /// The rows of the frames, in their order.
     pub rows: Vec<RawRow>,
 }
 

@@ -1,11 +1,28 @@
 //! What no clause says: that calls on real files, noise and streams succeed, and what comes back.
 
-use crate::{FileShelf, RandomNoise, StdSink, StdSource};
-use std::fs;
+use crate::{FileShelf, RandomNoise, StdReport, StdSink, StdSource};
 use std::fs::Permissions;
 use std::os::unix::fs::PermissionsExt;
+use std::rt::{Env, Files};
 use std::test::Fail;
+use std::{env, fs, io};
 use willow_outside::{Fault, Noise, Shelf, Sink, Source};
+
+/// The folder of the test with files.
+const FOLDER: &str = "peer-real-own-folder";
+
+/// Goes into that folder, which is empty then. One that a run left which was broken off goes first.
+fn enter_folder<R: Files + Env + Alloc>(rt: &R) -> io::Result<()> {
+    let _ = fs::remove_dir_all(rt, FOLDER);
+    fs::create_dir(rt, FOLDER)?;
+    env::set_current_dir(rt, FOLDER)
+}
+
+/// Goes back and removes the folder.
+fn leave_folder<R: Files + Env + Alloc>(rt: &R) -> io::Result<()> {
+    env::set_current_dir(rt, "..")?;
+    fs::remove_dir_all(rt, FOLDER)
+}
 
 /// Whether a get answers just these bytes, or that there are none.
 fn holds<S: Shelf>(shelf: &mut S, name: &str, want: Option<&[u8]>) -> bool {
@@ -18,7 +35,8 @@ fn holds<S: Shelf>(shelf: &mut S, name: &str, want: Option<&[u8]>) -> bool {
 
 #[test]
 fn files_are_replaced_whole(rt: HostRuntime) -> Result<(), Fail> {
-    let name = "peer-real-own-file";
+    enter_folder(&rt)?;
+    let name = "file";
     let mut shelf = FileShelf::new(rt);
     assert!(rt; holds(&mut shelf, name, None));
     assert!(rt; shelf.put(name, &[1, 2, 3]) == Ok(()));
@@ -34,8 +52,8 @@ fn files_are_replaced_whole(rt: HostRuntime) -> Result<(), Fail> {
     fs::create_dir(&rt, name)?;
     assert!(rt; shelf.get(name) == Err(Fault::Failed));
     assert!(rt; shelf.put(name, &[5]) == Err(Fault::Failed));
-    assert!(rt; holds(&mut shelf, ".peer-real-own-file.new", None));
-    fs::remove_dir(&rt, name)?;
+    assert!(rt; holds(&mut shelf, ".file.new", None));
+    leave_folder(&rt)?;
     Ok(())
 }
 
@@ -61,4 +79,13 @@ fn streams_pass_bytes_on(rt: HostRuntime) {
     assert_eq!(rt; sink.write(&[9, 9]), Ok(1));
     assert_eq!(rt; sink.write(&[9]), Err(Fault::Failed));
     assert_eq!(rt; sink.write(&[]), Ok(0));
+}
+
+#[test]
+fn the_report_passes_bytes_on(rt: HostRuntime) {
+    let mut room = [0u8; 3];
+    let mut report = StdReport::new(room.as_mut_slice());
+    assert_eq!(rt; report.write(&[7, 8]), Ok(2));
+    assert_eq!(rt; report.write(&[9]), Ok(1));
+    assert_eq!(rt; room, [7, 8, 9]);
 }

@@ -6,7 +6,9 @@ use spelling::NoMemory;
 /// A row that is not authorised: its number among the rows read, from 1, and why.
 #[derive(Clone, Copy, Debug, PartialEq, Eq)]
 pub struct RefusedRow {
+    /// Its number, from 1.
     pub row: u64,
+    /// The first condition that fails.
     pub refusal: RowRefusal,
 }
 
@@ -14,18 +16,26 @@ pub struct RefusedRow {
 /// and those that are not authorised, with the first of these.
 #[derive(Clone, Copy, Debug, PartialEq, Eq)]
 pub struct JoinCounts {
+    /// All rows of the input.
     pub rows: u64,
+    /// Authorised rows that no earlier one covered.
     pub stored: u64,
+    /// Authorised rows that an earlier one covered.
     pub kept: u64,
+    /// Rows that are not authorised.
     pub refused: u64,
+    /// The first row that is not authorised; None where there is none.
     pub first: Option<RefusedRow>,
 }
 
 /// The numbers of a listing: every row of the image, and those that are not authorised, with the first of these.
 #[derive(Clone, Copy, Debug, PartialEq, Eq)]
 pub struct ShowCounts {
+    /// All rows of the image.
     pub rows: u64,
+    /// Rows that are not authorised.
     pub refused: u64,
+    /// The first row that is not authorised; None where there is none.
     pub first: Option<RefusedRow>,
 }
 

@@ -7,7 +7,7 @@ ghost use Rattle.willow_outside.specs.Links.{Asks, HandsOut, IsFresh, list_with}
 
 use crate::{Fault, Link};
 
-/// Where links come from: the network, or links in memory.
+/// Where links come from: the network, or links in memory. A `place` has the form `HOST:PORT`.
 pub trait Door {
     type L: Link;
 

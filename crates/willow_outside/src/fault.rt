@@ -8,7 +8,9 @@ use std::alloc::{AllocError, AllocFailed};
 /// A call failed, which raises its object's count of faults, or found no memory.
 #[derive(Clone, Copy, Debug, PartialEq, Eq)]
 pub enum Fault {
+    /// The call failed; the object's count of faults rose.
     Failed,
+    /// No memory was found.
     NoMemory,
 }
 

@@ -1,0 +1,63 @@
+//! One run over objects in memory.
+
+use peer_run::peer_run;
+use std::alloc::{AllocError, Global};
+use std::collections::BTreeMap;
+use willow_outside::{MemDoor, MemLink, MemNoise, MemShelf, MemSink, MemSource};
+
+/// What came out of a run.
+#[derive(Drop)]
+pub(crate) struct Outcome {
+    pub(crate) status: u8,
+    pub(crate) output: MemSink,
+    report: MemSink,
+}
+
+impl Outcome {
+    /// The report's lines.
+    pub(crate) fn report_text(&self) -> &str {
+        str::from_utf8(self.report.held()).unwrap_or("no text")
+    }
+}
+
+// The words, each a text of its own.
+fn owned(alloc: Global, words: &[&str]) -> Result<Vec<String>, AllocError> {
+    let mut texts = Vec::new(alloc);
+    for word in words {
+        let text = String::from_str(alloc, *word)?;
+        texts.push(text).map_err(|unsaid| AllocError::from(unsaid))?;
+    }
+    Ok(texts)
+}
+
+// An empty sink that takes a page a call.
+fn sink_of(alloc: Global) -> MemSink {
+    MemSink::new(alloc, Vec::new(alloc), Vec::new(alloc), 4096)
+}
+
+/// Runs the words over the input, with nothing on the shelf, no noise and no links, and without faults.
+pub(crate) fn over(alloc: Global, words: &[&str], input: &[u8]) -> Result<Outcome, AllocError> {
+    let words = owned(alloc, words)?;
+    let left = Vec::from_slice(alloc, input)?;
+    let mut input = MemSource::new(alloc, left, Vec::new(alloc), 4096);
+    let mut output = sink_of(alloc);
+    let mut report = sink_of(alloc);
+    let mut shelf = MemShelf::new(alloc, BTreeMap::new(alloc), Vec::new(alloc));
+    let mut door = MemDoor::<MemLink>::new(alloc, Vec::new(alloc), Vec::new(alloc));
+    let mut noise = MemNoise::new(alloc, Vec::new(alloc), Vec::new(alloc));
+    let status = peer_run(
+        alloc,
+        &words,
+        &mut shelf,
+        &mut input,
+        &mut output,
+        &mut report,
+        &mut door,
+        &mut noise,
+    );
+    Ok(Outcome {
+        status,
+        output,
+        report,
+    })
+}
