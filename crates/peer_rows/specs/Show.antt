@@ -47,9 +47,9 @@ pub record IsShownOf (bytes text : List ℕ) (counts : ShowCounts) : Type 0 wher
   pub counted : AreShown namespace rows counts
   pub is_listing : text ≡ listing namespace rows
 
--- how the showing of bytes ends
-abbrev pub ShowsBytes : List ℕ → Result (Vec ℕ × ShowCounts) Stop → Type 0
-ShowsBytes bytes (Ok x) = IsShownOf bytes x.0.items x.1
+-- how the showing of bytes ends: the head of the listing, its lines, and the numbers
+abbrev pub ShowsBytes : List ℕ → Result (Vec ℕ × Vec ℕ × ShowCounts) Stop → Type 0
+ShowsBytes bytes (Ok x) = IsShownOf bytes (x.0.items ++ x.1.items) x.2
 ShowsBytes bytes (Err (stop.BadInput origin at)) = IsWrong bytes at × IsInput origin
 ShowsBytes bytes (Err (stop.NotRising origin row)) = IsMisordered bytes (refusal.NotRising row) × IsInput origin
 ShowsBytes bytes (Err (stop.Pruned origin row by)) = IsMisordered bytes (refusal.Pruned row by) × IsInput origin

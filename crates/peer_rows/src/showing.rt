@@ -12,9 +12,9 @@ use auth_entry::{RowRefusal, check_row};
 use cap_codec::RawRow;
 use lms_core::PeerScheme;
 use peer_image::{ImageRefusal, read_image};
-use peer_stage::{Done, Origin, RefusedRow, ShowCounts, Stop, read_input, write_output};
+use peer_stage::{Done, Origin, RefusedRow, ShowCounts, Stop, read_input, write_both};
 use peer_text::{listing_head, listing_line};
-use spelling::{End, NoMemory, put_bytes};
+use spelling::{End, NoMemory};
 use std::alloc::Global;
 use willow_entry::Row;
 use willow_outside::{Sink, Source};
@@ -30,13 +30,13 @@ pub fn show<I: Source, O: Sink>(alloc: Global, input: &mut I, output: &mut O) ->
     ensures output_faults { (O.facts output.old).faults ≤ (O.facts output.new).faults }
 {
     let bytes = read_input(alloc, input)?;
-    let (text, counts) = show_bytes(alloc, &bytes)?;
-    write_output(output, &text)?;
+    let (head, lines, counts) = show_bytes(alloc, &bytes)?;
+    write_both(output, &head, &lines)?;
     Ok(Done::Shown(counts))
 }
 
-// The listing and the numbers of an image.
-fn show_bytes(alloc: Global, bytes: &[u8]) -> Result<(Vec<u8>, ShowCounts), Stop>
+// The head and the lines of the listing of an image, and the numbers.
+fn show_bytes(alloc: Global, bytes: &[u8]) -> Result<(Vec<u8>, Vec<u8>, ShowCounts), Stop>
     ensures { ShowsBytes bytes.now result }
 {
     match read_image(alloc, bytes) {
@@ -58,21 +58,19 @@ fn show_bytes(alloc: Global, bytes: &[u8]) -> Result<(Vec<u8>, ShowCounts), Stop
     }
 }
 
-// The listing of the rows, and their numbers.
+// The head and the lines of the listing of the rows, and their numbers. The head counts the lines, so it is made last.
 fn list_rows(
     alloc: Global,
     namespace: &NamespaceKey,
     rows: &[RawRow],
-) -> Result<(Vec<u8>, ShowCounts), NoMemory>
+) -> Result<(Vec<u8>, Vec<u8>, ShowCounts), NoMemory>
     requires { length rows.now < 2 ^ 32 }
-    ensures { IfOk result (λ made. IsListing namespace.now rows.now made.0.items made.1) }
+    ensures { IfOk result (λ made. IsListing namespace.now rows.now (made.0.items ++ made.1.items) made.2) }
 {
-    let listing = Listing::of_rows(alloc, namespace, rows)?;
-    let counts = listing.counts;
-    let mut text = Vec::new(alloc);
-    listing_head(namespace, counts.rows - counts.refused, &mut text)?;
-    put_bytes(&mut text, &listing.lines)?;
-    Ok((text, counts))
+    let Listing { lines, counts } = Listing::of_rows(alloc, namespace, rows)?;
+    let mut head = Vec::new(alloc);
+    listing_head(namespace, counts.rows - counts.refused, &mut head)?;
+    Ok((head, lines, counts))
 }
 
 // The lines of the authorised rows so far, and the numbers of all of them.

@@ -6,4 +6,4 @@ mod outcome;
 mod stage;
 
 pub use outcome::{Done, JoinCounts, Origin, RefusedRow, ShowCounts, Stop};
-pub use stage::{INPUT_LIMIT, read_input, write_output};
+pub use stage::{INPUT_LIMIT, read_input, write_both, write_output};

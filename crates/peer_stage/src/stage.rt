@@ -1,6 +1,6 @@
 //! The stages that commands share: reading the input and writing the output.
 
-ghost use Rattle.std.specs.Prelude.{◌≤◌};
+ghost use Rattle.std.specs.Prelude.{◌≤◌, ◌++◌};
 ghost use Rattle.peer_stage.specs.Stages.{ReadsInput, WritesOutput};
 
 use crate::outcome::{Origin, Stop};
@@ -41,4 +41,13 @@ pub fn write_output<O: Sink>(output: &mut O, bytes: &[u8]) -> Result<(), Stop>
         Err(Fault::Failed) => Err(Stop::WriteFault),
         Err(Fault::NoMemory) => Err(Stop::NoMemory),
     }
+}
+
+/// Writes all of both pieces, one behind the other, as if they were one: so that none is copied to join them.
+pub fn write_both<O: Sink>(output: &mut O, first: &[u8], behind: &[u8]) -> Result<(), Stop>
+    ensures writes { WritesOutput (O.facts output.old) (O.facts output.new) (first.now ++ behind.now) result }
+    ensures faults { (O.facts output.old).faults ≤ (O.facts output.new).faults }
+{
+    write_output(output, first)?;
+    write_output(output, behind)
 }
