@@ -3,6 +3,7 @@
 use crate::boxes::{Place, found, shared};
 use crate::lists::{Outcome, outcome_in_both};
 use crate::pairs::{Made, offer_both};
+use block_store::laws::numbering;
 use willow_entry::Placed;
 
 const STORED: Placed = Placed::Stored { pruned: 0 };
@@ -11,60 +12,62 @@ const PRUNES: Placed = Placed::Stored { pruned: 1 };
 
 const KEPT: Placed = Placed::Kept { by: 0 };
 
+// Two rows, offered one after the other: what becomes of the second, and how many rows are left.
+const PAIRS: [(Made<'static>, Made<'static>, Placed, u32); 10] = [
+    // at an extension, by time: of equal rank both stay, in either order
+    (
+        (1, b"a", 5, 1, 0x11, 0),
+        (1, b"ab", 5, 1, 0x11, 0),
+        STORED,
+        2,
+    ),
+    (
+        (1, b"ab", 5, 1, 0x11, 0),
+        (1, b"a", 5, 1, 0x11, 0),
+        STORED,
+        2,
+    ),
+    (
+        (1, b"ab", 5, 1, 0x11, 0),
+        (1, b"a", 6, 1, 0x11, 0),
+        PRUNES,
+        1,
+    ),
+    ((1, b"a", 6, 1, 0x11, 0), (1, b"ab", 5, 1, 0x11, 0), KEPT, 1),
+    // then by digest, then by length
+    (
+        (1, b"a", 5, 9, 0x11, 0),
+        (1, b"a", 5, 1, 0x12, 0),
+        PRUNES,
+        1,
+    ),
+    (
+        (1, b"a", 5, 1, 0x11, 0),
+        (1, b"a", 5, 2, 0x11, 0),
+        PRUNES,
+        1,
+    ),
+    // of one entry the greater token stays
+    (
+        (1, b"a", 5, 1, 0x11, 0),
+        (1, b"a", 5, 1, 0x11, 1),
+        PRUNES,
+        1,
+    ),
+    ((1, b"a", 5, 1, 0x11, 1), (1, b"a", 5, 1, 0x11, 0), KEPT, 1),
+    // the row itself, and one in another subspace
+    ((1, b"a", 5, 1, 0x11, 0), (1, b"a", 5, 1, 0x11, 0), KEPT, 1),
+    (
+        (1, b"ab", 5, 1, 0x11, 0),
+        (2, b"a", 6, 1, 0x11, 0),
+        STORED,
+        2,
+    ),
+];
+
 #[test]
 fn pairs_of_rows(rt: HostRuntime) {
-    let rows: [(Made, Made, Placed, u32); 10] = [
-        // at an extension, by time: of equal rank both stay, in either order
-        (
-            (1, b"a", 5, 1, 0x11, 0),
-            (1, b"ab", 5, 1, 0x11, 0),
-            STORED,
-            2,
-        ),
-        (
-            (1, b"ab", 5, 1, 0x11, 0),
-            (1, b"a", 5, 1, 0x11, 0),
-            STORED,
-            2,
-        ),
-        (
-            (1, b"ab", 5, 1, 0x11, 0),
-            (1, b"a", 6, 1, 0x11, 0),
-            PRUNES,
-            1,
-        ),
-        ((1, b"a", 6, 1, 0x11, 0), (1, b"ab", 5, 1, 0x11, 0), KEPT, 1),
-        // then by digest, then by length
-        (
-            (1, b"a", 5, 9, 0x11, 0),
-            (1, b"a", 5, 1, 0x12, 0),
-            PRUNES,
-            1,
-        ),
-        (
-            (1, b"a", 5, 1, 0x11, 0),
-            (1, b"a", 5, 2, 0x11, 0),
-            PRUNES,
-            1,
-        ),
-        // of one entry the greater token stays
-        (
-            (1, b"a", 5, 1, 0x11, 0),
-            (1, b"a", 5, 1, 0x11, 1),
-            PRUNES,
-            1,
-        ),
-        ((1, b"a", 5, 1, 0x11, 1), (1, b"a", 5, 1, 0x11, 0), KEPT, 1),
-        // the row itself, and one in another subspace
-        ((1, b"a", 5, 1, 0x11, 0), (1, b"a", 5, 1, 0x11, 0), KEPT, 1),
-        (
-            (1, b"ab", 5, 1, 0x11, 0),
-            (2, b"a", 6, 1, 0x11, 0),
-            STORED,
-            2,
-        ),
-    ];
-    for (first, second, placed, left) in &rows {
+    for (first, second, placed, left) in &PAIRS {
         assert_eq!(rt;
             offer_both(rt.alloc(), first, second),
             Some((*placed, *left))
@@ -72,37 +75,40 @@ fn pairs_of_rows(rt: HostRuntime) {
     }
 }
 
+// Of the lists 1 to 24, how many rows are kept out, the sum of the positions of the rows that they are kept
+// out by, how many are pruned and how many are left: counted by another program from what it means that a
+// row dominates another.
+const LISTS: [(u32, u32, u32, u32); 24] = [
+    (22, 87, 10, 8),
+    (25, 11, 9, 6),
+    (17, 75, 17, 6),
+    (27, 111, 2, 11),
+    (21, 25, 16, 3),
+    (19, 81, 8, 13),
+    (29, 92, 6, 5),
+    (21, 35, 14, 5),
+    (17, 90, 8, 15),
+    (14, 90, 9, 17),
+    (24, 17, 9, 7),
+    (22, 100, 9, 9),
+    (25, 89, 8, 7),
+    (26, 37, 9, 5),
+    (16, 78, 8, 16),
+    (19, 54, 10, 11),
+    (11, 36, 16, 13),
+    (21, 43, 13, 6),
+    (25, 82, 8, 7),
+    (13, 37, 16, 11),
+    (17, 29, 13, 10),
+    (26, 59, 8, 6),
+    (29, 22, 6, 5),
+    (16, 50, 10, 14),
+];
+
 #[test]
 fn lists_of_rows(rt: HostRuntime) {
-    // counted by another program from what it means that a row dominates another
-    let rows: [(u32, u32, u32, u32); 24] = [
-        (22, 87, 10, 8),
-        (25, 11, 9, 6),
-        (17, 75, 17, 6),
-        (27, 111, 2, 11),
-        (21, 25, 16, 3),
-        (19, 81, 8, 13),
-        (29, 92, 6, 5),
-        (21, 35, 14, 5),
-        (17, 90, 8, 15),
-        (14, 90, 9, 17),
-        (24, 17, 9, 7),
-        (22, 100, 9, 9),
-        (25, 89, 8, 7),
-        (26, 37, 9, 5),
-        (16, 78, 8, 16),
-        (19, 54, 10, 11),
-        (11, 36, 16, 13),
-        (21, 43, 13, 6),
-        (25, 82, 8, 7),
-        (13, 37, 16, 11),
-        (17, 29, 13, 10),
-        (26, 59, 8, 6),
-        (29, 22, 6, 5),
-        (16, 50, 10, 14),
-    ];
     let mut list = 0u64;
-    for (kept, by, pruned, left) in rows {
+    for (kept, by, pruned, left) in LISTS {
         list = list.saturating_add(1);
         let wanted = Outcome {
             kept,
@@ -114,43 +120,50 @@ fn lists_of_rows(rt: HostRuntime) {
     }
 }
 
+// An area, how many of the four rows are in its box, and their positions.
+const BOXES: [(Place<'static>, u32, [Option<u32>; 5]); 7] = [
+    (
+        (None, b"", 0, None),
+        4,
+        [Some(0), Some(1), Some(2), Some(3), None],
+    ),
+    (
+        (Some(1), b"", 0, None),
+        3,
+        [Some(0), Some(1), Some(2), None, None],
+    ),
+    (
+        (None, b"a", 0, None),
+        3,
+        [Some(0), Some(1), Some(3), None, None],
+    ),
+    (
+        (Some(1), b"ab", 0, None),
+        1,
+        [Some(1), None, None, None, None],
+    ),
+    (
+        (None, b"", 5, Some(6)),
+        2,
+        [Some(0), Some(1), None, None, None],
+    ),
+    (
+        (None, b"", 6, None),
+        2,
+        [Some(2), Some(3), None, None, None],
+    ),
+    ((Some(2), b"b", 0, None), 0, [None; 5]),
+];
+
 #[test]
 fn rows_in_boxes(rt: HostRuntime) {
-    let rows: [(Place, u32, [Option<u32>; 5]); 7] = [
-        (
-            (None, b"", 0, None),
-            4,
-            [Some(0), Some(1), Some(2), Some(3), None],
-        ),
-        (
-            (Some(1), b"", 0, None),
-            3,
-            [Some(0), Some(1), Some(2), None, None],
-        ),
-        (
-            (None, b"a", 0, None),
-            3,
-            [Some(0), Some(1), Some(3), None, None],
-        ),
-        (
-            (Some(1), b"ab", 0, None),
-            1,
-            [Some(1), None, None, None, None],
-        ),
-        (
-            (None, b"", 5, Some(6)),
-            2,
-            [Some(0), Some(1), None, None, None],
-        ),
-        (
-            (None, b"", 6, None),
-            2,
-            [Some(2), Some(3), None, None, None],
-        ),
-        ((Some(2), b"b", 0, None), 0, [None; 5]),
-    ];
-    for (place, count, positions) in &rows {
+    for (place, count, positions) in &BOXES {
         assert_eq!(rt; found(rt.alloc(), place), Some((*count, *positions)));
     }
     assert_eq!(rt; shared(rt.alloc()), Some(4));
+}
+
+#[test]
+fn the_law_of_positions_can_be_called() {
+    numbering();
 }

@@ -1,5 +1,5 @@
 -- Where an item's place is among rising items, and where a row goes among those that it leaves.
-use Rattle.std.proofs.Common.{◌≡◌, ◌⊎◌, inl, inr, ℕ, zero, suc, ◌≤◌, ◌<◌, Bool, true, false, not, List, [], ◌∷◌, ◌++◌, length, take, drop, map, get_or, filter, cond, insert, ap₂, sym, refl, ap, ◌∙◌, subst, Ordering, Less, Equal, Greater, is_lt, arith}
+use Rattle.std.proofs.Common.{◌≡◌, inl, inr, ℕ, zero, suc, ◌<◌, Bool, true, false, not, List, [], ◌∷◌, ◌++◌, length, take, drop, map, get_or, filter, cond, insert, ap₂, sym, refl, ap, ◌∙◌, subst, Ordering, Less, Equal, Greater, is_lt, arith}
 use Rattle.std.specs.List.{AllByRecursion, AllWithin, take-map, drop-map}
 use Rattle.std.specs.List.Sorted.{IsStrictlySortedBy, IsPartitionPoint, IsPartitionedBy}
 use Rattle.std.specs.Cmp.{IsTotalOrder}
@@ -8,11 +8,11 @@ use Rattle.std.proofs.lemmas.List.{map-append, take-append-drop, get_or_default}
 use Rattle.std.proofs.lemmas.List.Kept.{IsStrictlySortedBy-filter}
 use Rattle.willow_entry.specs.Pruning.{placed, pruned}
 use Rattle.willow_entry.specs.Row.{RowValue, is_dominating, place_cmp, live, HasCovering, IsCoveringAt}
-use Rattle.willow_entry.proofs.Members.{Member, contains_from_member, member_append_right, filter_member}
+use Rattle.willow_entry.proofs.Members.{Member, member_append_right, filter_member}
 use Rattle.willow_entry.proofs.Rising.{all_member, all_from_members}
 use Rattle.willow_entry.proofs.Pruning.{IsCovered}
 use Rattle.willow_entry.proofs.Ranks.{place_total}
-use Rattle.willow_entry.proofs.RowLaws.{rows_prune, covered_from_covering, covering_from_covered}
+use Rattle.willow_entry.proofs.RowLaws.{rows_prune, covering_from_covered}
 use Rattle.std.proofs.lemmas.Bool.{not-true, false≢true}
 use Rattle.willow_entry.proofs.Local.{left_of}
 use Rattle.willow_entry.proofs.Live.{live-uncovered, live-covered, live-rises, live-live}
