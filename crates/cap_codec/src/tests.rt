@@ -14,6 +14,10 @@ const DELEGATED: &str =
 const ROW: &str =
     "004e4e4e4e4e4e4e4e4e4e4e4e4e4e4e4e4e4e4e4e4e4e4e4e4e4e4e4e4e4e4e4e00555555555555555555555555555555555555555555555555555555555555555501016100000000000000050000000000000001111111111111111111111111111111111111111111111111111111111111111101004e4e4e4e4e4e4e4e4e4e4e4e4e4e4e4e4e4e4e4e4e4e4e4e4e4e4e4e4e4e4e4e005555555555555555555555555555555555555555555555555555555555555555000020c829d729f7a6d6c9e53b25700abe4e6c8e3c37cf8c4cf612ceafd4d405183ce5";
 
+// A row of 374 bytes, of which the entry has 117, under an owned capability that was handed on once.
+const OWNED_ON: &str =
+    "004f4f4f4f4f4f4f4f4f4f4f4f4f4f4f4f4f4f4f4f4f4f4f4f4f4f4f4f4f4f4f4f00555555555555555555555555555555555555555555555555555555555555555501016100000000000000050000000000000001111111111111111111111111111111111111111111111111111111111111111103004f4f4f4f4f4f4f4f4f4f4f4f4f4f4f4f4f4f4f4f4f4f4f4f4f4f4f4f4f4f4f4f0055555555555555555555555555555555555555555555555555555555555555550020be3c28b90cdd0082f1f9331d10ad6fa606b77d379992a4d798ffdac21a380a29010100555555555555555555555555555555555555555555555555555555555555555501016100000000000000030100000000000000090056565656565656565656565656565656565656565656565656565656565656560020277cb457dc79afc36782e8fa493471fa69c84ebbd2b962ce30c2b41ebf9d4af000206b600e40d0769dfb59b25bd477ecce18944a6f1679c324781fec0aa672073c41";
+
 // How many bytes a capability in front has.
 fn taken_by(alloc: Global, bytes: &[u8]) -> Option<usize> {
     match decode_capability(alloc, bytes) {
@@ -83,6 +87,46 @@ fn rows_are_read_and_spelled(rt: HostRuntime) {
     let alloc = rt.alloc();
     let bytes = hex::decode(alloc, ROW).ok();
     assert_eq!(rt; row_again(alloc, ROW), bytes);
+}
+
+// Whether the row is spelled so, and its entry has 117 of the bytes.
+fn has_bytes<R: Row>(row: &R, bytes: &[u8]) -> bool {
+    bytes.get(..117) == Some(row.entry_bytes()) && bytes.get(117..) == Some(row.token_bytes())
+}
+
+// Whether both copies of the row of these bytes are spelled so.
+fn copies_have_bytes(alloc: Global, text: &str) -> Option<bool> {
+    let bytes = hex::decode(alloc, text).ok()?;
+    let row = RawRow::decode(alloc, &bytes).ok()?;
+    let copy = row.copy().ok()?;
+    let as_row = Row::copy(&row).ok()?;
+    Some(has_bytes(&copy, &bytes) && has_bytes(&as_row, &bytes))
+}
+
+// The spelling of a copy of the token in the row of these bytes.
+fn token_again(alloc: Global, text: &str) -> Option<Vec<u8>> {
+    let bytes = hex::decode(alloc, text).ok()?;
+    let row = RawRow::decode(alloc, &bytes).ok()?;
+    let token = row.token().copy().ok()?;
+    let mut spelled = Vec::new(alloc);
+    token.encode(&mut spelled).ok()?;
+    Some(spelled)
+}
+
+// The token in the row of these bytes.
+fn token_of(alloc: Global, text: &str) -> Option<Vec<u8>> {
+    hex::decode(alloc, text.get(2 * 117..)?).ok()
+}
+
+#[test]
+fn rows_and_tokens_are_copied(rt: HostRuntime) {
+    let alloc = rt.alloc();
+    for text in [ROW, OWNED_ON] {
+        let token = token_of(alloc, text);
+        assert!(rt; token.is_some());
+        assert_eq!(rt; copies_have_bytes(alloc, text), Some(true));
+        assert_eq!(rt; token_again(alloc, text), token);
+    }
 }
 
 // The texts' bytes one behind the other.

@@ -12,6 +12,24 @@ use std::test::Fail;
 use willow_area::{Area, TimeRange};
 use willow_path::{End, NamespaceKey, Path, UserKey};
 
+// What O signs for the first user to write, made elsewhere.
+const INITIAL: [u8; 32] = [
+    0xbe, 0x3c, 0x28, 0xb9, 0x0c, 0xdd, 0x00, 0x82, 0xf1, 0xf9, 0x33, 0x1d, 0x10, 0xad, 0x6f, 0xa6,
+    0x06, 0xb7, 0x7d, 0x37, 0x99, 0x92, 0xa4, 0xd7, 0x98, 0xff, 0xda, 0xc2, 0x1a, 0x38, 0x0a, 0x29,
+];
+
+// What the first user signs to hand the communal capability on to 56 for the whole subspace, made elsewhere.
+const HANDED_COMMUNAL: [u8; 32] = [
+    0x74, 0x22, 0x51, 0x05, 0x01, 0x9b, 0xee, 0xfe, 0xfa, 0x64, 0xb5, 0x37, 0x31, 0xf5, 0xa7, 0x86,
+    0xee, 0xe8, 0x3f, 0x36, 0x27, 0xaf, 0xed, 0x6d, 0xba, 0x14, 0xb0, 0x7d, 0xa7, 0x6a, 0xab, 0xc5,
+];
+
+// What the first user signs to hand the owned capability on to 56 for times below 20, made elsewhere.
+const HANDED_OWNED: [u8; 32] = [
+    0x82, 0x4d, 0x79, 0x60, 0xa6, 0x21, 0x5f, 0x6a, 0x70, 0x8e, 0x08, 0xb8, 0xf1, 0xe7, 0x24, 0x22,
+    0x43, 0xcb, 0xf2, 0x27, 0x84, 0x68, 0xd1, 0x80, 0x6c, 0xd7, 0x98, 0x8e, 0x3c, 0xd3, 0x16, 0x0f,
+];
+
 // An open user key: 00 and 32 times the byte.
 fn user(byte: u8) -> Result<UserKey, Fail> {
     let mut bytes = [byte; 33];
@@ -160,27 +178,110 @@ fn chains(rt: HostRuntime) -> Result<(), Fail> {
     Ok(())
 }
 
-// The number of bytes of the spelling of a copy.
-fn spelled_len(capability: &Capability) -> Result<usize, Fail> {
+// The bytes of an open key.
+fn key(byte: u8) -> [u8; 33] {
+    let mut bytes = [byte; 33];
+    bytes[0] = 0;
+    bytes
+}
+
+// The parts one behind the other.
+fn joined(alloc: Global, parts: &[&[u8]]) -> Result<Vec<u8>, Fail> {
+    let mut bytes = Vec::new(alloc);
+    for part in parts {
+        bytes.extend_from_slice(part)?;
+    }
+    Ok(bytes)
+}
+
+// The spelling of a copy.
+fn copy_spelled(capability: &Capability) -> Result<Vec<u8>, Fail> {
     let mut text = Vec::new(capability.chain.allocator());
     capability.copy()?.encode(&mut text)?;
-    Ok(text.len())
+    Ok(text)
+}
+
+// The spelling of the granted area.
+fn grant_spelled(capability: &Capability) -> Result<Vec<u8>, Fail> {
+    let mut text = Vec::new(capability.chain.allocator());
+    capability.granted_area()?.encode(&mut text)?;
+    Ok(text)
+}
+
+// Whether a capability without delegations has these bytes before their number, and this grant.
+fn begins(capability: &Capability, head: &[u8], grant: &[u8]) -> Result<bool, Fail> {
+    let due = joined(capability.chain.allocator(), &[head, &[0]])?;
+    Ok(copy_spelled(capability)? == due && grant_spelled(capability)?.as_slice() == grant)
+}
+
+// Whether these are the bytes of what is signed to hand a capability without delegations on.
+fn is_handed(
+    capability: &Capability,
+    area: &Area,
+    head: &[u8],
+    grant: &[u8],
+) -> Result<bool, Fail> {
+    let parts: [&[u8]; 5] = [b"H", head, &[0], grant, &key(0x56)];
+    let due = joined(capability.chain.allocator(), &parts)?;
+    Ok(capability.handover(area, &user(0x56)?)? == due)
+}
+
+// Whether a capability with one delegation, signed so, has these bytes and this grant.
+fn goes_on(
+    capability: &Capability,
+    head: &[u8],
+    grant: &[u8],
+    signed: &[u8],
+) -> Result<bool, Fail> {
+    let parts: [&[u8]; 5] = [head, &[1], grant, &key(0x56), &[0, 32]];
+    let mut due = joined(capability.chain.allocator(), &parts)?;
+    due.extend_from_slice(signed)?;
+    Ok(copy_spelled(capability)? == due && grant_spelled(capability)?.as_slice() == grant)
+}
+
+// Whether the capability, handed on for the area with this signature, is spelled so before and after.
+fn is_spelled(
+    mut capability: Capability,
+    area: Area,
+    head: &[u8],
+    grants: [&[u8]; 2],
+    signed: &[u8],
+) -> Result<bool, Fail> {
+    let before = begins(&capability, head, grants[0])?;
+    let handed = is_handed(&capability, &area, head, grants[1])?;
+    let signature = Vec::from_slice(capability.chain.allocator(), signed)?;
+    append(&mut capability, area, 0x56, signature)?;
+    let after = goes_on(&capability, head, grants[1], signed)?;
+    Ok(before && handed && after && refused(&capability)?.is_none())
 }
 
 #[test]
-fn spellings(rt: HostRuntime) -> Result<(), Fail> {
-    let mut capability = first(rt.alloc(), 0x4e, None)?;
-    assert_eq!(rt; spelled_len(&capability)?, 68);
+fn communal_spellings(rt: HostRuntime) -> Result<(), Fail> {
+    let alloc = rt.alloc();
+    let capability = first(alloc, 0x4e, None)?;
     let area = capability.granted_area()?;
-    let message = capability.handover(&area, &user(0x56)?)?;
-    assert_eq!(rt; message.len(), 1 + 68 + 44 + 33);
-    append(
-        &mut capability,
-        area,
-        0x56,
-        signed(rt.alloc(), 0x55, &message)?,
+    let head = joined(alloc, &[&[1], &key(0x4e), &key(0x55)])?;
+    let subspace = joined(alloc, &[&[1], &key(0x55), &[0; 10]])?;
+    let grants: [&[u8]; 2] = [&subspace, &subspace];
+    assert!(rt; is_spelled(capability, area, &head, grants, &HANDED_COMMUNAL)?);
+    Ok(())
+}
+
+#[test]
+fn owned_spellings(rt: HostRuntime) -> Result<(), Fail> {
+    let alloc = rt.alloc();
+    let capability = first(alloc, 0x4f, Some(0x4f))?;
+    let head = joined(alloc, &[&[3], &key(0x4f), &key(0x55), &[0, 32], &INITIAL])?;
+    let area = joined(
+        alloc,
+        &[&[1], &key(0x55), &[0; 9], &[1, 0, 0, 0, 0, 0, 0, 0, 20]],
     )?;
-    assert_eq!(rt; spelled_len(&capability)?, 179);
+    let grants: [&[u8]; 2] = [&[0; 11], &area];
+    assert!(rt; is_spelled(capability, until(alloc, 20)?, &head, grants, &HANDED_OWNED)?);
+    assert_eq!(rt;
+        initial_signature(alloc, 0x4f)?.into_vec().as_slice(),
+        INITIAL.as_slice()
+    );
     Ok(())
 }
 
