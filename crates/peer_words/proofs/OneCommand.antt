@@ -1,16 +1,20 @@
 -- Words spell one command.
 use Rattle.std.proofs.Common.{◌≡◌, ℕ, List, [], ◌∷◌, ◌++◌, length, get_or, take, drop, ◌==◌, Option, Some, None, String, codes, refl, sym, ap, ◌∙◌, arith, subst}
+use Rattle.std.specs.Prelude.{Bool, true, false, not, is_some}
+use Rattle.std.proofs.lemmas.Bool.{false≢true}
 use Rattle.std.specs.List.{position_or_len}
 use Rattle.std.specs.declared.alloc.Global.{Global}
 use Rattle.hex.specs.Hex.{decode_of, decode_sized}
 use Rattle.hex.proofs.HexLemmas.{decode_sized-ok}
 use Rattle.lms_core.specs.declared.height.Height.TheVariants.{H5, H10}
+use Rattle.mc_cap.specs.declared.capability.Mode.{Mode}
 use Rattle.mc_cap.specs.declared.capability.Mode.TheVariants as mode
+use Rattle.scheme_core.specs.Open.{is_communal}
 use Rattle.willow_path.specs.declared.key.Digest.{Digest}
 use Rattle.peer_words.specs.Alike.{AreSameText, AreSameSigner, AreSameIfAny, AreAlike}
 use Rattle.peer_words.specs.Areas.{HasArea}
-use Rattle.peer_words.specs.Commands.{verb_of, HasValues, IsOf, IsWords}
-use Rattle.peer_words.specs.Options.{Setting, value_of, Gives, MayGive}
+use Rattle.peer_words.specs.Commands.{verb_of, HasGrant, HasValues, IsOf, IsWords}
+use Rattle.peer_words.specs.Options.{Setting, HaveOwnNames, Gives, MayGive}
 use Rattle.peer_words.specs.Signers.{IsSignerWord}
 use Rattle.peer_words.specs.Values.{IsKeyWord, IsAnyOrKey, IsDigestWord, IsNumber, IsNumberOrNone, IsNumberWithin, IsCount, IsLinks, IsNameWord, IsPlaceWord, IsHeight, IsMode, AreParts, IsPathWord}
 use Rattle.peer_words.specs.declared.command.AreaWords.{AreaWords}
@@ -20,7 +24,7 @@ use Rattle.peer_words.specs.declared.command.SignerWord.{SignerWord}
 use Rattle.peer_words.specs.declared.command.SignerWord.TheVariants.{OpenKey, LmsFile}
 use Rattle.peer_words.proofs.Fields.{of_join, of_show, of_key, of_grant, of_delegate, of_write, of_generate, of_drill, of_meet, of_sync, of_serve, of_watch}
 use Rattle.peer_words.proofs.Numbers.{one_number}
-use Rattle.peer_words.proofs.OneValue.{IsSingle, gives_same, none_some, gives_one, may_give_one, one_end}
+use Rattle.peer_words.proofs.OneValue.{IsSingle, gives_same, gives_one, may_give_one, one_end}
 use Rattle.peer_words.proofs.PathWords.{opened, same_ok}
 use Rattle.peer_words.proofs.SignerWords.{behind_open, behind_lms, apart}
 use Rattle.peer_words.proofs.WholeWords.{is_of}
@@ -105,13 +109,13 @@ one_path word (x ∷ xs) (y ∷ ys) a b = one_parts word (x ∷ xs) (y ∷ ys) a
 made : Option (Option (List ℕ)) → Option (List (List ℕ)) → Option ℕ → Option (Option ℕ) → AreaWords
 made s u f t = record { subspace = s; under = u; from = f; until = t }
 
-one_area : (settings : List Setting) (a b : AreaWords) → HasArea settings a → HasArea settings b → a ≡ b
+one_area : (settings : List Setting) → HaveOwnNames settings → (a b : AreaWords) → HasArea settings a → HasArea settings b → a ≡ b
 unfolding made
-one_area settings a b x y =
-    let subspace = may_give_one IsAnyOrKey one_any settings (codes "--subspace") a.subspace b.subspace x.any_or_key y.any_or_key in
-    let under = may_give_one IsPathWord one_path settings (codes "--under") a.under b.under x.path y.path in
-    let start = may_give_one IsNumber one_number settings (codes "--from") a.from b.from x.start y.start in
-    let end = may_give_one IsNumberOrNone one_end settings (codes "--until") a.until b.until x.end y.end in
+one_area settings own a b x y =
+    let subspace = may_give_one IsAnyOrKey one_any settings own (codes "--subspace") a.subspace b.subspace x.any_or_key y.any_or_key in
+    let under = may_give_one IsPathWord one_path settings own (codes "--under") a.under b.under x.path y.path in
+    let start = may_give_one IsNumber one_number settings own (codes "--from") a.from b.from x.start y.start in
+    let end = may_give_one IsNumberOrNone one_end settings own (codes "--until") a.until b.until x.end y.end in
     ap (λ (s : Option (Option (List ℕ))). made s a.under a.from a.until) subspace ∙
     (ap (λ (u : Option (List (List ℕ))). made b.subspace u a.from a.until) under ∙
     (ap (λ (f : Option ℕ). made b.subspace b.under f a.until) start ∙
@@ -119,84 +123,101 @@ one_area settings a b x y =
 
 -- ---- each command
 
-key_there : (settings : List Setting) (name : List ℕ) (x y : List ℕ) → Gives IsKeyWord settings name x → Gives IsKeyWord settings name y → x ≡ y
+key_there : (settings : List Setting) → HaveOwnNames settings → (name : List ℕ) (x y : List ℕ) → Gives IsKeyWord settings name x → Gives IsKeyWord settings name y → x ≡ y
 key_there = gives_one IsKeyWord one_key
 
-number_there : (settings : List Setting) (name : List ℕ) (x y : ℕ) → Gives IsNumber settings name x → Gives IsNumber settings name y → x ≡ y
+number_there : (settings : List Setting) → HaveOwnNames settings → (name : List ℕ) (x y : ℕ) → Gives IsNumber settings name x → Gives IsNumber settings name y → x ≡ y
 number_there = gives_one IsNumber one_number
 
-name_there : (settings : List Setting) (name : List ℕ) (x y : String Global) → Gives IsNameWord settings name x → Gives IsNameWord settings name y → AreSameText x y
+name_there : (settings : List Setting) → HaveOwnNames settings → (name : List ℕ) (x y : String Global) → Gives IsNameWord settings name x → Gives IsNameWord settings name y → AreSameText x y
 name_there = gives_same AreSameText IsNameWord one_name
 
-place_there : (settings : List Setting) (name : List ℕ) (x y : String Global) → Gives IsPlaceWord settings name x → Gives IsPlaceWord settings name y → AreSameText x y
+place_there : (settings : List Setting) → HaveOwnNames settings → (name : List ℕ) (x y : String Global) → Gives IsPlaceWord settings name x → Gives IsPlaceWord settings name y → AreSameText x y
 place_there = gives_same AreSameText IsPlaceWord one_place
 
-signer_there : (settings : List Setting) (name : List ℕ) (x y : SignerWord) → Gives IsSignerWord settings name x → Gives IsSignerWord settings name y → AreSameSigner x y
+signer_there : (settings : List Setting) → HaveOwnNames settings → (name : List ℕ) (x y : SignerWord) → Gives IsSignerWord settings name x → Gives IsSignerWord settings name y → AreSameSigner x y
 signer_there = gives_same AreSameSigner IsSignerWord one_signer
 
-signer_if_there : (settings : List Setting) (name : List ℕ) (x y : Option SignerWord) → MayGive IsSignerWord settings name x → MayGive IsSignerWord settings name y → AreSameIfAny x y
-signer_if_there settings name None None a b = tt
-signer_if_there settings name None (Some y) a b = none_some (value_of name settings) b.0 a b.1
-signer_if_there settings name (Some x) None a b = none_some (value_of name settings) a.0 b a.1
-signer_if_there settings name (Some x) (Some y) a b = signer_there settings name x y a b
+signer_if_there : (settings : List Setting) → HaveOwnNames settings → (name : List ℕ) (x y : Option SignerWord) → MayGive IsSignerWord settings name x → MayGive IsSignerWord settings name y → AreSameIfAny x y
+signer_if_there settings own name None None a b = tt
+signer_if_there settings own name None (Some y) a b = a b.0 b.1
+signer_if_there settings own name (Some x) None a b = b a.0 a.1
+signer_if_there settings own name (Some x) (Some y) a b = signer_there settings own name x y a b
 
-alike : (settings : List Setting) (one other : Command) → HasValues settings one → IsOf (verb_of one) settings other → AreAlike one other
-alike s (cmd.Join a) other has is = of_join (AreAlike (cmd.Join a)) s other is (λ b had. key_there s (codes "--namespace") a b has had)
-alike s (cmd.Show a) other has is = of_show (AreAlike (cmd.Show a)) s other is (λ b had. may_give_one IsCount (one_within 1 65536) s (codes "--newest") a b has had)
-alike s (cmd.Key a h) other has is = of_key (AreAlike (cmd.Key a h)) s other is (λ b i had. (
-  name_there s (codes "--name") a b has.name_given had.name_given,
-  gives_one IsHeight one_height s (codes "--height") h i has.height_given had.height_given,
+not_itself : (b : Bool) → b ≡ not b → ⊥
+not_itself true same = false≢true (sym same)
+not_itself false same = false≢true same
+
+some_alike : (a b : Option SignerWord) → AreSameIfAny a b → is_some a ≡ is_some b
+some_alike None None same = refl
+some_alike (Some a) (Some b) same = refl
+some_alike None (Some b) same = absurd same
+some_alike (Some a) None same = absurd same
+
+-- where options give a signer just where the namespace that they give is communal, they grant nothing
+pub not_granted : (settings : List Setting) → HaveOwnNames settings → (n : List ℕ) (k : Option SignerWord) → Gives IsKeyWord settings (codes "--namespace") n → MayGive IsSignerWord settings (codes "--key") k
+    → is_some k ≡ is_communal n → (m : List ℕ) (mode : Mode) (user : List ℕ) (l : Option SignerWord) → HasGrant settings m mode user l → ⊥
+not_granted settings own n k namespace_given key_given same m mode user l has =
+    not_itself (is_communal n) (sym same ∙ (some_alike k l (signer_if_there settings own (codes "--key") k l key_given has.key_given) ∙
+    (has.key_due ∙ ap (λ (key : List ℕ). not (is_communal key)) (key_there settings own (codes "--namespace") m n has.namespace_given namespace_given))))
+
+alike : (settings : List Setting) → HaveOwnNames settings → (one other : Command) → HasValues settings one → IsOf (verb_of one) settings other → AreAlike one other
+alike s own (cmd.Join a) other has is = of_join (AreAlike (cmd.Join a)) s other is (λ b had. key_there s own (codes "--namespace") a b has had)
+alike s own (cmd.Show a) other has is = of_show (AreAlike (cmd.Show a)) s other is (λ b had. may_give_one IsCount (one_within 1 65536) s own (codes "--newest") a b has had)
+alike s own (cmd.Key a h) other has is = of_key (AreAlike (cmd.Key a h)) s other is (λ b i had. (
+  name_there s own (codes "--name") a b has.name_given had.name_given,
+  gives_one IsHeight one_height s own (codes "--height") h i has.height_given had.height_given,
 ))
-alike s (cmd.Grant a m u k) other has is = of_grant (AreAlike (cmd.Grant a m u k)) s other is (λ b n v l had. (
-  key_there s (codes "--namespace") a b has.namespace_given had.namespace_given,
-  gives_one IsMode one_mode s (codes "--mode") m n has.mode_given had.mode_given,
-  key_there s (codes "--user") u v has.user_given had.user_given,
-  signer_if_there s (codes "--key") k l has.key_given had.key_given,
+alike s own (cmd.Grant a m u k) other has is = of_grant (AreAlike (cmd.Grant a m u k)) s other is (λ b n v l had. (
+  key_there s own (codes "--namespace") a b has.namespace_given had.namespace_given,
+  gives_one IsMode one_mode s own (codes "--mode") m n has.mode_given had.mode_given,
+  key_there s own (codes "--user") u v has.user_given had.user_given,
+  signer_if_there s own (codes "--key") k l has.key_given had.key_given,
 ))
-alike s (cmd.Delegate k u a) other has is = of_delegate (AreAlike (cmd.Delegate k u a)) s other is (λ l v b had. (
-  signer_there s (codes "--key") k l has.key_given had.key_given,
-  key_there s (codes "--to") u v has.to_given had.to_given,
-  one_area s a b has.area_given had.area_given,
+alike s own (cmd.Delegate k u a) other has is = of_delegate (AreAlike (cmd.Delegate k u a)) s other is (λ l v b had. (
+  signer_there s own (codes "--key") k l has.key_given had.key_given,
+  key_there s own (codes "--to") u v has.to_given had.to_given,
+  one_area s own a b has.area_given had.area_given,
 ))
-alike s (cmd.Write k p t n d r) other has is = of_write (AreAlike (cmd.Write k p t n d r)) s other is (λ l q u m e v had. (
-  signer_there s (codes "--key") k l has.key_given had.key_given,
-  gives_one IsPathWord one_path s (codes "--path") p q has.path_given had.path_given,
-  number_there s (codes "--time") t u has.time_given had.time_given,
-  number_there s (codes "--length") n m has.length_given had.length_given,
-  gives_one IsDigestWord one_digest s (codes "--digest") d e has.digest_given had.digest_given,
-  may_give_one IsKeyWord one_key s (codes "--subspace") r v has.subspace_given had.subspace_given,
+alike s own (cmd.Write k p t n d r) other has is = of_write (AreAlike (cmd.Write k p t n d r)) s other is (λ l q u m e v had. (
+  signer_there s own (codes "--key") k l has.key_given had.key_given,
+  gives_one IsPathWord one_path s own (codes "--path") p q has.path_given had.path_given,
+  number_there s own (codes "--time") t u has.time_given had.time_given,
+  number_there s own (codes "--length") n m has.length_given had.length_given,
+  gives_one IsDigestWord one_digest s own (codes "--digest") d e has.digest_given had.digest_given,
+  may_give_one IsKeyWord one_key s own (codes "--subspace") r v has.subspace_given had.subspace_given,
 ))
-alike s (cmd.Gen a) other has is = of_generate (AreAlike (cmd.Gen a)) s other is (λ b had. gives_one IsCount (one_within 1 65536) s (codes "--rows") a b has had)
-alike s (cmd.Drill a) other has is = of_drill (AreAlike (cmd.Drill a)) s other is (λ b had. gives_one IsCount (one_within 1 65536) s (codes "--rows") a b has had)
-alike s (cmd.Meet a b c d e f g) other has is = of_meet (AreAlike (cmd.Meet a b c d e f g)) s other is (λ h i j k l m n had. (
-  name_there s (codes "--left") a h has.left_given had.left_given,
-  name_there s (codes "--right") b i has.right_given had.right_given,
-  name_there s (codes "--left-cap") c j has.left_cap_given had.left_cap_given,
-  name_there s (codes "--right-cap") d k has.right_cap_given had.right_cap_given,
-  name_there s (codes "--left-out") e l has.left_out_given had.left_out_given,
-  name_there s (codes "--right-out") f m has.right_out_given had.right_out_given,
-  one_area s g n has.area_given had.area_given,
+alike s own (cmd.Gen a) other has is = of_generate (AreAlike (cmd.Gen a)) s other is (λ b had. gives_one IsCount (one_within 1 65536) s own (codes "--rows") a b has had)
+alike s own (cmd.Drill a) other has is = of_drill (AreAlike (cmd.Drill a)) s other is (λ b had. gives_one IsCount (one_within 1 65536) s own (codes "--rows") a b has had)
+alike s own (cmd.Meet a b c d e f g) other has is = of_meet (AreAlike (cmd.Meet a b c d e f g)) s other is (λ h i j k l m n had. (
+  name_there s own (codes "--left") a h has.left_given had.left_given,
+  name_there s own (codes "--right") b i has.right_given had.right_given,
+  name_there s own (codes "--left-cap") c j has.left_cap_given had.left_cap_given,
+  name_there s own (codes "--right-cap") d k has.right_cap_given had.right_cap_given,
+  name_there s own (codes "--left-out") e l has.left_out_given had.left_out_given,
+  name_there s own (codes "--right-out") f m has.right_out_given had.right_out_given,
+  one_area s own g n has.area_given had.area_given,
 ))
-alike s (cmd.Sync a b c d e) other has is = of_sync (AreAlike (cmd.Sync a b c d e)) s other is (λ f g h i j had. (
-  name_there s (codes "--image") a f has.image_given had.image_given,
-  name_there s (codes "--cap") b g has.cap_given had.cap_given,
-  signer_there s (codes "--key") c h has.key_given had.key_given,
-  place_there s (codes "--to") d i has.to_given had.to_given,
-  one_area s e j has.area_given had.area_given,
+alike s own (cmd.Sync a b c d e) other has is = of_sync (AreAlike (cmd.Sync a b c d e)) s other is (λ f g h i j had. (
+  name_there s own (codes "--image") a f has.image_given had.image_given,
+  name_there s own (codes "--cap") b g has.cap_given had.cap_given,
+  signer_there s own (codes "--key") c h has.key_given had.key_given,
+  place_there s own (codes "--to") d i has.to_given had.to_given,
+  one_area s own e j has.area_given had.area_given,
 ))
-alike s (cmd.Serve a b c d e f) other has is = of_serve (AreAlike (cmd.Serve a b c d e f)) s other is (λ g h i j k l had. (
-  name_there s (codes "--image") a g has.image_given had.image_given,
-  name_there s (codes "--cap") b h has.cap_given had.cap_given,
-  signer_there s (codes "--key") c i has.key_given had.key_given,
-  place_there s (codes "--at") d j has.at_given had.at_given,
-  gives_one IsLinks (one_within 1 64) s (codes "--links") e k has.links_given had.links_given,
-  one_area s f l has.area_given had.area_given,
+alike s own (cmd.Serve a b c d e f) other has is = of_serve (AreAlike (cmd.Serve a b c d e f)) s other is (λ g h i j k l had. (
+  name_there s own (codes "--image") a g has.image_given had.image_given,
+  name_there s own (codes "--cap") b h has.cap_given had.cap_given,
+  signer_there s own (codes "--key") c i has.key_given had.key_given,
+  place_there s own (codes "--at") d j has.at_given had.at_given,
+  gives_one IsLinks (one_within 1 64) s own (codes "--links") e k has.links_given had.links_given,
+  one_area s own f l has.area_given had.area_given,
 ))
-alike s (cmd.Watch a b) other has is = of_watch (AreAlike (cmd.Watch a b)) s other is (λ c d had. (
-  name_there s (codes "--image") a c has.image_given had.image_given,
-  one_area s b d has.area_given had.area_given,
+alike s own (cmd.Watch a b) other has is = of_watch (AreAlike (cmd.Watch a b)) s other is (λ c d had. (
+  name_there s own (codes "--image") a c has.image_given had.image_given,
+  one_area s own b d has.area_given had.area_given,
 ))
 
 -- two commands that the same words spell have the same fields
 pub at_most_one : (words : List (List ℕ)) (one other : Command) → IsWords words one → IsWords words other → AreAlike one other
-at_most_one words one other a b = alike a.settings one other a.values (is_of words a.word a.others (verb_of one) a.settings other a.spelled a.named a.options b)
+at_most_one words one other a b = alike a.settings a.options.are_settings.once one other a.values (is_of words a.word a.others (verb_of one) a.settings other a.spelled a.named a.options b)

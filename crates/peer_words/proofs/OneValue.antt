@@ -4,33 +4,28 @@ use Rattle.std.specs.Option.{option_eq}
 use Rattle.std.proofs.lemmas.Bool.{false≢true}
 use Rattle.std.proofs.lemmas.Bool.Decides.{nat_tests}
 use Rattle.peer_words.specs.Areas.{AreRising}
-use Rattle.peer_words.specs.Options.{Setting, value_of, Gives, MayGive}
+use Rattle.peer_words.specs.Options.{Setting, HaveOwnNames, Gives, MayGive}
 use Rattle.peer_words.specs.Values.{IsNumber, IsNumberOrNone}
 use Rattle.peer_words.proofs.Numbers.{one_number, not_letter}
+use Rattle.peer_words.proofs.SetOnce.{one_word}
 
 -- a word of the form stands for one x
 abbrev pub IsSingle : {A : Type 0} → (List ℕ → A → Type 0) → Type 0
 IsSingle {A} P = (word : List ℕ) (x y : A) → P word x → P word y → x ≡ y
 
-some_same : {A : Type 0} (o : Option A) (x y : A) → o ≡ Some x → o ≡ Some y → x ≡ y
-some_same o x y p q = cc
+-- what a name gives twice is alike, where each name stands once
+pub gives_same : {A : Type 0} (R : A → A → Type 0) (P : List ℕ → A → Type 0) → ((word : List ℕ) (x y : A) → P word x → P word y → R x y) → (settings : List Setting) → HaveOwnNames settings → (name : List ℕ) (x y : A) → Gives P settings name x → Gives P settings name y → R x y
+gives_same R P one settings own name x y a b =
+    one b.0 x y (subst (λ (word : List ℕ). P word x) (one_word settings own name a.0 b.0 a.1 b.1) a.2) b.2
 
-pub none_some : {A : Type 0} (o : Option A) (x : A) → o ≡ None → o ≡ Some x → ⊥
-none_some o x p q = cc
+pub gives_one : {A : Type 0} (P : List ℕ → A → Type 0) → IsSingle P → (settings : List Setting) → HaveOwnNames settings → (name : List ℕ) (x y : A) → Gives P settings name x → Gives P settings name y → x ≡ y
+gives_one P one settings own name x y a b = gives_same (λ v w. v ≡ w) P one settings own name x y a b
 
--- what a name gives twice is alike
-pub gives_same : {A : Type 0} (R : A → A → Type 0) (P : List ℕ → A → Type 0) → ((word : List ℕ) (x y : A) → P word x → P word y → R x y) → (settings : List Setting) (name : List ℕ) (x y : A) → Gives P settings name x → Gives P settings name y → R x y
-gives_same R P one settings name x y a b =
-    one b.0 x y (subst (λ (word : List ℕ). P word x) (some_same (value_of name settings) a.0 b.0 a.1 b.1) a.2) b.2
-
-pub gives_one : {A : Type 0} (P : List ℕ → A → Type 0) → IsSingle P → (settings : List Setting) (name : List ℕ) (x y : A) → Gives P settings name x → Gives P settings name y → x ≡ y
-gives_one P one settings name x y a b = gives_same (λ v w. v ≡ w) P one settings name x y a b
-
-pub may_give_one : {A : Type 0} (P : List ℕ → A → Type 0) → IsSingle P → (settings : List Setting) (name : List ℕ) (x y : Option A) → MayGive P settings name x → MayGive P settings name y → x ≡ y
-may_give_one P one settings name None None a b = refl
-may_give_one P one settings name None (Some y) a b = absurd (none_some (value_of name settings) b.0 a b.1)
-may_give_one P one settings name (Some x) None a b = absurd (none_some (value_of name settings) a.0 b a.1)
-may_give_one P one settings name (Some x) (Some y) a b = ap Some (gives_one P one settings name x y a b)
+pub may_give_one : {A : Type 0} (P : List ℕ → A → Type 0) → IsSingle P → (settings : List Setting) → HaveOwnNames settings → (name : List ℕ) (x y : Option A) → MayGive P settings name x → MayGive P settings name y → x ≡ y
+may_give_one P one settings own name None None a b = refl
+may_give_one P one settings own name None (Some y) a b = absurd (a b.0 b.1)
+may_give_one P one settings own name (Some x) None a b = absurd (b a.0 a.1)
+may_give_one P one settings own name (Some x) (Some y) a b = ap Some (gives_one P one settings own name x y a b)
 
 pub one_end : IsSingle IsNumberOrNone
 one_end word None None a b = refl
@@ -39,13 +34,13 @@ one_end word (Some n) None a b = absurd (not_letter word (ap (λ (w : List ℕ).
 one_end word (Some n) (Some m) a b = ap Some (one_number word n m a b)
 
 -- the times that options give rise or do not
-pub times_are : (settings : List Setting) (start : Option ℕ) (end : Option (Option ℕ)) (other : Option ℕ) (later : Option (Option ℕ))
+pub times_are : (settings : List Setting) → HaveOwnNames settings → (start : Option ℕ) (end : Option (Option ℕ)) (other : Option ℕ) (later : Option (Option ℕ))
     → MayGive IsNumber settings (codes "--from") start → MayGive IsNumberOrNone settings (codes "--until") end
     → MayGive IsNumber settings (codes "--from") other → MayGive IsNumberOrNone settings (codes "--until") later
     → AreRising other later → AreRising start end
-times_are settings start end other later a b c d rising =
-    subst (λ (s : Option ℕ). AreRising s end) (may_give_one IsNumber one_number settings (codes "--from") other start c a)
-    (subst (λ (e : Option (Option ℕ)). AreRising other e) (may_give_one IsNumberOrNone one_end settings (codes "--until") later end d b) rising)
+times_are settings own start end other later a b c d rising =
+    subst (λ (s : Option ℕ). AreRising s end) (may_give_one IsNumber one_number settings own (codes "--from") other start c a)
+    (subst (λ (e : Option (Option ℕ)). AreRising other e) (may_give_one IsNumberOrNone one_end settings own (codes "--until") later end d b) rising)
 
 -- an end that passes the test for 0 is 0
 pub ends_at_0 : (end : Option (Option ℕ)) → true ≡ option_eq (option_eq eqb) end (Some (Some 0)) → end ≡ Some (Some 0)
@@ -54,6 +49,6 @@ ends_at_0 (Some None) test = absurd (false≢true (sym test))
 ends_at_0 (Some (Some n)) test = let zero : n ≡ 0 = grind (arith, nat_tests) in ap (λ (m : ℕ). Some (Some m)) zero
 
 -- so it is, where the options give it
-pub given_end : (settings : List Setting) (end read : Option (Option ℕ)) → MayGive IsNumberOrNone settings (codes "--until") end → MayGive IsNumberOrNone settings (codes "--until") read
+pub given_end : (settings : List Setting) → HaveOwnNames settings → (end read : Option (Option ℕ)) → MayGive IsNumberOrNone settings (codes "--until") end → MayGive IsNumberOrNone settings (codes "--until") read
     → true ≡ option_eq (option_eq eqb) read (Some (Some 0)) → end ≡ Some (Some 0)
-given_end settings end read a b test = may_give_one IsNumberOrNone one_end settings (codes "--until") end read a b ∙ ends_at_0 read test
+given_end settings own end read a b test = may_give_one IsNumberOrNone one_end settings own (codes "--until") end read a b ∙ ends_at_0 read test

@@ -5,7 +5,8 @@ use Rattle.std.specs.declared.alloc.Global.{Global}
 use Rattle.spelling.specs.declared.ending.End.{End}
 use Rattle.spelling.specs.declared.ending.End.TheVariants as ends
 use Rattle.peer_words.specs.Commands.{verb_of, HasValues, IsOf, IsWords, ReadsWords}
-use Rattle.peer_words.specs.Options.{Setting, settings_of, IsSpelled}
+use Rattle.peer_words.specs.Options.{Setting, IsSpelled}
+use Rattle.peer_words.specs.Pairs.{settings_of}
 use Rattle.peer_words.specs.Verbs.{verb_at, names_of}
 use Rattle.peer_words.specs.Words.{texts, Reads}
 use Rattle.peer_words.specs.declared.command.Command.{Command}

@@ -1,5 +1,6 @@
 pub mod Words
 pub mod Options
+pub mod Pairs
 pub mod Verbs
 pub mod Values
 pub mod Signers

@@ -1,7 +1,5 @@
 -- Options: pairs of words, a name and a value, behind the word of a command.
-use Rattle.std.specs.Prelude.{◌≡◌, ℕ, Bool, true, false, ◌&&◌, not, List, [], ◌∷◌, Option, Some, None, is_some, if◌then◌else◌, ◌==◌, IsTrue, flat_map}
-use Rattle.std.specs.List.{list_any}
-use Rattle.std.specs.Str.{bytes_eq}
+use Rattle.std.specs.Prelude.{◌≡◌, ◌≢◌, ℕ, ◌<◌, List, [], ◌∷◌, length, slice_index, Option, Some, None, All, AllPairs, Contains, flat_map}
 
 -- an option that is set: its name and its value
 pub record Setting : Type 0 where
@@ -12,38 +10,35 @@ pub record Setting : Type 0 where
 abbrev pub setting_words : Setting → List (List ℕ)
 setting_words setting = setting.name ∷ setting.value ∷ []
 
--- the settings of words that come in pairs
-abbrev pub settings_of : List (List ℕ) → List Setting
-settings_of [] = []
-settings_of (word ∷ []) = []
-settings_of (name ∷ value ∷ rest) = record { name = name; value = value } ∷ settings_of rest
+-- a word that may stand as a value: it has a byte, and the first is not `-`
+pub record IsValue (word : List ℕ) : Type 0 where
+  pub some : 0 < length word
+  pub plain : slice_index word 0 ≢ 45
 
--- the value behind a name
-abbrev pub value_of : List ℕ → List Setting → Option (List ℕ)
-value_of name [] = None
-value_of name (setting ∷ others) = if bytes_eq setting.name name then Some setting.value else value_of name others
+-- no two settings have one name
+abbrev pub HaveOwnNames : List Setting → Type 0
+HaveOwnNames settings = AllPairs (λ (one later : Setting). one.name ≢ later.name) settings
 
--- whether the word may stand as a value: it has a byte, and the first is not `-`
-abbrev pub is_value : List ℕ → Bool
-is_value [] = false
-is_value (first ∷ others) = not (first == 45)
+-- each name is one of these, no name stands twice, and each value may stand
+pub record AreSettings (names : List (List ℕ)) (settings : List Setting) : Type 0 where
+  pub named : All (λ (setting : Setting). Contains names setting.name) settings
+  pub once : HaveOwnNames settings
+  pub valued : All (λ (setting : Setting). IsValue setting.value) settings
 
--- whether each name is one of these, with a value behind it, and stands once
-abbrev pub are_settings : List (List ℕ) → List Setting → Bool
-are_settings names [] = true
-are_settings names (setting ∷ others) =
-    list_any (λ name. bytes_eq name setting.name) names && (is_value setting.value && (not (is_some (value_of setting.name others)) && are_settings names others))
-
--- the words are the settings one after another, under these names, each at most once
+-- the words are such settings one after another, in any order
 pub record IsSpelled (names words : List (List ℕ)) (settings : List Setting) : Type 0 where
   pub spelled : words ≡ flat_map setting_words settings
-  pub fit : IsTrue (are_settings names settings)
+  pub are_settings : AreSettings names settings
+
+-- the name is set to the word
+abbrev pub IsSet : List Setting → List ℕ → List ℕ → Type 0
+IsSet settings name word = Contains {X = Setting} settings (record { name = name; value = word })
 
 -- the value behind the name is a word of the form P for x
 abbrev pub Gives : {A : Type 0} → (List ℕ → A → Type 0) → List Setting → List ℕ → A → Type 0
-Gives P settings name x = (word : List ℕ) × (value_of name settings ≡ Some word) × P word x
+Gives P settings name x = (word : List ℕ) × IsSet settings name word × P word x
 
 -- the same where there is an x, and where there is none the name does not stand
 abbrev pub MayGive : {A : Type 0} → (List ℕ → A → Type 0) → List Setting → List ℕ → Option A → Type 0
-MayGive P settings name None = value_of name settings ≡ None
+MayGive P settings name None = (word : List ℕ) → IsSet settings name word → ⊥
 MayGive P settings name (Some x) = Gives P settings name x

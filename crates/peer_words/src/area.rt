@@ -25,6 +25,7 @@ pub(crate) fn area_of(alloc: Global, options: &Options) -> Result<AreaWords, End
 {
     let from = options.given_if::<u64>(alloc, "--from")?;
     let until = options.given_if::<Option<u64>>(alloc, "--until")?;
+    options.have_own_names();
     if !are_rising(from, until) {
         return Err(End::Refused(Usage));
     }

@@ -1,7 +1,8 @@
 //! The options of a command.
 
-ghost use Rattle.std.specs.Prelude.{◌≡◌, List, MatchOption, option_copied};
-ghost use Rattle.peer_words.specs.Options.{Setting, settings_of, value_of, is_value, are_settings, IsSpelled, Gives, MayGive};
+ghost use Rattle.std.specs.Prelude.{◌≡◌, ℕ, List, MatchBool, MatchOption};
+ghost use Rattle.peer_words.specs.Options.{Setting, IsValue, HaveOwnNames, AreSettings, IsSpelled, IsSet, Gives, MayGive};
+ghost use Rattle.peer_words.specs.Pairs.{settings_of};
 ghost use Rattle.peer_words.specs.Verbs.{names_of};
 ghost use Rattle.peer_words.specs.Words.{texts, Reads};
 
@@ -12,7 +13,7 @@ use std::alloc::Global;
 use std::marker::Model;
 use willow_path::End;
 
-/// Options that are set. A contract sees their names and values, in the order of the words.
+/// Options that are set, each once. A contract sees their names and values, in the order of the words.
 #[derive(Drop)]
 pub(crate) struct Options<'a> {
     words: &'a [String],
@@ -20,12 +21,15 @@ pub(crate) struct Options<'a> {
 
 impl<'a> Model for Options<'a> {
     ghost use Rattle.std.specs.Prelude.{List};
-    ghost use Rattle.peer_words.specs.Options.{Setting, settings_of};
+    ghost use Rattle.peer_words.specs.Options.{Setting, HaveOwnNames};
+    ghost use Rattle.peer_words.specs.Pairs.{settings_of};
     ghost use Rattle.peer_words.specs.Words.{texts};
 
     ghost Value = { List Setting };
 
     ghost view = { λ o. settings_of (texts o.words.now) };
+
+    ghost invariant = { λ o. HaveOwnNames (settings_of (texts o.words.now)) };
 }
 
 impl<'a> Options<'a> {
@@ -43,18 +47,18 @@ impl<'a> Options<'a> {
         Some(Options { words })
     }
 
-    /// The value behind a name.
-    pub(crate) fn value_of(&self, name: &str) -> Option<&'a str>
-        ensures { option_copied result ≡ value_of name.now self.now }
+    /// Each name stands once. This does nothing: it is called for its clause.
+    pub(crate) fn have_own_names(&self)
+        ensures { HaveOwnNames self.now }
     {
-        let mut left = self.words;
-        while let [option, value, others @ ..] = left {
-            if option.as_str() == name {
-                return Some(value.as_str());
-            }
-            left = others;
-        }
-        None
+        let _ = &self.words;
+    }
+
+    /// The value behind a name. No other stands behind it.
+    pub(crate) fn value_of(&self, name: &str) -> Option<&'a str>
+        ensures { MatchOption result ((word : List ℕ) → IsSet self.now name.now word → ⊥) (λ value. IsSet self.now name.now value.now × ((word : List ℕ) → IsSet self.now name.now word → word ≡ value.now)) }
+    {
+        value_in(self.words, name)
     }
 
     /// What the value behind a name spells; refused where the name does not stand, or its value spells nothing.
@@ -82,17 +86,33 @@ impl<'a> Options<'a> {
     }
 }
 
-// Whether the words are pairs of a name of the command's options and a value, each name at most once.
-fn are_settings(verb: Verb, words: &[String]) -> bool
-    ensures { result ≡ are_settings (names_of verb) (settings_of (texts words.now)) }
+// The first value behind a name.
+fn value_in<'a>(words: &'a [String], name: &str) -> Option<&'a str>
+    ensures { MatchOption result ((word : List ℕ) → IsSet (settings_of (texts words.now)) name.now word → ⊥) (λ value. IsSet (settings_of (texts words.now)) name.now value.now) }
 {
     let mut left = words;
     while let [option, value, others @ ..] = left {
-        let name = option.as_str();
-        if !verb.has_option(name)
-            || !is_value(value)
-            || (Options { words: others }).value_of(name).is_some()
-        {
+        if option.as_str() == name {
+            return Some(value.as_str());
+        }
+        left = others;
+    }
+    None
+}
+
+// Whether the pairs of words are a name of the command's options and a value each, each name at most once.
+fn are_settings(verb: Verb, words: &[String]) -> bool
+    ensures { MatchBool result (AreSettings (names_of verb) (settings_of (texts words.now))) (AreSettings (names_of verb) (settings_of (texts words.now)) → ⊥) }
+{
+    let mut left = words;
+    while let [option, value, others @ ..] = left {
+        if !verb.has_option(option) {
+            return false;
+        }
+        if !is_value(value) {
+            return false;
+        }
+        if value_in(others, option).is_some() {
             return false;
         }
         left = others;
@@ -102,7 +122,7 @@ fn are_settings(verb: Verb, words: &[String]) -> bool
 
 // Whether the word may stand as a value.
 fn is_value(word: &str) -> bool
-    ensures { result ≡ is_value word.now }
+    ensures { MatchBool result (IsValue word.now) (IsValue word.now → ⊥) }
 {
     match word.as_bytes() {
         [] => false,

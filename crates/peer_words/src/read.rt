@@ -84,6 +84,7 @@ fn grant(alloc: Global, options: &Options) -> Result<Command, End<Usage>>
     let mode = options.given::<Mode>(alloc, "--mode")?;
     let user = options.given::<UserKey>(alloc, "--user")?;
     let key = options.given_if::<SignerWord>(alloc, "--key")?;
+    options.have_own_names();
     if key.is_some() == is_communal(&namespace) {
         return Err(End::Refused(Usage));
     }
@@ -207,6 +208,7 @@ fn watch(alloc: Global, options: &Options) -> Result<Command, End<Usage>>
 {
     let image = options.given::<Name>(alloc, "--image")?.0;
     let area = area_of(alloc, options)?;
+    options.have_own_names();
     if area.until == Some(Some(0)) {
         return Err(End::Refused(Usage));
     }

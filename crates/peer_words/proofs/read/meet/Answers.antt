@@ -33,3 +33,8 @@ pub returns-in_err-right_out : goal.returns-in_err-right_out
 returns-in_err-right_out c =
     passed_on _ (IsOf verbs.Meet c.args.options.now) c.in_err-right_out.field-0.0 c.from_residual-in_err-right_out.result c.from_residual-in_err-right_out.ensures.1 c.in_err-right_out.ensures
     (λ none command is. of_meet (λ _. ⊥) c.args.options.now command is (λ left right left_cap right_cap left_out right_out area has. none (record { 0 = right_out }) has.right_out_given))
+
+pub returns-in_err-area : goal.returns-in_err-area
+returns-in_err-area c =
+    passed_on _ (IsOf verbs.Meet c.args.options.now) c.in_err-area.field-0.0 c.from_residual-in_err-area.result c.from_residual-in_err-area.ensures.1 c.in_err-area.ensures
+    (λ none command is. of_meet (λ _. ⊥) c.args.options.now command is (λ left right left_cap right_cap left_out right_out area has. none area has.area_given))

@@ -13,4 +13,4 @@ returns-in_err-image c =
 pub returns-then-eq : goal.returns-then-eq
 returns-then-eq c =
     λ command is. of_watch (λ _. ⊥) c.args.options.now command is
-    (λ image area has. has.some_time (given_end c.args.options.now area.until c.in_ok-area.area.until has.area_given.end (c.in_ok-area.ensures).end c.if-eq.ensures))
+    (λ image area has. has.some_time (given_end c.args.options.now c.have_own_names.ensures area.until c.in_ok-area.area.until has.area_given.end (c.in_ok-area.ensures).end c.if-eq.ensures))

@@ -7,7 +7,7 @@ pub returns-then-words-ne0 : goal.returns-then-words-ne0
 returns-then-words-ne0 c = no_pairs (names_of c.args.verb) c.args.words.now (λ even. omega arith)
 
 pub returns-then-not-are_settings : goal.returns-then-not-are_settings
-returns-then-not-are_settings c = no_settings (names_of c.args.verb) c.args.words.now cc
+returns-then-not-are_settings c = no_settings (names_of c.args.verb) c.args.words.now c.if-not-are_settings.ensures
 
 pub returns : goal.returns
-returns c = settings_read (names_of c.args.verb) c.args.words.now (omega arith) cc
+returns c = settings_read (names_of c.args.verb) c.args.words.now (omega arith) c.if-not-are_settings.ensures
