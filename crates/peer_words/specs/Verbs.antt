@@ -1,5 +1,5 @@
 -- The words that name the commands, and the options of each.
-use Rattle.std.specs.Prelude.{ℕ, List, [], ◌∷◌, Option, Some, None, if◌then◌else◌, codes}
+use Rattle.std.specs.Prelude.{ℕ, List, [], ◌∷◌, ◌++◌, Option, Some, None, if◌then◌else◌, codes}
 use Rattle.std.specs.Str.{bytes_eq}
 use Rattle.peer_words.specs.declared.verb.Verb.{Verb}
 use Rattle.peer_words.specs.declared.verb.Verb.TheVariants.{Join, Show, Key, Grant, Delegate, Write, Gen, Drill, Meet, Sync, Serve, Watch}
@@ -24,6 +24,10 @@ verb_at word =
 abbrev pub area_names : List (List ℕ)
 area_names = codes "--subspace" ∷ codes "--under" ∷ codes "--from" ∷ codes "--until" ∷ []
 
+-- the options of `meet` that name its files
+abbrev pub meet_names : List (List ℕ)
+meet_names = codes "--left" ∷ codes "--right" ∷ codes "--left-cap" ∷ codes "--right-cap" ∷ codes "--left-out" ∷ codes "--right-out" ∷ []
+
 -- the options of each command
 abbrev pub names_of : Verb → List (List ℕ)
 names_of Join = codes "--namespace" ∷ []
@@ -34,7 +38,7 @@ names_of Delegate = codes "--key" ∷ codes "--to" ∷ area_names
 names_of Write = codes "--key" ∷ codes "--path" ∷ codes "--time" ∷ codes "--length" ∷ codes "--digest" ∷ codes "--subspace" ∷ []
 names_of Gen = codes "--rows" ∷ []
 names_of Drill = codes "--rows" ∷ []
-names_of Meet = codes "--left" ∷ codes "--right" ∷ codes "--left-cap" ∷ codes "--right-cap" ∷ codes "--left-out" ∷ codes "--right-out" ∷ area_names
+names_of Meet = meet_names ++ area_names
 names_of Sync = codes "--image" ∷ codes "--cap" ∷ codes "--key" ∷ codes "--to" ∷ area_names
 names_of Serve = codes "--image" ∷ codes "--cap" ∷ codes "--key" ∷ codes "--at" ∷ codes "--links" ∷ area_names
 names_of Watch = codes "--image" ∷ area_names

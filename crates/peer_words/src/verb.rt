@@ -3,7 +3,8 @@
 ghost use Rattle.std.specs.Prelude.{◌≡◌};
 ghost use Rattle.std.specs.List.{list_any};
 ghost use Rattle.std.specs.Str.{bytes_eq};
-ghost use Rattle.peer_words.specs.Verbs.{verb_at, names_of};
+ghost use Rattle.peer_words.specs.Verbs.{verb_at, area_names, meet_names, names_of};
+ghost use Rattle.peer_words.specs.declared.verb.Verb.TheVariants as verbs;
 
 /// Which command the words ask for.
 #[derive(Clone, Copy, Debug, PartialEq, Eq)]
@@ -53,65 +54,56 @@ impl Verb {
             Verb::Show => ["--newest"].contains(&name),
             Verb::Key => ["--name", "--height"].contains(&name),
             Verb::Grant => ["--namespace", "--mode", "--user", "--key"].contains(&name),
-            Verb::Delegate => [
-                "--key",
-                "--to",
-                "--subspace",
-                "--under",
-                "--from",
-                "--until",
-            ]
-            .contains(&name),
-            Verb::Write => [
-                "--key",
-                "--path",
-                "--time",
-                "--length",
-                "--digest",
-                "--subspace",
-            ]
-            .contains(&name),
+            Verb::Delegate => ["--key", "--to"].contains(&name) || is_area_option(name),
+            Verb::Write => is_write_option(name),
             Verb::Gen => ["--rows"].contains(&name),
             Verb::Drill => ["--rows"].contains(&name),
-            Verb::Meet => [
-                "--left",
-                "--right",
-                "--left-cap",
-                "--right-cap",
-                "--left-out",
-                "--right-out",
-                "--subspace",
-                "--under",
-                "--from",
-                "--until",
-            ]
-            .contains(&name),
-            Verb::Sync => [
-                "--image",
-                "--cap",
-                "--key",
-                "--to",
-                "--subspace",
-                "--under",
-                "--from",
-                "--until",
-            ]
-            .contains(&name),
-            Verb::Serve => [
-                "--image",
-                "--cap",
-                "--key",
-                "--at",
-                "--links",
-                "--subspace",
-                "--under",
-                "--from",
-                "--until",
-            ]
-            .contains(&name),
-            Verb::Watch => ["--image", "--subspace", "--under", "--from", "--until"].contains(
-                &name,
-            ),
+            Verb::Meet => is_meet_option(name) || is_area_option(name),
+            Verb::Sync => {
+                ["--image", "--cap", "--key", "--to"].contains(&name) || is_area_option(name)
+            }
+            Verb::Serve => {
+                ["--image", "--cap", "--key", "--at", "--links"].contains(&name)
+                    || is_area_option(name)
+            }
+            Verb::Watch => ["--image"].contains(&name) || is_area_option(name),
         }
     }
+}
+
+// Whether it is the name of an option that says an area.
+fn is_area_option(name: &str) -> bool
+    ensures { result ≡ list_any (λ option. bytes_eq option name.now) area_names }
+{
+    ["--subspace", "--under", "--from", "--until"].contains(&name)
+}
+
+// Whether it is the name of an option of `write`.
+fn is_write_option(name: &str) -> bool
+    ensures { result ≡ list_any (λ option. bytes_eq option name.now) (names_of verbs.Write) }
+{
+    [
+        "--key",
+        "--path",
+        "--time",
+        "--length",
+        "--digest",
+        "--subspace",
+    ]
+    .contains(&name)
+}
+
+// Whether it is the name of an option of `meet` that names a file.
+fn is_meet_option(name: &str) -> bool
+    ensures { result ≡ list_any (λ option. bytes_eq option name.now) meet_names }
+{
+    [
+        "--left",
+        "--right",
+        "--left-cap",
+        "--right-cap",
+        "--left-out",
+        "--right-out",
+    ]
+    .contains(&name)
 }
