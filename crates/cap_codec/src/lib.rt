@@ -9,7 +9,9 @@ mod row;
 mod token;
 
 pub use capability::{decode_capability, read_capability, read_signature};
-pub use frame::{BadFrames, MAX_FRAME, behind, decode_frame, encode_frame, frames_in_front, read_frames};
+pub use frame::{
+    BadFrames, MAX_FRAME, behind, decode_frame, encode_frame, frames_in_front, read_frames,
+};
 pub use row::{RawRow, RawRows};
 pub use token::{WriteToken, read_token};
 

@@ -1,6 +1,7 @@
 -- What each status says of a run.
 use Rattle.std.proofs.Common.{◌≡◌, ◌≢◌, ℕ, ◌≤◌, ◌⊎◌, inl, inr, List, refl, sym, ◌∙◌, subst, arith}
 use Rattle.std.specs.Prelude.{Some, None, Result, Ok, Err}
+use Rattle.willow_outside.specs.Counts.{Rose}
 use Rattle.willow_outside.specs.Facts.{SinkFacts}
 use Rattle.peer_stage.specs.World.{World}
 use Rattle.peer_stage.specs.declared.outcome.Done.{Done}
@@ -12,7 +13,7 @@ use Rattle.peer_words.specs.declared.command.Command.{Command}
 use Rattle.peer_words.specs.declared.command.Command.TheVariants as cmd
 use Rattle.peer_run.specs.Meets.{Meets, IsUnbuilt}
 use Rattle.peer_run.specs.Runs.{RunsWords}
-use Rattle.peer_run.specs.Statuses.{HasEnded, HasStopped, HasReadFault, HasWriteFault, IsNoRun, IsBadStop, IsLogFull, IsKeySpent, IsUnbuiltCommand}
+use Rattle.peer_run.specs.Statuses.{HasEnded, HasStopped, CommandReadFault, CommandWriteFault, HasReadFault, HasWriteFault, IsNoRun, IsBadStop, IsLogFull, IsKeySpent, IsUnbuiltCommand}
 use Rattle.peer_run.proofs.Ends.{own_status, after_is, memory_end, is_end, StopsSo, IsUsage, IsReadFault, IsWriteFault, usage_end, read_end, write_end, bad_end, full_end, spent_end, known}
 use Rattle.peer_run.proofs.Faults as faults
 
@@ -129,34 +130,28 @@ is_command words old new r r' s (inr (inr none)) two seven = absurd (seven (memo
 
 -- ---- 3 and 4
 
-pub read_fault : (words : List (List ℕ)) (old new : World) (r r' : SinkFacts) (s : ℕ) → RunsWords words old new r r' s → s ≡ 3 → HasReadFault old new
+pub read_fault : (words : List (List ℕ)) (old new : World) (r r' : SinkFacts) (s : ℕ) → RunsWords words old new r r' s → s ≡ 3 → HasReadFault words old new
 read_fault words old new r r' s runs is =
     let met = stopped IsReadFault 3 read_end (λ e. omega (arith, e)) (λ e. omega (arith, e)) (λ e. omega (arith, e)) words old new r r' (subst (RunsWords words old new r r') is runs) in
-    go met.command met.stop met.is_one met.meets where
-      go : (c : Command) (e : Stop) → IsReadFault e → Meets c old new (Err e) → HasReadFault old new
-      go c stop.ReadFault is_one meets = faults.read_fault c old new meets
+    record { command = met.command; is_words = met.is_words; rose = go met.command met.stop met.is_one met.meets } where
+      go : (c : Command) (e : Stop) → IsReadFault e → Meets c old new (Err e) → CommandReadFault c old new
+      go c stop.ReadFault is_one meets = faults.own_read_fault c old new meets
       go c e is_one meets = absurd is_one
 
-pub write_fault : (words : List (List ℕ)) (old new : World) (r r' : SinkFacts) (s : ℕ) → RunsWords words old new r r' s → s ≡ 4 → HasWriteFault old new r r'
-write_fault words old new r r' s (inl runs) is = go runs.end runs.meets runs.reports where
-  met : (end : Result Done Stop) → Meets runs.command old new end → StopsSo IsWriteFault end → HasWriteFault old new r r'
-  met (Err stop.WriteFault) meets stops = faults.write_fault runs.command old new r r' meets
+pub write_fault : (words : List (List ℕ)) (old new : World) (r r' : SinkFacts) (s : ℕ) → RunsWords words old new r r' s → s ≡ 4 → HasWriteFault words old new r r'
+write_fault words old new r r' s (inr (inl misused)) is =
+    absurd (omega (arith, misused_end r r' s misused.reports (λ e. omega (arith, e, is)), is))
+write_fault words old new r r' s (inr (inr none)) is =
+    absurd (omega (arith, memory_end r r' s none.reports, is))
+write_fault words old new r r' s (inl runs) is = record { command = runs.command; is_words = runs.is_words; rose = go runs.end runs.meets runs.reports } where
+  met : (end : Result Done Stop) → Meets runs.command old new end → StopsSo IsWriteFault end → CommandWriteFault runs.command old new
+  met (Err stop.WriteFault) meets stops = faults.own_write_fault runs.command old new meets
   met end meets stops = absurd stops
 
-  go : (end : Result Done Stop) → Meets runs.command old new end → Reports r r' end s → HasWriteFault old new r r'
-  go end meets (inl told) = met end meets (write_end end (sym told.status_is ∙ is))
-  go end meets (inr (inl fault)) = inr (inr fault.fault)
+  go : (end : Result Done Stop) → Meets runs.command old new end → Reports r r' end s → CommandWriteFault runs.command old new ⊎ Rose r.faults r'.faults
+  go end meets (inl told) = inl (met end meets (write_end end (sym told.status_is ∙ is)))
+  go end meets (inr (inl fault)) = inr fault.fault
   go end meets (inr (inr none)) = absurd (omega (arith, none.status_is, is))
-write_fault words old new r r' s (inr (inl misused)) is = go misused.reports where
-  go : Reports r r' (Err stop.Usage) s → HasWriteFault old new r r'
-  go (inl told) = absurd (omega (arith, told.status_is, is))
-  go (inr (inl fault)) = inr (inr fault.fault)
-  go (inr (inr none)) = absurd (omega (arith, none.status_is, is))
-write_fault words old new r r' s (inr (inr none)) is = go none.reports where
-  go : Reports r r' (Err stop.NoMemory) s → HasWriteFault old new r r'
-  go (inl told) = absurd (omega (arith, told.status_is, is))
-  go (inr (inl fault)) = inr (inr fault.fault)
-  go (inr (inr memory)) = absurd (omega (arith, memory.status_is, is))
 
 -- ---- no other status
 

@@ -1,8 +1,7 @@
 -- Which count rose where a command ended in a fault.
 use Rattle.std.proofs.Common.{inl, inr}
 use Rattle.std.specs.Prelude.{Some, None, Err}
-use Rattle.willow_outside.specs.Counts.{Rose}
-use Rattle.willow_outside.specs.Facts.{ShelfFacts, SinkFacts}
+use Rattle.willow_outside.specs.Facts.{ShelfFacts}
 use Rattle.peer_stage.specs.World.{World}
 use Rattle.peer_stage.specs.declared.outcome.Stop.TheVariants as stop
 use Rattle.peer_words.specs.declared.command.SignerWord.{SignerWord}
@@ -11,73 +10,7 @@ use Rattle.peer_words.specs.declared.command.Command.{Command}
 use Rattle.peer_words.specs.declared.command.Command.TheVariants as cmd
 use Rattle.peer_make.specs.Signing.{StopsSigning}
 use Rattle.peer_run.specs.Meets.{Meets}
-use Rattle.peer_run.specs.Statuses.{HasReadFault, HasWriteFault, SignerRose, CommandReadFault, CommandWriteFault}
-
-signing_read : (key : SignerWord) (h h' : ShelfFacts) → StopsSigning key h h' stop.ReadFault → Rose h.read_faults h'.read_faults
-signing_read (OpenKey key) h h' fails = absurd fails
-signing_read (LmsFile name) h h' fails = fails.0
-
-signing_write : (key : SignerWord) (h h' : ShelfFacts) → StopsSigning key h h' stop.WriteFault → Rose h.write_faults h'.write_faults
-signing_write (OpenKey key) h h' fails = absurd fails
-signing_write (LmsFile name) h h' fails = fails.1.rose
-
-pub read_fault : (c : Command) (old new : World) → Meets c old new (Err stop.ReadFault) → HasReadFault old new
-read_fault (cmd.Join n) old new meets = inr (inl meets.0.0.1.fault)
-read_fault (cmd.Show None) old new meets = inr (inl meets.0.0.1.fault)
-read_fault (cmd.Key name height) old new meets = elim meets.0.0 [
-  | inl look ↦ inl look.fault
-  | inr draw ↦ inr (inr draw.fault)
-]
-read_fault (cmd.Grant n mode user None) old new meets = absurd meets.0.0
-read_fault (cmd.Grant n mode user (Some key)) old new meets = inl (signing_read key old.shelf new.shelf meets.0.0)
-read_fault (cmd.Delegate key to area) old new meets = elim meets.0.0 [
-  | inl input ↦ inr (inl input.0.1.fault)
-  | inr signer ↦ inl (signing_read key old.shelf new.shelf signer.1)
-]
-read_fault (cmd.Write key path time payload_length digest subspace) old new meets = elim meets.0.0 [
-  | inl input ↦ inr (inl input.0.1.fault)
-  | inr signer ↦ inl (signing_read key old.shelf new.shelf signer.1)
-]
-read_fault (cmd.Gen rows) old new meets = absurd meets.0
-read_fault (cmd.Show (Some newest)) old new meets = absurd meets
-read_fault (cmd.Drill rows) old new meets = absurd meets
-read_fault (cmd.Meet a b c d e f area) old new meets = absurd meets
-read_fault (cmd.Sync image cap key to area) old new meets = absurd meets
-read_fault (cmd.Serve image cap key at links area) old new meets = absurd meets
-read_fault (cmd.Watch image area) old new meets = absurd meets
-
-pub write_fault : (c : Command) (old new : World) (r r' : SinkFacts) → Meets c old new (Err stop.WriteFault) → HasWriteFault old new r r'
-write_fault (cmd.Join n) old new r r' meets = inr (inl meets.0.1)
-write_fault (cmd.Show None) old new r r' meets = inr (inl meets.0.1)
-write_fault (cmd.Key name height) old new r r' meets = elim meets.0 [
-  | inl keep ↦ inl keep.0.fault
-  | inr output ↦ inr (inl output.1)
-]
-write_fault (cmd.Grant n mode user None) old new r r' meets = elim meets.0 [
-  | inl signer ↦ absurd signer.0
-  | inr output ↦ inr (inl output.3)
-]
-write_fault (cmd.Grant n mode user (Some key)) old new r r' meets = elim meets.0 [
-  | inl signer ↦ inl (signing_write key old.shelf new.shelf signer.0)
-  | inr output ↦ inr (inl output.3)
-]
-write_fault (cmd.Delegate key to area) old new r r' meets = elim meets.0 [
-  | inl signer ↦ inl (signing_write key old.shelf new.shelf signer.0.1)
-  | inr output ↦ inr (inl output.3)
-]
-write_fault (cmd.Write key path time payload_length digest subspace) old new r r' meets = elim meets.0 [
-  | inl signer ↦ inl (signing_write key old.shelf new.shelf signer.0.1)
-  | inr output ↦ inr (inl output.3)
-]
-write_fault (cmd.Gen rows) old new r r' meets = inr (inl meets.0.1)
-write_fault (cmd.Show (Some newest)) old new r r' meets = absurd meets
-write_fault (cmd.Drill rows) old new r r' meets = absurd meets
-write_fault (cmd.Meet a b c d e f area) old new r r' meets = absurd meets
-write_fault (cmd.Sync image cap key to area) old new r r' meets = absurd meets
-write_fault (cmd.Serve image cap key at links area) old new r r' meets = absurd meets
-write_fault (cmd.Watch image area) old new r r' meets = absurd meets
-
--- ---- of the objects that the command calls
+use Rattle.peer_run.specs.Statuses.{SignerRose, CommandReadFault, CommandWriteFault}
 
 signer_rose : (key : SignerWord) (h h' : ShelfFacts) → StopsSigning key h h' stop.ReadFault → SignerRose key h.read_faults h'.read_faults
 signer_rose (OpenKey key) h h' fails = fails

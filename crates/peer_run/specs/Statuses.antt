@@ -73,16 +73,6 @@ IsNoRun words = IsNoCommand words ⊎ ((command : Command) × IsWords words comm
 
 -- ---- 3 and 4
 
--- a count of what is read rose: the shelf's, the input's or the noise's
-abbrev pub HasReadFault : World → World → Type 0
-HasReadFault old new =
-    Rose old.shelf.read_faults new.shelf.read_faults ⊎ (Rose old.input.faults new.input.faults ⊎ Rose old.noise.faults new.noise.faults)
-
--- a count of what is written rose: the shelf's, the output's or the report's
-abbrev pub HasWriteFault : World → World → SinkFacts → SinkFacts → Type 0
-HasWriteFault old new report report' =
-    Rose old.shelf.write_faults new.shelf.write_faults ⊎ (Rose old.output.faults new.output.faults ⊎ Rose report.faults report'.faults)
-
 -- a count of what a signer calls rose: an open key calls nothing, a key file the shelf
 abbrev pub SignerRose : SignerWord → ℕ → ℕ → Type 0
 SignerRose (OpenKey key) before now = ⊥
@@ -113,6 +103,18 @@ CommandWriteFault (cmd.Grant n mode user key) old new = BeginningRose key old.sh
 CommandWriteFault (cmd.Delegate key to area) old new = SignerRose key old.shelf.write_faults new.shelf.write_faults ⊎ Rose old.output.faults new.output.faults
 CommandWriteFault (cmd.Write key path time payload_length digest subspace) old new = SignerRose key old.shelf.write_faults new.shelf.write_faults ⊎ Rose old.output.faults new.output.faults
 CommandWriteFault command old new = ⊥
+
+-- The words are a command, and a count of what it reads rose.
+pub record HasReadFault (words : List (List ℕ)) (old new : World) : Type 0 where
+  pub command : Command
+  pub is_words : IsWords words command
+  pub rose : CommandReadFault command old new
+
+-- The words are a command, and a count of what it writes rose, or that of the report.
+pub record HasWriteFault (words : List (List ℕ)) (old new : World) (report report' : SinkFacts) : Type 0 where
+  pub command : Command
+  pub is_words : IsWords words command
+  pub rose : CommandWriteFault command old new ⊎ Rose report.faults report'.faults
 
 -- no count of faults rose in the run, of the objects that its command calls and of the report
 pub record HasNoFault (words : List (List ℕ)) (old new : World) (report report' : SinkFacts) : Type 0 where

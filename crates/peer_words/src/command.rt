@@ -11,42 +11,47 @@ pub struct Usage;
 /// Who signs: an open key, or the next index of a key file.
 #[derive(Debug, Drop)]
 pub enum SignerWord {
-    /// `open:` and 64 digits: the key of kind 0 with that body.
+    /// `open:` and 64 hexadecimal digits: the key of kind 0 with that body.
     OpenKey(UserKey),
-    /// `lms:` and the name of a key file.
+    /// `lms:` and the name of a key file, as `Command` says of names.
     LmsFile(String),
 }
 
 /// What the words say of an area. None stands where a field has no word; it is then that of the area at hand.
+/// Where both times are given and the end is a number, it is above the start.
 #[derive(Debug, Drop)]
 pub struct AreaWords {
     /// `--subspace`; the inner None is the word `any`.
     pub subspace: Option<Option<UserKey>>,
-    /// `--under`.
+    /// `--under`: a path within the limits of `Path`.
     pub under: Option<Path>,
-    /// `--from`.
+    /// `--from`: any number of 64 bits.
     pub from: Option<u64>,
-    /// `--until`; the inner None is the word `none`.
+    /// `--until`: any number of 64 bits; the inner None is the word `none`.
     pub until: Option<Option<u64>>,
 }
 
-/// A command with its options.
+/// A command with its options, as `read_words` answers it.
+///
+/// The name of a file has 1 to 128 letters, digits, `.`, `_` and `-` of ASCII, and
+/// begins with a letter or digit. A place has at most 255 bytes: one or more without `:`, a `:` and a port from
+/// 1 to 65,535 in decimal digits.
 #[derive(Debug, Drop)]
 pub enum Command {
     /// Joins the rows of the input into the image of a store of this namespace.
     Join {
         namespace: NamespaceKey,
     },
-    /// Lists the rows of an image, or so many of them, the newest first.
+    /// Lists the rows of an image; or only the newest, the newest first, from 1 to 65,536 of them.
     Show {
         newest: Option<u32>,
     },
-    /// Makes a key file of this name and height.
+    /// Makes a key file of this name and height: 5 for 32 signatures, or 10 for 1,024.
     Key {
         name: String,
         height: Height,
     },
-    /// Makes a first capability; there is a signer exactly where the namespace is not communal.
+    /// Makes a first capability of the user; there is a signer exactly where the namespace is not communal.
     Grant {
         namespace: NamespaceKey,
         mode: Mode,
@@ -59,7 +64,8 @@ pub enum Command {
         to: UserKey,
         area: AreaWords,
     },
-    /// Makes a row; without a subspace it is that of the receiver of the capability.
+    /// Makes a row. Time and length of the payload are any numbers of 64 bits; without a subspace it is that of
+    /// the receiver of the capability.
     Write {
         key: SignerWord,
         path: Path,
@@ -68,11 +74,11 @@ pub enum Command {
         digest: Digest,
         subspace: Option<UserKey>,
     },
-    /// Makes so many rows.
+    /// Makes so many rows, from 1 to 65,536.
     Gen {
         rows: u32,
     },
-    /// Lets two stores of so many made rows meet.
+    /// Lets two stores of so many made rows meet, from 1 to 65,536.
     Drill {
         rows: u32,
     },
@@ -86,7 +92,8 @@ pub enum Command {
         right_out: String,
         area: AreaWords,
     },
-    /// Calls a peer at a place.
+    /// Calls a peer at a place, with an image and a capability of these names, and a signer that is meant to be
+    /// the receiver of the capability.
     Sync {
         image: String,
         cap: String,
@@ -94,7 +101,7 @@ pub enum Command {
         to: String,
         area: AreaWords,
     },
-    /// Answers so many peers at a place.
+    /// Answers so many peers, from 1 to 64, at a place; image, capability and signer are as in `Sync`.
     Serve {
         image: String,
         cap: String,
@@ -103,7 +110,7 @@ pub enum Command {
         links: u32,
         area: AreaWords,
     },
-    /// Tells the rows of an area as they come.
+    /// Tells the rows of an area of an image of this name as they come. The times of the area do not end at 0.
     Watch {
         image: String,
         area: AreaWords,

@@ -18,7 +18,8 @@ use std::alloc::Global;
 use willow_path::{Digest, End, NamespaceKey, Path, UserKey};
 
 /// The command that the words spell: its word, and then its options in any order, each at most once, a name
-/// and a value each. `Usage` comes exactly where the words spell no command.
+/// and a value each. The error is `Refused(Usage)`, which comes only where the words spell no command, or
+/// `NoMemory`, for want of memory to read them, which says nothing of the words.
 pub fn read_words(alloc: Global, words: &[String]) -> Result<Command, End<Usage>>
     ensures { ReadsWords (texts words.now) result }
 {

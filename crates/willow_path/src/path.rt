@@ -11,8 +11,8 @@ ghost use Rattle.willow_path.specs.PathPush.{HasRoom, push_refusal};
 ghost use Rattle.willow_path.specs.Answers.{Answers};
 
 use crate::limits::{MAX_PART, MAX_PARTS, MAX_TOTAL};
-use spelling::{End, NoMemory};
 use smallvec::SmallVec;
+use spelling::{End, NoMemory};
 use std::alloc::Global;
 use std::cmp::Ordering;
 use std::marker::Model;

@@ -22,5 +22,5 @@ returns-in-Err-Refused-offer c =
     full_stops c.args.namespace.now c.args.bytes.now c.behind-left.result.now (so_far.seen ++ c.in-Ok.read.0 ∷ []) _ c.full_stop.result
     (frames_on c.args.bytes.now c.frames.left.now c.behind-left.result.now so_far.seen c.in-Ok.read.0 c.in-Ok.read.1 so_far.frames c.in-Ok.ensures c.behind-left.ensures)
     (offer_passes c.args.namespace.now so_far.seen c.in-Ok.read.0 (rows_of c.offer.new.self.store) c.offer.new.self.counts c.in-Err-Refused-offer.field-0 c.in-Err-Refused-offer.field-0-0 c.in-Err-Refused-offer.field-0-is
-      (c.in-Err-Refused-offer.ensures.offers so_far.seen so_far.is_log))
+    (c.in-Err-Refused-offer.ensures.offers so_far.seen so_far.is_log))
     refl c.full_stop.ensures
