@@ -1,4 +1,4 @@
-use Rattle.std.proofs.Common.{◌≡◌, ◌+◌, length, map, ap, subst, arith, Global}
+use Rattle.std.proofs.Common.{◌≡◌, length, map, ap, subst, arith, Global}
 use Rattle.std.specs.declared.sync.Arc.{Arc}
 use Rattle.willow_entry.specs.Row.{RowValue}
 use Rattle.block_store.specs.Front.{ReachFrom}

@@ -23,8 +23,7 @@ returns-in-Err-clause-rows g c = live-kept _ _ c.in-Err.by c.requires.is_live (r
 pub returns-in_ok-pruned-in-Ok-clause-placed : goal.returns-in_ok-pruned-in-Ok-clause-placed
 returns-in_ok-pruned-in-Ok-clause-placed g c =
     let value : Arc g.row.R.Denot Global → RowValue = λ a. g.R.Row.value a.value in
-    let r = g.R.Row.value c.args.row in
-    (
+    let r = g.R.Row.value c.args.row in (
       subst (λ l. HasCovering (map value l) r → ⊥) c.deref.ensures.value (covering_none (map value c.deref.result.now) r None (sym c.in-Ok.ensures.free)),
       c.in_ok-pruned-in-Ok.ensures.pruned,
     )
