@@ -19,7 +19,7 @@ use Rattle.willow_entry.proofs.Ranks.{place_total, bytes_same}
 use Rattle.willow_entry.proofs.RowLaws.{covering_means}
 use Rattle.willow_entry.proofs.Local.{IsAtPrefix, at_prefix_not_above, IsAtFront, covering_at_front}
 use Rattle.willow_entry.proofs.Between.{IsPlace}
-use Rattle.block_store.specs.Front.{front}
+use Rattle.block_store.specs.Front.{front, ReachFrom}
 
 -- a row is its own longest front
 pub front_whole : (r : RowValue) → front r (length r.entry.path) ≡ r
@@ -74,17 +74,13 @@ first_tied t (y ∷ rows) up beyond s (inr m) e d =
     absurd (false≢true (sym beyond.0 ∙ ap is_lt (sym (alike_right place_total s t y e) ∙ less)))
 
 module _ (rows : List RowValue) (r : RowValue) where
-  -- each row that covers r has a path of at least k components
-  pub record ReachFrom (k : ℕ) : Type 0 where
-    pub reach : (s : RowValue) → Member rows s → is_covering s r ≡ true → k ≤ length s.entry.path
-
-  pub from_start : ReachFrom 0
+  pub from_start : ReachFrom rows r 0
   from_start = record { reach = λ s m e. omega arith }
 
   position_at : (n : ℕ) → n < length rows → position_or_len (λ s. is_covering s r) rows ≡ n → position (λ s. is_covering s r) rows ≡ Some n
   position_at n h e = ap (λ k. cond (nat_lt k (length rows)) (Some k) None) e ∙ ap (λ b. cond b (Some n) None) (lt-ltb n (length rows) h)
 
-  module _ (k n : ℕ) (reach : ReachFrom k) (place : IsPlace place_cmp (front r k) rows n) where
+  module _ (k n : ℕ) (reach : ReachFrom rows r k) (place : IsPlace place_cmp (front r k) rows n) where
     -- a covering row at the place of the front is the first that covers
     pub found_at : n < length rows → is_covering (get_or rows n r) r ≡ true → position (λ s. is_covering s r) rows ≡ Some n
     found_at h e = position_at n h (position_or_len_is (λ s. is_covering s r) rows n r (omega arith) before (λ _. e)) where
@@ -96,7 +92,7 @@ module _ (rows : List RowValue) (r : RowValue) where
           (subst (λ s. place_cmp s (front r k) ≡ Less) (get_or-take n rows j r lt) below))
 
     -- where none is there, the rows that cover have longer paths
-    pub passed_at : IsRising rows → (n < length rows → is_covering (get_or rows n r) r ≡ false) → ReachFrom (k + 1)
+    pub passed_at : IsRising rows → (n < length rows → is_covering (get_or rows n r) r ≡ false) → ReachFrom rows r (k + 1)
     passed_at up none = record { reach = λ s m e. longer s m e (cases_eq (length s.entry.path) k) } where
       here : (s : RowValue) → Member rows s → is_covering s r ≡ true → place_cmp s (front r k) ≡ Equal → ⊥
       here s m e tie = elim (member_append_cases (take n rows) (drop n rows) s (subst (λ l. Member l s) (sym (take-append-drop n rows)) m)) [
@@ -112,7 +108,7 @@ module _ (rows : List RowValue) (r : RowValue) where
       longer s m e (inr ne) = omega (arith, reach.reach s m e)
 
   -- no path is longer than all fronts
-  pub none_left : ReachFrom (length r.entry.path + 1) → position (λ s. is_covering s r) rows ≡ None
+  pub none_left : ReachFrom rows r (length r.entry.path + 1) → position (λ s. is_covering s r) rows ≡ None
   none_left reach =
       let all = position_or_len_is (λ s. is_covering s r) rows (length rows) r (omega arith)
       (λ j lt. false_from_ne_true (is_covering (get_or rows j r) r) (λ t.

@@ -1,5 +1,5 @@
 -- The rows that a row dominates stand in one run from its place on.
-use Rattle.std.proofs.Common.{◌≡◌, ℕ, zero, suc, ◌+◌, ◌≤◌, false, not, List, [], ◌∷◌, ◌++◌, length, take, drop, map, get_or, refl, sym, ap, ◌∙◌, Less, is_lt, is_gt, arith, ap₂, insert, count_by}
+use Rattle.std.proofs.Common.{◌≡◌, ℕ, zero, suc, ◌+◌, ◌≤◌, false, not, List, [], ◌∷◌, ◌++◌, length, take, drop, map, get_or, slice_get, Some, refl, sym, ap, ◌∙◌, Less, is_lt, is_gt, arith, ap₂, insert, count_by}
 use Rattle.std.specs.List.{AllByRecursion}
 use Rattle.std.specs.List.Sorted.{IsStrictlySortedBy, IsPartitionedBy}
 use Rattle.std.specs.Ordering.{ordering_reverse}
@@ -32,6 +32,17 @@ extensions_partitioned r f (y ∷ ys) up beyond (suc i) (suc j) d le lt e = exte
 pub others_stay : (r : RowValue) (rows : List RowValue) → AllByRecursion (λ s. is_at_prefix r s ≡ false) rows → left_of r rows ≡ rows
 others_stay r rows none = keeps_all r rows (λ s m. false_from_ne_true (is_dominating r s) (λ d.
     both_ways (is_at_prefix r s) (all_member place_cmp (λ t. is_at_prefix r t ≡ false) rows none s m) (dominated_at_prefix r s d)))
+
+-- where the first of rising rows that are not below r is no extension of it, none is
+pub first_tells : (r : RowValue) (rows : List RowValue) → IsRising rows → AllByRecursion (λ s. is_lt (place_cmp s r) ≡ false) rows → ((s : RowValue) → slice_get rows 0 ≡ Some s → is_at_prefix r s ≡ false) → left_of r rows ≡ rows
+unfolding IsStrictlySortedBy
+first_tells r [] up beyond tells = refl
+first_tells r (y ∷ ys) up beyond tells =
+    let none : is_at_prefix r y ≡ false = tells y refl in
+    let later : AllByRecursion (λ s. is_at_prefix r s ≡ false) ys = all_from_members place_cmp (λ s. is_at_prefix r s ≡ false) ys (λ s m. false_from_ne_true (is_at_prefix r s) (λ e.
+    both_ways (is_at_prefix r y) none (at_prefix_test r y (between_at_prefix r y s (at_prefix r s e) (not_below r y beyond.0)
+    (ap is_gt (all_member place_cmp (λ z. place_cmp y z ≡ Less) ys up.0 s m)))))) in
+    others_stay r (y ∷ ys) (none, later)
 
 -- and so does what is below r
 pub below_stays : (r : RowValue) (rows : List RowValue) → AllByRecursion (λ s. place_cmp s r ≡ Less) rows → left_of r rows ≡ rows

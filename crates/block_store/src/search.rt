@@ -1,11 +1,11 @@
 //! Where rows stand among rows that rise by place.
 
-ghost use Rattle.std.specs.Prelude.{◌≡◌, ℕ, ◌+◌, ◌-◌, ◌^◌, ◌<◌, ◌≤◌, [], ◌∷◌, ◌++◌, length, map, take, drop, position, slice_index_or, false, IsTrue, IfSome, IfNone};
+ghost use Rattle.std.specs.Prelude.{◌≡◌, ℕ, ◌+◌, ◌-◌, ◌^◌, ◌<◌, ◌≤◌, [], ◌∷◌, ◌++◌, length, map, take, drop, position, slice_index_or, false, IsTrue, IfOk, IfErr, IfSome, IfNone, None, Some};
 ghost use Rattle.willow_path.specs.Path.{path_cmp};
 ghost use Rattle.willow_entry.specs.Row.{RowValue, IsRising, HasCovering, IsCoveringAt, is_at_prefix, is_covering, live, place_cmp};
 ghost use Rattle.willow_entry.proofs.Local.{left_of};
 ghost use Rattle.willow_entry.proofs.Between.{IsPlace};
-ghost use Rattle.block_store.specs.Front.{front};
+ghost use Rattle.block_store.specs.Front.{front, ReachFrom};
 
 use std::cmp::Ordering;
 use std::sync::Arc;
@@ -32,9 +32,13 @@ fn by_front<R: Row>(held: &R, row: &R, count: usize) -> Ordering
     ensures { result ≡ place_cmp (R.value held.now) (front (R.value row.now) count) }
 {
     let (e, f) = (held.entry(), row.entry());
-    let order = e.namespace.cmp(&f.namespace);
-    let order = order.then(e.subspace.cmp(&f.subspace));
-    order.then(path_by_front(&e.path, &f.path, count))
+    if e.namespace != f.namespace {
+        return e.namespace.cmp(&f.namespace);
+    }
+    if e.subspace != f.subspace {
+        return e.subspace.cmp(&f.subspace);
+    }
+    path_by_front(&e.path, &f.path, count)
 }
 
 // The number of rows that stand below the place of the row's front of so many components.
@@ -73,7 +77,14 @@ pub(crate) fn run_end<R: Row>(rows: &[Arc<R>], row: &R, at: usize) -> usize
     ensures bound { result ≤ length rows.now }
     ensures stays { left_of (R.value row.now) (drop result (map (λ a. R.value a.value) rows.now)) ≡ drop result (map (λ a. R.value a.value) rows.now) }
 {
-    at + rows[at..].partition_point(|held| extends(&**held, row))
+    // Most rows have no extension: then the first row behind tells it, without a search.
+    let behind = &rows[at..];
+    match behind.first() {
+        Some(first) if extends(&**first, row) => {
+            at + behind.partition_point(|held| extends(&**held, row))
+        }
+        _ => at,
+    }
 }
 
 // Whether a row stands at the position that is the row or dominates it.
@@ -84,13 +95,15 @@ fn is_covered_at<R: Row>(rows: &[Arc<R>], row: &R, at: usize) -> bool
     at < rows.len() && covers(&*rows[at], row)
 }
 
-// The first position whose row is the row or dominates it. Such rows stand at the fronts of its path.
-fn covered_at<R: Row>(rows: &[Arc<R>], row: &R) -> Option<u32>
+// The first position whose row is the row or dominates it, at a front of its path that is not the path itself.
+// Where there is none, such a row has all components of the path.
+fn covered_in_front<R: Row>(rows: &[Arc<R>], row: &R) -> Option<u32>
     requires rising { IsRising (map (λ a. R.value a.value) rows.now) }
     requires few { length rows.now < 2 ^ 32 }
-    ensures { result ≡ position (λ s. is_covering s (R.value row.now)) (map (λ a. R.value a.value) rows.now) }
+    ensures found { IfSome result (λ i. position (λ s. is_covering s (R.value row.now)) (map (λ a. R.value a.value) rows.now) ≡ Some i) }
+    ensures none { IfNone result (ReachFrom (map (λ a. R.value a.value) rows.now) (R.value row.now) (length (R.value row.now).entry.path)) }
 {
-    for count in 0..=row.entry().path.count() {
+    for count in 0..row.entry().path.count() {
         let at = place(rows, row, count);
         if is_covered_at(rows, row, at) {
             return Some(at as u32);
@@ -99,7 +112,27 @@ fn covered_at<R: Row>(rows: &[Arc<R>], row: &R) -> Option<u32>
     None
 }
 
-// The same among live rows, with what it means.
+// The place of a row that no row equals or dominates, or else the first position whose row does. Such rows stand at
+// the fronts of its path.
+pub(crate) fn place_or_cover<R: Row>(rows: &[Arc<R>], row: &R) -> Result<usize, u32>
+    requires few { length rows.now < 2 ^ 32 }
+    requires is_live { live (map (λ a. R.value a.value) rows.now) ≡ map (λ a. R.value a.value) rows.now }
+    ensures place { IfOk result (λ at. IsPlace place_cmp (R.value row.now) (map (λ a. R.value a.value) rows.now) at) }
+    ensures within { IfOk result (λ at. at ≤ length rows.now) }
+    ensures free { IfOk result (λ at. position (λ s. is_covering s (R.value row.now)) (map (λ a. R.value a.value) rows.now) ≡ None) }
+    ensures covered { IfErr result (λ by. position (λ s. is_covering s (R.value row.now)) (map (λ a. R.value a.value) rows.now) ≡ Some by) }
+{
+    if let Some(by) = covered_in_front(rows, row) {
+        return Err(by);
+    }
+    let at = own_place(rows, row);
+    if is_covered_at(rows, row, at) {
+        return Err(at as u32);
+    }
+    Ok(at)
+}
+
+// The first position whose row is the row or dominates it, among live rows, with what it means.
 pub(crate) fn cover<R: Row>(rows: &[Arc<R>], row: &R) -> Option<u32>
     requires few { length rows.now < 2 ^ 32 }
     requires is_live { live (map (λ a. R.value a.value) rows.now) ≡ map (λ a. R.value a.value) rows.now }
@@ -107,5 +140,5 @@ pub(crate) fn cover<R: Row>(rows: &[Arc<R>], row: &R) -> Option<u32>
     ensures found { IfSome result (λ i. IsCoveringAt (map (λ a. R.value a.value) rows.now) i (R.value row.now)) }
     ensures none { IfNone result (HasCovering (map (λ a. R.value a.value) rows.now) (R.value row.now) → ⊥) }
 {
-    covered_at(rows, row)
+    place_or_cover(rows, row).err()
 }

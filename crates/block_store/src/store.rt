@@ -7,7 +7,7 @@ ghost use Rattle.willow_entry.proofs.Local.{left_of};
 ghost use Rattle.willow_entry.proofs.Between.{IsPlace};
 ghost use Rattle.block_store.specs.Positions.{positions};
 
-use crate::search::{cover, own_place, run_end};
+use crate::search::{cover, own_place, place_or_cover, run_end};
 use crate::shared::row_at;
 use crate::snapshot::{Snapshot, snapshot_of};
 use std::alloc::Global;
@@ -42,25 +42,26 @@ fn remove_dominated<R: Row>(rows: &mut Vec<Arc<R>>, row: &R, at: usize, end: usi
     }
 }
 
-// Removes the rows that the row dominates, and answers its place.
-fn make_room<R: Row>(rows: &mut Vec<Arc<R>>, row: &R) -> usize
-    requires { IsRising (map (λ a. R.value a.value) rows.old.items) }
-    ensures place { IsPlace place_cmp (R.value row.now) (map (λ a. R.value a.value) rows.old.items) result }
-    ensures left { map (λ a. R.value a.value) rows.new.items ≡ take result (map (λ a. R.value a.value) rows.old.items) ++ left_of (R.value row.now) (drop result (map (λ a. R.value a.value) rows.old.items)) }
+// Removes the rows that the row dominates, whose place is given.
+fn make_room<R: Row>(rows: &mut Vec<Arc<R>>, row: &R, at: usize)
+    requires rising { IsRising (map (λ a. R.value a.value) rows.old.items) }
+    requires place { IsPlace place_cmp (R.value row.now) (map (λ a. R.value a.value) rows.old.items) at }
+    requires within { at ≤ vec_len rows.old }
+    ensures left { map (λ a. R.value a.value) rows.new.items ≡ take at (map (λ a. R.value a.value) rows.old.items) ++ left_of (R.value row.now) (drop at (map (λ a. R.value a.value) rows.old.items)) }
     ensures fewer { vec_len rows.new ≤ vec_len rows.old }
-    ensures enough { result ≤ vec_len rows.new }
+    ensures enough { at ≤ vec_len rows.new }
     ensures capacity { vec_capacity rows.new ≡ vec_capacity rows.old }
 {
-    let at = own_place(rows, row);
     let end = run_end(rows, row, at);
     remove_dominated(rows, row, at, end);
-    at
 }
 
 // Puts an uncovered row in its place among the live rows that it does not dominate, and counts the others.
-fn put<R: Row>(rows: &mut Vec<Arc<R>>, row: R) -> Result<usize, NoMemory>
+fn put<R: Row>(rows: &mut Vec<Arc<R>>, row: R, at: usize) -> Result<usize, NoMemory>
     requires is_live { live (map (λ a. R.value a.value) rows.old.items) ≡ map (λ a. R.value a.value) rows.old.items }
     requires uncovered { HasCovering (map (λ a. R.value a.value) rows.old.items) (R.value row) → ⊥ }
+    requires place { IsPlace place_cmp (R.value row) (map (λ a. R.value a.value) rows.old.items) at }
+    requires within { at ≤ vec_len rows.old }
     ensures rows { OnOk result (map (λ a. R.value a.value) rows.new.items ≡ live (map (λ a. R.value a.value) rows.old.items ++ R.value row ∷ [])) }
     ensures pruned { IfOk result (λ pruned. pruned ≡ count_by (λ s. is_dominating (R.value row) s) (map (λ a. R.value a.value) rows.old.items)) }
     ensures fits { IfOk result (λ pruned. pruned ≤ vec_len rows.old) }
@@ -71,7 +72,7 @@ fn put<R: Row>(rows: &mut Vec<Arc<R>>, row: R) -> Result<usize, NoMemory>
     rows.reserve(1)?;
     let held = Arc::new(*rows.allocator(), row)?;
     let before = rows.len();
-    let at = make_room(rows, &*held);
+    make_room(rows, &*held, at);
     let pruned = before - rows.len();
     rows.insert(at, held)?;
     Ok(pruned)
@@ -87,10 +88,10 @@ fn offer<R: Row>(rows: &mut Vec<Arc<R>>, row: R) -> Result<Placed, NoMemory>
     ensures is_live { live (map (λ a. R.value a.value) rows.new.items) ≡ map (λ a. R.value a.value) rows.new.items }
     ensures err { OnErr result (rows.new.items ≡ rows.old.items) }
 {
-    match cover(rows, &row) {
-        Some(by) => Ok(Placed::Kept { by }),
-        None => {
-            let pruned = put(rows, row)?;
+    match place_or_cover(rows, &row) {
+        Err(by) => Ok(Placed::Kept { by }),
+        Ok(at) => {
+            let pruned = put(rows, row, at)?;
             Ok(Placed::Stored {
                 pruned: pruned as u32,
             })
