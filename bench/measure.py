@@ -18,6 +18,7 @@ KEYS = 8
 CHECKS = 500
 ROWS = 65_536
 NAMESPACE = "00" + "4f" * 32
+HEAD, TRAILER = 37, 8  # of an image: four letters and a key; four zero bytes and a number
 
 # LMS_SHA256_M32_H5 with LMOTS_SHA256_N32_W8 (RFC 8554), in blocks:
 CHAINS = 34  # one for each byte of a hash, and two for the checksum
@@ -67,10 +68,13 @@ def best(commands):
 
 
 def show(hash_bench, peer, folder):
-    rows, image, listing = (os.path.join(folder, name) for name in ("rows", "image", "listing"))
+    rows, image, listing, placed = (os.path.join(folder, name) for name in ("rows", "image", "listing", "placed"))
     run([peer, "gen", "--rows", str(ROWS)], made=rows)
     run([peer, "join", "--namespace", NAMESPACE], rows, image)
     run([peer, "show"], image, listing)
+    # The frames of an image are a stream of rows by rising place: joining them moves no row of the store.
+    with open(image, "rb") as source, open(placed, "wb") as sink:
+        sink.write(source.read()[HEAD:-TRAILER])
     with open(listing, encoding="ascii") as lines:
         kept = int(lines.readline().split()[-1])
     took = best({
@@ -83,6 +87,7 @@ def show(hash_bench, peer, folder):
         "kept rows": ([hash_bench, "rows", str(kept)], None),
         "gen": ([peer, "gen", "--rows", str(ROWS)], None),
         "join": ([peer, "join", "--namespace", NAMESPACE], rows),
+        "join by place": ([peer, "join", "--namespace", NAMESPACE], placed),
         "show": ([peer, "show"], image),
     })
     plain = BLOCKS / took["blocks"]
@@ -99,7 +104,12 @@ def show(hash_bench, peer, folder):
     print()
     print("| Rows | rows | hashes | seconds | seconds of SHA-256 alone | times that |")
     print("|---|---|---|---|---|---|")
-    for name, count, alone in (("gen", ROWS, "rows"), ("join", ROWS, "rows"), ("show", kept, "kept rows")):
+    for name, count, alone in (
+        ("gen", ROWS, "rows"),
+        ("join", ROWS, "rows"),
+        ("join by place", kept, "kept rows"),
+        ("show", kept, "kept rows"),
+    ):
         times = took[name] / took[alone]
         print(f"| {name} | {count:,} | {count * ROW:,} | {took[name]:.3f} | {took[alone]:.3f} | {times:.1f} |")
 
