@@ -33,9 +33,9 @@ pub struct AreaWords {
 
 /// A command with its options, as `read_words` answers it.
 ///
-/// The name of a file has 1 to 128 letters, digits, `.`, `_` and `-` of ASCII, and
-/// begins with a letter or digit. A place has at most 255 bytes: one or more without `:`, a `:` and a port from
-/// 1 to 65,535 in decimal digits.
+/// The name of a file has 1 to 128 letters, digits, `.`, `_` and `-` of ASCII, and begins with a letter or digit.
+/// A place has at most 255 bytes: a host of one or more bytes without `:`, a `:` and a port from 1 to 65,535 in
+/// decimal digits.
 #[derive(Debug, Drop)]
 pub enum Command {
     /// Joins the rows of the input into the image of a store of this namespace.
