@@ -7,3 +7,4 @@ pub mod Framed
 pub mod Joined
 pub mod Listed
 pub mod Generated
+pub mod Valid

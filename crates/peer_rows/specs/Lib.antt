@@ -1,5 +1,6 @@
 pub mod Logged
 pub mod Stored
+pub mod Known
 pub mod Join
 pub mod Show
 pub mod Listed

@@ -5,6 +5,7 @@
 
 mod generating;
 mod joining;
+mod known;
 mod log;
 mod showing;
 

@@ -7,7 +7,8 @@ ghost use Rattle.auth_entry.specs.Authorised.{row_refusal};
 ghost use Rattle.lms_core.specs.Use.{peer_rules};
 ghost use Rattle.peer_rows.specs.Logged.{IsLogOf, Offers, rows_of, with_stored, with_kept, with_refused};
 
-use auth_entry::{AuthorisedEntry, RowRefusal, authorise};
+use crate::known::Known;
+use auth_entry::{AuthorisedEntry, RowRefusal};
 use block_store::BlockStore;
 use cap_codec::RawRow;
 use lms_core::PeerScheme;
@@ -29,6 +30,7 @@ pub(crate) struct LogFull;
 pub(crate) struct Log {
     pub(crate) store: BlockStore<AuthorisedEntry<PeerScheme>>,
     pub(crate) counts: JoinCounts,
+    known: Known,
     ghost few: { length store ≤ counts.stored },
     ghost sums: { counts.stored + counts.kept + counts.refused ≡ counts.rows },
 }
@@ -48,6 +50,7 @@ impl Log {
         Log {
             store: BlockStore::new(alloc),
             counts,
+            known: Known::new(alloc),
         }
     }
 
@@ -64,8 +67,8 @@ impl Log {
             → Offers namespace.now seen row (rows_of self.new.store) self.new.counts result }
         ensures fits { OnOk result (self.new.counts.stored ≤ LOG_LIMIT) }
     {
-        match authorise(alloc, &PeerScheme, namespace, row) {
-            Ok(entry) => self.keep(entry),
+        match self.known.check(alloc, namespace, &row) {
+            Ok(()) => self.keep(AuthorisedEntry::new(*namespace, row)),
             Err(End::Refused(refusal)) => {
                 self.count_refused(refusal);
                 Ok(())

@@ -7,10 +7,10 @@ ghost use Rattle.auth_entry.specs.Authorised.{row_refusal};
 ghost use Rattle.peer_rows.specs.Show.{ShowMeets, ShowsBytes};
 ghost use Rattle.peer_rows.specs.Listed.{IsListed, IsListing, with_listed, with_left_out};
 
+use crate::known::Known;
 use crate::log::first_of;
-use auth_entry::{RowRefusal, check_row};
+use auth_entry::RowRefusal;
 use cap_codec::RawRow;
-use lms_core::PeerScheme;
 use peer_image::{ImageRefusal, read_image};
 use peer_stage::{Done, Origin, RefusedRow, ShowCounts, Stop, read_input, write_both};
 use peer_text::{listing_head, listing_line};
@@ -99,20 +99,27 @@ impl Listing {
             lines: Vec::new(alloc),
             counts,
         };
+        let mut known = Known::new(alloc);
         for row in rows {
-            listing.add(alloc, namespace, row)?;
+            listing.add(alloc, &mut known, namespace, row)?;
         }
         Ok(listing)
     }
 
     // Adds a row: one that is not authorised is left out and counted.
-    fn add(&mut self, alloc: Global, namespace: &NamespaceKey, row: &RawRow) -> Result<(), NoMemory>
+    fn add(
+        &mut self,
+        alloc: Global,
+        known: &mut Known,
+        namespace: &NamespaceKey,
+        row: &RawRow,
+    ) -> Result<(), NoMemory>
         requires rows { self.old.counts.rows < 2 ^ 64 - 1 }
         requires refused { self.old.counts.refused ≤ self.old.counts.rows }
         ensures { (seen : List RawValue) → IsListed namespace.now seen self.old.lines.items self.old.counts
             → OnOk result (IsListed namespace.now (seen ++ row.now ∷ []) self.new.lines.items self.new.counts) }
     {
-        match check_row(alloc, &PeerScheme, namespace, row) {
+        match known.check(alloc, namespace, row) {
             Ok(()) => {
                 listing_line(row.entry(), &mut self.lines)?;
                 self.counts = listed(&self.counts);
