@@ -1,6 +1,9 @@
 -- How long a signature is that is accepted for an LMS key, for the laws of what makes them.
-use Rattle.std.proofs.Common.{◌≡◌, ◌==◌, ◌≤◌, ℕ, Bool, true, false, List, length, take, drop, Option, Some, None, if◌then◌else◌, sym, subst, inl, inr, lit≤, length-drop, arith}
-use Rattle.std.proofs.lemmas.Bool.{and_parts, cases_Bool, eqb-true}
+use Rattle.std.proofs.Common.{◌≡◌, ◌==◌, ◌&&◌, ◌+◌, ◌≤◌, ℕ, Bool, true, false, nat_le, bytes_eq, List, length, take, drop, Option, Some, None, if◌then◌else◌, sym, ap, subst, ◌∙◌, inl, inr, lit≤, length-drop}
+use Rattle.std.proofs.Math.Nat.{add-sub_of_le, add-le-add, le_refl}
+use Rattle.std.proofs.lemmas.Bool.{and_parts, cases_Bool, eqb-true, leb-true, false≢true}
+use Rattle.sha2.specs.Sha256.{sha256}
+use Rattle.lms_core.specs.Bytes.{field}
 use Rattle.lms_core.specs.declared.height.Height.{Height}
 use Rattle.lms_core.specs.declared.height.Height.TheVariants.{H5, H10}
 use Rattle.lms_core.specs.Accepts.{is_sound, sound_height, signature_length, lms_accepts}
@@ -19,11 +22,13 @@ sound-short height public signature sound =
 by_height : (found : Option Height) (public signature : List ℕ) (root : Height → Bool)
     → (elim (elim found as (λ _. Option Height) [ Some height ↦ if is_sound height public signature then Some height else None | None ↦ None ]) as (λ _. Bool) [ Some height ↦ root height | None ↦ false ]) ≡ true
     → length signature ≤ 1452
-by_height None public signature root accepted = absurd cc
+by_height None public signature root accepted = absurd (false≢true accepted)
 by_height (Some height) public signature root accepted =
     elim (cases_Bool (is_sound height public signature)) [
       | inl sound ↦ sound-short height public signature sound
-      | inr unsound ↦ let refused : false ≡ true = rw unsound at accepted in absurd cc
+      | inr unsound ↦
+          let refused = subst (λ (sound : Bool). (elim (if sound then Some height else None) as (λ _. Bool) [ Some height ↦ root height | None ↦ false ]) ≡ true) unsound accepted in
+          absurd (false≢true refused)
     ]
 
 lms_accepts-short : (public message signature : List ℕ) → lms_accepts public message signature ≡ true → length signature ≤ 1452
@@ -33,8 +38,12 @@ lms_accepts-short public message signature accepted = by_height _ public signatu
 lms_key_accepts-short : (key message signature : List ℕ) → lms_key_accepts key message signature ≡ true → length signature ≤ 1508
 unfolding lms_key_accepts
 lms_key_accepts-short key message signature accepted =
-    let rest : length (drop 56 signature) ≤ 1452 = lms_accepts-short (take 56 signature) message (drop 56 signature) (and_parts _ (lms_accepts (take 56 signature) message (drop 56 signature)) accepted).1 in
-    omega (arith, length-drop 56 signature)
+    let public = take 56 signature in
+    let made = drop 56 signature in
+    let parts = and_parts (nat_le 56 (length signature) && bytes_eq (sha256 public) (field 1 32 key)) (lms_accepts public message made) accepted in
+    let long = leb-true 56 (length signature) (and_parts _ (bytes_eq (sha256 public) (field 1 32 key)) parts.0).0 in
+    let all : 56 + length made ≡ length signature = ap (λ (n : ℕ). 56 + n) (length-drop 56 signature) ∙ add-sub_of_le long in
+    subst (λ (n : ℕ). n ≤ 1508) all (add-le-add (le_refl 56) (lms_accepts-short public message made parts.1))
 
 -- an LMS signature behind its public key has 1,348 or 1,508 bytes, which is within what a signature may have
 pub use_gives-short : (s : Use) (message signature : List ℕ) → use_gives s message signature ≡ true → length signature ≤ 1508
