@@ -18,6 +18,7 @@ KEYS = 8
 CHECKS = 500
 ROWS = 65_536
 NAMESPACE = "00" + "4f" * 32
+AUTHORS = 8
 HEAD, TRAILER = 37, 8  # of an image: four letters and a key; four zero bytes and a number
 
 # LMS_SHA256_M32_H5 with LMOTS_SHA256_N32_W8 (RFC 8554), in blocks:
@@ -52,6 +53,20 @@ def verify_blocks():
     return MESSAGE_HASH + steps * STEP + ONE_TIME_KEY + LEAF + 5 * INNER + PUBLIC
 
 
+def signed(key, message):
+    """The signature of an open key."""
+    return sha256(key + message).digest()
+
+
+def covering_row(author):
+    """The frame of a row at the empty path, later than all rows of the generator by that author."""
+    space, user = bytes.fromhex(NAMESPACE), b"\0" + b"\x55" * 31 + bytes([author])
+    grant = b"\x03" + space + user + struct.pack(">H", 32) + signed(space, b"I\x01" + user) + b"\0"
+    entry = space + user + b"\0" + struct.pack(">QQ", 1 << 63, 0) + bytes(32)
+    body = entry + grant + struct.pack(">H", 32) + signed(user, b"E" + entry)
+    return struct.pack(">I", len(body)) + body
+
+
 def run(command, given=None, made=None):
     with open(given or os.devnull, "rb") as source, open(made or os.devnull, "wb") as sink:
         begun = time.perf_counter()
@@ -68,13 +83,17 @@ def best(commands):
 
 
 def show(hash_bench, peer, folder):
-    rows, image, listing, placed = (os.path.join(folder, name) for name in ("rows", "image", "listing", "placed"))
+    names = ("rows", "image", "listing", "placed", "covered")
+    rows, image, listing, placed, covered = (os.path.join(folder, name) for name in names)
     run([peer, "gen", "--rows", str(ROWS)], made=rows)
     run([peer, "join", "--namespace", NAMESPACE], rows, image)
     run([peer, "show"], image, listing)
     # The frames of an image are a stream of rows by rising place: joining them moves no row of the store.
     with open(image, "rb") as source, open(placed, "wb") as sink:
         sink.write(source.read()[HEAD:-TRAILER])
+    # Behind a later row at the empty path of each author the store keeps none: all but it is left.
+    with open(rows, "rb") as source, open(covered, "wb") as sink:
+        sink.write(b"".join(map(covering_row, range(AUTHORS))) + source.read())
     with open(listing, encoding="ascii") as lines:
         kept = int(lines.readline().split()[-1])
     took = best({
@@ -88,6 +107,7 @@ def show(hash_bench, peer, folder):
         "gen": ([peer, "gen", "--rows", str(ROWS)], None),
         "join": ([peer, "join", "--namespace", NAMESPACE], rows),
         "join by place": ([peer, "join", "--namespace", NAMESPACE], placed),
+        "join of covered rows": ([peer, "join", "--namespace", NAMESPACE], covered),
         "show": ([peer, "show"], image),
     })
     plain = BLOCKS / took["blocks"]
@@ -108,6 +128,7 @@ def show(hash_bench, peer, folder):
         ("gen", ROWS, "rows"),
         ("join", ROWS, "rows"),
         ("join by place", kept, "kept rows"),
+        ("join of covered rows", ROWS, "rows"),
         ("show", kept, "kept rows"),
     ):
         times = took[name] / took[alone]

@@ -4,6 +4,11 @@ use std::alloc::Global;
 use std::cmp::Ordering;
 use std::test::*;
 
+// Components of as many bytes as one may have.
+const HIGH: &[u8] = &[0xff; 255];
+
+const LONG: &[u8] = &[0x61; 255];
+
 // The path of these components; None where one cannot be added.
 fn path_of(alloc: Global, parts: &[&[u8]]) -> Option<Path> {
     let mut path = Path::empty(alloc);
@@ -13,101 +18,148 @@ fn path_of(alloc: Global, parts: &[&[u8]]) -> Option<Path> {
     Some(path)
 }
 
-// The path of so many components of 255 bytes 61 and the last one.
-fn behind_long(alloc: Global, count: usize, last: &[u8]) -> Option<Path> {
+// Whether the least path above all extensions of a path is this one, or there is none.
+fn comes_after(alloc: Global, parts: &[&[u8]], due: Option<&[&[u8]]>) -> Option<bool> {
+    let found = path_of(alloc, parts)?.after_prefixed().ok()?;
+    match due {
+        None => Some(found.is_none()),
+        Some(parts) => Some(found? == path_of(alloc, parts)?),
+    }
+}
+
+#[test]
+fn successors_of_paths(rt: HostRuntime) {
+    let alloc = rt.alloc();
+    let rows: [(&[&[u8]], Option<&[&[u8]]>); 5] = [
+        (&[], None),
+        (&[b"a"], Some(&[b"a\0"])),
+        (&[HIGH], None),
+        (&[b"a", HIGH], Some(&[b"a\0"])),
+        (
+            &[LONG, LONG, LONG, LONG, b"b\xff\xff\xff"],
+            Some(&[LONG, LONG, LONG, LONG, b"c"]),
+        ),
+    ];
+    for (parts, due) in rows {
+        assert_eq!(rt; comes_after(alloc, parts, due), Some(true));
+    }
+}
+
+// What a path of so many long components answers to one more, of so many bytes.
+fn pushed(alloc: Global, count: usize, len: usize) -> Option<Result<(), End<PathRefusal>>> {
     let mut path = Path::empty(alloc);
     for _ in 0..count {
-        path.push(&[0x61; 255]).ok()?;
+        path.push(LONG).ok()?;
     }
-    path.push(last).ok()?;
-    Some(path)
+    Some(path.push([0x61; 256].get(..len)?))
 }
 
-#[test]
-fn successors_of_paths(rt: HostRuntime) -> Result<(), Fail> {
-    let mut path = Path::empty(rt.alloc());
-    assert!(rt; path.after_prefixed() == Ok(None));
-    path.push(b"a").ok().ok_or("there is room")?;
-    let raised = behind_long(rt.alloc(), 0, b"a\0").ok_or("a path")?;
-    let found = path.after_prefixed().ok().ok_or("there is memory")?;
-    assert!(rt; found.ok_or("a path")? == raised);
-    path.push(&[0xff; 255]).ok().ok_or("there is room")?;
-    let found = path.after_prefixed().ok().ok_or("there is memory")?;
-    assert!(rt; found.ok_or("a path")? == raised);
-    let greatest = behind_long(rt.alloc(), 0, &[0xff; 255]).ok_or("a path")?;
-    assert!(rt; greatest.after_prefixed() == Ok(None));
-    let longest = behind_long(rt.alloc(), 4, b"b\xff\xff\xff").ok_or("a path")?;
-    let found = longest.after_prefixed().ok().ok_or("there is memory")?;
-    let cut = behind_long(rt.alloc(), 4, b"c").ok_or("a path")?;
-    assert!(rt; found.ok_or("a path")? == cut);
-    Ok(())
-}
-
-#[test]
-fn limits_of_paths(rt: HostRuntime) -> Result<(), Fail> {
-    let mut path = Path::empty(rt.alloc());
-    assert_eq!(rt;
-        path.push(&[0; 256]),
-        Err(End::Refused(PathRefusal::ComponentTooLong { len: 256 }))
-    );
+// How many components a path has at most, and what it answers to one more.
+fn pushed_onto_most(alloc: Global) -> Option<(usize, Result<(), End<PathRefusal>>)> {
+    let mut path = Path::empty(alloc);
     for _ in 0..MAX_PARTS {
-        assert_eq!(rt; path.push(b"a"), Ok(()));
+        path.push(b"a").ok()?;
+    }
+    Some((path.count(), path.push(b"a")))
+}
+
+// The numbers of components and of bytes of the path of these components.
+fn numbers_of(alloc: Global, parts: &[&[u8]]) -> Option<(usize, usize)> {
+    let path = path_of(alloc, parts)?;
+    Some((path.count(), path.total()))
+}
+
+#[test]
+fn limits_of_paths(rt: HostRuntime) {
+    let alloc = rt.alloc();
+    let rows = [
+        (0, 256, Err(PathRefusal::ComponentTooLong { len: 256 })),
+        (0, 255, Ok(())),
+        (4, 5, Err(PathRefusal::PathTooLong { total: 1025 })),
+        (4, 4, Ok(())),
+    ];
+    for (count, len, due) in rows {
+        assert_eq!(rt;
+            pushed(alloc, count, len),
+            Some(due.map_err(|e| End::Refused(e)))
+        );
+    }
+    let full = Err(End::Refused(PathRefusal::TooManyComponents));
+    assert_eq!(rt; pushed_onto_most(alloc), Some((16, full)));
+    assert_eq!(rt; numbers_of(alloc, &[LONG, b"", b"bc"]), Some((3, 257)));
+}
+
+// How many bytes the path in front of the bytes takes, and its spelling behind a byte 09.
+fn read_again(alloc: Global, bytes: &[u8]) -> Result<(usize, Vec<u8>), End<NotHere>> {
+    let (path, taken) = Path::decode(alloc, bytes)?;
+    let mut text = Vec::new(alloc);
+    text.push(9)?;
+    path.encode(&mut text)?;
+    Ok((taken, text))
+}
+
+// Whether a path takes so many of the bytes and is spelled as these are.
+fn is_read(alloc: Global, bytes: &[u8], due: usize) -> bool {
+    match read_again(alloc, bytes) {
+        Ok((taken, text)) => taken == due && text.get(1..) == bytes.get(..due),
+        Err(_) => false,
+    }
+}
+
+// The components of the path of these bytes, joined by a byte `/`.
+fn joined_parts(alloc: Global, bytes: &[u8]) -> Option<Vec<u8>> {
+    let (path, _) = Path::decode(alloc, bytes).ok()?;
+    let mut text = Vec::new(alloc);
+    for i in 0..path.count() {
+        text.push(b'/').ok()?;
+        text.extend_from_slice(path.part(i)).ok()?;
+    }
+    Some(text)
+}
+
+#[test]
+fn spellings_of_paths(rt: HostRuntime) {
+    let alloc = rt.alloc();
+    let bytes = [2, 1, 0x61, 1, 0x62, 0xff];
+    assert!(rt; is_read(alloc, &bytes, 5));
+    assert_eq!(rt;
+        joined_parts(alloc, &bytes),
+        Vec::from_slice(alloc, b"/a/b").ok()
+    );
+    assert_eq!(rt;
+        read_again(alloc, &[1, 2, 0x61]),
+        Err(End::Refused(NotHere))
+    );
+}
+
+// Whether the first path is a prefix of the second, and how they are ordered.
+fn compared(alloc: Global, one: &[&[u8]], other: &[&[u8]]) -> Option<(bool, Ordering)> {
+    let (one, other) = (path_of(alloc, one)?, path_of(alloc, other)?);
+    Some((one.is_prefix_of(&other), one.cmp(&other)))
+}
+
+// Whether a copy of the path is equal to it.
+fn is_copied(alloc: Global, parts: &[&[u8]]) -> Option<bool> {
+    let path = path_of(alloc, parts)?;
+    Some(path.copy().ok()? == path)
+}
+
+#[test]
+fn order_of_some_paths(rt: HostRuntime) {
+    let alloc = rt.alloc();
+    let rows: [(&[&[u8]], &[&[u8]], bool, Ordering); 4] = [
+        (&[b"a"], &[b"a", b"b"], true, Ordering::Less),
+        (&[b"a", b"b"], &[b"a"], false, Ordering::Greater),
+        (&[b"a"], &[b"ab"], false, Ordering::Less),
+        (&[b"a", b"b"], &[b"ab"], false, Ordering::Less),
+    ];
+    for (one, other, prefix, order) in rows {
+        assert_eq!(rt; compared(alloc, one, other), Some((prefix, order)));
     }
     assert_eq!(rt;
-        path.push(b"a"),
-        Err(End::Refused(PathRefusal::TooManyComponents))
+        is_copied(alloc, &[b"a", b"a component of more than a few bytes", b""]),
+        Some(true)
     );
-    assert_eq!(rt; path.count(), 16);
-    let low = [0x61u8; 255];
-    let low = low.as_slice();
-    let mut path = path_of(rt.alloc(), &[low, low, low, low]).ok_or(
-        "the path is within the limits",
-    )?;
-    assert_eq!(rt;
-        path.push(b"abcde"),
-        Err(End::Refused(PathRefusal::PathTooLong { total: 1025 }))
-    );
-    assert_eq!(rt; path.push(b"abcd"), Ok(()));
-    assert_eq!(rt; path.total(), 1024);
-    Ok(())
-}
-
-#[test]
-fn spellings_of_paths(rt: HostRuntime) -> Result<(), Fail> {
-    let (path, taken) = Path::decode(rt.alloc(), &[2, 1, 0x61, 1, 0x62, 0xff])
-        .ok()
-        .ok_or("a path is there")?;
-    assert_eq!(rt; taken, 5);
-    assert_eq!(rt; path.count(), 2);
-    assert_eq!(rt; path.part(0), b"a".as_slice());
-    assert_eq!(rt; path.part(1), b"b".as_slice());
-    let mut text = Vec::new(rt.alloc());
-    text.push(9)?;
-    assert_eq!(rt; path.encode(&mut text), Ok(()));
-    assert_eq!(rt; text.as_slice(), [9, 2, 1, 0x61, 1, 0x62].as_slice());
-    assert!(rt;
-        matches!(
-            Path::decode(rt.alloc(), &[1, 2, 0x61]),
-            Err(End::Refused(NotHere))
-        )
-    );
-    Ok(())
-}
-
-#[test]
-fn order_of_some_paths(rt: HostRuntime) -> Result<(), Fail> {
-    let (a, b, ab) = (b"a".as_slice(), b"b".as_slice(), b"ab".as_slice());
-    let short = path_of(rt.alloc(), &[a]).ok_or("a path")?;
-    let long = path_of(rt.alloc(), &[a, b]).ok_or("a path")?;
-    let other = path_of(rt.alloc(), &[ab]).ok_or("a path")?;
-    assert!(rt;
-        short.is_prefix_of(&long) && !long.is_prefix_of(&short) && !short.is_prefix_of(&other)
-    );
-    assert!(rt; short < long && long < other);
-    assert_eq!(rt; long.cmp(&other), Ordering::Less);
-    let copy = long.copy().ok().ok_or("there is memory")?;
-    assert!(rt; copy == long);
-    Ok(())
 }
 
 #[test]
