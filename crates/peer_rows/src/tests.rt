@@ -39,12 +39,12 @@ const NONE: &str =
 
 const NONE_OF_OTHER: &str =
     "namespace 004c4c4c4c4c4c4c4c4c4c4c4c4c4c4c4c4c4c4c4c4c4c4c4c4c4c4c4c4c4c4c4c rows 0\n";
-// of the row at time 6, and its first hundred bytes,
+// of the row at time 6, and its head alone,
 const NEW_LISTED: &str =
     "namespace 004e4e4e4e4e4e4e4e4e4e4e4e4e4e4e4e4e4e4e4e4e4e4e4e4e4e4e4e4e4e4e4e rows 1\n005555555555555555555555555555555555555555555555555555555555555555 /61 6 1 1111111111111111111111111111111111111111111111111111111111111111\n";
 
-const NEW_IN_PART: &str =
-    "namespace 004e4e4e4e4e4e4e4e4e4e4e4e4e4e4e4e4e4e4e4e4e4e4e4e4e4e4e4e4e4e4e4e rows 1\n0055555555555555";
+const NEW_HEAD: &str =
+    "namespace 004e4e4e4e4e4e4e4e4e4e4e4e4e4e4e4e4e4e4e4e4e4e4e4e4e4e4e4e4e4e4e4e rows 1\n";
 // of the row at time 5,
 const OLD_LISTED: &str =
     "namespace 004e4e4e4e4e4e4e4e4e4e4e4e4e4e4e4e4e4e4e4e4e4e4e4e4e4e4e4e4e4e4e4e rows 1\n005555555555555555555555555555555555555555555555555555555555555555 /61 5 1 1111111111111111111111111111111111111111111111111111111111111111\n";
@@ -184,10 +184,7 @@ fn images_shown(rt: HostRuntime) {
         assert_eq!(rt; shows_cut(alloc, &texts, cut, text), Some(due));
     }
     assert_eq!(rt; shows_fault(alloc, 2, 0, ""), Some(Ended::ReadFault));
-    assert_eq!(rt;
-        shows_fault(alloc, 0, 2, NEW_IN_PART),
-        Some(Ended::WriteFault)
-    );
+    assert_eq!(rt; shows_fault(alloc, 0, 2, NEW_HEAD), Some(Ended::WriteFault));
 }
 
 // How the making of so many rows ends, where it writes these texts' bytes.
