@@ -6,6 +6,8 @@ use Rattle.std.specs.Int.{w64, to_be_bytes}
 use Rattle.std.proofs.lemmas.List.{length-append}
 use Rattle.spelling.specs.Spelling.{option_spelling}
 use Rattle.scheme_core.specs.Rules.{Rules}
+use Rattle.scheme_core.specs.declared.signer.TheConstants.{MAX_SIGNATURE}
+use Rattle.willow_path.specs.declared.limits.TheConstants.{MAX_PARTS, MAX_TOTAL}
 use Rattle.willow_path.specs.Key.{IsKey}
 use Rattle.willow_path.specs.Path.{IsPath, total}
 use Rattle.willow_path.specs.PathSpelling.{part_spelling, path_spelling}
@@ -18,19 +20,43 @@ use Rattle.willow_entry.specs.declared.entry.Entry.{Entry}
 use Rattle.mc_cap.specs.Signature.{IsSignature, signature_spelling}
 use Rattle.mc_cap.specs.Forms.{delegation_spelling, IsDelegation, chain_spelling, initial_spelling, capability_spelling, IsCapability}
 use Rattle.mc_cap.specs.declared.chain.Delegation.{Delegation}
+use Rattle.mc_cap.specs.declared.check.TheConstants.{MAX_DELEGATIONS}
 use Rattle.mc_cap.specs.declared.capability.Capability.{Capability}
 use Rattle.cap_codec.specs.Rows.{RawValue, IsRaw, FitsFrame, token_spelling, raw_spelling}
 use Rattle.auth_entry.specs.Authorised.{row_refusal}
 use Rattle.auth_entry.proofs.Meaning.{authorised_means}
 
+-- ---- the most bytes of each part
+
+abbrev most_of_path : ℕ
+most_of_path = 1 + MAX_PARTS + MAX_TOTAL
+
+abbrev most_of_entry : ℕ
+most_of_entry = 33 + 33 + most_of_path + 8 + 8 + 32
+
+abbrev most_of_signature : ℕ
+most_of_signature = 2 + MAX_SIGNATURE
+
+abbrev most_of_area : ℕ
+most_of_area = 34 + most_of_path + 8 + 9
+
+abbrev most_of_delegation : ℕ
+most_of_delegation = most_of_area + 33 + most_of_signature
+
+abbrev most_of_capability : ℕ
+most_of_capability = 1 + 33 + 33 + most_of_signature + 1 + most_of_delegation * MAX_DELEGATIONS
+
+abbrev most_of_row : ℕ
+most_of_row = most_of_entry + most_of_capability + most_of_signature
+
 parts_long : (path : List (List ℕ)) → length (flat_map part_spelling path) ≡ length path + total path
 parts_long [] = refl
 parts_long (part ∷ path) = omega (arith, length-append (part_spelling part) (flat_map part_spelling path), parts_long path)
 
-path_long : (path : List (List ℕ)) → IsPath path → length (path_spelling path) ≤ 1041
+path_long : (path : List (List ℕ)) → IsPath path → length (path_spelling path) ≤ most_of_path
 path_long path fits = omega (arith, parts_long path, fits.few, fits.short)
 
-entry_long : (e : Entry) → IsEntry e → length (entry_spelling e) ≤ 1155
+entry_long : (e : Entry) → IsEntry e → length (entry_spelling e) ≤ most_of_entry
 unfolding entry_spelling
 entry_long e fits =
     let numbers = to_be_bytes w64 e.timestamp ++ (to_be_bytes w64 e.length ++ e.digest.0) in
@@ -45,7 +71,7 @@ entry_long e fits =
       fits.digest.0,
     )
 
-signature_long : (signature : List ℕ) → IsSignature signature → length (signature_spelling signature) ≤ 1510
+signature_long : (signature : List ℕ) → IsSignature signature → length (signature_spelling signature) ≤ most_of_signature
 signature_long signature fits = omega (arith, fits.0)
 
 subspace_long : (o : Option (List ℕ)) → IfSome o IsKey → length (option_spelling (λ key. key) o) ≤ 34
@@ -56,7 +82,7 @@ end_long : (o : Option ℕ) → length (option_spelling (to_be_bytes w64) o) ≤
 end_long None = omega arith
 end_long (Some end) = omega arith
 
-area_long : (a : Area) → IsArea a → length (area_spelling a) ≤ 1092
+area_long : (a : Area) → IsArea a → length (area_spelling a) ≤ most_of_area
 area_long a fits =
     omega (
       arith,
@@ -68,7 +94,7 @@ area_long a fits =
       end_long a.times.end,
     )
 
-delegation_long : (d : Delegation) → IsDelegation d → length (delegation_spelling d) ≤ 2635
+delegation_long : (d : Delegation) → IsDelegation d → length (delegation_spelling d) ≤ most_of_delegation
 delegation_long d fits =
     omega (
       arith,
@@ -79,15 +105,15 @@ delegation_long d fits =
       signature_long d.signature fits.signature_fits,
     )
 
-delegations_long : (chain : List Delegation) → AllByRecursion IsDelegation chain → length (flat_map delegation_spelling chain) ≤ 2635 * length chain
+delegations_long : (chain : List Delegation) → AllByRecursion IsDelegation chain → length (flat_map delegation_spelling chain) ≤ most_of_delegation * length chain
 delegations_long [] fit = omega arith
 delegations_long (d ∷ chain) fit = omega (arith, length-append (delegation_spelling d) (flat_map delegation_spelling chain), delegation_long d fit.0, delegations_long chain fit.1)
 
-initial_long : (o : Option (List ℕ)) → IfSome o IsSignature → length (initial_spelling o) ≤ 1510
+initial_long : (o : Option (List ℕ)) → IfSome o IsSignature → length (initial_spelling o) ≤ most_of_signature
 initial_long None fits = omega arith
 initial_long (Some signature) fits = signature_long signature fits
 
-capability_long : (c : Capability) → IsCapability c → length c.chain ≤ 8 → length (capability_spelling c) ≤ 22658
+capability_long : (c : Capability) → IsCapability c → length c.chain ≤ MAX_DELEGATIONS → length (capability_spelling c) ≤ most_of_capability
 unfolding capability_spelling
 capability_long c fits few =
     omega (
@@ -102,7 +128,7 @@ capability_long c fits few =
       few,
     )
 
-raw_long : (r : RawValue) → IsRaw r → length r.token.capability.chain ≤ 8 → length (raw_spelling r) ≤ 25323
+raw_long : (r : RawValue) → IsRaw r → length r.token.capability.chain ≤ MAX_DELEGATIONS → length (raw_spelling r) ≤ most_of_row
 raw_long r fits few =
     omega (
       arith,
@@ -113,7 +139,7 @@ raw_long r fits few =
       signature_long r.token.signature fits.token_fits.signature_fits,
     )
 
--- an authorised row has at most 25,323 bytes
+-- an authorised row is short, since its capability has few delegations
 pub fits_frame : (rules : Rules) (n : List ℕ) (r : RawValue) → IsRaw r → row_refusal rules n r ≡ None → FitsFrame r
 fits_frame rules n r fits none =
     let few = ((authorised_means rules n r).0 none).valid.few in

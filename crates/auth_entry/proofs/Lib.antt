@@ -1,2 +1,4 @@
 pub mod Meaning
 pub mod Lengths
+pub mod Early
+pub mod Remembered

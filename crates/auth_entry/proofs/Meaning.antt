@@ -8,6 +8,7 @@ use Rattle.spelling.proofs.Causes.{or_else_both}
 use Rattle.scheme_core.specs.Rules.{Rules}
 use Rattle.willow_area.specs.Area.{in_area}
 use Rattle.willow_entry.specs.Entry.{same_bytes}
+use Rattle.willow_entry.specs.Message.{entry_message}
 use Rattle.mc_cap.specs.Grant.{receiver_of, granted}
 use Rattle.mc_cap.specs.Valid.{chain_refusal}
 use Rattle.mc_cap.specs.declared.check.ChainRefusal.{ChainRefusal}
@@ -16,14 +17,14 @@ use Rattle.mc_cap.specs.declared.capability.Mode.TheVariants.{Read, Write}
 use Rattle.mc_cap.proofs.Causes.{unless_true, neither}
 use Rattle.mc_cap.proofs.Meaning.{valid_means}
 use Rattle.cap_codec.specs.Rows.{RawValue}
-use Rattle.auth_entry.specs.Authorised.{entry_message, namespace_refusal, mode_refusal, capability_refusal, grant_refusal, signature_refusal, claim_refusal, entry_refusal, row_refusal, IsAuthorised}
+use Rattle.auth_entry.specs.Authorised.{namespace_refusal, mode_refusal, capability_refusal, grant_refusal, signature_refusal, claim_refusal, entry_refusal, row_refusal, IsAuthorised}
 use Rattle.mc_cap.specs.declared.refusal.RowRefusal.TheVariants.{WrongNamespace, Chain, OutsideGrant, BadEntrySignature}
 
 mode_writes : (mode : Mode) → mode_refusal mode ≡ None → mode ≡ Write
 mode_writes Write e = refl
 mode_writes Read e = absurd cc
 
-no_chain : (o : Option ChainRefusal) → option_map Chain o ≡ None → o ≡ None
+pub no_chain : (o : Option ChainRefusal) → option_map Chain o ≡ None → o ≡ None
 no_chain None e = refl
 no_chain (Some refusal) e = absurd cc
 

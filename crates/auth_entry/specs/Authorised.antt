@@ -1,23 +1,19 @@
 -- Which rows are authorised in a namespace, and which condition is the first that fails.
-use Rattle.std.specs.Prelude.{◌≡◌, ℕ, Bool, ◌&&◌, not, List, ◌∷◌, filter, Option, Some, None, is_some, option_map, Result, Ok, Err, IsTrue}
+use Rattle.std.specs.Prelude.{◌≡◌, ℕ, Bool, ◌&&◌, not, List, filter, Option, Some, None, is_some, option_map, Result, Ok, Err, IsTrue}
 use Rattle.spelling.specs.Answers.{or_else, cause_if}
 use Rattle.scheme_core.specs.Rules.{Rules}
 use Rattle.willow_area.specs.Area.{in_area}
 use Rattle.willow_entry.specs.Entry.{same_bytes}
-use Rattle.willow_entry.specs.EntryForm.{entry_spelling}
+use Rattle.willow_entry.specs.Message.{entry_message}
 use Rattle.willow_entry.specs.declared.entry.Entry.{Entry}
 use Rattle.mc_cap.specs.Grant.{receiver_of, granted}
-use Rattle.mc_cap.specs.Valid.{chain_refusal, IsValid}
+use Rattle.mc_cap.specs.Valid.{beginning_refusal, chain_refusal, IsValid}
 use Rattle.mc_cap.specs.declared.capability.Capability.{Capability}
 use Rattle.mc_cap.specs.declared.capability.Mode.{Mode}
 use Rattle.mc_cap.specs.declared.capability.Mode.TheVariants.{Read, Write}
 use Rattle.cap_codec.specs.Rows.{RawValue}
 use Rattle.mc_cap.specs.declared.refusal.RowRefusal.{RowRefusal}
 use Rattle.mc_cap.specs.declared.refusal.RowRefusal.TheVariants.{WrongNamespace, NotWrite, Chain, OutsideGrant, BadEntrySignature}
-
--- the letter E, and the entry: signed by the receiver of the entry's capability
-unfoldable pub entry_message : Entry → List ℕ
-entry_message e = 69 ∷ entry_spelling e
 
 -- ---- the first condition that fails
 
@@ -53,6 +49,10 @@ entry_refusal rules r = or_else (grant_refusal r.token.capability r.entry) (sign
 -- why the row is not authorised in the namespace: namespace, mode, capability, grant, signature
 unfoldable pub row_refusal : Rules → List ℕ → RawValue → Option RowRefusal
 row_refusal rules n r = or_else (claim_refusal n r) (or_else (capability_refusal rules r.token.capability) (entry_refusal rules r))
+
+-- what is judged before any memory is asked for: the claim, and how the capability begins
+unfoldable pub early_refusal : Rules → List ℕ → RawValue → Option RowRefusal
+early_refusal rules n r = or_else (claim_refusal n r) (option_map Chain (beginning_refusal rules r.token.capability))
 
 -- ---- authorised
 

@@ -1,1 +1,2 @@
 pub mod Authorised
+pub mod Known

@@ -1,18 +1,19 @@
 //! Rows that are known to be authorised.
 
-ghost use Rattle.std.specs.Prelude.{◌≡◌, None, IfOk};
-ghost use Rattle.spelling.specs.Answers.{Answers};
+ghost use Rattle.std.specs.Prelude.{◌≡◌, None, IfOk, IsErrOf};
+ghost use Rattle.spelling.specs.Answers.{Judges};
+ghost use Rattle.spelling.specs.declared.ending.End.TheVariants as ends;
 ghost use Rattle.cap_codec.specs.Rows.{FitsFrame, row_of};
-ghost use Rattle.auth_entry.specs.Authorised.{AuthorisedValue, row_refusal};
+ghost use Rattle.auth_entry.specs.Authorised.{AuthorisedValue, early_refusal, row_refusal};
 
 use crate::refusal::check_row;
 use cap_codec::RawRow;
 use mc_cap::RowRefusal;
-use scheme_core::Verify;
+use scheme_core::{Scheme, Verify};
 use spelling::End;
 use std::alloc::Global;
 use std::marker::{Model, PhantomData};
-use willow_entry::{Entry, Row};
+use willow_entry::{Entry, Row, SharedRow};
 use willow_path::{NamespaceKey, NoMemory};
 
 /// A row that is authorised in a namespace by the rules of S. A contract sees the namespace and the row;
@@ -36,14 +37,15 @@ impl<S: Verify> Model for AuthorisedEntry<S> {
 }
 
 /// The row, where it is authorised in the namespace by the rules of the scheme. It is refused exactly with
-/// the first condition that fails, as `RowRefusal` says.
+/// the first condition that fails, as `RowRefusal` says. What needs no memory is judged before any is asked for.
 pub fn authorise<S: Verify>(
     alloc: Global,
     scheme: &S,
     namespace: &NamespaceKey,
     row: RawRow,
 ) -> Result<AuthorisedEntry<S>, End<RowRefusal>>
-    ensures answer { Answers result (row_refusal S.rules namespace.now row) }
+    ensures answer { Judges result (row_refusal S.rules namespace.now row) }
+    ensures early { IsErrOf result ends.NoMemory → early_refusal S.rules namespace.now row ≡ None }
     ensures namespace { IfOk result (λ entry. entry.namespace ≡ namespace.now) }
     ensures row { IfOk result (λ entry. entry.row ≡ row) }
 {
@@ -72,7 +74,7 @@ impl<S: Verify> AuthorisedEntry<S> {
         self.namespace
     }
 
-    /// The row. Nothing refuses it, and a frame can carry it: it has at most 25,323 bytes.
+    /// The row. Nothing refuses it, and a frame can carry it, however long its capability is.
     #[tactic(auto, using(crate::proofs::Lengths::fits_frame))]
     pub fn row(&self) -> &RawRow
         ensures row { result.now ≡ self.now.row }
@@ -114,3 +116,5 @@ impl<S: Verify> Row for AuthorisedEntry<S> {
         self.copy()
     }
 }
+
+impl<S: Scheme> SharedRow for AuthorisedEntry<S> {}

@@ -4,13 +4,15 @@
 
 mod authorised;
 mod checker;
+mod known;
 pub mod laws;
 mod refusal;
 
 pub use authorised::{AuthorisedEntry, authorise};
 pub use checker::{Checker, PlainChecker};
+pub use known::KnownCapabilities;
 pub use mc_cap::RowRefusal;
-pub use refusal::{check_capability, check_claim, check_entry, check_row};
+pub use refusal::{check_capability, check_entry, check_row, claim_refusal};
 
 #[cfg(test)]
 mod tests;

@@ -10,7 +10,7 @@ use spelling::End;
 use std::alloc::Global;
 use std::sync::atomic::{AtomicU64, Ordering};
 use std::thread::Threads;
-use willow_entry::Row;
+use willow_entry::{Row, SharedRow};
 use willow_path::{NamespaceKey, UserKey};
 
 // /61 in N by U, under its communal capability
@@ -113,7 +113,7 @@ fn is_due(
 }
 
 // Whether the row is spelled so, and its entry has so many of the bytes.
-fn has_bytes<R: Row>(alloc: Global, row: &R, text: &str, entry_len: usize) -> bool {
+fn has_bytes<R: SharedRow>(alloc: Global, row: &R, text: &str, entry_len: usize) -> bool {
     match hex::decode(alloc, text) {
         Ok(bytes) => {
             bytes.get(..entry_len) == Some(row.entry_bytes())
@@ -198,6 +198,23 @@ fn asked_twice(rt: &(impl Threads + Sync), alloc: Global, text: &str) -> Option<
 fn a_plain_checker_remembers_nothing(rt: HostRuntime) {
     let alloc = rt.alloc();
     assert_eq!(rt; asked_twice(&rt, alloc, DELEGATED), Some((2, 4)));
+}
+
+// The same of what remembers the capabilities that it found valid.
+fn asked_with_known(alloc: Global, text: &str) -> Option<(u64, u64)> {
+    let asked = AtomicU64::new(0);
+    let mut known = KnownCapabilities::new(alloc, Counting { asked: &asked });
+    let (row, namespace) = (row(alloc, text)?, namespace(0x4e)?);
+    known.check(alloc, &namespace, &row).ok()?;
+    let once = asked.load(Ordering::SeqCst);
+    known.check(alloc, &namespace, &row).ok()?;
+    Some((once, asked.load(Ordering::SeqCst)))
+}
+
+#[test]
+fn a_known_capability_is_not_checked_again(rt: HostRuntime) {
+    let alloc = rt.alloc();
+    assert_eq!(rt; asked_with_known(alloc, DELEGATED), Some((2, 3)));
 }
 
 // The namespaces that a checker and an authorised row of it tell.

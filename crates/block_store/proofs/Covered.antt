@@ -11,14 +11,14 @@ use Rattle.std.proofs.lemmas.List.Elements.{All-from_recursion}
 use Rattle.std.proofs.lemmas.List.Sums.{position_or_len_is}
 use Rattle.willow_path.specs.Path.{is_prefix, path_cmp}
 use Rattle.willow_path.proofs.PathOrder.{is_prefix_decides, path_cmp_equal}
+use Rattle.willow_entry.specs.Pruning.{IsPlace}
 use Rattle.willow_entry.specs.Entry.{bytes_cmp}
 use Rattle.willow_entry.specs.Row.{RowValue, is_covering, place_cmp, IsRising}
-use Rattle.willow_entry.proofs.Members.{Member, member_from_contains, member_append_cases}
+use Rattle.willow_entry.proofs.Members.{Member, contains_from_member, member_from_contains, member_append_cases}
 use Rattle.willow_entry.proofs.Rising.{all_member, Less≢Equal}
 use Rattle.willow_entry.proofs.Ranks.{place_total, bytes_same}
 use Rattle.willow_entry.proofs.RowLaws.{covering_means}
 use Rattle.willow_entry.proofs.Local.{IsAtPrefix, at_prefix_not_above, IsAtFront, covering_at_front}
-use Rattle.willow_entry.proofs.Between.{IsPlace}
 use Rattle.block_store.specs.Front.{front, ReachFrom}
 
 -- a row is its own longest front
@@ -88,12 +88,12 @@ module _ (rows : List RowValue) (r : RowValue) where
       before j lt = false_from_ne_true (is_covering (get_or rows j r) r) (λ t.
           let below = All-from_recursion (λ s. place_cmp s (front r k) ≡ Less) (take n rows) place.below j r (omega (arith, length-take-le n rows (omega arith))) in
           covering_not_below (get_or rows j r) r k t
-          (reach.reach (get_or rows j r) (member_from_contains rows (get_or rows j r) (j, omega arith, get_or_default rows j (get_or rows j r) r (omega arith))) t)
+          (reach.reach (get_or rows j r) (j, omega arith, get_or_default rows j (get_or rows j r) r (omega arith)) t)
           (subst (λ s. place_cmp s (front r k) ≡ Less) (get_or-take n rows j r lt) below))
 
     -- where none is there, the rows that cover have longer paths
     pub passed_at : IsRising rows → (n < length rows → is_covering (get_or rows n r) r ≡ false) → ReachFrom rows r (k + 1)
-    passed_at up none = record { reach = λ s m e. longer s m e (cases_eq (length s.entry.path) k) } where
+    passed_at up none = record { reach = λ s c e. longer s (member_from_contains rows s c) e (cases_eq (length s.entry.path) k) } where
       here : (s : RowValue) → Member rows s → is_covering s r ≡ true → place_cmp s (front r k) ≡ Equal → ⊥
       here s m e tie = elim (member_append_cases (take n rows) (drop n rows) s (subst (λ l. Member l s) (sym (take-append-drop n rows)) m)) [
         | inl before ↦ Less≢Equal (sym (all_member place_cmp (λ t. place_cmp t (front r k) ≡ Less) (take n rows) place.below s before) ∙ tie)
@@ -105,7 +105,7 @@ module _ (rows : List RowValue) (r : RowValue) where
 
       longer : (s : RowValue) → Member rows s → is_covering s r ≡ true → (length s.entry.path ≡ k) ⊎ (length s.entry.path ≡ k → ⊥) → k + 1 ≤ length s.entry.path
       longer s m e (inl q) = absurd (here s m e (subst (λ j. place_cmp s (front r j) ≡ Equal) q (covering_place s r e)))
-      longer s m e (inr ne) = omega (arith, reach.reach s m e)
+      longer s m e (inr ne) = omega (arith, reach.reach s (contains_from_member rows s m) e)
 
   -- no path is longer than all fronts
   pub none_left : ReachFrom rows r (length r.entry.path + 1) → position (λ s. is_covering s r) rows ≡ None
@@ -113,7 +113,7 @@ module _ (rows : List RowValue) (r : RowValue) where
       let all = position_or_len_is (λ s. is_covering s r) rows (length rows) r (omega arith)
       (λ j lt. false_from_ne_true (is_covering (get_or rows j r) r) (λ t.
       let s = get_or rows j r in
-      let long = reach.reach s (member_from_contains rows s (j, lt, get_or_default rows j s r lt)) t in
+      let long = reach.reach s (j, lt, get_or_default rows j s r lt) t in
       let short = (covering_front s r t).shorter in
       absurd (omega arith))) (λ h. absurd (omega arith)) in
       ap (λ k. cond (nat_lt k (length rows)) (Some k) None) all ∙ ap (λ b. cond b (Some (length rows)) None) (le-ltb (length rows) (length rows) (omega arith))

@@ -9,12 +9,13 @@ use Rattle.std.proofs.lemmas.List.{take-append-drop, length-take-le}
 use Rattle.std.proofs.lemmas.List.Elements.{filter-append}
 use Rattle.std.proofs.lemmas.List.Sums.{length-filter}
 use Rattle.std.proofs.lemmas.List.Filters.{length-filter_both}
-use Rattle.willow_entry.specs.Row.{RowValue, is_at_prefix, is_dominating, place_cmp, IsRising, HasCovering, live}
+use Rattle.willow_entry.specs.Pruning.{IsPlace}
+use Rattle.willow_entry.specs.Row.{RowValue, is_at_prefix, is_dominating, place_cmp, IsRising, HasCovering, live, left_of}
 use Rattle.willow_entry.proofs.Members.{filter_member}
 use Rattle.willow_entry.proofs.Rising.{all_member, all_from_members}
 use Rattle.willow_entry.proofs.Ranks.{place_total}
-use Rattle.willow_entry.proofs.Local.{at_prefix, at_prefix_test, dominated_at_prefix, at_prefix_not_above, between_at_prefix, left_of, keeps_all, not_below}
-use Rattle.willow_entry.proofs.Between.{IsPlace, all_at, live-between}
+use Rattle.willow_entry.proofs.Local.{at_prefix, at_prefix_test, dominated_at_prefix, at_prefix_not_above, between_at_prefix, keeps_all, not_below}
+use Rattle.willow_entry.proofs.Between.{all_at, live-between}
 
 -- no extension of r comes after what is none
 pub extensions_partitioned : (r : RowValue) {Y : Type 0} (f : Y → RowValue) (ys : List Y) → IsRising (map f ys) → AllByRecursion (λ s. is_lt (place_cmp s r) ≡ false) (map f ys) → IsPartitionedBy (λ y. is_at_prefix r (f y)) ys

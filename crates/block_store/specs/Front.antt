@@ -1,7 +1,6 @@
 -- The places at which a row that covers another may stand.
-use Rattle.std.specs.Prelude.{◌≡◌, ℕ, ◌≤◌, true, List, length, take}
+use Rattle.std.specs.Prelude.{◌≡◌, ℕ, ◌≤◌, true, List, length, take, Contains}
 use Rattle.willow_entry.specs.Row.{RowValue, is_covering}
-use Rattle.willow_entry.proofs.Members.{Member}
 
 -- the row at the first components of its path, so many as the number says
 abbrev pub front : RowValue → ℕ → RowValue
@@ -9,4 +8,4 @@ front row count = record row { entry = record row.entry { path = take count row.
 
 -- each of the rows that covers r has a path of at least so many components
 pub record ReachFrom (rows : List RowValue) (r : RowValue) (count : ℕ) : Type 0 where
-  pub reach : (s : RowValue) → Member rows s → is_covering s r ≡ true → count ≤ length s.entry.path
+  pub reach : (s : RowValue) → Contains rows s → is_covering s r ≡ true → count ≤ length s.entry.path

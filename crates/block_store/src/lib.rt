@@ -3,6 +3,7 @@
 #![tactic(auto)]
 
 mod boxes;
+mod fingerprint;
 pub mod laws;
 mod search;
 mod shared;

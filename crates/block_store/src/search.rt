@@ -2,10 +2,10 @@
 
 ghost use Rattle.std.specs.Prelude.{◌≡◌, ℕ, ◌+◌, ◌-◌, ◌^◌, ◌<◌, ◌≤◌, [], ◌∷◌, ◌++◌, length, map, take, drop, position, slice_index_or, false, IsTrue, IfOk, IfErr, IfSome, IfNone, None, Some};
 ghost use Rattle.willow_path.specs.Path.{path_cmp};
-ghost use Rattle.willow_entry.specs.Row.{RowValue, IsRising, HasCovering, IsCoveringAt, is_at_prefix, is_covering, live, place_cmp};
-ghost use Rattle.willow_entry.proofs.Local.{left_of};
-ghost use Rattle.willow_entry.proofs.Between.{IsPlace};
+ghost use Rattle.willow_entry.specs.Pruning.{IsPlace};
+ghost use Rattle.willow_entry.specs.Row.{RowValue, AreLive, IsRising, HasCovering, IsCoveringAt, is_at_prefix, is_covering, left_of, place_cmp};
 ghost use Rattle.block_store.specs.Front.{front, ReachFrom};
+ghost use Rattle.block_store.specs.Held.{values_of};
 
 use std::cmp::Ordering;
 use std::sync::Arc;
@@ -43,8 +43,8 @@ fn by_front<R: Row>(held: &R, row: &R, count: usize) -> Ordering
 
 // The number of rows that stand below the place of the row's front of so many components.
 fn place<R: Row>(rows: &[Arc<R>], row: &R, count: usize) -> usize
-    requires { IsRising (map (λ a. R.value a.value) rows.now) }
-    ensures place { IsPlace place_cmp (front (R.value row.now) count) (map (λ a. R.value a.value) rows.now) result }
+    requires { IsRising (values_of R.value rows.now) }
+    ensures place { IsPlace place_cmp (front (R.value row.now) count) (values_of R.value rows.now) result }
     ensures bound { result ≤ length rows.now }
 {
     rows.partition_point(|held| by_front(&**held, row, count) == Ordering::Less)
@@ -52,8 +52,8 @@ fn place<R: Row>(rows: &[Arc<R>], row: &R, count: usize) -> usize
 
 // The number of rows that stand below the row's place.
 pub(crate) fn own_place<R: Row>(rows: &[Arc<R>], row: &R) -> usize
-    requires { IsRising (map (λ a. R.value a.value) rows.now) }
-    ensures place { IsPlace place_cmp (R.value row.now) (map (λ a. R.value a.value) rows.now) result }
+    requires { IsRising (values_of R.value rows.now) }
+    ensures place { IsPlace place_cmp (R.value row.now) (values_of R.value rows.now) result }
     ensures bound { result ≤ length rows.now }
 {
     place(rows, row, row.entry().path.count())
@@ -70,12 +70,12 @@ fn extends<R: Row>(held: &R, row: &R) -> bool
 
 // Where the run of rows ends that the row may dominate: it begins at the row's place.
 pub(crate) fn run_end<R: Row>(rows: &[Arc<R>], row: &R, at: usize) -> usize
-    requires rising { IsRising (map (λ a. R.value a.value) rows.now) }
-    requires place { IsPlace place_cmp (R.value row.now) (map (λ a. R.value a.value) rows.now) at }
+    requires rising { IsRising (values_of R.value rows.now) }
+    requires place { IsPlace place_cmp (R.value row.now) (values_of R.value rows.now) at }
     requires within { at ≤ length rows.now }
     ensures from { at ≤ result }
     ensures bound { result ≤ length rows.now }
-    ensures stays { left_of (R.value row.now) (drop result (map (λ a. R.value a.value) rows.now)) ≡ drop result (map (λ a. R.value a.value) rows.now) }
+    ensures stays { left_of (R.value row.now) (drop result (values_of R.value rows.now)) ≡ drop result (values_of R.value rows.now) }
 {
     // Most rows have no extension: then the first row behind tells it, without a search.
     let behind = &rows[at..];
@@ -89,8 +89,8 @@ pub(crate) fn run_end<R: Row>(rows: &[Arc<R>], row: &R, at: usize) -> usize
 
 // Whether a row stands at the position that is the row or dominates it.
 fn is_covered_at<R: Row>(rows: &[Arc<R>], row: &R, at: usize) -> bool
-    ensures found { IsTrue result → (at < length (map (λ a. R.value a.value) rows.now)) × IsTrue (is_covering (slice_index_or (map (λ a. R.value a.value) rows.now) at (R.value row.now)) (R.value row.now)) }
-    ensures not_found { result ≡ false → at < length (map (λ a. R.value a.value) rows.now) → is_covering (slice_index_or (map (λ a. R.value a.value) rows.now) at (R.value row.now)) (R.value row.now) ≡ false }
+    ensures found { IsTrue result → (at < length (values_of R.value rows.now)) × IsTrue (is_covering (slice_index_or (values_of R.value rows.now) at (R.value row.now)) (R.value row.now)) }
+    ensures not_found { result ≡ false → at < length (values_of R.value rows.now) → is_covering (slice_index_or (values_of R.value rows.now) at (R.value row.now)) (R.value row.now) ≡ false }
 {
     at < rows.len() && covers(&*rows[at], row)
 }
@@ -98,10 +98,10 @@ fn is_covered_at<R: Row>(rows: &[Arc<R>], row: &R, at: usize) -> bool
 // The first position whose row is the row or dominates it, at a front of its path that is not the path itself.
 // Where there is none, such a row has all components of the path.
 fn covered_in_front<R: Row>(rows: &[Arc<R>], row: &R) -> Option<u32>
-    requires rising { IsRising (map (λ a. R.value a.value) rows.now) }
+    requires rising { IsRising (values_of R.value rows.now) }
     requires few { length rows.now < 2 ^ 32 }
-    ensures found { IfSome result (λ i. position (λ s. is_covering s (R.value row.now)) (map (λ a. R.value a.value) rows.now) ≡ Some i) }
-    ensures none { IfNone result (ReachFrom (map (λ a. R.value a.value) rows.now) (R.value row.now) (length (R.value row.now).entry.path)) }
+    ensures found { IfSome result (λ i. position (λ s. is_covering s (R.value row.now)) (values_of R.value rows.now) ≡ Some i) }
+    ensures none { IfNone result (ReachFrom (values_of R.value rows.now) (R.value row.now) (length (R.value row.now).entry.path)) }
 {
     for count in 0..row.entry().path.count() {
         let at = place(rows, row, count);
@@ -116,11 +116,11 @@ fn covered_in_front<R: Row>(rows: &[Arc<R>], row: &R) -> Option<u32>
 // the fronts of its path.
 pub(crate) fn place_or_cover<R: Row>(rows: &[Arc<R>], row: &R) -> Result<usize, u32>
     requires few { length rows.now < 2 ^ 32 }
-    requires is_live { live (map (λ a. R.value a.value) rows.now) ≡ map (λ a. R.value a.value) rows.now }
-    ensures place { IfOk result (λ at. IsPlace place_cmp (R.value row.now) (map (λ a. R.value a.value) rows.now) at) }
+    requires is_live { AreLive (values_of R.value rows.now) }
+    ensures place { IfOk result (λ at. IsPlace place_cmp (R.value row.now) (values_of R.value rows.now) at) }
     ensures within { IfOk result (λ at. at ≤ length rows.now) }
-    ensures free { IfOk result (λ at. position (λ s. is_covering s (R.value row.now)) (map (λ a. R.value a.value) rows.now) ≡ None) }
-    ensures covered { IfErr result (λ by. position (λ s. is_covering s (R.value row.now)) (map (λ a. R.value a.value) rows.now) ≡ Some by) }
+    ensures free { IfOk result (λ at. position (λ s. is_covering s (R.value row.now)) (values_of R.value rows.now) ≡ None) }
+    ensures covered { IfErr result (λ by. position (λ s. is_covering s (R.value row.now)) (values_of R.value rows.now) ≡ Some by) }
 {
     if let Some(by) = covered_in_front(rows, row) {
         return Err(by);
@@ -135,10 +135,10 @@ pub(crate) fn place_or_cover<R: Row>(rows: &[Arc<R>], row: &R) -> Result<usize, 
 // The first position whose row is the row or dominates it, among live rows, with what it means.
 pub(crate) fn cover<R: Row>(rows: &[Arc<R>], row: &R) -> Option<u32>
     requires few { length rows.now < 2 ^ 32 }
-    requires is_live { live (map (λ a. R.value a.value) rows.now) ≡ map (λ a. R.value a.value) rows.now }
-    ensures first { result ≡ position (λ s. is_covering s (R.value row.now)) (map (λ a. R.value a.value) rows.now) }
-    ensures found { IfSome result (λ i. IsCoveringAt (map (λ a. R.value a.value) rows.now) i (R.value row.now)) }
-    ensures none { IfNone result (HasCovering (map (λ a. R.value a.value) rows.now) (R.value row.now) → ⊥) }
+    requires is_live { AreLive (values_of R.value rows.now) }
+    ensures first { result ≡ position (λ s. is_covering s (R.value row.now)) (values_of R.value rows.now) }
+    ensures found { IfSome result (λ i. IsCoveringAt (values_of R.value rows.now) i (R.value row.now)) }
+    ensures none { IfNone result (HasCovering (values_of R.value rows.now) (R.value row.now) → ⊥) }
 {
     place_or_cover(rows, row).err()
 }

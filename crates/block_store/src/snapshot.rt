@@ -1,14 +1,19 @@
 //! What a store held at one moment.
 
 ghost use Rattle.std.specs.Prelude.{◌≡◌, ℕ, ◌+◌, ◌^◌, ◌<◌, ◌≤◌, length, map, Some, slice_get, IfOk, MatchOption, vec_len};
-ghost use Rattle.willow_entry.specs.Row.{live};
+ghost use Rattle.willow_entry.specs.Row.{AreLive};
+ghost use Rattle.block_store.specs.Fingerprint.{fingerprint_of};
+ghost use Rattle.block_store.specs.Held.{rows_of};
 ghost use Rattle.block_store.specs.Positions.{positions};
 ghost use Rattle.block_store.specs.InBox.{is_in, rows_in};
 
 use crate::boxes::{count_in, nth_in};
+use crate::fingerprint::total_in;
 use crate::shared::{row_at, share};
 use std::marker::Model;
 use std::sync::Arc;
+use std::sync::ledger::Ledger;
+use step_count::Steps;
 use willow_area::Box3;
 use willow_entry::Row;
 use willow_path::NoMemory;
@@ -21,22 +26,23 @@ pub struct Snapshot<R: Row> {
 }
 
 impl<R: Row> Model for Snapshot<R> {
-    ghost use Rattle.std.specs.Prelude.{◌≡◌, ◌<◌, ◌^◌, List, map, vec_len};
+    ghost use Rattle.std.specs.Prelude.{◌<◌, ◌^◌, List, map, vec_len};
+    ghost use Rattle.block_store.specs.Held.{rows_of};
 
     ghost Value = { List R };
 
-    ghost view = { λ s. map (λ a. a.value) s.rows.items };
+    ghost view = { λ s. rows_of s.rows.items };
 
-    ghost use Rattle.willow_entry.specs.Row.{live};
+    ghost use Rattle.willow_entry.specs.Row.{AreLive};
 
-    ghost invariant = { λ s. (live (map R.value (map (λ a. a.value) s.rows.items)) ≡ map R.value (map (λ a. a.value) s.rows.items)) × (vec_len s.rows < 2 ^ 32) };
+    ghost invariant = { λ s. AreLive (map R.value (rows_of s.rows.items)) × (vec_len s.rows < 2 ^ 32) };
 }
 
 // The snapshot of live rows.
 pub(crate) fn snapshot_of<R: Row>(rows: &Vec<Arc<R>>) -> Result<Snapshot<R>, NoMemory>
-    requires is_live { live (map R.value (map (λ a. a.value) rows.now.items)) ≡ map R.value (map (λ a. a.value) rows.now.items) }
+    requires is_live { AreLive (map R.value (rows_of rows.now.items)) }
     requires few { vec_len rows.now < 2 ^ 32 }
-    ensures { IfOk result (λ snapshot. snapshot ≡ map (λ a. a.value) rows.now.items) }
+    ensures { IfOk result (λ snapshot. snapshot ≡ rows_of rows.now.items) }
 {
     Ok(Snapshot { rows: share(rows)? })
 }
@@ -52,7 +58,7 @@ impl<R: Row> Snapshot<R> {
     /// The row at this position, counted from 0; None exactly from the length on.
     pub fn get(&self, at: u32) -> Option<&R>
         ensures row { MatchOption result (length self.now ≤ at) (λ row. slice_get self.now at ≡ Some row.now) }
-        ensures live { live (map R.value self.now) ≡ map R.value self.now }
+        ensures live { AreLive (map R.value self.now) }
     {
         row_at(&self.rows, at)
     }
@@ -72,10 +78,20 @@ impl<R: Row> Snapshot<R> {
         nth_in(&self.rows, area, n)
     }
 
+    /// The fingerprint of the rows that the box includes: the SHA-256 digest of their number and of the four sums
+    /// of their leaves' words, each modulo 2^64 and in eight bytes, high byte first. A row's leaf is the SHA-256
+    /// digest of its entry's spelling and its token. To read a row for this is a step.
+    pub fn fingerprint<L: Ledger>(&self, area: &Box3, steps: &mut Steps<L>) -> [u8; 32]
+        ensures fingerprint { result ≡ fingerprint_of (rows_in area.now (map R.value self.now)) }
+        ensures steps { steps.new ≤ steps.old + length self.now }
+    {
+        total_in(&self.rows, area, steps).finish()
+    }
+
     /// An equal snapshot. No row is copied.
     pub fn share(&self) -> Result<Snapshot<R>, NoMemory>
         ensures equal { IfOk result (λ snapshot. snapshot ≡ self.now) }
-        ensures live { live (map R.value self.now) ≡ map R.value self.now }
+        ensures live { AreLive (map R.value self.now) }
     {
         snapshot_of(&self.rows)
     }

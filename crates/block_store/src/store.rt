@@ -1,10 +1,10 @@
 //! The store: live rows by rising place, each behind an `Arc`, so that a snapshot copies no row.
 
-ghost use Rattle.std.specs.Prelude.{◌≡◌, ℕ, ◌+◌, ◌-◌, ◌^◌, ◌<◌, ◌≤◌, [], ◌∷◌, ◌++◌, length, map, take, drop, count_by, position, slice_get, OnOk, OnErr, IfOk, IfSome, IfNone, MatchOption, if◌then◌else◌, vec_len, vec_capacity};
-ghost use Rattle.willow_entry.specs.Row.{RowValue, IsRising, HasCovering, IsCoveringAt, is_dominating, is_covering, place_cmp, live};
-ghost use Rattle.willow_entry.specs.Placed.{IsPlaced};
-ghost use Rattle.willow_entry.proofs.Local.{left_of};
-ghost use Rattle.willow_entry.proofs.Between.{IsPlace};
+ghost use Rattle.std.specs.Prelude.{◌≡◌, ◌↔◌, ℕ, ◌+◌, ◌-◌, ◌^◌, ◌<◌, ◌≤◌, [], ◌∷◌, ◌++◌, length, map, take, drop, count_by, position, slice_get, OnOk, OnErr, IfOk, IsTrue, IfSome, IfNone, MatchOption, if◌then◌else◌, vec_len, vec_capacity};
+ghost use Rattle.willow_entry.specs.Pruning.{IsPlace};
+ghost use Rattle.willow_entry.specs.Row.{RowValue, AreLive, IsRising, HasCovering, IsCoveringAt, is_dominating, is_covering, left_of, place_cmp, live};
+ghost use Rattle.willow_entry.specs.Placed.{IsPlaced, OnKept};
+ghost use Rattle.block_store.specs.Held.{rows_of, values_of};
 ghost use Rattle.block_store.specs.Positions.{positions};
 
 use crate::search::{cover, own_place, place_or_cover, run_end};
@@ -13,7 +13,7 @@ use crate::snapshot::{Snapshot, snapshot_of};
 use std::alloc::Global;
 use std::marker::Model;
 use std::sync::Arc;
-use willow_entry::{Placed, Row, dominates};
+use willow_entry::{MAX_ROWS, Placed, Row, dominates};
 use willow_path::NoMemory;
 
 // Whether the held row goes where the row is stored.
@@ -27,8 +27,8 @@ fn prunes<R: Row>(row: &R, held: &R) -> bool
 fn remove_dominated<R: Row>(rows: &mut Vec<Arc<R>>, row: &R, at: usize, end: usize)
     requires from { at ≤ end }
     requires within { end ≤ vec_len rows.old }
-    requires stays { left_of (R.value row.now) (drop end (map (λ a. R.value a.value) rows.old.items)) ≡ drop end (map (λ a. R.value a.value) rows.old.items) }
-    ensures left { map (λ a. R.value a.value) rows.new.items ≡ take at (map (λ a. R.value a.value) rows.old.items) ++ left_of (R.value row.now) (drop at (map (λ a. R.value a.value) rows.old.items)) }
+    requires stays { left_of (R.value row.now) (drop end (values_of R.value rows.old.items)) ≡ drop end (values_of R.value rows.old.items) }
+    ensures left { values_of R.value rows.new.items ≡ take at (values_of R.value rows.old.items) ++ left_of (R.value row.now) (drop at (values_of R.value rows.old.items)) }
     ensures fewer { vec_len rows.new ≤ vec_len rows.old }
     ensures enough { at ≤ vec_len rows.new }
     ensures capacity { vec_capacity rows.new ≡ vec_capacity rows.old }
@@ -44,10 +44,10 @@ fn remove_dominated<R: Row>(rows: &mut Vec<Arc<R>>, row: &R, at: usize, end: usi
 
 // Removes the rows that the row dominates, whose place is given.
 fn make_room<R: Row>(rows: &mut Vec<Arc<R>>, row: &R, at: usize)
-    requires rising { IsRising (map (λ a. R.value a.value) rows.old.items) }
-    requires place { IsPlace place_cmp (R.value row.now) (map (λ a. R.value a.value) rows.old.items) at }
+    requires rising { IsRising (values_of R.value rows.old.items) }
+    requires place { IsPlace place_cmp (R.value row.now) (values_of R.value rows.old.items) at }
     requires within { at ≤ vec_len rows.old }
-    ensures left { map (λ a. R.value a.value) rows.new.items ≡ take at (map (λ a. R.value a.value) rows.old.items) ++ left_of (R.value row.now) (drop at (map (λ a. R.value a.value) rows.old.items)) }
+    ensures left { values_of R.value rows.new.items ≡ take at (values_of R.value rows.old.items) ++ left_of (R.value row.now) (drop at (values_of R.value rows.old.items)) }
     ensures fewer { vec_len rows.new ≤ vec_len rows.old }
     ensures enough { at ≤ vec_len rows.new }
     ensures capacity { vec_capacity rows.new ≡ vec_capacity rows.old }
@@ -58,15 +58,15 @@ fn make_room<R: Row>(rows: &mut Vec<Arc<R>>, row: &R, at: usize)
 
 // Puts an uncovered row in its place among the live rows that it does not dominate, and counts the others.
 fn put<R: Row>(rows: &mut Vec<Arc<R>>, row: R, at: usize) -> Result<usize, NoMemory>
-    requires is_live { live (map (λ a. R.value a.value) rows.old.items) ≡ map (λ a. R.value a.value) rows.old.items }
-    requires uncovered { HasCovering (map (λ a. R.value a.value) rows.old.items) (R.value row) → ⊥ }
-    requires place { IsPlace place_cmp (R.value row) (map (λ a. R.value a.value) rows.old.items) at }
+    requires is_live { AreLive (values_of R.value rows.old.items) }
+    requires uncovered { HasCovering (values_of R.value rows.old.items) (R.value row) → ⊥ }
+    requires place { IsPlace place_cmp (R.value row) (values_of R.value rows.old.items) at }
     requires within { at ≤ vec_len rows.old }
-    ensures rows { OnOk result (map (λ a. R.value a.value) rows.new.items ≡ live (map (λ a. R.value a.value) rows.old.items ++ R.value row ∷ [])) }
-    ensures pruned { IfOk result (λ pruned. pruned ≡ count_by (λ s. is_dominating (R.value row) s) (map (λ a. R.value a.value) rows.old.items)) }
+    ensures rows { OnOk result (values_of R.value rows.new.items ≡ live (values_of R.value rows.old.items ++ R.value row ∷ [])) }
+    ensures pruned { IfOk result (λ pruned. pruned ≡ count_by (λ s. is_dominating (R.value row) s) (values_of R.value rows.old.items)) }
     ensures fits { IfOk result (λ pruned. pruned ≤ vec_len rows.old) }
     ensures few { vec_len rows.new ≤ vec_len rows.old + 1 }
-    ensures is_live { live (map (λ a. R.value a.value) rows.new.items) ≡ map (λ a. R.value a.value) rows.new.items }
+    ensures is_live { AreLive (values_of R.value rows.new.items) }
     ensures err { OnErr result (rows.new.items ≡ rows.old.items) }
 {
     rows.reserve(1)?;
@@ -80,12 +80,13 @@ fn put<R: Row>(rows: &mut Vec<Arc<R>>, row: R, at: usize) -> Result<usize, NoMem
 
 // Keeps the rows where one of them covers the new row, and else puts it in its place.
 fn offer<R: Row>(rows: &mut Vec<Arc<R>>, row: R) -> Result<Placed, NoMemory>
-    requires is_live { live (map (λ a. R.value a.value) rows.old.items) ≡ map (λ a. R.value a.value) rows.old.items }
+    requires is_live { AreLive (values_of R.value rows.old.items) }
     requires room { vec_len rows.old < 2 ^ 32 - 1 }
-    ensures rows { OnOk result (map (λ a. R.value a.value) rows.new.items ≡ live (map (λ a. R.value a.value) rows.old.items ++ R.value row ∷ [])) }
-    ensures placed { IfOk result (λ placed. IsPlaced (map (λ a. R.value a.value) rows.old.items) (R.value row) placed) }
+    ensures rows { OnOk result (values_of R.value rows.new.items ≡ live (values_of R.value rows.old.items ++ R.value row ∷ [])) }
+    ensures placed { IfOk result (λ placed. IsPlaced (values_of R.value rows.old.items) (R.value row) placed) }
+    ensures kept { OnKept result (rows.new.items ≡ rows.old.items) }
     ensures few { vec_len rows.new ≤ vec_len rows.old + 1 }
-    ensures is_live { live (map (λ a. R.value a.value) rows.new.items) ≡ map (λ a. R.value a.value) rows.new.items }
+    ensures is_live { AreLive (values_of R.value rows.new.items) }
     ensures err { OnErr result (rows.new.items ≡ rows.old.items) }
 {
     match place_or_cover(rows, &row) {
@@ -111,9 +112,9 @@ fn note(found: &mut Vec<u32>, at: u32, passes: bool) -> Result<(), NoMemory>
 
 // The positions, rising, of the rows that the row dominates.
 fn dominated<R: Row>(alloc: Global, rows: &[Arc<R>], row: &R) -> Result<Vec<u32>, NoMemory>
-    requires rising { IsRising (map (λ a. R.value a.value) rows.now) }
+    requires rising { IsRising (values_of R.value rows.now) }
     requires few { length rows.now < 2 ^ 32 }
-    ensures { IfOk result (λ found. found.items ≡ positions (is_dominating (R.value row.now)) (map (λ a. R.value a.value) rows.now)) }
+    ensures { IfOk result (λ found. found.items ≡ positions (is_dominating (R.value row.now)) (values_of R.value rows.now)) }
 {
     let at = own_place(rows, row);
     let end = run_end(rows, row, at);
@@ -131,15 +132,16 @@ pub struct BlockStore<R: Row> {
 }
 
 impl<R: Row> Model for BlockStore<R> {
-    ghost use Rattle.std.specs.Prelude.{◌≡◌, ◌<◌, ◌^◌, List, map, vec_len};
+    ghost use Rattle.std.specs.Prelude.{◌<◌, ◌^◌, List, map, vec_len};
+    ghost use Rattle.block_store.specs.Held.{rows_of};
 
     ghost Value = { List R };
 
-    ghost view = { λ s. map (λ a. a.value) s.rows.items };
+    ghost view = { λ s. rows_of s.rows.items };
 
-    ghost use Rattle.willow_entry.specs.Row.{live};
+    ghost use Rattle.willow_entry.specs.Row.{AreLive};
 
-    ghost invariant = { λ s. (live (map R.value (map (λ a. a.value) s.rows.items)) ≡ map R.value (map (λ a. a.value) s.rows.items)) × (vec_len s.rows < 2 ^ 32) };
+    ghost invariant = { λ s. AreLive (map R.value (rows_of s.rows.items)) × (vec_len s.rows < 2 ^ 32) };
 }
 
 impl<R: Row> BlockStore<R> {
@@ -152,6 +154,13 @@ impl<R: Row> BlockStore<R> {
         }
     }
 
+    /// Whether the store has no room for another row: it has 2^32 - 1.
+    pub fn is_full(&self) -> bool
+        ensures { IsTrue result ↔ (2 ^ 32 - 1 ≤ length self.now) }
+    {
+        self.rows.len() >= MAX_ROWS
+    }
+
     /// Offers a row. Where a row equals or dominates it, nothing changes and the answer names such a
     /// row; else the row is stored, and the rows that it dominates go. Either way the rows are then what is
     /// live of the old rows with the new one added. An error leaves the store as it was.
@@ -159,9 +168,10 @@ impl<R: Row> BlockStore<R> {
         requires { length self.old < 2 ^ 32 - 1 }
         ensures rows { OnOk result (map R.value self.new ≡ live (map R.value self.old ++ R.value row ∷ [])) }
         ensures placed { IfOk result (λ placed. IsPlaced (map R.value self.old) (R.value row) placed) }
+        ensures kept { OnKept result (self.new ≡ self.old) }
         ensures few { length self.new ≤ length self.old + 1 }
-        ensures live { live (map R.value self.new) ≡ map R.value self.new }
-        ensures was_live { live (map R.value self.old) ≡ map R.value self.old }
+        ensures live { AreLive (map R.value self.new) }
+        ensures was_live { AreLive (map R.value self.old) }
         ensures err { OnErr result (self.new ≡ self.old) }
     {
         offer(&mut self.rows, row)
@@ -177,7 +187,7 @@ impl<R: Row> BlockStore<R> {
     /// The row at this position, counted from 0; None exactly from the length on.
     pub fn get(&self, at: u32) -> Option<&R>
         ensures row { MatchOption result (length self.now ≤ at) (λ row. slice_get self.now at ≡ Some row.now) }
-        ensures live { live (map R.value self.now) ≡ map R.value self.now }
+        ensures live { AreLive (map R.value self.now) }
     {
         row_at(&self.rows, at)
     }
@@ -201,7 +211,7 @@ impl<R: Row> BlockStore<R> {
     /// The rows as they are now. No row is copied, and nothing that becomes of the store changes the snapshot.
     pub fn snapshot(&self) -> Result<Snapshot<R>, NoMemory>
         ensures equal { IfOk result (λ snapshot. snapshot ≡ self.now) }
-        ensures live { live (map R.value self.now) ≡ map R.value self.now }
+        ensures live { AreLive (map R.value self.now) }
     {
         snapshot_of(&self.rows)
     }

@@ -1,10 +1,10 @@
 -- The readers of a capability's first byte and of its initial signature go with their spellings.
-use Rattle.std.proofs.Common.{◌≡◌, ℕ, zero, suc, Bool, true, false, List, [], ◌∷◌, ◌++◌, Option, Some, None, refl, ap, subst, ◌∙◌, arith}
+use Rattle.std.proofs.Common.{◌≡◌, ℕ, zero, suc, Bool, true, false, List, [], ◌∷◌, ◌++◌, Option, Some, None, refl, ap, subst, ◌∙◌, arith, inl, inr}
 use Rattle.std.specs.Prelude.{IfSome, is_some}
-use Rattle.spelling.specs.Front.{Front, Whole, Wrong, ◌>>=◌}
+use Rattle.spelling.specs.Front.{Front, Whole, Part, Wrong, ◌>>=◌}
 use Rattle.spelling.specs.Form.{AreBytes}
-use Rattle.spelling.proofs.Joining.{Takes, Reads, whole_value, whole_rest, bind_whole, bind_wrong}
-use Rattle.spelling.proofs.Fields.{u16-reads}
+use Rattle.spelling.proofs.Joining.{Takes, Reads, Completes, whole_value, whole_rest, whole_not_part, bind_whole, bind_part, bind_wrong}
+use Rattle.spelling.proofs.Fields.{u16_up_to-reads}
 use Rattle.spelling.proofs.Repeated.{text-reads}
 use Rattle.scheme_core.specs.declared.signer.TheConstants.{MAX_SIGNATURE}
 use Rattle.mc_cap.specs.declared.capability.Mode.{Mode}
@@ -74,14 +74,27 @@ form_wrong (suc (suc zero) ∷ bytes) tail e = absurd cc
 form_wrong (suc (suc (suc zero)) ∷ bytes) tail e = absurd cc
 form_wrong (suc (suc (suc (suc other))) ∷ bytes) tail e = refl
 
+form_part : (bytes : List ℕ) → form_at bytes ≡ Part → Completes form_spelling (λ _. Unit {0}) bytes
+unfolding form_at
+form_part [] e = record { value = (Read, false); more = 0 ∷ []; fits_value = tt; parts = refl }
+form_part (zero ∷ bytes) e = absurd cc
+form_part (suc zero ∷ bytes) e = absurd cc
+form_part (suc (suc zero) ∷ bytes) e = absurd cc
+form_part (suc (suc (suc zero)) ∷ bytes) e = absurd cc
+form_part (suc (suc (suc (suc other))) ∷ bytes) e = absurd cc
+
 pub form-reads : Reads form_at form_spelling (λ _. Unit {0})
-form-reads = record { takes = form_takes; again = λ f rest fits. form_again f.0 f.1 rest; more = form_more; wrong = form_wrong }
+form-reads = record { takes = form_takes; again = λ f rest fits. form_again f.0 f.1 rest; more = form_more; wrong = form_wrong; part = λ bytes are e. form_part bytes e }
 
 -- ---- signatures
 
 pub signature-reads : Reads signature_at signature_spelling IsSignature
 unfolding signature_at
-signature-reads = text-reads MAX_SIGNATURE (omega arith) u16-reads
+signature-reads = text-reads MAX_SIGNATURE (omega arith) (u16_up_to-reads MAX_SIGNATURE (omega arith))
+
+-- the signature without bytes
+pub no_bytes : IsSignature []
+no_bytes = (omega arith, tt)
 
 -- ---- the initial signature, which is there exactly where the capability is owned
 
@@ -121,5 +134,23 @@ initial_wrong false bytes tail e = absurd cc
 initial_wrong true bytes tail e =
     bind_wrong (signature_at bytes) (signature_at (bytes ++ tail)) (λ x. Whole (Some x.0) x.1) tail (λ x left h. signature-reads.more bytes x left tail h) (signature-reads.wrong bytes tail) (λ x left h. absurd cc) e
 
+initial_part : (owned : Bool) (bytes : List ℕ) → AreBytes bytes → initial_at owned bytes ≡ Part → Completes initial_spelling (IsInitial owned) bytes
+unfolding initial_at
+initial_part false bytes are e = absurd cc
+initial_part true bytes are e =
+    elim (bind_part (signature_at bytes) (λ x. Whole (Some x.0) x.1) e) [
+      | inl h ↦ let c = signature-reads.part bytes are h in record { value = Some c.value; more = c.more; fits_value = (refl, c.fits_value); parts = c.parts }
+      | inr b ↦ absurd (whole_not_part (Some b.0) b.1 (Whole (Some b.0) b.1) refl b.3)
+    ]
+
 pub initial-reads : (owned : Bool) → Reads (initial_at owned) initial_spelling (IsInitial owned)
-initial-reads owned = record { takes = initial_takes owned; again = initial_again owned; more = initial_more owned; wrong = initial_wrong owned }
+initial-reads owned = record { takes = initial_takes owned; again = initial_again owned; more = initial_more owned; wrong = initial_wrong owned; part = initial_part owned }
+
+-- some initial signature where there is to be one
+abbrev pub initial_for : Bool → Option (List ℕ)
+initial_for false = None
+initial_for true = Some []
+
+pub initial_for_fits : (owned : Bool) → IsInitial owned (initial_for owned)
+initial_for_fits false = (refl, tt)
+initial_for_fits true = (refl, no_bytes)

@@ -1,51 +1,50 @@
 -- Frames: each row has one, and a stream of them has one reading.
-use Rattle.std.proofs.Common.{◌≡◌, ℕ, ◌-◌, ◌≤◌, Bool, false, ltb, List, [], ◌∷◌, ◌++◌, length, take, drop, Result, Ok, Err, refl, sym, ap, subst, ◌∙◌, append_assoc, arith}
+use Rattle.std.proofs.Common.{◌≡◌, ℕ, ◌-◌, ◌<◌, ◌≤◌, ◌^◌, Bool, false, ltb, List, [], ◌∷◌, ◌++◌, length, take, drop, Result, Ok, Err, refl, sym, ap, subst, ◌∙◌, append_assoc, arith}
 use Rattle.std.specs.List.{AllByRecursion, flat_map}
 use Rattle.std.specs.Int.{w32, to_be_bytes}
-use Rattle.std.specs.Prelude.{nat_le}
 use Rattle.std.specs.Result.{IsErrAnd}
-use Rattle.std.proofs.lemmas.Bool.{le-ltb, le-leb}
+use Rattle.std.proofs.lemmas.Bool.{le-ltb}
 use Rattle.std.proofs.lemmas.List.{append-nil, length-append, take_at, drop_at, take-append-drop}
 use Rattle.std.proofs.lemmas.Grind.{flat_map-append}
 use Rattle.std.proofs.lemmas.Result.{err_from_is_err_and}
 use Rattle.spelling.specs.Front.{Front, Whole, Part, Wrong, ◌>>=◌}
 use Rattle.spelling.specs.Form.{AreBytes, IsForm, Decodes}
 use Rattle.spelling.specs.Spelling.{text_spelling}
-use Rattle.spelling.specs.Reading.{guard, bytes_at, number_at, text_at, Fails, IsEndOf}
+use Rattle.spelling.specs.Reading.{bytes_at, number_up_to, text_at, Fails, IsEndOf}
 use Rattle.spelling.specs.declared.ending.End.{End}
 use Rattle.spelling.specs.declared.ending.End.TheVariants.{Refused, NoMemory}
 use Rattle.spelling.specs.declared.ending.NotHere.{NotHere}
 use Rattle.spelling.specs.declared.input.Unread.{Unread}
 use Rattle.spelling.specs.declared.input.Unread.TheVariants as unread
 use Rattle.spelling.proofs.Lists.{All-append, take_front}
-use Rattle.spelling.proofs.Joining.{one_spelling, whole_value, whole_rest}
-use Rattle.spelling.proofs.Fields.{u32-reads}
+use Rattle.spelling.proofs.Joining.{Reads, one_spelling, whole_value, whole_rest, whole_not_part, whole_not_wrong}
+use Rattle.spelling.proofs.Fields.{u32_up_to-reads}
 use Rattle.spelling.proofs.Repeated.{text-reads}
-use Rattle.cap_codec.specs.declared.frame.TheConstants.{MAX_FRAME}
+use Rattle.willow_entry.specs.declared.frame.TheConstants.{MAX_FRAME}
 use Rattle.cap_codec.specs.Rows.{RawValue, raw_spelling, ReadsWhole, FitsFrame, frame, HaveOneReading}
-use Rattle.cap_codec.specs.Streams.{HasNoFrame, AreNeverBoth, HaveOneStop}
+use Rattle.cap_codec.specs.Streams.{HasNoFrame, FramesNeverStop, HaveOneStop}
 use Rattle.cap_codec.proofs.RowReads.{raw-reads}
 
 -- ---- a frame
 
 -- what reads the length of a body, and the body
 abbrev pub body_at : List ℕ → Front (List ℕ)
-body_at = text_at (number_at w32) MAX_FRAME
+body_at = text_at (number_up_to w32 MAX_FRAME)
+
+pub length-reads : Reads (number_up_to w32 MAX_FRAME) (to_be_bytes w32) (λ n. (n ≤ MAX_FRAME) × (n < 2 ^ 32))
+length-reads = u32_up_to-reads MAX_FRAME (omega arith)
 
 bytes_again : (x rest : List ℕ) → bytes_at (length x) (x ++ rest) ≡ Whole x rest
 bytes_again x rest =
     let long : ltb (length (x ++ rest)) (length x) ≡ false = le-ltb _ _ (omega (arith, length-append x rest)) in
     rw (long, take_at x rest (length x) refl, drop_at x rest (length x) refl) refl
 
-guarded : (x rest : List ℕ) → length x ≤ MAX_FRAME → guard (nat_le (length x) MAX_FRAME) (bytes_at (length x) (x ++ rest)) ≡ Whole x rest
-guarded x rest short = ap (λ (b : Bool). guard b (bytes_at (length x) (x ++ rest))) (le-leb (length x) MAX_FRAME short) ∙ bytes_again x rest
-
 text_again : (x rest : List ℕ) → length x ≤ MAX_FRAME → body_at (text_spelling (to_be_bytes w32) x ++ rest) ≡ Whole x rest
 unfolding text_at
 text_again x rest short =
     ap body_at (append_assoc (to_be_bytes w32 (length x)) x rest)
-    ∙ ap (λ (q : Front ℕ). q >>= λ n. guard (nat_le n.0 MAX_FRAME) (bytes_at n.0 n.1)) (u32-reads.again (length x) (x ++ rest) (omega (arith, short)))
-    ∙ guarded x rest short
+    ∙ ap (λ (q : Front ℕ). q >>= λ n. bytes_at n.0 n.1) (length-reads.again (length x) (x ++ rest) (short, omega (arith, short)))
+    ∙ bytes_again x rest
 
 -- in front of anything, a frame gives its row's body
 pub frame_again : (r : RawValue) (rest : List ℕ) → FitsFrame r → body_at (frame r ++ rest) ≡ Whole (raw_spelling r) rest
@@ -59,12 +58,6 @@ frame_form r s a b fr fs e =
     (both.0, whole_rest (raw_spelling r) (raw_spelling s) a b same)
 
 -- ---- what a decoder of a frame answers
-
-whole_not_part : {A : Type 0} (x : A) (rest : List ℕ) (r : Front A) → r ≡ Whole x rest → r ≡ Part → ⊥
-whole_not_part x rest r e f = cc
-
-whole_not_wrong : {A : Type 0} (x : A) (rest : List ℕ) (r : Front A) → r ≡ Whole x rest → r ≡ Wrong → ⊥
-whole_not_wrong x rest r e f = cc
 
 not_framed : (u : Unread) (e : End NotHere) (bytes : List ℕ) → Fails u (body_at bytes) → IsEndOf u e → Decodes frame FitsFrame bytes (Err e)
 not_framed unread.NoMemory e bytes h is = subst (λ (d : End NotHere). Decodes frame FitsFrame bytes (Err d)) (sym is) tt
@@ -89,7 +82,7 @@ frame_not bytes body left (Refused e) h none =
 pub frame_whole : (bytes input body left : List ℕ) (r : RawValue) (taken : ℕ) → AreBytes bytes → input ≡ bytes → body_at input ≡ Whole body left → ReadsWhole body (Ok r) → taken ≡ length bytes - length left
     → Decodes frame FitsFrame bytes (Ok (r, taken))
 frame_whole bytes input body left r taken are same h is n =
-    let t = (text-reads MAX_FRAME (omega arith) u32-reads).takes bytes body left are (ap body_at (sym same) ∙ h) in
+    let t = (text-reads MAX_FRAME (omega arith) length-reads).takes bytes body left are (ap body_at (sym same) ∙ h) in
     let parts : bytes ≡ frame r ++ left = t.parts ∙ ap (λ (l : List ℕ). text_spelling (to_be_bytes w32) l ++ left) is.1 in
     let short : length (raw_spelling r) ≤ MAX_FRAME = subst (λ (l : List ℕ). length l ≤ MAX_FRAME) is.1 t.fits.0 in
     (record { raw = is.0; short = short }, omega (arith, n), ap (λ (k : ℕ). take k bytes) n ∙ take_front bytes (frame r) left parts)
@@ -121,7 +114,7 @@ same_rows rows others f g e =
 pub one_stream : HaveOneReading
 one_stream bytes rows others f g = same_rows rows others f.fit g.fit (sym f.spelled ∙ g.spelled)
 
-pub never_both : AreNeverBoth
+pub never_both : FramesNeverStop
 never_both bytes at rows s are =
     let same = same_frames s.rows rows s.left [] s.frames.fit are.fit s.frames.no_frame nothing_left (sym s.frames.parts ∙ are.spelled ∙ sym (append-nil (flat_map frame rows))) in
     omega (arith, s.more, ap length same.1)

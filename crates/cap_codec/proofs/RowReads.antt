@@ -12,18 +12,20 @@ use Rattle.spelling.specs.declared.ending.NotHere.{NotHere}
 use Rattle.spelling.specs.declared.input.Unread.{Unread}
 use Rattle.spelling.specs.declared.input.Unread.TheVariants as unread
 use Rattle.spelling.proofs.Lists.{take_front}
-use Rattle.spelling.proofs.Joining.{Reads, Reads-then, Reads-last, Reads-is, alone, whole_rest}
+use Rattle.spelling.proofs.Joining.{Reads, Reads-then, Reads-last, Reads-is, any_follows, alone, whole_rest, whole_not_part, whole_not_wrong}
 use Rattle.willow_entry.specs.EntryForm.{entry_spelling, entry_at}
 use Rattle.willow_entry.specs.declared.entry.Entry.{Entry}
 use Rattle.willow_entry.specs.Row.{RowValue}
 use Rattle.willow_entry.specs.RowBody.{row_body}
 use Rattle.willow_entry.specs.Frame.{row_frame}
 use Rattle.willow_entry.proofs.EntryReads.{entry-reads}
+use Rattle.mc_cap.specs.Forms.{capability_spelling}
+use Rattle.mc_cap.specs.Signature.{signature_spelling}
 use Rattle.cap_codec.specs.declared.token.WriteToken.{WriteToken}
-use Rattle.cap_codec.specs.declared.frame.TheConstants.{MAX_FRAME}
+use Rattle.willow_entry.specs.declared.frame.TheConstants.{MAX_FRAME}
 use Rattle.cap_codec.specs.Reading.{token_at, raw_at}
 use Rattle.cap_codec.specs.Rows.{RawValue, IsRaw, IsRawRow, IsToken, row_of, token_spelling, raw_spelling, frame, FitsFrame, ReadsWhole}
-use Rattle.cap_codec.proofs.CapReads.{token-reads}
+use Rattle.cap_codec.proofs.CapReads.{token-reads, some_token, some_token_fits}
 
 abbrev raw : Entry → WriteToken → RawValue
 raw entry token = record { entry = entry; token = token }
@@ -35,7 +37,8 @@ from_entry e = Reads-last (λ (r : RawValue). r.token) (raw e) token-reads (λ t
 pub raw-reads : Reads raw_at raw_spelling IsRaw
 unfolding raw_at
 raw-reads =
-    let joined = Reads-then (λ (e : Entry × List ℕ). token_at e.1 >>= λ t. Whole (raw e.0 t.0) t.1) (λ (r : RawValue). r.entry) entry-reads from_entry (λ e r f. ap (λ (x : RawValue). x.entry) f.1) in
+    let joined = Reads-then (λ (e : Entry × List ℕ). token_at e.1 >>= λ t. Whole (raw e.0 t.0) t.1) (λ (r : RawValue). r.entry) entry-reads from_entry (λ e r f. ap (λ (x : RawValue). x.entry) f.1)
+    (any_follows entry-reads (λ e f. (raw e some_token, (some_token_fits, refl)))) in
     Reads-is joined (λ r. refl) (λ r f. record { entry_fits = f.0; token_fits = f.1.0 }) (λ r f. (f.entry_fits, (f.token_fits, refl)))
 
 -- ---- what was not read
@@ -63,12 +66,6 @@ no_token unread.Wrong body e rest h k = token_next body e rest h ∙ ap (λ (q :
 
 pub fails_token : (u : Unread) (body input : List ℕ) (e : Entry) (rest : List ℕ) → input ≡ body → entry_at input ≡ Whole e rest → Fails u (token_at rest) → Fails u (raw_at body)
 fails_token u body input e rest is h k = no_token u body e rest (ap entry_at (sym is) ∙ h) k
-
-whole_not_part : {A : Type 0} (x : A) (rest : List ℕ) (r : Front A) → r ≡ Whole x rest → r ≡ Part → ⊥
-whole_not_part x rest r e f = cc
-
-whole_not_wrong : {A : Type 0} (x : A) (rest : List ℕ) (r : Front A) → r ≡ Whole x rest → r ≡ Wrong → ⊥
-whole_not_wrong x rest r e f = cc
 
 whole_not : (u : Unread) (e : End NotHere) (body : List ℕ) → Fails u (raw_at body) → IsEndOf u e → ReadsWhole body (Err e)
 whole_not unread.NoMemory e body h is = subst (λ (d : End NotHere). ReadsWhole body (Err d)) (sym is) tt
@@ -131,6 +128,13 @@ token_part body r n spelled long = ap (λ (l : List ℕ). drop n l) spelled ∙ 
 
 pub entry_within : (body : List ℕ) (r : RawValue) (n : ℕ) → body ≡ raw_spelling r → n ≡ length (entry_spelling r.entry) → n ≤ length body
 entry_within body r n spelled long = omega (arith, long, ap length spelled, length-append (entry_spelling r.entry) (token_spelling r.token))
+
+-- the capability's bytes stand in front of a token
+pub capability_part : (bytes : List ℕ) (t : WriteToken) (n : ℕ) → bytes ≡ token_spelling t → n ≡ length (capability_spelling t.capability) → take n bytes ≡ capability_spelling t.capability
+capability_part bytes t n spelled long = ap (λ (l : List ℕ). take n l) spelled ∙ take_at (capability_spelling t.capability) (signature_spelling t.signature) n (sym long)
+
+pub capability_within : (bytes : List ℕ) (t : WriteToken) (n : ℕ) → bytes ≡ token_spelling t → n ≡ length (capability_spelling t.capability) → n ≤ length bytes
+capability_within bytes t n spelled long = omega (arith, long, ap length spelled, length-append (capability_spelling t.capability) (signature_spelling t.signature))
 
 -- ---- rows as a store sees them
 

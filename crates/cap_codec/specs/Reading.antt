@@ -2,7 +2,7 @@
 use Rattle.std.specs.Prelude.{ℕ, zero, suc, Bool, true, false, List, [], ◌∷◌, Option, Some, None}
 use Rattle.std.specs.Int.{w16}
 use Rattle.spelling.specs.Front.{Front, Whole, Part, Wrong, ◌>>=◌}
-use Rattle.spelling.specs.Reading.{byte_at, number_at, text_at, list_at}
+use Rattle.spelling.specs.Reading.{byte_up_to, number_up_to, text_at, list_at}
 use Rattle.scheme_core.specs.declared.signer.TheConstants.{MAX_SIGNATURE}
 use Rattle.willow_path.specs.Key.{key_at}
 use Rattle.willow_area.specs.AreaSpelling.{area_at}
@@ -26,7 +26,7 @@ form_at (suc (suc (suc (suc other))) ∷ rest) = Wrong
 
 -- two bytes for the length, and the bytes of a signature
 unfoldable pub signature_at : List ℕ → Front (List ℕ)
-signature_at = text_at (number_at w16) MAX_SIGNATURE
+signature_at = text_at (number_up_to w16 MAX_SIGNATURE)
 
 -- the initial signature of an owned capability, and nothing for a communal one
 unfoldable pub initial_at : Bool → List ℕ → Front (Option (List ℕ))
@@ -44,7 +44,7 @@ delegation_at bytes = do
 
 -- a byte for how many there are, and the delegations
 unfoldable pub chain_at : List ℕ → Front (List Delegation)
-chain_at = list_at byte_at MAX_CHAIN delegation_at
+chain_at = list_at (byte_up_to MAX_CHAIN) delegation_at
 
 unfoldable pub capability_at : List ℕ → Front Capability
 capability_at bytes = do

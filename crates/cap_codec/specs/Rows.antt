@@ -9,10 +9,10 @@ use Rattle.spelling.specs.declared.ending.NotHere.{NotHere}
 use Rattle.willow_entry.specs.EntryForm.{entry_spelling, IsEntry}
 use Rattle.willow_entry.specs.Row.{RowValue}
 use Rattle.willow_entry.specs.declared.entry.Entry.{Entry}
+use Rattle.willow_entry.specs.declared.frame.TheConstants.{MAX_FRAME}
 use Rattle.mc_cap.specs.Forms.{capability_spelling, IsCapability}
 use Rattle.mc_cap.specs.Signature.{signature_spelling, IsSignature}
 use Rattle.cap_codec.specs.declared.token.WriteToken.{WriteToken}
-use Rattle.cap_codec.specs.declared.frame.TheConstants.{MAX_FRAME}
 
 -- a capability, and the signature of an entry
 abbrev pub token_spelling : WriteToken → List ℕ

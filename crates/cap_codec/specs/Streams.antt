@@ -17,7 +17,7 @@ pub record AreAllFrames (bytes : List ℕ) (rows : List RawValue) (left : List �
   pub no_frame : HasNoFrame left
 
 -- behind the frames of some rows, which are the first `at` bytes, stand further bytes that begin with no row's frame
-pub record StopsAt (bytes : List ℕ) (at : ℕ) : Type 0 where
+pub record FramesStopAt (bytes : List ℕ) (at : ℕ) : Type 0 where
   pub rows : List RawValue
   pub left : List ℕ
   pub frames : AreAllFrames bytes rows left
@@ -27,13 +27,13 @@ pub record StopsAt (bytes : List ℕ) (at : ℕ) : Type 0 where
 -- the rows whose frames the bytes are, or where the first frame stands that is none
 abbrev pub ReadsFrames : {X : Type 0} → (X → List RawValue) → List ℕ → Result X (End BadFrames) → Type 0
 ReadsFrames view bytes (Ok rows) = AreFrames bytes (view rows)
-ReadsFrames view bytes (Err (Refused e)) = StopsAt bytes e.at
+ReadsFrames view bytes (Err (Refused e)) = FramesStopAt bytes e.at
 ReadsFrames view bytes (Err NoMemory) = Unit {0}
 
--- bytes that stop somewhere are the frames of no rows
-abbrev pub AreNeverBoth : Type 0
-AreNeverBoth = (bytes : List ℕ) (at : ℕ) (rows : List RawValue) → StopsAt bytes at → AreFrames bytes rows → ⊥
+-- bytes whose frames stop somewhere are the frames of no rows
+abbrev pub FramesNeverStop : Type 0
+FramesNeverStop = (bytes : List ℕ) (at : ℕ) (rows : List RawValue) → FramesStopAt bytes at → AreFrames bytes rows → ⊥
 
--- bytes stop at one place at most
+-- the frames of some bytes stop at one place at most
 abbrev pub HaveOneStop : Type 0
-HaveOneStop = (bytes : List ℕ) (at other : ℕ) → StopsAt bytes at → StopsAt bytes other → at ≡ other
+HaveOneStop = (bytes : List ℕ) (at other : ℕ) → FramesStopAt bytes at → FramesStopAt bytes other → at ≡ other

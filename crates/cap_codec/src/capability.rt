@@ -2,13 +2,13 @@
 
 ghost use Rattle.std.specs.Prelude.{◌≡◌, length, IfOk};
 ghost use Rattle.spelling.specs.Form.{Decodes};
-ghost use Rattle.spelling.specs.Reading.{Gives, many_at};
+ghost use Rattle.spelling.specs.Reading.{Gives, NeedsNoMemory, many_at};
 ghost use Rattle.mc_cap.specs.Forms.{capability_spelling, IsCapability};
 ghost use Rattle.cap_codec.specs.Reading.{form_at, signature_at, initial_at, delegation_at, chain_at, capability_at};
 
 use mc_cap::{Capability, Chain, Delegation, MAX_CHAIN, Mode, Signature};
 use scheme_core::MAX_SIGNATURE;
-use spelling::{End, Input, NotHere, Unread, guard};
+use spelling::{End, Input, NotHere, Unread};
 use std::alloc::Global;
 use willow_area::read_area;
 use willow_path::{read_namespace_key, read_user_key};
@@ -41,7 +41,8 @@ pub fn read_capability(alloc: Global, input: &mut Input) -> Result<Capability, U
 // The mode, and whether the capability is owned.
 #[tactic(auto, unfolding(crate::specs::Reading::form_at))]
 fn read_form(input: &mut Input) -> Result<(Mode, bool), Unread>
-    ensures { Gives (λ form. form) result input.new (form_at input.old) }
+    ensures gives { Gives (λ form. form) result input.new (form_at input.old) }
+    ensures sure { NeedsNoMemory result }
 {
     match input.byte()? {
         0 => Ok((Mode::Read, false)),
@@ -65,13 +66,12 @@ fn read_initial(alloc: Global, owned: bool, input: &mut Input) -> Result<Option<
 }
 
 /// Reads a signature from the front of the input: two bytes for its length, at most `MAX_SIGNATURE`, and
-/// its bytes.
+/// its bytes. It is wrong as soon as no signature begins so.
 #[tactic(auto, unfolding(crate::specs::Reading::signature_at, spelling::specs::Reading::text_at))]
 pub fn read_signature(alloc: Global, input: &mut Input) -> Result<Signature, Unread>
     ensures { Gives (λ signature. signature) result input.new (signature_at input.old) }
 {
-    let len = usize::from(input.number_u16()?);
-    guard(len <= MAX_SIGNATURE)?;
+    let len = usize::from(input.number_u16_up_to(MAX_SIGNATURE as u16)?);
     let bytes = input.vec(alloc, len)?;
     Signature::new(bytes).ok_or(Unread::Wrong)
 }
@@ -92,8 +92,7 @@ fn read_delegation(alloc: Global, input: &mut Input) -> Result<Delegation, Unrea
 fn read_chain(alloc: Global, input: &mut Input) -> Result<Chain, Unread>
     ensures { Gives (λ chain. chain) result input.new (chain_at input.old) }
 {
-    let count = usize::from(input.byte()?);
-    guard(count <= MAX_CHAIN)?;
+    let count = usize::from(input.byte_up_to(MAX_CHAIN as u8)?);
     let delegations = read_delegations(alloc, input, count)?;
     Chain::new(delegations).ok_or(Unread::Wrong)
 }

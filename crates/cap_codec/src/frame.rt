@@ -1,57 +1,22 @@
 //! Rows in frames, one after the other.
 
-ghost use Rattle.std.specs.Prelude.{◌≡◌, ◌≤◌, ◌++◌, length, take, drop, IfOk, OnErr, OnOk, vec_len};
+ghost use Rattle.std.specs.Prelude.{◌≡◌, ◌≤◌, length, drop, IfOk};
 ghost use Rattle.std.specs.Int.{w32};
 ghost use Rattle.spelling.specs.Form.{Decodes};
-ghost use Rattle.spelling.specs.Reading.{Gives, number_at, text_at};
-ghost use Rattle.willow_entry.specs.Frame.{row_frame};
-ghost use Rattle.willow_entry.specs.RowBody.{row_body};
+ghost use Rattle.spelling.specs.Reading.{Gives, NeedsNoMemory, number_up_to, text_at};
 ghost use Rattle.cap_codec.specs.Rows.{frame, FitsFrame};
 ghost use Rattle.cap_codec.specs.Streams.{AreAllFrames, ReadsFrames};
 
 use crate::row::RawRow;
-use spelling::{End, Input, NoMemory, NotHere, Unread, guard, put_bytes, put_u32};
+use spelling::{End, Input, NoMemory, NotHere, Unread};
 use std::alloc::Global;
-use willow_entry::Row;
-
-/// The greatest number of bytes of a frame's body.
-pub const MAX_FRAME: usize = 131_072;
+use willow_entry::MAX_FRAME;
 
 /// Where bytes are no stream of frames.
 #[derive(Clone, Copy, Debug, PartialEq, Eq)]
 pub struct BadFrames {
     /// How many bytes stand in front of the length field of the first frame that is none.
     pub at: usize,
-}
-
-/// Appends the row's frame to `out`: four bytes for the length of the body, and the body, which is the
-/// entry and the token as the row keeps them. Without memory `out` stays as it was.
-pub fn encode_frame<R: Row>(row: &R, out: &mut Vec<u8>) -> Result<(), NoMemory>
-    requires { length (row_body (R.value row.now)) ≤ MAX_FRAME }
-    ensures spelled { OnOk result (out.new.items ≡ out.old.items ++ row_frame (R.value row.now)) }
-    ensures err { OnErr result (out.new.items ≡ out.old.items) }
-{
-    let begun = out.len();
-    match spell_frame(row, out) {
-        Ok(()) => Ok(()),
-        Err(NoMemory) => {
-            out.truncate(begun);
-            Err(NoMemory)
-        }
-    }
-}
-
-// Appends the frame, or without memory a part of it.
-#[tactic(auto, unfolding(willow_entry::specs::RowBody::row_body))]
-fn spell_frame<R: Row>(row: &R, out: &mut Vec<u8>) -> Result<(), NoMemory>
-    requires { length (row_body (R.value row.now)) ≤ MAX_FRAME }
-    ensures spelled { OnOk result (out.new.items ≡ out.old.items ++ row_frame (R.value row.now)) }
-    ensures kept { take (vec_len out.old) out.new.items ≡ out.old.items }
-{
-    let (entry, token) = (row.entry_bytes(), row.token_bytes());
-    put_u32(out, (entry.len() + token.len()) as u32)?;
-    put_bytes(out, entry)?;
-    put_bytes(out, token)
 }
 
 /// The row in the frame at the front of the bytes, with the number of bytes taken: four bytes for the
@@ -69,10 +34,10 @@ pub fn decode_frame(alloc: Global, bytes: &[u8]) -> Result<(RawRow, usize), End<
 // The length of a frame's body, and the body.
 #[tactic(auto, unfolding(spelling::specs::Reading::text_at))]
 fn read_body<'a>(input: &mut Input<'a>) -> Result<&'a [u8], Unread>
-    ensures { Gives (λ body. body.now) result input.new (text_at (number_at w32) MAX_FRAME input.old) }
+    ensures gives { Gives (λ body. body.now) result input.new (text_at (number_up_to w32 MAX_FRAME) input.old) }
+    ensures sure { NeedsNoMemory result }
 {
-    let len = input.number_u32()? as usize;
-    guard(len <= MAX_FRAME)?;
+    let len = input.number_u32_up_to(MAX_FRAME as u32)? as usize;
     input.slice(len)
 }
 

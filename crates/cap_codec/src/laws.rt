@@ -1,10 +1,12 @@
 //! What holds of the formats: each value has one spelling, and no spelling begins another.
 
 ghost use Rattle.spelling.specs.Form.{IsForm};
+ghost use Rattle.spelling.specs.Reader.{IsReader};
 ghost use Rattle.mc_cap.specs.Signature.{signature_spelling, IsSignature};
 ghost use Rattle.mc_cap.specs.Forms.{capability_spelling, IsCapability};
+ghost use Rattle.cap_codec.specs.Reading.{signature_at, capability_at, token_at};
 ghost use Rattle.cap_codec.specs.Rows.{token_spelling, IsToken, raw_spelling, IsRaw, frame, FitsFrame, HaveOneReading};
-ghost use Rattle.cap_codec.specs.Streams.{AreNeverBoth, HaveOneStop};
+ghost use Rattle.cap_codec.specs.Streams.{FramesNeverStop, HaveOneStop};
 
 /// A signature field has one spelling, which begins that of no other.
 pub fn one_signature()
@@ -19,6 +21,16 @@ pub fn one_capability()
 /// A write token has one spelling, which begins that of no other.
 pub fn one_token()
     ensures { IsForm token_spelling IsToken }
+{}
+
+/// The readers of signatures, capabilities and tokens go by the spellings alone: a value is whole exactly where its
+/// spelling stands in front, a part exactly where the bytes begin a spelling and more is due, and wrong exactly where
+/// none begins so.
+#[tactic(auto, using(crate::proofs::CapReads::signature_reader, crate::proofs::CapReads::capability_reader, crate::proofs::CapReads::token_reader))]
+pub fn readers()
+    ensures signature { IsReader signature_at signature_spelling IsSignature }
+    ensures capability { IsReader capability_at capability_spelling IsCapability }
+    ensures token { IsReader token_at token_spelling IsToken }
 {}
 
 /// A row has one body, which begins that of no other.
@@ -38,7 +50,7 @@ pub fn one_stream()
 
 /// Bytes in which some frame is none are the frames of no rows.
 pub fn never_both()
-    ensures { AreNeverBoth }
+    ensures { FramesNeverStop }
 {}
 
 /// The first frame that is none stands at one place.

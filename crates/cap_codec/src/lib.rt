@@ -9,11 +9,10 @@ mod row;
 mod token;
 
 pub use capability::{decode_capability, read_capability, read_signature};
-pub use frame::{
-    BadFrames, MAX_FRAME, behind, decode_frame, encode_frame, frames_in_front, read_frames,
-};
+pub use frame::{BadFrames, behind, decode_frame, frames_in_front, read_frames};
 pub use row::{RawRow, RawRows};
 pub use token::{WriteToken, read_token};
+pub use willow_entry::{MAX_FRAME, encode_row_frame as encode_frame};
 
 #[cfg(test)]
 mod tests;

@@ -1,13 +1,14 @@
 //! Rows whose tokens are read out: an entry, by whose leave it was written, and the bytes of both.
 
 ghost use Rattle.std.specs.Prelude.{◌≡◌, IfOk};
+ghost use Rattle.mc_cap.specs.Forms.{capability_spelling};
 ghost use Rattle.cap_codec.specs.Rows.{RawValue, row_of, raw_spelling, IsRaw, IsRawRow, IsToken, ReadsWhole};
 
-use crate::token::{WriteToken, read_token};
+use crate::token::{WriteToken, put_signature, read_measured};
 use spelling::{End, Input, NoMemory, NotHere};
 use std::alloc::Global;
 use std::marker::Model;
-use willow_entry::{Entry, Row, RowForm, read_entry};
+use willow_entry::{Entry, Row, RowForm, SharedRow, read_entry};
 
 /// A row with its token read out. It keeps the bytes that it was read from. A contract sees the entry and
 /// the token; nothing is said of whether it is authorised.
@@ -17,11 +18,13 @@ pub struct RawRow {
     token: WriteToken,
     body: Vec<u8>,
     entry_len: usize,
+    capability_len: usize,
 }
 
 impl Model for RawRow {
     ghost use Rattle.std.specs.Prelude.{◌≡◌, length};
     ghost use Rattle.willow_entry.specs.EntryForm.{entry_spelling};
+    ghost use Rattle.mc_cap.specs.Forms.{capability_spelling};
     ghost use Rattle.cap_codec.specs.Rows.{RawValue, IsRaw, raw_spelling};
 
     ghost Value = { RawValue };
@@ -30,7 +33,8 @@ impl Model for RawRow {
 
     ghost invariant = { λ r. IsRaw (record { entry = r.entry; token = r.token })
         × (r.body.items ≡ raw_spelling (record { entry = r.entry; token = r.token }))
-        × (r.entry_len ≡ length (entry_spelling r.entry)) };
+        × (r.entry_len ≡ length (entry_spelling r.entry))
+        × (r.capability_len ≡ length (capability_spelling r.token.capability)) };
 }
 
 impl RawRow {
@@ -42,12 +46,16 @@ impl RawRow {
         let mut body = Vec::new(alloc);
         entry.encode(&mut body)?;
         let entry_len = body.len();
-        token.encode(&mut body)?;
+        token.capability.encode(&mut body)?;
+        let capability_len = body.len() - entry_len;
+        put_signature(&token.signature, &mut body)?;
+        token.known();
         Ok(RawRow {
             entry,
             token,
             body,
             entry_len,
+            capability_len,
         })
     }
 
@@ -59,7 +67,8 @@ impl RawRow {
         let mut input = Input::new(body);
         let entry = read_entry(alloc, &mut input)?;
         let entry_len = input.taken_of(body);
-        let token = read_token(alloc, &mut input)?;
+        let behind = input.front();
+        let (token, capability_len) = read_measured(alloc, behind, &mut input)?;
         if input.len() > 0 {
             return Err(End::Refused(NotHere));
         }
@@ -68,6 +77,7 @@ impl RawRow {
             token,
             body: Vec::from_slice(alloc, body)?,
             entry_len,
+            capability_len,
         })
     }
 
@@ -77,6 +87,13 @@ impl RawRow {
         ensures fits { IsToken self.now.token }
     {
         &self.token
+    }
+
+    /// The bytes of the token's capability: its spelling, as the row keeps it.
+    pub fn capability_bytes(&self) -> &[u8]
+        ensures { result.now ≡ capability_spelling self.now.token.capability }
+    {
+        &self.token_bytes()[..self.capability_len]
     }
 
     /// Does nothing: it is called for its clause, that the entry and the token are within their limits.
@@ -95,6 +112,7 @@ impl RawRow {
             token: self.token.copy()?,
             body: Vec::from_slice(*self.body.allocator(), &self.body)?,
             entry_len: self.entry_len,
+            capability_len: self.capability_len,
         })
     }
 }
@@ -118,6 +136,8 @@ impl Row for RawRow {
         self.copy()
     }
 }
+
+impl SharedRow for RawRow {}
 
 /// The bodies of rows: an entry within its limits, a write token, and nothing else.
 pub struct RawRows;

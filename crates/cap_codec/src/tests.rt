@@ -1,9 +1,9 @@
 //! Capabilities and rows against bytes made elsewhere.
 
 use super::*;
-use spelling::End;
+use spelling::{End, Input, Unread};
 use std::alloc::Global;
-use willow_entry::{Row, RowForm};
+use willow_entry::{Row, RowForm, SharedRow};
 
 // A communal write capability, handed on once: the number of delegations stands at 67, the area at 68, the
 // signature's length at 145.
@@ -72,6 +72,19 @@ fn capabilities_are_read_and_spelled(rt: HostRuntime) {
     }
 }
 
+// Why no capability is read from the first 146 bytes, of which the last begins the signature's length.
+fn unread_with(alloc: Global, byte: u8) -> Option<Unread> {
+    let bytes = with(alloc, 145, byte)?;
+    read_capability(alloc, &mut Input::new(bytes.get(..146)?)).err()
+}
+
+#[test]
+fn a_length_is_judged_by_its_first_byte(rt: HostRuntime) {
+    let alloc = rt.alloc();
+    assert_eq!(rt; unread_with(alloc, 5), Some(Unread::Part));
+    assert_eq!(rt; unread_with(alloc, 6), Some(Unread::Wrong));
+}
+
 // The entry and the token of the row of these bytes, one behind the other.
 fn row_again(alloc: Global, text: &str) -> Option<Vec<u8>> {
     let bytes = hex::decode(alloc, text).ok()?;
@@ -90,7 +103,7 @@ fn rows_are_read_and_spelled(rt: HostRuntime) {
 }
 
 // Whether the row is spelled so, and its entry has 117 of the bytes.
-fn has_bytes<R: Row>(row: &R, bytes: &[u8]) -> bool {
+fn has_bytes<R: SharedRow>(row: &R, bytes: &[u8]) -> bool {
     bytes.get(..117) == Some(row.entry_bytes()) && bytes.get(117..) == Some(row.token_bytes())
 }
 

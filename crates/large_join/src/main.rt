@@ -1,7 +1,7 @@
-//! Makes 20,000 rows by the generator, joins them, and prints of each of the two runs the status, the number of bytes
-//! that it put out and their SHA-256, of the join also the report and the count at the image's end. What must come
-//! out was worked out by a program that shares no code with this one. It promises nothing: what a run does is the
-//! contract of `peer_run`.
+//! Makes rows by the generator and joins them, so many that no case of `run_cases` could hold them: 20,000, and as many as
+//! a log takes, alone and with further ones behind. Prints of each run the status, the number of bytes that it put out,
+//! their SHA-256, and the report. What must come out is worked out by `bench/cases/make.py`, which shares no code with this
+//! program. It promises nothing: what a run does is the contract of `peer_run`.
 #![tactic(auto)]
 
 mod run;
@@ -11,40 +11,84 @@ use sha2::{Digest, Sha256};
 use std::alloc::{AllocError, Global};
 use std::io;
 
-const GENERATED: [&str; 3] = ["gen", "--rows", "20000"];
+// The namespace of the generator's rows, and an author who has none of them.
+const NAMESPACE: &str = "004f4f4f4f4f4f4f4f4f4f4f4f4f4f4f4f4f4f4f4f4f4f4f4f4f4f4f4f4f4f4f4f";
 
-// The namespace of the generator's rows.
-const JOINED: [&str; 3] = [
-    "join",
-    "--namespace",
-    "004f4f4f4f4f4f4f4f4f4f4f4f4f4f4f4f4f4f4f4f4f4f4f4f4f4f4f4f4f4f4f4f",
-];
+const OWNER: &str = "open:4f4f4f4f4f4f4f4f4f4f4f4f4f4f4f4f4f4f4f4f4f4f4f4f4f4f4f4f4f4f4f4f";
 
-/// The number in the last four bytes; 0 where there are fewer.
-fn count_of(image: &[u8]) -> u32 {
-    match image {
-        [.., first, second, third, fourth] => {
-            u32::from_be_bytes([*first, *second, *third, *fourth])
-        }
-        _ => 0,
-    }
-}
+const AUTHOR: &str = "005555555555555555555555555555555555555555555555555555555555555555";
 
-/// Status, length and digest of a run's output.
-fn line_of(alloc: Global, outcome: &Outcome) -> Result<String, AllocError> {
+const SIGNER: &str = "open:5555555555555555555555555555555555555555555555555555555555555555";
+
+const DIGEST: &str = "1111111111111111111111111111111111111111111111111111111111111111";
+
+/// Status, length and digest of a run's output, and the report.
+fn lines_of(alloc: Global, outcome: &Outcome) -> Result<String, AllocError> {
     let output = outcome.output.held();
     let status = outcome.status;
     let length = output.len();
     let digest = hex::encode(alloc, Sha256::digest(output).as_slice())?;
-    format!(in alloc; "status {status} bytes {length} sha256 {digest}")
+    let report = outcome.report_text();
+    format!(in alloc; "status {status} bytes {length} sha256 {digest}\n{report}")
+}
+
+fn generated(alloc: Global, rows: &str) -> Result<Outcome, AllocError> {
+    run::over(alloc, &["gen", "--rows", rows], &[])
+}
+
+/// What a join of the rows and the bytes behind them comes to.
+fn joined(alloc: Global, rows: &[u8], behind: &[&[u8]]) -> Result<String, AllocError> {
+    let mut input = Vec::from_slice(alloc, rows)?;
+    for piece in behind {
+        input.extend_from_slice(*piece)?;
+    }
+    let outcome = run::over(alloc, &["join", "--namespace", NAMESPACE], &input)?;
+    lines_of(alloc, &outcome)
+}
+
+/// The frame of a row by an author who has none of the generator's rows.
+fn further_row(alloc: Global) -> Result<Outcome, AllocError> {
+    let grant = [
+        "grant",
+        "--namespace",
+        NAMESPACE,
+        "--mode",
+        "write",
+        "--user",
+        AUTHOR,
+        "--key",
+        OWNER,
+    ];
+    let write = [
+        "write", "--key", SIGNER, "--path", "/61", "--time", "5", "--length", "1", "--digest",
+        DIGEST,
+    ];
+    let capability = run::over(alloc, &grant, &[])?;
+    run::over(alloc, &write, capability.output.held())
 }
 
 fn main(rt: HostRuntime) -> io::Result<()> {
     let alloc = rt.alloc();
-    let generated = run::over(alloc, &GENERATED, &[])?;
-    println!(rt; "gen {}", line_of(alloc, &generated)?)?;
-    let joined = run::over(alloc, &JOINED, generated.output.held())?;
-    println!(rt; "join {}", line_of(alloc, &joined)?)?;
-    print!(rt; "{}", joined.report_text())?;
-    println!(rt; "count {}", count_of(joined.output.held()))
+    let few = generated(alloc, "20000")?;
+    print!(rt; "gen of 20000 rows: {}", lines_of(alloc, &few)?)?;
+    print!(rt; "join of these: {}", joined(alloc, few.output.held(), &[])?)?;
+
+    let full = generated(alloc, "65536")?;
+    let rows = full.output.held();
+    let first = generated(alloc, "1")?;
+    let first = first.output.held();
+    let row = further_row(alloc)?;
+    let row = row.output.held();
+    print!(rt; "gen of 65536 rows: {}", lines_of(alloc, &full)?)?;
+    print!(rt; "join of these: {}", joined(alloc, rows, &[])?)?;
+    print!(rt;
+        "join of these and of the first one again: {}",
+        joined(alloc, rows, &[first])?
+    )?;
+    print!(rt;
+        "join of these and of a row of another author: {}",
+        joined(alloc, rows, &[row])?
+    )?;
+    let behind = joined(alloc, rows, &[row, &[0]])?;
+    print!(rt; "join of these, of that row and of a byte that is no frame: {behind}")
 }

@@ -30,16 +30,19 @@ fn owned(alloc: Global, words: &[&str]) -> Result<Vec<String>, AllocError> {
     Ok(texts)
 }
 
-// An empty sink that takes a page a call.
+// The most bytes a call: so few calls that it does not matter what is moved up behind each.
+const PIECE: usize = 1 << 20;
+
+// An empty sink.
 fn sink_of(alloc: Global) -> MemSink {
-    MemSink::new(alloc, Vec::new(alloc), Vec::new(alloc), 4096)
+    MemSink::new(alloc, Vec::new(alloc), Vec::new(alloc), PIECE)
 }
 
 /// Runs the words over the input, with nothing on the shelf, no noise and no links, and without faults.
 pub(crate) fn over(alloc: Global, words: &[&str], input: &[u8]) -> Result<Outcome, AllocError> {
     let words = owned(alloc, words)?;
     let left = Vec::from_slice(alloc, input)?;
-    let mut input = MemSource::new(alloc, left, Vec::new(alloc), 4096);
+    let mut input = MemSource::new(alloc, left, Vec::new(alloc), PIECE);
     let mut output = sink_of(alloc);
     let mut report = sink_of(alloc);
     let mut shelf = MemShelf::new(alloc, BTreeMap::new(alloc), Vec::new(alloc));

@@ -5,6 +5,7 @@ use Rattle.std.proofs.lemmas.List.{take_at, take_all, drop_at}
 use Rattle.std.proofs.lemmas.Slice.Eq.{bytes_eq-Decides}
 use Rattle.sha2.specs.Sha256.{sha256}
 use Rattle.sha2.proofs.Facts256.{length-sha256}
+use Rattle.scheme_core.specs.declared.signer.TheConstants.{MAX_SIGNATURE}
 use Rattle.lms_core.specs.declared.height.Height.{Height}
 use Rattle.lms_core.specs.Bytes.{u32_str, field}
 use Rattle.lms_core.specs.Accepts.{levels, leaves, lms_accepts, one_time_type, type_of}
@@ -65,7 +66,7 @@ made_is_given s message h i =
     let q = u32_at_by 56 s.index (pub_key ++ made) (omega arith) f in
     and_from _ _ (sym (accepts_lms_kind s.height s.identifier s.seed message (pub_key ++ made)) ∙ sym a) (eq-eqb _ _ q)
 
-pub made_is_short : (s : Use) (message : List ℕ) → length s.identifier ≡ 16 → length (use_signature s message) ≤ 1508
+pub made_is_short : (s : Use) (message : List ℕ) → length s.identifier ≡ 16 → length (use_signature s message) ≤ MAX_SIGNATURE
 made_is_short s message h =
     let pub_key = public_key s.height s.identifier s.seed in
     let made = signature_of s.height s.identifier s.seed s.index message in

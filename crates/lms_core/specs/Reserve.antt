@@ -6,7 +6,7 @@ use Rattle.spelling.specs.declared.ending.End.{End}
 use Rattle.spelling.specs.declared.ending.End.TheVariants.{Refused, NoMemory}
 use Rattle.willow_outside.specs.Facts.{ShelfFacts}
 use Rattle.willow_outside.specs.Names.{GetsName, name_put}
-use Rattle.willow_outside.specs.Counts.{Rose}
+use Rattle.willow_outside.specs.Counts.{Rose, HasRisen}
 use Rattle.std.specs.Option.{option_map}
 use Rattle.lms_core.specs.declared.reserve.KeyRefusal.{KeyRefusal}
 use Rattle.lms_core.specs.declared.reserve.KeyRefusal.TheVariants.{ShelfRead, Missing, BadKeyFile, KeySpent, ShelfWrite}
@@ -30,6 +30,11 @@ KeepsNames old new = new.names ≡ old.names
 -- No name was put: all hold what they held, and no write failed.
 pub record IsOnlyRead (old new : ShelfFacts) : Type 0 where
   pub names : KeepsNames old new
+  pub write_faults : new.write_faults ≡ old.write_faults
+
+-- No read and no write failed.
+pub record HasNoShelfFault (old new : ShelfFacts) : Type 0 where
+  pub read_faults : new.read_faults ≡ old.read_faults
   pub write_faults : new.write_faults ≡ old.write_faults
 
 -- The signers of the next indices are handed out, in order, and the file's next index is higher by as many.
@@ -67,3 +72,13 @@ Reserves name count old new (Err (Refused BadKeyFile)) = ((bytes : List ℕ) × 
 Reserves name count old new (Err (Refused (KeySpent next))) = (k : Key) × IsSpent name count next old new k
 Reserves name count old new (Err (Refused ShelfWrite)) = (k : Key) × FailsToPut name count old new k
 Reserves name count old new (Err NoMemory) = KeepsNames old new
+
+-- How the counts of faults move: only that of the call that failed, and at want of memory that of one kind of call at most.
+abbrev pub CountsReserve : {A : Type 0} → ShelfFacts → ShelfFacts → Result A (End KeyRefusal) → Type 0
+CountsReserve old new (Ok signers) = HasNoShelfFault old new
+CountsReserve old new (Err (Refused ShelfRead)) = HasRisen old.read_faults new.read_faults × (new.write_faults ≡ old.write_faults)
+CountsReserve old new (Err (Refused Missing)) = HasNoShelfFault old new
+CountsReserve old new (Err (Refused BadKeyFile)) = HasNoShelfFault old new
+CountsReserve old new (Err (Refused (KeySpent next))) = HasNoShelfFault old new
+CountsReserve old new (Err (Refused ShelfWrite)) = HasRisen old.write_faults new.write_faults × (new.read_faults ≡ old.read_faults)
+CountsReserve old new (Err NoMemory) = (new.write_faults ≡ old.write_faults) ⊎ (new.read_faults ≡ old.read_faults)

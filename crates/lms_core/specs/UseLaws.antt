@@ -1,8 +1,9 @@
 -- How long a signature is that is accepted for an LMS key, for the laws of what makes them.
-use Rattle.std.proofs.Common.{◌≡◌, ◌==◌, ◌&&◌, ◌+◌, ◌≤◌, ℕ, Bool, true, false, nat_le, bytes_eq, List, length, take, drop, Option, Some, None, if◌then◌else◌, sym, ap, subst, ◌∙◌, inl, inr, lit≤, length-drop}
+use Rattle.std.proofs.Common.{◌≡◌, ◌==◌, ◌&&◌, ◌+◌, ◌≤◌, ℕ, Bool, true, false, nat_le, bytes_eq, List, length, take, drop, Option, Some, None, if◌then◌else◌, sym, ap, subst, ◌∙◌, inl, inr, lit≤, length-drop, le_trans}
 use Rattle.std.proofs.Math.Nat.{add-sub_of_le, add-le-add, le_refl}
 use Rattle.std.proofs.lemmas.Bool.{and_parts, cases_Bool, eqb-true, leb-true, false≢true}
 use Rattle.sha2.specs.Sha256.{sha256}
+use Rattle.scheme_core.specs.declared.signer.TheConstants.{MAX_SIGNATURE}
 use Rattle.lms_core.specs.Bytes.{field}
 use Rattle.lms_core.specs.declared.height.Height.{Height}
 use Rattle.lms_core.specs.declared.height.Height.TheVariants.{H5, H10}
@@ -35,7 +36,7 @@ lms_accepts-short : (public message signature : List ℕ) → lms_accepts public
 unfolding lms_accepts sound_height
 lms_accepts-short public message signature accepted = by_height _ public signature _ accepted
 
-lms_key_accepts-short : (key message signature : List ℕ) → lms_key_accepts key message signature ≡ true → length signature ≤ 1508
+lms_key_accepts-short : (key message signature : List ℕ) → lms_key_accepts key message signature ≡ true → length signature ≤ MAX_SIGNATURE
 unfolding lms_key_accepts
 lms_key_accepts-short key message signature accepted =
     let public = take 56 signature in
@@ -43,9 +44,9 @@ lms_key_accepts-short key message signature accepted =
     let parts = and_parts (nat_le 56 (length signature) && bytes_eq (sha256 public) (field 1 32 key)) (lms_accepts public message made) accepted in
     let long = leb-true 56 (length signature) (and_parts _ (bytes_eq (sha256 public) (field 1 32 key)) parts.0).0 in
     let all : 56 + length made ≡ length signature = ap (λ (n : ℕ). 56 + n) (length-drop 56 signature) ∙ add-sub_of_le long in
-    subst (λ (n : ℕ). n ≤ 1508) all (add-le-add (le_refl 56) (lms_accepts-short public message made parts.1))
+    subst (λ (n : ℕ). n ≤ MAX_SIGNATURE) all (le_trans (add-le-add (le_refl 56) (lms_accepts-short public message made parts.1)) (lit≤ tt))
 
 -- an LMS signature behind its public key has 1,348 or 1,508 bytes, which is within what a signature may have
-pub use_gives-short : (s : Use) (message signature : List ℕ) → use_gives s message signature ≡ true → length signature ≤ 1508
+pub use_gives-short : (s : Use) (message signature : List ℕ) → use_gives s message signature ≡ true → length signature ≤ MAX_SIGNATURE
 unfolding use_gives peer_accepts user_key_of
 use_gives-short s message signature given = lms_key_accepts-short _ message signature (and_parts _ _ given).0

@@ -3,6 +3,7 @@
 ghost use Rattle.std.specs.Prelude.{◌≡◌, ◌≤◌, ◌<◌, ◌↔◌, true, length, IfOk, OnOk, OnErr, IsErrOf};
 ghost use Rattle.spelling.specs.declared.ending.End.TheVariants as ends;
 ghost use Rattle.willow_outside.specs.Counts.{Rose};
+ghost use Rattle.scheme_core.specs.declared.signer.TheConstants.{MAX_SIGNATURE};
 ghost use Rattle.lms_core.specs.Accepts.{leaves};
 ghost use Rattle.lms_core.specs.Use.{user_key_of, use_gives, use_signature};
 ghost use Rattle.lms_core.specs.UseLaws.{use_gives-short};
@@ -67,7 +68,7 @@ impl Signer for OneUse {
     /// signer is as it was.
     fn sign(&mut self, alloc: Global, message: &[u8]) -> Result<Vec<u8>, End<SignRefusal>>
         ensures given { IfOk result (λ signature. use_gives self.old message.now signature.items ≡ true) }
-        ensures short { IfOk result (λ signature. length signature.items ≤ 1508) }
+        ensures short { IfOk result (λ signature. length signature.items ≤ MAX_SIGNATURE) }
         ensures same { use_gives self.new ≡ use_gives self.old }
         ensures spent { IsErrOf result (ends.Refused SignRefusal.Spent) ↔ (self.old.left ≡ 0) }
         ensures failed { IsErrOf result (ends.Refused SignRefusal.Failed) → Rose 0 0 }

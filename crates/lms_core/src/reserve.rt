@@ -4,7 +4,7 @@ ghost use Rattle.std.specs.Prelude.{◌≡◌, ◌+◌, ◌-◌, ◌<◌, ◌≤
 ghost use Rattle.lms_core.specs.Accepts.{leaves};
 ghost use Rattle.lms_core.specs.Key.{raised};
 ghost use Rattle.lms_core.specs.Use.{uses_from};
-ghost use Rattle.lms_core.specs.Reserve.{Reserves};
+ghost use Rattle.lms_core.specs.Reserve.{Reserves, CountsReserve};
 
 use crate::key::LmsKey;
 use crate::one_use::OneUse;
@@ -78,6 +78,7 @@ pub fn reserve_keys<H: Shelf>(
 ) -> Result<Vec<OneUse>, End<KeyRefusal>>
     requires { 0 < count }
     ensures reserved { Reserves name.now count (H.facts shelf.old) (H.facts shelf.new) result }
+    ensures counts { CountsReserve (H.facts shelf.old) (H.facts shelf.new) result }
     ensures read_faults { (H.facts shelf.old).read_faults ≤ (H.facts shelf.new).read_faults }
     ensures write_faults { (H.facts shelf.old).write_faults ≤ (H.facts shelf.new).write_faults }
 {

@@ -3,7 +3,7 @@ use Rattle.std.proofs.Common.{◌≡◌, ℕ, suc, ◌+◌, ◌<◌, ◌≤◌, 
 use Rattle.std.specs.List.{flat_map}
 use Rattle.std.proofs.lemmas.List.{length-take, drop_all}
 use Rattle.std.proofs.Math.Seq.{drop-cons}
-use Rattle.spelling.specs.Answers.{Answers, or_else, first_some}
+use Rattle.spelling.specs.Answers.{Judges, or_else, first_some}
 use Rattle.spelling.specs.declared.ending.End.{End}
 use Rattle.spelling.specs.declared.ending.End.TheVariants.{Refused, NoMemory}
 use Rattle.spelling.proofs.Causes.{first_some-cons, first_some-nil}
@@ -89,7 +89,7 @@ none_left rules c items k total all le so_far =
 
 -- ---- answers by the first of two causes
 
-pub fails_first : (T : Type 0) {E : Type 0} (e : End E) (cause rest total : Option E) → or_else cause rest ≡ total → Answers {T = T} (Err e) cause → Answers {T = T} (Err e) total
+pub fails_first : (T : Type 0) {E : Type 0} (e : End E) (cause rest total : Option E) → or_else cause rest ≡ total → Judges {T = T} (Err e) cause → Judges {T = T} (Err e) total
 fails_first T {E} (Refused x) cause rest total is h = sym is ∙ ap (λ (o : Option E). or_else o rest) h
 fails_first T NoMemory cause rest total is h = tt
 

@@ -7,7 +7,7 @@ use Rattle.scheme_core.specs.Rules.{Rules}
 use Rattle.willow_area.specs.Area.{includes_area}
 use Rattle.mc_cap.specs.Grant.{cut, receiver_of, granted}
 use Rattle.mc_cap.specs.Messages.{initial_message, handover}
-use Rattle.mc_cap.specs.Valid.{IsHandedOn, IsValid, start_by, start_refusal, step_refusal, chain_refusal}
+use Rattle.mc_cap.specs.Valid.{IsHandedOn, IsValid, start_by, start_refusal, beginning_refusal, step_refusal, chain_refusal}
 use Rattle.mc_cap.specs.declared.chain.Delegation.{Delegation}
 use Rattle.mc_cap.specs.declared.capability.Capability.{Capability}
 use Rattle.mc_cap.specs.declared.check.TheConstants.{MAX_DELEGATIONS}
@@ -67,6 +67,11 @@ module _ (rules : Rules) (c : Capability) where
 
   pub few_where_valid : chain_refusal rules c ≡ None → length c.chain ≤ MAX_DELEGATIONS
   few_where_valid e = (parts e).0
+
+  -- a valid capability begins well
+  pub begins_where_valid : chain_refusal rules c ≡ None → beginning_refusal rules c ≡ None
+  unfolding beginning_refusal start_refusal
+  begins_where_valid e = let p = parts e in ap (λ (b : Bool). cond b (Some TooManyDelegations) (start_by rules c c.initial)) (le-ltb MAX_DELEGATIONS (length c.chain) p.0) ∙ p.1
 
   valid : chain_refusal rules c ≡ None → IsValid rules c
   valid e =

@@ -53,6 +53,10 @@ unfoldable pub step_refusal : Rules → Capability → ℕ → Delegation → Op
 step_refusal rules c k d =
     handing_refusal rules (granted (cut c k)) (receiver_of (cut c k)) (handover (cut c k) d.area d.user) (k + 1) d
 
+-- what is judged before any delegation is looked at: too many of them, or the start
+unfoldable pub beginning_refusal : Rules → Capability → Option ChainRefusal
+beginning_refusal rules c = if nat_lt MAX_DELEGATIONS (length c.chain) then Some TooManyDelegations else start_refusal rules c
+
 -- too many delegations, or the start, or the first delegation that fails
 unfoldable pub chain_refusal : Rules → Capability → Option ChainRefusal
 chain_refusal rules c =

@@ -1,6 +1,7 @@
 //! Capabilities: who they were given to, and for what.
 
 ghost use Rattle.std.specs.Prelude.{◌≡◌, IfOk, IfSome};
+ghost use Rattle.willow_area.specs.Area.{in_area};
 ghost use Rattle.mc_cap.specs.Signature.{IsSignature};
 ghost use Rattle.mc_cap.specs.Forms.{IsCapability};
 ghost use Rattle.mc_cap.specs.Grant.{receiver_of, granted, first_grant};
@@ -8,7 +9,7 @@ ghost use Rattle.mc_cap.specs.Grant.{receiver_of, granted, first_grant};
 use crate::chain::{Chain, Delegation};
 use crate::signature::Signature;
 use willow_area::Area;
-use willow_path::{NamespaceKey, NoMemory, UserKey};
+use willow_path::{NamespaceKey, NoMemory, Path, UserKey};
 
 /// What a capability lets its receiver do.
 #[derive(Clone, Copy, Debug, PartialEq, Eq)]
@@ -52,6 +53,16 @@ impl Capability {
         match self.chain.as_slice().last() {
             Some(delegation) => delegation.area.copy(),
             None => Ok(self.first_grant()),
+        }
+    }
+
+    /// Whether the granted area includes an entry of this subspace, path and time.
+    pub fn grants(&self, subspace: &UserKey, path: &Path, time: u64) -> bool
+        ensures { result ≡ in_area (granted self.now) subspace.now path.now time }
+    {
+        match self.chain.as_slice().last() {
+            Some(delegation) => delegation.area.includes(subspace, path, time),
+            None => self.first_grant().includes(subspace, path, time),
         }
     }
 

@@ -1,11 +1,12 @@
 //! Whether a capability is valid.
 
-ghost use Rattle.std.specs.Prelude.{◌≡◌, ◌++◌, ◌+◌, ◌∷◌, [], ◌≤◌, length, None, OnErr, OnOk};
-ghost use Rattle.spelling.specs.Answers.{Answers, first_some};
+ghost use Rattle.std.specs.Prelude.{◌≡◌, ◌++◌, ◌+◌, ◌∷◌, [], ◌<◌, ◌≤◌, length, None, OnErr, OnOk, IsErrOf};
+ghost use Rattle.spelling.specs.declared.ending.End.TheVariants as ends;
+ghost use Rattle.spelling.specs.Answers.{Judges, first_some};
 ghost use Rattle.willow_area.specs.AreaSpelling.{area_spelling};
 ghost use Rattle.mc_cap.specs.Forms.{delegation_spelling, head_spelling};
 ghost use Rattle.mc_cap.specs.Grant.{first_grant};
-ghost use Rattle.mc_cap.specs.Valid.{chain_refusal, handing_refusal, start_refusal, step_refusal};
+ghost use Rattle.mc_cap.specs.Valid.{beginning_refusal, chain_refusal, handing_refusal, start_refusal, step_refusal};
 
 use crate::capability::Capability;
 use crate::chain::Delegation;
@@ -40,10 +41,12 @@ impl Capability {
     /// `MAX_DELEGATIONS` delegations; it is communal exactly where its namespace is; where it is owned,
     /// the namespace signed the initial message; and for each delegation the area granted before includes
     /// its area, and the receiver before it signed the handover. It is refused with the first of these
-    /// that fails, in this order, the delegations one after the other.
-    #[tactic(auto, unfolding(crate::specs::Valid::chain_refusal))]
+    /// that fails, in this order, the delegations one after the other. Only delegations need memory.
+    #[tactic(auto, unfolding(crate::specs::Valid::chain_refusal, crate::specs::Valid::beginning_refusal))]
     pub fn check<S: Verify>(&self, scheme: &S) -> Result<(), End<ChainRefusal>>
-        ensures { Answers result (chain_refusal S.rules self.now) }
+        ensures answer { Judges result (chain_refusal S.rules self.now) }
+        ensures begun { IsErrOf result ends.NoMemory → beginning_refusal S.rules self.now ≡ None }
+        ensures handed_on { IsErrOf result ends.NoMemory → 0 < length self.now.chain }
     {
         if self.chain.len() > MAX_DELEGATIONS {
             return Err(End::Refused(ChainRefusal::TooManyDelegations));
@@ -79,7 +82,8 @@ impl Capability {
     #[tactic(auto, unfolding(spelling::specs::Answers::first_some))]
     fn check_chain<S: Verify>(&self, scheme: &S) -> Result<(), End<ChainRefusal>>
         requires { length self.now.chain ≤ MAX_DELEGATIONS }
-        ensures { Answers result (first_some (step_refusal S.rules self.now) 0 self.now.chain) }
+        ensures answer { Judges result (first_some (step_refusal S.rules self.now) 0 self.now.chain) }
+        ensures handed_on { IsErrOf result ends.NoMemory → 0 < length self.now.chain }
     {
         if self.chain.as_slice().is_empty() {
             return Ok(());
@@ -105,7 +109,7 @@ impl Capability {
         requires first { first.now ≡ first_grant self.now }
         requires message { message.old.items ≡ (72 ∷ head_spelling self.now) ++ 0 ∷ [] }
         requires place { count_at ≡ length (head_spelling self.now) + 1 }
-        ensures { Answers result (first_some (step_refusal S.rules self.now) 0 self.now.chain) }
+        ensures { Judges result (first_some (step_refusal S.rules self.now) 0 self.now.chain) }
     {
         let mut grant = first;
         let mut receiver = &self.user;
@@ -131,7 +135,7 @@ fn check_handing<S: Verify>(
     at: u8,
     next: &Delegation,
 ) -> Result<(), End<ChainRefusal>>
-    ensures answer { Answers result (handing_refusal S.rules grant.now receiver.now (message.old.items ++ (area_spelling next.now.area ++ next.now.user)) at next.now) }
+    ensures answer { Judges result (handing_refusal S.rules grant.now receiver.now (message.old.items ++ (area_spelling next.now.area ++ next.now.user)) at next.now) }
     ensures grown { OnOk result (message.new.items ≡ message.old.items ++ delegation_spelling next.now) }
 {
     if !grant.includes_area(&next.area) {

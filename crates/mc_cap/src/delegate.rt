@@ -1,7 +1,7 @@
 //! How a capability is handed on.
 
 ghost use Rattle.std.specs.Prelude.{◌≡◌, ◌≤◌, length, None, OnErr, OnOk};
-ghost use Rattle.spelling.specs.Answers.{Answers};
+ghost use Rattle.spelling.specs.Answers.{Judges};
 ghost use Rattle.mc_cap.specs.Grant.{extended};
 ghost use Rattle.mc_cap.specs.Valid.{chain_refusal};
 
@@ -27,7 +27,7 @@ impl Capability {
     ) -> Result<(), End<ChainRefusal>>
         requires valid { chain_refusal S.rules self.old ≡ None }
         requires short { length signature.items ≤ MAX_SIGNATURE }
-        ensures answer { Answers result (chain_refusal S.rules (extended self.old area user signature.items)) }
+        ensures answer { Judges result (chain_refusal S.rules (extended self.old area user signature.items)) }
         ensures added { OnOk result (self.new ≡ extended self.old area user signature.items) }
         ensures kept { OnErr result (self.new ≡ self.old) }
     {

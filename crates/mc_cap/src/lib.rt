@@ -6,7 +6,7 @@ mod capability;
 mod chain;
 mod check;
 mod delegate;
-mod laws;
+pub mod laws;
 mod messages;
 mod refusal;
 mod signature;
@@ -14,9 +14,8 @@ mod signature;
 pub use capability::{Capability, Mode};
 pub use chain::{Chain, Delegation, MAX_CHAIN};
 pub use check::{ChainRefusal, MAX_DELEGATIONS};
-pub use laws::validity;
 pub use messages::initial_message;
-pub use refusal::RowRefusal;
+pub use refusal::{RefusedRow, RowRefusal};
 pub use signature::Signature;
 
 #[cfg(test)]

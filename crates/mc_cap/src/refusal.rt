@@ -16,3 +16,12 @@ pub enum RowRefusal {
     /// The capability's receiver did not sign the entry.
     BadEntrySignature,
 }
+
+/// A row that is not authorised: its number among the rows read, from 1, and why.
+#[derive(Clone, Copy, Debug, PartialEq, Eq)]
+pub struct RefusedRow {
+    /// Its number, from 1.
+    pub row: u64,
+    /// The first condition that fails.
+    pub refusal: RowRefusal,
+}

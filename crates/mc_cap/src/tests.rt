@@ -2,9 +2,10 @@
 
 ghost use Rattle.std.specs.Prelude.{◌≤◌, length, IfOk};
 
+use crate::laws::validity;
 use crate::{
     Capability, Chain, ChainRefusal, Delegation, MAX_CHAIN, MAX_DELEGATIONS, Mode, Signature,
-    initial_message, validity,
+    initial_message,
 };
 use scheme_core::{MAX_SIGNATURE, OpenScheme, OpenSigner, Signer};
 use std::alloc::Global;

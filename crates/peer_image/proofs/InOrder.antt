@@ -7,19 +7,19 @@ use Rattle.std.specs.Ordering.{ordering_reverse}
 use Rattle.std.proofs.lemmas.Bool.{false≢true, false_from_ne_true}
 use Rattle.spelling.specs.Answers.{or_else}
 use Rattle.spelling.proofs.Causes.{or_else_both}
-use Rattle.willow_entry.specs.Row.{RowValue, is_dominating, place_cmp, live, IsRising}
+use Rattle.willow_entry.specs.Row.{RowValue, is_dominating, place_cmp, live, IsRising, inner_place_cmp}
 use Rattle.willow_entry.proofs.Members.{Member, contains_from_member, member_from_contains, member_append_cases, member_append_left}
 use Rattle.willow_entry.proofs.Rising.{all_member}
 use Rattle.willow_entry.proofs.RowLaws.{rows_prune, dominates_decides}
 use Rattle.willow_entry.proofs.Pruning.{pruned-only, pruned_member}
 use Rattle.willow_entry.proofs.Live.{live-rises}
 use Rattle.peer_image.specs.declared.refusal.ImageRefusal.{ImageRefusal}
-use Rattle.peer_image.specs.Order.{inner_cmp, pruned_by, pruned_after, first_fall, first_pruned, order_refusal, AreOf, IsInnerRising, IsInOrder, IsOrder, IsOrderOfLive}
+use Rattle.peer_image.specs.Order.{pruned_by, pruned_after, first_fall, first_pruned, order_refusal, AreOf, IsInnerRising, IsInOrder, IsOrder, IsOrderOfLive}
 use Rattle.peer_image.proofs.Falls.{rising_from_none, none_from_rising}
 use Rattle.peer_image.proofs.Inner.{inner_total, inner_not_above, dominated_at_inner, rising_from_inner, inner_from_rising}
 
 -- a row below another is not dominated by it
-above_spares : (r s : RowValue) → inner_cmp r s ≡ Less → is_dominating s r ≡ false
+above_spares : (r s : RowValue) → inner_place_cmp r s ≡ Less → is_dominating s r ≡ false
 above_spares r s less = false_from_ne_true (is_dominating s r) (λ d.
     false≢true (sym (inner_not_above s r (dominated_at_inner s r d)) ∙ ap is_gt (inner_total.antisymm s r ∙ ap ordering_reverse less)))
 
@@ -49,7 +49,7 @@ pruned_by_none k (Some by) e = absurd cc
 abbrev Spares : List RowValue → List RowValue → Type 0
 Spares all rows = (r : RowValue) → Member rows r → (s : RowValue) → Member all s → is_dominating s r ≡ false
 
-rising_apart : (earlier : List RowValue) (r : RowValue) (rest : List RowValue) → IsInnerRising (earlier ++ r ∷ rest) → AllByRecursion (λ s. inner_cmp r s ≡ Less) rest
+rising_apart : (earlier : List RowValue) (r : RowValue) (rest : List RowValue) → IsInnerRising (earlier ++ r ∷ rest) → AllByRecursion (λ s. inner_place_cmp r s ≡ Less) rest
 unfolding IsStrictlySortedBy
 rising_apart [] r rest up = up.0
 rising_apart (x ∷ earlier) r rest up = rising_apart earlier r rest up.1
@@ -69,7 +69,7 @@ spares_all earlier (r ∷ rest) up e =
         | inl i ↦ before s i
         | inr j ↦ elim j [
           | inl t ↦ subst (λ w. is_dominating w r ≡ false) t (rows_prune.irreflexive r)
-          | inr i ↦ above_spares r s (all_member inner_cmp (λ w. inner_cmp r w ≡ Less) rest above s i)
+          | inr i ↦ above_spares r s (all_member inner_place_cmp (λ w. inner_place_cmp r w ≡ Less) rest above s i)
         ]
       ]))
       | inr i ↦ further z i

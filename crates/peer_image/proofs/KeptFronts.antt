@@ -6,9 +6,9 @@ use Rattle.std.proofs.lemmas.Bool.{false≢true}
 use Rattle.std.proofs.lemmas.List.Elements.{filter-append}
 use Rattle.spelling.proofs.Lists.{All-right}
 use Rattle.spelling.specs.Answers.{or_else}
-use Rattle.willow_entry.specs.Row.{RowValue, is_dominating}
+use Rattle.willow_entry.specs.Row.{RowValue, is_dominating, inner_place_cmp}
 use Rattle.peer_image.specs.Fronts.{Seen, numbered, fronts_of, first_dominating, is_at_inner_prefix, Suffices}
-use Rattle.peer_image.specs.Order.{inner_cmp, pruned_by, pruned_after, IsInnerRising}
+use Rattle.peer_image.specs.Order.{pruned_by, pruned_after, IsInnerRising}
 use Rattle.peer_image.proofs.Inner.{inner_between, dominated_at_inner}
 
 abbrev entry_of : ℕ → RowValue → Seen
@@ -22,7 +22,7 @@ fronts_step c r x xs true d e f up = ap (λ t. cond t (x ∷ fronts_of r xs) (fr
 fronts_step c r x xs false true e f up = absurd (false≢true (up refl))
 fronts_step c r x xs false false e f up = refl
 
-fronts_twice : (c r : RowValue) (k : ℕ) (rows : List RowValue) → AllByRecursion (λ s. inner_cmp s c ≡ Less) rows → inner_cmp c r ≡ Less
+fronts_twice : (c r : RowValue) (k : ℕ) (rows : List RowValue) → AllByRecursion (λ s. inner_place_cmp s c ≡ Less) rows → inner_place_cmp c r ≡ Less
     → fronts_of r (fronts_of c (numbered k rows)) ≡ fronts_of r (numbered k rows)
 unfolding numbered
 fronts_twice c r k [] below above = refl
@@ -43,11 +43,11 @@ pub suffices_none : Suffices [] []
 unfolding numbered
 suffices_none r above = refl
 
-pub suffices_on : (earlier : List RowValue) (c : RowValue) (fronts kept : List Seen) (at : ℕ) → AllByRecursion (λ s. inner_cmp s c ≡ Less) earlier → Suffices earlier fronts
+pub suffices_on : (earlier : List RowValue) (c : RowValue) (fronts kept : List Seen) (at : ℕ) → AllByRecursion (λ s. inner_place_cmp s c ≡ Less) earlier → Suffices earlier fronts
     → kept ≡ fronts_of c fronts → at ≡ length earlier + 1 → Suffices (earlier ++ c ∷ []) (kept ++ entry_of at c ∷ [])
 suffices_on earlier c fronts kept at below so is n r above =
-    let P : RowValue → Type 0 = λ s. inner_cmp s r ≡ Less in
-    let over : inner_cmp c r ≡ Less = (All-right P earlier (c ∷ []) above).0 in
+    let P : RowValue → Type 0 = λ s. inner_place_cmp s r ≡ Less in
+    let over : inner_place_cmp c r ≡ Less = (All-right P earlier (c ∷ []) above).0 in
     let m : at ≡ 1 + length earlier = omega (arith, n) in
     let left : fronts_of r kept ≡ fronts_of r (numbered 1 earlier) = ap (fronts_of r) (is ∙ so c below) ∙ fronts_twice c r 1 earlier below over in
     filter-append (λ s. is_at_inner_prefix s.row r) kept (entry_of at c ∷ [])
@@ -73,16 +73,16 @@ dominating_is r k (x ∷ rows) =
     ∙ ap (λ o. cond (is_dominating x r) (Some k) o) (dominating_is r (k + 1) rows)
 
 -- what is found among the kept fronts is the first of all earlier rows that dominates
-pub found_is : (earlier : List RowValue) (c : RowValue) (fronts kept : List Seen) → AllByRecursion (λ s. inner_cmp s c ≡ Less) earlier → Suffices earlier fronts → kept ≡ fronts_of c fronts
+pub found_is : (earlier : List RowValue) (c : RowValue) (fronts kept : List Seen) → AllByRecursion (λ s. inner_place_cmp s c ≡ Less) earlier → Suffices earlier fronts → kept ≡ fronts_of c fronts
     → first_dominating c kept ≡ position_from (λ s. is_dominating s c) 1 earlier
 found_is earlier c fronts kept below so is = ap (first_dominating c) (is ∙ so c below) ∙ dominating_is c 1 earlier
 
 -- ---- what is left to refuse
 
-pub below_here : (earlier : List RowValue) (c : RowValue) (rest : List RowValue) → IsInnerRising (earlier ++ c ∷ rest) → AllByRecursion (λ s. inner_cmp s c ≡ Less) earlier
+pub below_here : (earlier : List RowValue) (c : RowValue) (rest : List RowValue) → IsInnerRising (earlier ++ c ∷ rest) → AllByRecursion (λ s. inner_place_cmp s c ≡ Less) earlier
 unfolding IsStrictlySortedBy
 below_here [] c rest up = tt
-below_here (x ∷ earlier) c rest up = ((All-right (λ s. inner_cmp x s ≡ Less) earlier (c ∷ rest) up.0).0, below_here earlier c rest up.1)
+below_here (x ∷ earlier) c rest up = ((All-right (λ s. inner_place_cmp x s ≡ Less) earlier (c ∷ rest) up.0).0, below_here earlier c rest up.1)
 
 pub pruned_here : (earlier rest : List RowValue) (c : RowValue) (found : Option ℕ) → found ≡ position_from (λ s. is_dominating s c) 1 earlier
     → pruned_after earlier (c ∷ rest) ≡ or_else (pruned_by (length earlier + 1) found) (pruned_after (earlier ++ c ∷ []) rest)

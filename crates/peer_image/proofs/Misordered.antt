@@ -4,12 +4,12 @@ use Rattle.std.specs.List.{position_from}
 use Rattle.std.specs.Ordering.{is_lt}
 use Rattle.spelling.specs.Answers.{or_else}
 use Rattle.spelling.specs.declared.ending.End.TheVariants.{Refused}
-use Rattle.willow_entry.specs.Row.{RowValue, is_dominating}
+use Rattle.willow_entry.specs.Row.{RowValue, is_dominating, inner_place_cmp}
 use Rattle.cap_codec.specs.Rows.{RawValue}
 use Rattle.peer_image.specs.declared.refusal.ImageRefusal.{ImageRefusal}
 use Rattle.peer_image.specs.declared.refusal.ImageRefusal.TheVariants.{BadImage, NotRising, Pruned}
-use Rattle.peer_image.specs.Order.{fall_after, first_fall, inner_cmp, pruned_by, pruned_after, order_refusal}
-use Rattle.peer_image.specs.ImageReading.{rows_of, IsImage, ReadsImage}
+use Rattle.peer_image.specs.Order.{fall_after, first_fall, pruned_by, pruned_after, order_refusal}
+use Rattle.peer_image.specs.ImageReading.{raw_rows, IsImage, ReadsImage}
 
 abbrev IsForOrder : Option ImageRefusal → Type 0
 IsForOrder None = Unit {0}
@@ -28,7 +28,7 @@ chosen false a b f g = g
 fall_for_order : (k : ℕ) (r : RowValue) (rows : List RowValue) → IsForOrder (fall_after k r rows)
 unfolding fall_after
 fall_for_order k r [] = tt
-fall_for_order k r (s ∷ rows) = chosen (is_lt (inner_cmp r s)) (fall_after (k + 1) s rows) (Some (NotRising k)) (fall_for_order (k + 1) s rows) tt
+fall_for_order k r (s ∷ rows) = chosen (is_lt (inner_place_cmp r s)) (fall_after (k + 1) s rows) (Some (NotRising k)) (fall_for_order (k + 1) s rows) tt
 
 first_for_order : (rows : List RowValue) → IsForOrder (first_fall rows)
 unfolding first_fall
@@ -50,7 +50,7 @@ order_for_order : (rows : List RowValue) → IsForOrder (order_refusal rows)
 order_for_order rows = either (first_fall rows) (pruned_after [] rows) (first_for_order rows) (pruned_for_order [] rows)
 
 -- an image whose rows are refused for their order is refused so
-pub misordered : (bytes n : List ℕ) (rows : List RawValue) (refusal : ImageRefusal) → IsImage bytes n rows → order_refusal (rows_of rows) ≡ Some refusal → ReadsImage bytes (Err (Refused refusal))
-misordered bytes n rows (BadImage at) i e = absurd (subst IsForOrder e (order_for_order (rows_of rows)))
+pub misordered : (bytes n : List ℕ) (rows : List RawValue) (refusal : ImageRefusal) → IsImage bytes n rows → order_refusal (raw_rows rows) ≡ Some refusal → ReadsImage bytes (Err (Refused refusal))
+misordered bytes n rows (BadImage at) i e = absurd (subst IsForOrder e (order_for_order (raw_rows rows)))
 misordered bytes n rows (NotRising at) i e = record { namespace = n; rows = rows; is_image = i; refused = e }
 misordered bytes n rows (Pruned at by) i e = record { namespace = n; rows = rows; is_image = i; refused = e }

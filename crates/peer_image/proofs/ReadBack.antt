@@ -8,14 +8,15 @@ use Rattle.willow_path.specs.Key.{IsKey}
 use Rattle.willow_entry.specs.EntryForm.{entry_spelling}
 use Rattle.willow_entry.specs.RowBody.{row_body}
 use Rattle.willow_entry.specs.Row.{RowValue, live}
-use Rattle.cap_codec.specs.declared.frame.TheConstants.{MAX_FRAME}
+use Rattle.willow_entry.specs.declared.frame.TheConstants.{MAX_FRAME}
+use Rattle.willow_entry.specs.Frame.{HasFrame}
 use Rattle.cap_codec.specs.Rows.{RawValue, row_of, IsRawRow, FitsFrame}
 use Rattle.peer_image.specs.declared.read.Image.{Image}
 use Rattle.peer_image.specs.declared.refusal.ImageRefusal.{ImageRefusal}
 use Rattle.peer_image.specs.declared.refusal.ImageRefusal.TheVariants.{BadImage, NotRising, Pruned}
-use Rattle.peer_image.specs.Image.{image, HasFrame}
+use Rattle.peer_image.specs.Image.{image}
 use Rattle.peer_image.specs.Order.{order_refusal, AreOf}
-use Rattle.peer_image.specs.ImageReading.{rows_of, IsImage, IsMisordered, ReadsImage, IsBack, ReadsBack}
+use Rattle.peer_image.specs.ImageReading.{raw_rows, IsImage, IsMisordered, ReadsImage, IsBack, ReadsBack}
 use Rattle.peer_image.proofs.InOrder.{order_of_live}
 use Rattle.peer_image.proofs.Stops.{one_image, never_both}
 
@@ -40,7 +41,7 @@ raw_fits r f short = record {
 -- rows as they are read
 pub record Raws (rows : List RowValue) : Type 0 where
   pub raws : List RawValue
-  pub same : rows_of raws ≡ rows
+  pub same : raw_rows raws ≡ rows
   pub fit : AllByRecursion FitsFrame raws
 
 pub raws_of : (rows : List RowValue) → AllByRecursion IsRawRow rows → AllByRecursion HasFrame rows → Raws rows
@@ -49,12 +50,12 @@ raws_of (r ∷ rows) f g =
     let more = raws_of rows f.1 g.1 in
     record {
       raws = raw_of r f.0 ∷ more.raws;
-      same = ap (λ (x : RowValue). x ∷ rows_of more.raws) (raw_same r f.0) ∙ ap (λ (l : List RowValue). r ∷ l) more.same;
+      same = ap (λ (x : RowValue). x ∷ raw_rows more.raws) (raw_same r f.0) ∙ ap (λ (l : List RowValue). r ∷ l) more.same;
       fit = (raw_fits r f.0 g.0, more.fit);
     }
 
 -- rows in frames are rows that frames may carry
-pub framed_rows : (rows : List RawValue) → AllByRecursion FitsFrame rows → AllByRecursion HasFrame (rows_of rows)
+pub framed_rows : (rows : List RawValue) → AllByRecursion FitsFrame rows → AllByRecursion HasFrame (raw_rows rows)
 unfolding row_body
 framed_rows [] f = tt
 framed_rows (r ∷ rows) f = (f.0.short, framed_rows rows f.1)
@@ -64,27 +65,27 @@ framed_rows (r ∷ rows) f = (f.0.short, framed_rows rows f.1)
 some_not_none : (e : ImageRefusal) (o : Option ImageRefusal) → o ≡ Some e → o ≡ None → ⊥
 some_not_none e o h k = cc
 
-in_order : (n : List ℕ) (raws : List RawValue) (e : ImageRefusal) → IsImage (image n (rows_of raws)) n raws → order_refusal (rows_of raws) ≡ None → IsMisordered (image n (rows_of raws)) e → ⊥
+in_order : (n : List ℕ) (raws : List RawValue) (e : ImageRefusal) → IsImage (image n (raw_rows raws)) n raws → order_refusal (raw_rows raws) ≡ None → IsMisordered (image n (raw_rows raws)) e → ⊥
 in_order n raws e i ok m =
-    let same = one_image (image n (rows_of raws)) n m.namespace raws m.rows i m.is_image in
-    some_not_none e (order_refusal (rows_of raws)) (ap (λ (l : List RawValue). order_refusal (rows_of l)) same.1 ∙ m.refused) ok
+    let same = one_image (image n (raw_rows raws)) n m.namespace raws m.rows i m.is_image in
+    some_not_none e (order_refusal (raw_rows raws)) (ap (λ (l : List RawValue). order_refusal (raw_rows l)) same.1 ∙ m.refused) ok
 
-back : (n : List ℕ) (raws : List RawValue) (result : Result Image (End ImageRefusal)) → IsImage (image n (rows_of raws)) n raws → order_refusal (rows_of raws) ≡ None
-    → ReadsImage (image n (rows_of raws)) result → IsBack n (rows_of raws) result
+back : (n : List ℕ) (raws : List RawValue) (result : Result Image (End ImageRefusal)) → IsImage (image n (raw_rows raws)) n raws → order_refusal (raw_rows raws) ≡ None
+    → ReadsImage (image n (raw_rows raws)) result → IsBack n (raw_rows raws) result
 back n raws (Ok found) i ok told =
-    let same = one_image (image n (rows_of raws)) found.namespace n found.rows.items raws told.0 i in
-    (same.0, ap rows_of same.1)
-back n raws (Err (Refused (BadImage at))) i ok told = absurd (never_both (image n (rows_of raws)) n raws at i told)
+    let same = one_image (image n (raw_rows raws)) found.namespace n found.rows.items raws told.0 i in
+    (same.0, ap raw_rows same.1)
+back n raws (Err (Refused (BadImage at))) i ok told = absurd (never_both (image n (raw_rows raws)) n raws at i told)
 back n raws (Err (Refused (NotRising at))) i ok told = absurd (in_order n raws (NotRising at) i ok told)
 back n raws (Err (Refused (Pruned at by))) i ok told = absurd (in_order n raws (Pruned at by) i ok told)
 back n raws (Err NoMemory) i ok told = refl
 
-image_here : (n : List ℕ) (raws : List RawValue) → IsKey n → AllByRecursion FitsFrame raws → length (rows_of raws) < 2 ^ 32 → IsImage (image n (rows_of raws)) n raws
+image_here : (n : List ℕ) (raws : List RawValue) → IsKey n → AllByRecursion FitsFrame raws → length (raw_rows raws) < 2 ^ 32 → IsImage (image n (raw_rows raws)) n raws
 image_here n raws key fit few = record { key = key; fit = fit; count = omega (arith, few, length-map raws row_of); spelled = refl }
 
 pub reads_back : ReadsBack
 reads_back n m rows result key one readable short few is_live told =
     let r = raws_of rows readable short in
     let P : List RowValue → Type 0 = λ l. AreOf m l → length l < 2 ^ 32 → live l ≡ l → ReadsImage (image n l) result → IsBack n l result in
-    let here : P (rows_of r.raws) = λ o f v t. back n r.raws result (image_here n r.raws key r.fit f) ((order_of_live m (rows_of r.raws) o).1 v) t in
+    let here : P (raw_rows r.raws) = λ o f v t. back n r.raws result (image_here n r.raws key r.fit f) ((order_of_live m (raw_rows r.raws) o).1 v) t in
     subst P r.same here one few is_live told

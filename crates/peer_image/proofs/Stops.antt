@@ -3,45 +3,51 @@ use Rattle.std.proofs.Common.{◌≡◌, inl, inr, ℕ, ◌<◌, ◌^◌, List, 
 use Rattle.std.specs.List.{flat_map}
 use Rattle.std.specs.Int.{w32, to_be_bytes}
 use Rattle.std.proofs.lemmas.List.{length-append, length-map, append_cancel_left}
-use Rattle.spelling.specs.Front.{Front, Whole, Part, Wrong}
+use Rattle.spelling.specs.Front.{Whole}
 use Rattle.spelling.specs.Form.{IsForm}
-use Rattle.spelling.proofs.Joining.{Reads, Reads-then, Reads-is, one_spelling, whole_value}
+use Rattle.spelling.specs.Reader.{IsReader}
+use Rattle.spelling.specs.Reading.{Fails}
+use Rattle.spelling.specs.declared.input.Unread.{Unread}
+use Rattle.spelling.specs.declared.input.Unread.TheVariants as unread
+use Rattle.spelling.proofs.Reader.{reader}
+use Rattle.spelling.proofs.Joining.{Reads, Reads-then, Reads-is, any_follows, one_spelling, whole_value, whole_not_part, whole_not_wrong}
 use Rattle.spelling.proofs.Exact.{exactly-reads}
-use Rattle.spelling.proofs.Fields.{u32-reads}
 use Rattle.spelling.proofs.Repeated.{text-reads}
 use Rattle.willow_path.specs.Key.{IsKey, key_at}
 use Rattle.willow_path.proofs.PathReads.{key-reads}
 use Rattle.willow_entry.specs.EntryForm.{entry_spelling}
 use Rattle.willow_entry.specs.Frame.{row_frame}
 use Rattle.willow_entry.specs.RowBody.{row_body}
-use Rattle.cap_codec.specs.declared.frame.TheConstants.{MAX_FRAME}
+use Rattle.willow_entry.specs.declared.frame.TheConstants.{MAX_FRAME}
 use Rattle.cap_codec.specs.Rows.{RawValue, IsRaw, row_of, raw_spelling, frame}
 use Rattle.cap_codec.specs.Streams.{HasNoFrame, AreAllFrames}
-use Rattle.cap_codec.proofs.Frames.{body_at, frame_again, same_frames}
+use Rattle.cap_codec.proofs.CapReads.{zero_key, zero_key_fits}
+use Rattle.cap_codec.proofs.Frames.{length-reads, body_at, frame_again, same_frames}
 use Rattle.peer_image.specs.Image.{image, magic, trailer}
-use Rattle.peer_image.specs.ImageReading.{header_at, rows_of, image_spelling, HasNoHeader, FitsImage, IsImage, IsFront, StopsAt, IsWrong, Told}
+use Rattle.peer_image.specs.ImageReading.{header_at, header_spelling, raw_rows, image_spelling, HasNoHeader, FitsImage, IsImage, IsFront, ImageStopsAt, IsWrong, Told}
 
 -- ---- the header
 
 pub header-reads : Reads header_at (λ n. magic ++ n) IsKey
 unfolding header_at
 header-reads =
-    Reads-is (Reads-then (λ (t : Unit {0} × List ℕ). key_at t.1) (λ (n : List ℕ). tt) (exactly-reads magic) (λ t. key-reads) (λ t n f. refl))
+    Reads-is (Reads-then (λ (t : Unit {0} × List ℕ). key_at t.1) (λ (n : List ℕ). tt) (exactly-reads magic) (λ t. key-reads) (λ t n f. refl) (any_follows (exactly-reads magic) (λ t f. (zero_key, zero_key_fits))))
     (λ n. refl) (λ n f. f.1) (λ n f. (tt, f))
 
-whole_not_part : (x rest : List ℕ) (r : Front (List ℕ)) → r ≡ Whole x rest → r ≡ Part → ⊥
-whole_not_part x rest r e f = cc
+pub header_reader : IsReader header_at header_spelling IsKey
+header_reader = reader header-reads
 
-whole_not_wrong : (x rest : List ℕ) (r : Front (List ℕ)) → r ≡ Whole x rest → r ≡ Wrong → ⊥
-whole_not_wrong x rest r e f = cc
-
-pub headless_part : (bytes input : List ℕ) → input ≡ bytes → header_at input ≡ Part → HasNoHeader bytes
-headless_part bytes input is e n left key parts =
+-- where none was read, none is there
+pub headless : (u : Unread) (bytes input : List ℕ) → input ≡ bytes → (u ≡ unread.NoMemory → ⊥) → Fails u (header_at input) → HasNoHeader bytes
+headless unread.NoMemory bytes input is sure e n left key parts = sure refl
+headless unread.Part bytes input is sure e n left key parts =
     whole_not_part n left (header_at bytes) (ap header_at parts ∙ header-reads.again n left key) (ap header_at (sym is) ∙ e)
-
-pub headless_wrong : (bytes input : List ℕ) → input ≡ bytes → header_at input ≡ Wrong → HasNoHeader bytes
-headless_wrong bytes input is e n left key parts =
+headless unread.Wrong bytes input is sure e n left key parts =
     whole_not_wrong n left (header_at bytes) (ap header_at parts ∙ header-reads.again n left key) (ap header_at (sym is) ∙ e)
+
+-- a header that is read is there
+pub headed : (bytes n rest : List ℕ) → IsKey n → bytes ≡ (magic ++ n) ++ rest → HasNoHeader bytes → ⊥
+headed bytes n rest key parts none = none n rest key parts
 
 -- ---- what begins with no frame
 
@@ -53,7 +59,7 @@ unfolding entry_spelling
 body_some r f e = behind_key r.entry.namespace _ _ f.entry_fits.namespace.whole e
 
 zero_body : (rest : List ℕ) → body_at (0 ∷ 0 ∷ 0 ∷ 0 ∷ rest) ≡ Whole [] rest
-zero_body rest = (text-reads MAX_FRAME (omega arith) u32-reads).again [] rest (omega arith, tt)
+zero_body rest = (text-reads MAX_FRAME (omega arith) length-reads).again [] rest (omega arith, tt)
 
 -- four bytes 00
 pub zeros_left : (rest : List ℕ) → HasNoFrame (0 ∷ 0 ∷ 0 ∷ 0 ∷ rest)
@@ -78,15 +84,15 @@ same_fronts bytes n m rows others a b f g na nb =
 
 -- ---- images
 
-framed : (rows : List RawValue) → flat_map row_frame (rows_of rows) ≡ flat_map frame rows
+framed : (rows : List RawValue) → flat_map row_frame (raw_rows rows) ≡ flat_map frame rows
 unfolding row_body
 framed [] = refl
 framed (r ∷ rows) = ap (λ (l : List ℕ). frame r ++ l) (framed rows)
 
-pub image_is : (n : List ℕ) (rows : List RawValue) → image n (rows_of rows) ≡ (magic ++ n) ++ (flat_map frame rows ++ trailer (length rows))
+pub image_is : (n : List ℕ) (rows : List RawValue) → image n (raw_rows rows) ≡ (magic ++ n) ++ (flat_map frame rows ++ trailer (length rows))
 unfolding image
 image_is n rows =
-    ap (λ (l : List ℕ). (magic ++ n) ++ (l ++ trailer (length (rows_of rows)))) (framed rows)
+    ap (λ (l : List ℕ). (magic ++ n) ++ (l ++ trailer (length (raw_rows rows)))) (framed rows)
     ∙ ap (λ (k : ℕ). (magic ++ n) ++ (flat_map frame rows ++ trailer k)) (length-map rows row_of)
 
 pub front_of_image : (bytes n : List ℕ) (rows : List RawValue) → IsImage bytes n rows → IsFront bytes n rows (trailer (length rows))
@@ -100,13 +106,17 @@ image_of_front bytes n rows left f few is = record {
   spelled = f.parts ∙ ap (λ (l : List ℕ). (magic ++ n) ++ (flat_map frame rows ++ l)) is ∙ sym (image_is n rows);
 }
 
+-- an image has a header
+pub image_headed : (bytes n : List ℕ) (rows : List RawValue) → IsImage bytes n rows → HasNoHeader bytes → ⊥
+image_headed bytes n rows i none = none n _ i.key (front_of_image bytes n rows i).parts
+
 -- the frames behind a header
 pub front_behind : (bytes n behind : List ℕ) (rows : List RawValue) (left : List ℕ) → IsKey n → bytes ≡ (magic ++ n) ++ behind → AreAllFrames behind rows left → IsFront bytes n rows left
 front_behind bytes n behind rows left key is all = record { key = key; fit = all.fit; parts = is ∙ ap (λ (l : List ℕ). (magic ++ n) ++ l) all.parts }
 
 -- ---- the laws
 
-image_in_front : (n : List ℕ) (rows : List RawValue) (a : List ℕ) → image n (rows_of rows) ++ a ≡ (magic ++ n) ++ (flat_map frame rows ++ (trailer (length rows) ++ a))
+image_in_front : (n : List ℕ) (rows : List RawValue) (a : List ℕ) → image n (raw_rows rows) ++ a ≡ (magic ++ n) ++ (flat_map frame rows ++ (trailer (length rows) ++ a))
 image_in_front n rows a =
     ap (λ (l : List ℕ). l ++ a) (image_is n rows)
     ∙ append_assoc (magic ++ n) (flat_map frame rows ++ trailer (length rows)) a
@@ -130,7 +140,7 @@ one_image bytes n m rows others i j =
     (same.namespace, same.rows_same)
 
 -- what stops is no image
-stuck_image : (bytes n : List ℕ) (rows : List RawValue) (at : ℕ) → IsImage bytes n rows → StopsAt bytes at → ⊥
+stuck_image : (bytes n : List ℕ) (rows : List RawValue) (at : ℕ) → IsImage bytes n rows → ImageStopsAt bytes at → ⊥
 stuck_image bytes n rows at i s =
     let same = same_fronts bytes n s.namespace rows s.rows (trailer (length rows)) s.left (front_of_image bytes n rows i) s.front (trailer_left (length rows)) s.stuck.no_frame in
     s.stuck.no_trailer (subst (λ (l : List RawValue). length l < 2 ^ 32) same.rows_same i.count)

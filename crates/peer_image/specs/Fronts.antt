@@ -4,9 +4,8 @@ use Rattle.std.specs.List.{AllByRecursion}
 use Rattle.std.specs.declared.cmp.Ordering.TheVariants.{Less}
 use Rattle.willow_path.specs.Path.{is_prefix}
 use Rattle.willow_entry.specs.Entry.{same_bytes}
-use Rattle.willow_entry.specs.Row.{RowValue, is_dominating}
+use Rattle.willow_entry.specs.Row.{RowValue, is_dominating, inner_place_cmp}
 use Rattle.peer_image.specs.declared.order.Front.{Front}
-use Rattle.peer_image.specs.Order.{inner_cmp}
 
 -- a row and its number
 pub record Seen : Type 0 where
@@ -37,4 +36,4 @@ first_dominating r (s ∷ seen) = if is_dominating s.row r then Some s.at else f
 
 -- for each row above the earlier ones, the kept ones have all that stand at its prefixes
 abbrev pub Suffices : List RowValue → List Seen → Type 0
-Suffices earlier kept = (r : RowValue) → AllByRecursion (λ s. inner_cmp s r ≡ Less) earlier → fronts_of r kept ≡ fronts_of r (numbered 1 earlier)
+Suffices earlier kept = (r : RowValue) → AllByRecursion (λ s. inner_place_cmp s r ≡ Less) earlier → fronts_of r kept ≡ fronts_of r (numbered 1 earlier)

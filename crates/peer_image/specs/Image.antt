@@ -5,11 +5,7 @@ use Rattle.std.specs.Int.{w32, to_be_bytes}
 use Rattle.willow_entry.specs.Row.{RowValue}
 use Rattle.willow_entry.specs.RowBody.{row_body}
 use Rattle.willow_entry.specs.Frame.{row_frame}
-use Rattle.cap_codec.specs.declared.frame.TheConstants.{MAX_FRAME}
-
--- a frame may carry the body of the row
-abbrev pub HasFrame : RowValue → Type 0
-HasFrame r = length (row_body r) ≤ MAX_FRAME
+use Rattle.willow_entry.specs.declared.frame.TheConstants.{MAX_FRAME}
 
 -- the text WIM1
 abbrev pub magic : List ℕ

@@ -7,19 +7,24 @@ use Rattle.spelling.specs.declared.ending.End.{End}
 use Rattle.spelling.specs.declared.ending.End.TheVariants.{Refused, NoMemory}
 use Rattle.willow_path.specs.Key.{IsKey, key_at}
 use Rattle.willow_entry.specs.Row.{RowValue, live}
+use Rattle.willow_entry.specs.Frame.{HasFrame}
 use Rattle.cap_codec.specs.Rows.{RawValue, row_of, IsRawRow, FitsFrame, frame}
 use Rattle.cap_codec.specs.Streams.{HasNoFrame}
 use Rattle.peer_image.specs.declared.refusal.ImageRefusal.{ImageRefusal}
 use Rattle.peer_image.specs.declared.refusal.ImageRefusal.TheVariants.{BadImage, NotRising, Pruned}
 use Rattle.peer_image.specs.declared.read.Image.{Image}
-use Rattle.peer_image.specs.Image.{image, magic, trailer, HasFrame}
+use Rattle.peer_image.specs.Image.{image, magic, trailer}
 use Rattle.peer_image.specs.Order.{order_refusal, AreOf}
 
 -- what a store sees of the rows
-abbrev pub rows_of : List RawValue → List RowValue
-rows_of = map row_of
+abbrev pub raw_rows : List RawValue → List RowValue
+raw_rows = map row_of
 
 -- the text WIM1 and a key
+abbrev pub header_spelling : List ℕ → List ℕ
+header_spelling n = magic ++ n
+
+-- the same, read
 unfoldable pub header_at : List ℕ → Front (List ℕ)
 header_at bytes = do
   text ← exactly_at magic bytes
@@ -30,7 +35,7 @@ pub record IsImage (bytes n : List ℕ) (rows : List RawValue) : Type 0 where
   pub key : IsKey n
   pub fit : AllByRecursion FitsFrame rows
   pub count : length rows < 2 ^ 32
-  pub spelled : bytes ≡ image n (rows_of rows)
+  pub spelled : bytes ≡ image n (raw_rows rows)
 
 -- the text WIM1, a key and the frames of these rows stand in front of what is left
 pub record IsFront (bytes n : List ℕ) (rows : List RawValue) (left : List ℕ) : Type 0 where
@@ -48,7 +53,7 @@ pub record IsStuck (rows : List RawValue) (left : List ℕ) : Type 0 where
   pub no_trailer : length rows < 2 ^ 32 → left ≡ trailer (length rows) → ⊥
 
 -- the bytes go wrong behind their frames, from byte `at` on
-pub record StopsAt (bytes : List ℕ) (at : ℕ) : Type 0 where
+pub record ImageStopsAt (bytes : List ℕ) (at : ℕ) : Type 0 where
   pub namespace : List ℕ
   pub rows : List RawValue
   pub left : List ℕ
@@ -59,18 +64,18 @@ pub record StopsAt (bytes : List ℕ) (at : ℕ) : Type 0 where
 -- the bytes are no image: they have no header, and go wrong from their first byte on, or they go wrong
 -- behind their frames
 abbrev pub IsWrong : List ℕ → ℕ → Type 0
-IsWrong bytes at = (HasNoHeader bytes × (at ≡ 0)) ⊎ StopsAt bytes at
+IsWrong bytes at = (HasNoHeader bytes × (at ≡ 0)) ⊎ ImageStopsAt bytes at
 
 -- the bytes are an image of rows that are refused for their order
 pub record IsMisordered (bytes : List ℕ) (refusal : ImageRefusal) : Type 0 where
   pub namespace : List ℕ
   pub rows : List RawValue
   pub is_image : IsImage bytes namespace rows
-  pub refused : order_refusal (rows_of rows) ≡ Some refusal
+  pub refused : order_refusal (raw_rows rows) ≡ Some refusal
 
 -- the rows of an image in good order, or just why there are none; for want of memory nothing is said
 abbrev pub ReadsImage : List ℕ → Result Image (End ImageRefusal) → Type 0
-ReadsImage bytes (Ok found) = IsImage bytes found.namespace found.rows.items × (order_refusal (rows_of found.rows.items) ≡ None)
+ReadsImage bytes (Ok found) = IsImage bytes found.namespace found.rows.items × (order_refusal (raw_rows found.rows.items) ≡ None)
 ReadsImage bytes (Err (Refused (BadImage at))) = IsWrong bytes at
 ReadsImage bytes (Err (Refused (NotRising at))) = IsMisordered bytes (NotRising at)
 ReadsImage bytes (Err (Refused (Pruned at by))) = IsMisordered bytes (Pruned at by)
@@ -97,7 +102,7 @@ pub record FitsImage (t : Told) : Type 0 where
 
 -- the image that tells it
 abbrev pub image_spelling : Told → List ℕ
-image_spelling t = image t.namespace (rows_of t.rows)
+image_spelling t = image t.namespace (raw_rows t.rows)
 
 -- bytes are the image of at most one list of rows, of one namespace
 abbrev pub HaveOneImage : Type 0
@@ -108,12 +113,12 @@ abbrev pub HaveOnePlace : Type 0
 HaveOnePlace = (bytes : List ℕ) (at other : ℕ) → IsWrong bytes at → IsWrong bytes other → at ≡ other
 
 -- no bytes both are an image and go wrong
-abbrev pub AreNeverBoth : Type 0
-AreNeverBoth = (bytes n : List ℕ) (rows : List RawValue) (at : ℕ) → IsImage bytes n rows → IsWrong bytes at → ⊥
+abbrev pub ImagesNeverGoWrong : Type 0
+ImagesNeverGoWrong = (bytes n : List ℕ) (rows : List RawValue) (at : ℕ) → IsImage bytes n rows → IsWrong bytes at → ⊥
 
 -- what was read is these rows of this namespace, or there was no memory
 abbrev pub IsBack : List ℕ → List RowValue → Result Image (End ImageRefusal) → Type 0
-IsBack n rows (Ok found) = (found.namespace ≡ n) × (rows_of found.rows.items ≡ rows)
+IsBack n rows (Ok found) = (found.namespace ≡ n) × (raw_rows found.rows.items ≡ rows)
 IsBack n rows (Err e) = e ≡ NoMemory
 
 -- The image of live rows of one namespace, whose tokens can be read, and whose bodies frames may carry, is read

@@ -2,28 +2,21 @@
 use Rattle.std.specs.Prelude.{◌≡◌, ◌↔◌, ℕ, ◌+◌, List, [], ◌∷◌, ◌++◌, length, Contains, Option, Some, None, if◌then◌else◌}
 use Rattle.std.specs.List.{position_from, AllByRecursion}
 use Rattle.std.specs.List.Sorted.{IsStrictlySortedBy}
-use Rattle.std.specs.Ordering.{is_lt, ordering_then}
-use Rattle.std.specs.declared.cmp.Ordering.{Ordering}
+use Rattle.std.specs.Ordering.{is_lt}
 use Rattle.spelling.specs.Answers.{or_else}
-use Rattle.willow_path.specs.Path.{path_cmp}
-use Rattle.willow_entry.specs.Entry.{bytes_cmp}
-use Rattle.willow_entry.specs.Row.{RowValue, is_dominating, Dominates, live}
+use Rattle.willow_entry.specs.Row.{RowValue, is_dominating, Dominates, live, inner_place_cmp}
 use Rattle.peer_image.specs.declared.refusal.ImageRefusal.{ImageRefusal}
 use Rattle.peer_image.specs.declared.refusal.ImageRefusal.TheVariants.{NotRising, Pruned}
 
--- by subspace, then by path: the order within a namespace, whatever namespaces the rows are of
-unfoldable pub inner_cmp : RowValue → RowValue → Ordering
-inner_cmp r s = ordering_then (bytes_cmp r.entry.subspace s.entry.subspace) (path_cmp r.entry.path s.entry.path)
-
 -- by strictly rising (subspace, path)
 abbrev pub IsInnerRising : List RowValue → Type 0
-IsInnerRising = IsStrictlySortedBy inner_cmp
+IsInnerRising = IsStrictlySortedBy inner_place_cmp
 
 -- the first row that does not stand above the row before it; r stands before all of them, and k is the
 -- number of the first of them
 unfoldable pub fall_after : ℕ → RowValue → List RowValue → Option ImageRefusal
 fall_after k r [] = None
-fall_after k r (s ∷ rows) = if is_lt (inner_cmp r s) then fall_after (k + 1) s rows else Some (NotRising k)
+fall_after k r (s ∷ rows) = if is_lt (inner_place_cmp r s) then fall_after (k + 1) s rows else Some (NotRising k)
 
 -- the first row, counted from 1, that does not stand above the row before it
 unfoldable pub first_fall : List RowValue → Option ImageRefusal

@@ -1,8 +1,17 @@
 //! What holds of images.
 
 ghost use Rattle.peer_image.specs.Order.{IsOrder, IsOrderOfLive};
-ghost use Rattle.peer_image.specs.ImageReading.{image_spelling, AreNeverBoth, FitsImage, HaveOneImage, HaveOnePlace, ReadsBack};
+ghost use Rattle.peer_image.specs.ImageReading.{header_at, header_spelling, image_spelling, ImagesNeverGoWrong, FitsImage, HaveOneImage, HaveOnePlace, ReadsBack};
 ghost use Rattle.spelling.specs.Form.{IsForm};
+ghost use Rattle.spelling.specs.Reader.{IsReader};
+ghost use Rattle.willow_path.specs.Key.{IsKey};
+
+/// The reader of an image's header goes by the spelling alone: the text WIM1 and a key are whole exactly where they
+/// stand in front, a part exactly where the bytes begin them and more is due, and wrong exactly where none begins so.
+#[tactic(auto, using(crate::proofs::Stops::header_reader))]
+pub fn header()
+    ensures { IsReader header_at header_spelling IsKey }
+{}
 
 /// Rows are not refused for their order exactly where they rise by subspace and path, and none dominates another.
 pub fn order_decides()
@@ -31,7 +40,7 @@ pub fn one_place()
 
 /// An image goes wrong nowhere.
 pub fn never_both()
-    ensures { AreNeverBoth }
+    ensures { ImagesNeverGoWrong }
 {}
 
 /// The image of live rows of one namespace is read back as just these.

@@ -1,14 +1,14 @@
 //! The order of an image's rows: they rise by subspace and path, and no row dominates a later one.
 
 ghost use Rattle.std.specs.Prelude.{◌≡◌, ◌+◌, ◌<◌, ◌^◌, length, map, IfOk};
+ghost use Rattle.willow_entry.specs.Row.{inner_place_cmp};
 ghost use Rattle.peer_image.specs.Fronts.{first_dominating, fronts_of, is_at_inner_prefix, seen};
-ghost use Rattle.peer_image.specs.Order.{fall_after, first_fall, first_pruned, inner_cmp, order_refusal, IsInnerRising};
+ghost use Rattle.peer_image.specs.Order.{fall_after, first_fall, first_pruned, order_refusal, IsInnerRising};
 
 use crate::refusal::ImageRefusal;
 use spelling::NoMemory;
 use std::alloc::Global;
-use std::cmp::Ordering;
-use willow_entry::{Row, dominates};
+use willow_entry::{Row, by_inner_place, dominates};
 
 // Why the rows are none of a store: they do not rise, or else a row dominates a later one.
 #[tactic(auto, using(crate::proofs::Falls::rising_from_none))]
@@ -23,15 +23,6 @@ pub(crate) fn order_refusal<R: Row>(
         Some(refusal) => Ok(Some(refusal)),
         None => first_pruned(alloc, rows),
     }
-}
-
-// How r and s are ordered by subspace, then by path.
-#[tactic(auto, unfolding(crate::specs::Order::inner_cmp))]
-fn by_inner_place<R: Row>(r: &R, s: &R) -> Ordering
-    ensures { result ≡ inner_cmp (R.value r.now) (R.value s.now) }
-{
-    let (e, f) = (r.entry(), s.entry());
-    e.subspace.cmp(&f.subspace).then(e.path.cmp(&f.path))
 }
 
 // The first row that does not stand above the row before it.

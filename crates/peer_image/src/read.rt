@@ -1,10 +1,11 @@
 //! Images as they are read.
 
-ghost use Rattle.std.specs.Prelude.{◌≡◌, ◌<◌, ◌^◌, ◌++◌, MatchBool};
-ghost use Rattle.spelling.specs.Reading.{Gives};
+ghost use Rattle.std.specs.Prelude.{◌≡◌, ◌<◌, ◌^◌, ◌++◌, MatchBool, IsErrOf};
+ghost use Rattle.spelling.specs.declared.ending.End.TheVariants as ends;
+ghost use Rattle.spelling.specs.Reading.{Gives, NeedsNoMemory};
 ghost use Rattle.willow_path.specs.Key.{IsKey};
 ghost use Rattle.peer_image.specs.Image.{magic, trailer};
-ghost use Rattle.peer_image.specs.ImageReading.{header_at, ReadsImage, ReadsRows};
+ghost use Rattle.peer_image.specs.ImageReading.{header_at, HasNoHeader, ReadsImage, ReadsRows};
 
 use crate::order::order_refusal;
 use crate::refusal::ImageRefusal;
@@ -26,9 +27,10 @@ pub struct Image {
 /// The rows of the image that the bytes are: the text WIM1, a namespace key, frames of rows, four bytes 00,
 /// the number of rows in four bytes, and nothing else. The rows rise by subspace and then by path, and none
 /// dominates a later one. Bytes that are no image are refused first, then rows that do not rise, then pruned ones,
-/// with the places that `ImageRefusal` tells.
+/// with the places that `ImageRefusal` tells. Bytes without a header are refused before any memory is asked for.
 pub fn read_image(alloc: Global, bytes: &[u8]) -> Result<Image, End<ImageRefusal>>
-    ensures { ReadsImage bytes.now result }
+    ensures image { ReadsImage bytes.now result }
+    ensures sure { IsErrOf result ends.NoMemory → HasNoHeader bytes.now → ⊥ }
 {
     match read_rows(alloc, bytes) {
         Ok(image) => in_order(alloc, bytes, image),
@@ -50,27 +52,28 @@ fn in_order(alloc: Global, bytes: &[u8], image: Image) -> Result<Image, End<Imag
 
 // The rows of the image that the bytes are, in any order.
 fn read_rows(alloc: Global, bytes: &[u8]) -> Result<Image, End<ImageRefusal>>
-    ensures { ReadsRows bytes.now result }
+    ensures rows { ReadsRows bytes.now result }
+    ensures sure { IsErrOf result ends.NoMemory → HasNoHeader bytes.now → ⊥ }
 {
     let mut input = Input::new(bytes);
     match read_header(&mut input) {
         Ok(namespace) => read_behind(alloc, bytes, namespace, input.front()),
-        Err(Unread::NoMemory) => Err(End::NoMemory),
-        Err(Unread::Part) => Err(End::Refused(ImageRefusal::BadImage { at: 0 })),
-        Err(Unread::Wrong) => Err(End::Refused(ImageRefusal::BadImage { at: 0 })),
+        Err(_) => Err(End::Refused(ImageRefusal::BadImage { at: 0 })),
     }
 }
 
 // The text WIM1, and the key behind it.
 #[tactic(auto, unfolding(crate::specs::ImageReading::header_at))]
 fn read_header(input: &mut Input) -> Result<NamespaceKey, Unread>
-    ensures { Gives (λ key. key) result input.new (header_at input.old) }
+    ensures gives { Gives (λ key. key) result input.new (header_at input.old) }
+    ensures sure { NeedsNoMemory result }
 {
     input.exactly(b"WIM1")?;
     read_namespace_key(input)
 }
 
 // The rows behind the header of the bytes.
+#[tactic(auto, using(crate::proofs::Stops::headed))]
 fn read_behind(
     alloc: Global,
     bytes: &[u8],
@@ -79,7 +82,8 @@ fn read_behind(
 ) -> Result<Image, End<ImageRefusal>>
     requires key { IsKey namespace }
     requires behind { bytes.now ≡ (magic ++ namespace) ++ behind.now }
-    ensures { ReadsRows bytes.now result }
+    ensures rows { ReadsRows bytes.now result }
+    ensures sure { HasNoHeader bytes.now → ⊥ }
 {
     match frames_in_front(alloc, behind) {
         Ok((rows, left)) => {

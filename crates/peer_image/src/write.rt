@@ -2,13 +2,13 @@
 
 ghost use Rattle.std.specs.Prelude.{◌≡◌, ◌<◌, ◌^◌, ◌++◌, length, map, IfOk, OnOk};
 ghost use Rattle.std.specs.List.{AllByRecursion};
-ghost use Rattle.willow_entry.specs.Frame.{row_frame};
-ghost use Rattle.peer_image.specs.Image.{image, magic, trailer, HasFrame};
+ghost use Rattle.willow_entry.specs.Frame.{row_frame, HasFrame};
+ghost use Rattle.peer_image.specs.Image.{image, magic, trailer};
 
 use block_store::Snapshot;
 use spelling::{NoMemory, put_bytes, put_u32};
 use std::alloc::Global;
-use willow_entry::Row;
+use willow_entry::{Row, encode_row_frame};
 use willow_path::NamespaceKey;
 
 /// The image of the rows in their order: the text WIM1 and the namespace key, each row's frame, four bytes 00
@@ -25,7 +25,7 @@ pub fn write_rows<R: Row>(
 {
     let mut out = begun(alloc, namespace)?;
     for row in rows {
-        put_frame(&mut out, row)?;
+        encode_row_frame(row, &mut out)?;
     }
     put_trailer(&mut out, rows.len() as u32)?;
     Ok(out)
@@ -44,7 +44,7 @@ pub fn write_image<R: Row>(
     let mut out = begun(alloc, namespace)?;
     for at in 0..snapshot.len() {
         match snapshot.get(at) {
-            Some(row) => put_frame(&mut out, row)?,
+            Some(row) => encode_row_frame(row, &mut out)?,
             None => {}
         }
     }
@@ -60,18 +60,6 @@ fn begun(alloc: Global, namespace: &NamespaceKey) -> Result<Vec<u8>, NoMemory>
     put_bytes(&mut out, b"WIM1")?;
     put_bytes(&mut out, &namespace.to_bytes())?;
     Ok(out)
-}
-
-// Appends the length of the row's body, and the body.
-#[tactic(auto, unfolding(willow_entry::specs::RowBody::row_body))]
-fn put_frame<R: Row>(out: &mut Vec<u8>, row: &R) -> Result<(), NoMemory>
-    requires { HasFrame (R.value row.now) }
-    ensures { OnOk result (out.new.items ≡ out.old.items ++ row_frame (R.value row.now)) }
-{
-    let (entry, token) = (row.entry_bytes(), row.token_bytes());
-    put_u32(out, (entry.len() + token.len()) as u32)?;
-    put_bytes(out, entry)?;
-    put_bytes(out, token)
 }
 
 // Appends four bytes 00 and the count.

@@ -1,6 +1,9 @@
-pub mod Signatures
 pub mod Parsed
-pub mod Ends
-pub mod Delegated
+pub mod Signatures
 pub mod Growing
+pub mod Delegated
 pub mod Written
+pub mod Signers
+pub mod Drawn
+pub mod Deeds
+pub mod MadeBack

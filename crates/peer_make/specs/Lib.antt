@@ -4,3 +4,5 @@ pub mod Granting
 pub mod Reading
 pub mod Delegating
 pub mod Writing
+pub mod Deeds
+pub mod ReadBack

@@ -1,10 +1,9 @@
 -- What a command takes of an input that is to be one capability.
 use Rattle.std.specs.Prelude.{◌≡◌, ℕ, ◌⊎◌, List, Result, Ok, Err}
-use Rattle.std.specs.Io.KnownBytes.{Consumes}
 use Rattle.willow_outside.specs.Facts.{SourceFacts}
 use Rattle.mc_cap.specs.Forms.{IsCapability, capability_spelling}
 use Rattle.mc_cap.specs.declared.capability.Capability.{Capability}
-use Rattle.peer_stage.specs.Stages.{IsReadWhole, IsReadTooFar, IsReadToFault, IsInput}
+use Rattle.peer_stage.specs.Stages.{IsReadWhole, IsReadTooFar, IsReadToFault, IsReadSomewhat, IsInput}
 use Rattle.peer_stage.specs.declared.stage.TheConstants.{INPUT_LIMIT}
 use Rattle.peer_stage.specs.declared.outcome.Stop.{Stop}
 use Rattle.peer_stage.specs.declared.outcome.Stop.TheVariants as stop
@@ -28,19 +27,19 @@ Parses bytes (Err e) = ⊥
 -- the input was read whole, and is the spelling of the capability
 pub record IsRead (i i' : SourceFacts) (c : Capability) : Type 0 where
   pub bytes : List ℕ
-  pub read : IsReadWhole i i' bytes
+  pub read : IsReadWhole INPUT_LIMIT i i' bytes
   pub spelled : IsSpelled bytes c
 
 -- the input passes the limit
 pub record IsTooLong (i i' : SourceFacts) (at : ℕ) : Type 0 where
   pub bytes : List ℕ
-  pub read : IsReadTooFar i i' bytes
+  pub read : IsReadTooFar INPUT_LIMIT i i' bytes
   pub told_at : at ≡ INPUT_LIMIT
 
 -- the input was read whole, and is no capability
 pub record IsOther (i i' : SourceFacts) (at : ℕ) : Type 0 where
   pub bytes : List ℕ
-  pub read : IsReadWhole i i' bytes
+  pub read : IsReadWhole INPUT_LIMIT i i' bytes
   pub no_capability : IsNoCapability bytes
   pub told_at : at ≡ 0
 
@@ -48,18 +47,10 @@ pub record IsOther (i i' : SourceFacts) (at : ℕ) : Type 0 where
 abbrev pub IsUnfit : SourceFacts → SourceFacts → ℕ → Type 0
 IsUnfit i i' at = IsTooLong i i' at ⊎ IsOther i i' at
 
--- some bytes were taken before a read failed
-abbrev pub FailsToRead : SourceFacts → SourceFacts → Type 0
-FailsToRead i i' = (bytes : List ℕ) × IsReadToFault i i' bytes
-
--- some bytes were taken
-abbrev pub IsReadSomewhat : SourceFacts → SourceFacts → Type 0
-IsReadSomewhat i i' = (bytes : List ℕ) × Consumes i.left i'.left bytes
-
 -- how the reading of an input ends that is to be one capability
 abbrev pub ReadsOne : SourceFacts → SourceFacts → Result Capability Stop → Type 0
 ReadsOne i i' (Ok c) = IsRead i i' c
-ReadsOne i i' (Err stop.ReadFault) = FailsToRead i i'
+ReadsOne i i' (Err stop.ReadFault) = (bytes : List ℕ) × IsReadToFault INPUT_LIMIT i i' bytes
 ReadsOne i i' (Err (stop.BadInput from at)) = IsInput from × IsUnfit i i' at
 ReadsOne i i' (Err stop.NoMemory) = IsReadSomewhat i i'
 ReadsOne i i' (Err e) = ⊥

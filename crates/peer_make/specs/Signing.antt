@@ -80,9 +80,9 @@ StopsSigning (OpenKey key) old new e = StopsOpen old new e
 StopsSigning (LmsFile name) old new e = StopsNext name old new e
 
 -- how a message is signed
-abbrev pub Signs : SignerWord → ShelfFacts → ShelfFacts → List ℕ → Result (List ℕ) Stop → Type 0
-Signs key old new message (Ok signature) = Signed key old new message signature
-Signs key old new message (Err e) = StopsSigning key old new e
+abbrev pub Signs : SignerWord → List ℕ → ShelfFacts → ShelfFacts → Result (List ℕ) Stop → Type 0
+Signs key message old new (Ok signature) = Signed key old new message signature
+Signs key message old new (Err e) = StopsSigning key old new e
 
 -- ---- the stages
 

@@ -5,8 +5,9 @@ ghost use Rattle.willow_area.specs.Times.{ends_by};
 ghost use Rattle.lms_core.specs.Use.{peer_rules};
 ghost use Rattle.mc_cap.specs.Grant.{extended};
 ghost use Rattle.peer_words.specs.Signers.{IsSigner};
+ghost use Rattle.peer_stage.specs.World.{World};
 ghost use Rattle.peer_make.specs.Granting.{Tells};
-ghost use Rattle.peer_make.specs.Delegating.{Asks, DelegateMeets, growing_refusal};
+ghost use Rattle.peer_make.specs.Delegating.{Asks, Delegates, growing_refusal};
 
 use crate::granting::tell;
 use crate::reading::read_one;
@@ -37,12 +38,9 @@ pub fn delegate<H: Shelf, I: Source, O: Sink>(
     output: &mut O,
 ) -> Result<Done, Stop>
     requires { IsSigner key }
-    ensures meets { DelegateMeets key to area (H.facts shelf.old) (H.facts shelf.new) (I.facts input.old) (I.facts input.new) (O.facts output.old) (O.facts output.new) result }
-    ensures read_faults { (H.facts shelf.old).read_faults ≤ (H.facts shelf.new).read_faults }
-    ensures write_faults { (H.facts shelf.old).write_faults ≤ (H.facts shelf.new).write_faults }
-    ensures input_faults { (I.facts input.old).faults ≤ (I.facts input.new).faults }
-    ensures input_ends { (I.facts input.old).ends ≤ (I.facts input.new).ends }
-    ensures output_faults { (O.facts output.old).faults ≤ (O.facts output.new).faults }
+    ensures { (others : World) → Delegates key to area
+        (record others { shelf = H.facts shelf.old; input = I.facts input.old; output = O.facts output.old })
+        (record others { shelf = H.facts shelf.new; input = I.facts input.new; output = O.facts output.new }) result }
 {
     let capability = read_one(alloc, input)?;
     let area = ask(&capability, area)?;
@@ -109,8 +107,8 @@ fn tell_longer<O: Sink>(
     delegation: Delegation,
     output: &mut O,
 ) -> Result<Done, Stop>
-    ensures tells { Tells (O.facts output.old) (O.facts output.new) (extended capability delegation.area delegation.user delegation.signature) result }
-    ensures output_faults { (O.facts output.old).faults ≤ (O.facts output.new).faults }
+    ensures { (others : World) → Tells (extended capability delegation.area delegation.user delegation.signature)
+        (record others { output = O.facts output.old }) (record others { output = O.facts output.new }) result }
 {
     let mut longer = capability;
     if longer.chain.len() >= MAX_DELEGATIONS {

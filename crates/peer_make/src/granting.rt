@@ -1,13 +1,14 @@
 //! `grant`: a capability without delegations.
 
-ghost use Rattle.std.specs.Prelude.{◌≡◌, ◌≤◌, ◌↔◌, IsSome, IfSome, false};
+ghost use Rattle.std.specs.Prelude.{◌≡◌, ◌≤◌, ◌↔◌, length, IsSome, IfSome, false};
+ghost use Rattle.peer_stage.specs.World.{World};
 ghost use Rattle.peer_words.specs.Signers.{IsSigner};
 ghost use Rattle.scheme_core.specs.Open.{is_communal};
-ghost use Rattle.peer_make.specs.Granting.{GrantMeets, BeginsBy, Tells};
+ghost use Rattle.peer_make.specs.Granting.{Grants, BeginsBy, Checks, Tells};
 
 use crate::signing::sign_with;
 use lms_core::PeerScheme;
-use mc_cap::{Capability, Chain, Mode, RowRefusal, Signature, initial_message};
+use mc_cap::{Capability, Chain, MAX_DELEGATIONS, Mode, RowRefusal, Signature, initial_message};
 use peer_stage::{Done, Stop, write_output};
 use peer_words::SignerWord;
 use spelling::End;
@@ -30,10 +31,9 @@ pub fn grant<H: Shelf, O: Sink>(
 ) -> Result<Done, Stop>
     requires owned { IsSome key ↔ (is_communal namespace ≡ false) }
     requires signer { IfSome key IsSigner }
-    ensures meets { GrantMeets namespace mode user key (H.facts shelf.old) (H.facts shelf.new) (O.facts output.old) (O.facts output.new) result }
-    ensures read_faults { (H.facts shelf.old).read_faults ≤ (H.facts shelf.new).read_faults }
-    ensures write_faults { (H.facts shelf.old).write_faults ≤ (H.facts shelf.new).write_faults }
-    ensures output_faults { (O.facts output.old).faults ≤ (O.facts output.new).faults }
+    ensures { (others : World) → Grants namespace mode user key
+        (record others { shelf = H.facts shelf.old; output = O.facts output.old })
+        (record others { shelf = H.facts shelf.new; output = O.facts output.new }) result }
 {
     let message = initial_message(mode, &user);
     let initial = begin(alloc, shelf, key, &message)?;
@@ -55,7 +55,7 @@ fn begin<H: Shelf>(
     message: &[u8],
 ) -> Result<Option<Signature>, Stop>
     requires { IfSome key IsSigner }
-    ensures begins { BeginsBy key (H.facts shelf.old) (H.facts shelf.new) message.now result }
+    ensures begins { BeginsBy key message.now (H.facts shelf.old) (H.facts shelf.new) result }
     ensures read_faults { (H.facts shelf.old).read_faults ≤ (H.facts shelf.new).read_faults }
     ensures write_faults { (H.facts shelf.old).write_faults ≤ (H.facts shelf.new).write_faults }
 {
@@ -74,16 +74,25 @@ pub(crate) fn tell<O: Sink>(
     capability: &Capability,
     output: &mut O,
 ) -> Result<Done, Stop>
-    ensures tells { Tells (O.facts output.old) (O.facts output.new) capability.now result }
-    ensures output_faults { (O.facts output.old).faults ≤ (O.facts output.new).faults }
+    requires { length capability.now.chain ≤ MAX_DELEGATIONS }
+    ensures { (others : World) → Tells capability.now (record others { output = O.facts output.old }) (record others { output = O.facts output.new }) result }
 {
-    match capability.check(&PeerScheme) {
-        Ok(()) => {}
-        Err(End::Refused(refusal)) => return Err(Stop::Refused(RowRefusal::Chain(refusal))),
-        Err(End::NoMemory) => return Err(Stop::NoMemory),
-    }
+    check(capability)?;
     let mut text = Vec::new(alloc);
     capability.encode(&mut text)?;
     write_output(output, &text)?;
     Ok(Done::Made)
+}
+
+// Stops where the capability is not valid.
+fn check(capability: &Capability) -> Result<(), Stop>
+    requires { length capability.now.chain ≤ MAX_DELEGATIONS }
+    ensures { Checks capability.now result }
+{
+    capability.known();
+    match capability.check(&PeerScheme) {
+        Ok(()) => Ok(()),
+        Err(End::Refused(refusal)) => Err(Stop::Refused(RowRefusal::Chain(refusal))),
+        Err(End::NoMemory) => Err(Stop::NoMemory),
+    }
 }

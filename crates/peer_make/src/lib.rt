@@ -12,7 +12,10 @@ mod writing;
 
 pub use delegating::delegate;
 pub use granting::grant;
-pub use laws::empty_areas_count_as_growing;
+pub use laws::{
+    a_key_file_has_one_key, capabilities_are_read_back, empty_areas_count_as_growing,
+    rows_are_read_back,
+};
 pub use making::make_key;
 pub use writing::write;
 

@@ -1,9 +1,13 @@
 //! `key`: a new key under a name, and its user key.
 
 ghost use Rattle.std.specs.Prelude.{◌≡◌, ◌≤◌, IfOk};
-ghost use Rattle.peer_make.specs.Making.{KeyMeets, LooksUp, DrawsKey, DrawsOne, PutsFile, user_key_line};
+ghost use Rattle.peer_stage.specs.World.{World};
+ghost use Rattle.willow_outside.specs.Draws.{IsDraw};
+ghost use Rattle.peer_listing.specs.Listing.{key_line};
+ghost use Rattle.peer_make.specs.Making.{MakesKey, FindsFree, DrawsKey, DrawsOne, PutsFile, own_user_key};
 
 use lms_core::{Height, LmsKey};
+use peer_listing::key_line;
 use peer_stage::{Done, Stop, write_output};
 use std::alloc::Global;
 use willow_outside::{Fault, Noise, Shelf, Sink};
@@ -22,15 +26,11 @@ pub fn make_key<H: Shelf, N: Noise, O: Sink>(
     noise: &mut N,
     output: &mut O,
 ) -> Result<Done, Stop>
-    ensures meets { KeyMeets name height (H.facts shelf.old) (H.facts shelf.new) (N.facts noise.old) (N.facts noise.new) (O.facts output.old) (O.facts output.new) result }
-    ensures read_faults { (H.facts shelf.old).read_faults ≤ (H.facts shelf.new).read_faults }
-    ensures write_faults { (H.facts shelf.old).write_faults ≤ (H.facts shelf.new).write_faults }
-    ensures noise_faults { (N.facts noise.old).faults ≤ (N.facts noise.new).faults }
-    ensures output_faults { (O.facts output.old).faults ≤ (O.facts output.new).faults }
+    ensures { (others : World) → MakesKey name height
+        (record others { shelf = H.facts shelf.old; output = O.facts output.old; noise = N.facts noise.old })
+        (record others { shelf = H.facts shelf.new; output = O.facts output.new; noise = N.facts noise.new }) result }
 {
-    if is_taken(shelf, name.as_str())? {
-        return Err(Stop::Taken { name });
-    }
+    let name = find_free(shelf, name)?;
     let key = draw_key(height, noise)?;
     let line = user_key_line(alloc, &key)?;
     put_file(alloc, shelf, name.as_str(), &key)?;
@@ -38,15 +38,15 @@ pub fn make_key<H: Shelf, N: Noise, O: Sink>(
     Ok(Done::Made)
 }
 
-// Whether the shelf has the name.
-fn is_taken<H: Shelf>(shelf: &mut H, name: &str) -> Result<bool, Stop>
-    ensures looks { LooksUp name.now (H.facts shelf.old) (H.facts shelf.new) result }
+// The name, where the shelf does not have it.
+fn find_free<H: Shelf>(shelf: &mut H, name: String) -> Result<String, Stop>
+    ensures finds { FindsFree name (H.facts shelf.old) (H.facts shelf.new) result }
     ensures read_faults { (H.facts shelf.old).read_faults ≤ (H.facts shelf.new).read_faults }
     ensures write_faults { (H.facts shelf.new).write_faults ≡ (H.facts shelf.old).write_faults }
 {
-    match shelf.get(name) {
-        Ok(Some(_)) => Ok(true),
-        Ok(None) => Ok(false),
+    match shelf.get(name.as_str()) {
+        Ok(Some(_)) => Err(Stop::Taken { name }),
+        Ok(None) => Ok(name),
         Err(Fault::Failed) => Err(Stop::ReadFault),
         Err(Fault::NoMemory) => Err(Stop::NoMemory),
     }
@@ -70,20 +70,28 @@ fn draw<N: Noise>(noise: &mut N) -> Result<[u8; 32], Stop>
     ensures faults { (N.facts noise.old).faults ≤ (N.facts noise.new).faults }
 {
     match noise.words() {
-        Ok(words) => Ok(words),
+        Ok(words) => {
+            known(&words);
+            Ok(words)
+        }
         Err(Fault::Failed) => Err(Stop::ReadFault),
         Err(Fault::NoMemory) => Err(Stop::NoMemory),
     }
 }
 
+// Does nothing: it is called for its clause, what a draw has.
+fn known(words: &[u8; 32])
+    ensures { IsDraw words.now }
+{
+    let _bytes = words.as_slice();
+}
+
 // The user key as a line.
 fn user_key_line(alloc: Global, key: &LmsKey) -> Result<Vec<u8>, NoMemory>
-    ensures { IfOk result (λ line. line.items ≡ user_key_line key.now) }
+    ensures { IfOk result (λ line. line.items ≡ key_line (own_user_key key.now)) }
 {
-    let digits = hex::encode(alloc, key.user_key().to_bytes().as_slice())?;
     let mut line = Vec::new(alloc);
-    line.extend_from_slice(digits.as_bytes())?;
-    line.push(b'\n')?;
+    key_line(&key.user_key(), &mut line)?;
     Ok(line)
 }
 

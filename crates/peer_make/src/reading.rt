@@ -1,13 +1,11 @@
 //! The input of a command that is to be one capability.
 
-ghost use Rattle.std.specs.Prelude.{◌≡◌, ◌≤◌};
-ghost use Rattle.peer_stage.specs.declared.outcome.Stop.TheVariants as stop;
-ghost use Rattle.peer_stage.specs.declared.outcome.Origin.TheVariants as origin;
+ghost use Rattle.std.specs.Prelude.{◌≤◌};
 ghost use Rattle.peer_make.specs.Reading.{Parses, ReadsOne};
 
 use cap_codec::decode_capability;
 use mc_cap::Capability;
-use peer_stage::{Origin, Stop, read_input};
+use peer_stage::{INPUT_LIMIT, Stop, read_input};
 use spelling::End;
 use std::alloc::Global;
 use willow_outside::Source;
@@ -18,7 +16,7 @@ pub(crate) fn read_one<I: Source>(alloc: Global, input: &mut I) -> Result<Capabi
     ensures input_faults { (I.facts input.old).faults ≤ (I.facts input.new).faults }
     ensures input_ends { (I.facts input.old).ends ≤ (I.facts input.new).ends }
 {
-    let bytes = read_input(alloc, input)?;
+    let bytes = read_input(alloc, input, INPUT_LIMIT)?;
     parse(alloc, &bytes)
 }
 
@@ -31,20 +29,10 @@ fn parse(alloc: Global, bytes: &[u8]) -> Result<Capability, Stop>
             if taken == bytes.len() {
                 Ok(capability)
             } else {
-                Err(unfit())
+                Err(Stop::bad_input(0))
             }
         }
-        Err(End::Refused(_)) => Err(unfit()),
+        Err(End::Refused(_)) => Err(Stop::bad_input(0)),
         Err(End::NoMemory) => Err(Stop::NoMemory),
-    }
-}
-
-// How an input is told that is no capability.
-fn unfit() -> Stop
-    ensures { result ≡ stop.BadInput origin.Input 0 }
-{
-    Stop::BadInput {
-        origin: Origin::Input,
-        at: 0,
     }
 }

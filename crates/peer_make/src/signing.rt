@@ -8,7 +8,7 @@ use lms_core::{KeyRefusal, OneUse, reserve_keys};
 use mc_cap::Signature;
 use peer_stage::{Origin, Stop};
 use peer_words::SignerWord;
-use scheme_core::{OpenSigner, Signer};
+use scheme_core::{MAX_SIGNATURE, OpenSigner, Signer};
 use spelling::End;
 use std::alloc::Global;
 use willow_outside::Shelf;
@@ -23,7 +23,7 @@ pub(crate) fn sign_with<H: Shelf>(
     message: &[u8],
 ) -> Result<Signature, Stop>
     requires { IsSigner key }
-    ensures signs { Signs key (H.facts shelf.old) (H.facts shelf.new) message.now result }
+    ensures signs { Signs key message.now (H.facts shelf.old) (H.facts shelf.new) result }
     ensures read_faults { (H.facts shelf.old).read_faults ≤ (H.facts shelf.new).read_faults }
     ensures write_faults { (H.facts shelf.old).write_faults ≤ (H.facts shelf.new).write_faults }
 {
@@ -107,7 +107,7 @@ fn sign_once(alloc: Global, signer: OneUse, message: &[u8]) -> Result<Signature,
 
 // The signature of these bytes, which are few enough.
 fn short(bytes: Vec<u8>) -> Signature
-    requires { length bytes.items ≤ 1508 }
+    requires { length bytes.items ≤ MAX_SIGNATURE }
     ensures { result ≡ bytes.items }
 {
     match Signature::new(bytes) {

@@ -174,7 +174,7 @@ fn capabilities_are_granted_and_handed_on(rt: HostRuntime) {
 }
 
 // The line of the key that is made of the draws 11 and 22, or None where the name is taken.
-fn key_line(alloc: Global, shelf: &mut SureShelf) -> Option<Option<Vec<u8>>> {
+fn made_line(alloc: Global, shelf: &mut SureShelf) -> Option<Option<Vec<u8>>> {
     let draws = vec![in alloc; [0x11; 32], [0x22; 32]].ok()?;
     let name = String::from_str(alloc, "k").ok()?;
     let mut noise = MemNoise::new(alloc, draws, Vec::new(alloc));
@@ -211,9 +211,9 @@ fn line_of(alloc: Global, digits: &str) -> Option<Vec<u8>> {
 fn a_key_is_made_once(rt: HostRuntime) {
     let alloc = rt.alloc();
     let mut shelf = SureShelf::new(alloc, BTreeMap::new(alloc));
-    assert_eq!(rt; key_line(alloc, &mut shelf), Some(line_of(alloc, USER)));
+    assert_eq!(rt; made_line(alloc, &mut shelf), Some(line_of(alloc, USER)));
     assert_eq!(rt; shelf.get("k").ok(), Some(file_at(alloc, 0)));
-    assert_eq!(rt; key_line(alloc, &mut shelf), Some(None));
+    assert_eq!(rt; made_line(alloc, &mut shelf), Some(None));
 }
 
 // The open signature by the first user of what is held.

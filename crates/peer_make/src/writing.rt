@@ -1,9 +1,8 @@
 //! `write`: a row of an entry that is signed under a capability.
 
-ghost use Rattle.std.specs.Prelude.{◌≡◌, ◌≤◌, IfOk};
-ghost use Rattle.auth_entry.specs.Authorised.{entry_message};
+ghost use Rattle.peer_stage.specs.World.{World};
 ghost use Rattle.peer_words.specs.Signers.{IsSigner};
-ghost use Rattle.peer_make.specs.Writing.{Frames, WriteMeets};
+ghost use Rattle.peer_make.specs.Writing.{TellsRow, WritesEntry};
 
 use crate::reading::read_one;
 use crate::signing::sign_with;
@@ -12,9 +11,9 @@ use cap_codec::{RawRow, WriteToken, encode_frame};
 use lms_core::PeerScheme;
 use peer_stage::{Done, Stop, write_output};
 use peer_words::SignerWord;
-use spelling::{End, NoMemory, put_byte};
+use spelling::End;
 use std::alloc::Global;
-use willow_entry::Entry;
+use willow_entry::{Entry, entry_message};
 use willow_outside::{Shelf, Sink, Source};
 use willow_path::{Digest, Path, UserKey};
 
@@ -36,12 +35,9 @@ pub fn write<H: Shelf, I: Source, O: Sink>(
     output: &mut O,
 ) -> Result<Done, Stop>
     requires { IsSigner key }
-    ensures meets { WriteMeets key (record { path = path; time = time; payload_length = length; digest = digest; subspace = subspace }) (H.facts shelf.old) (H.facts shelf.new) (I.facts input.old) (I.facts input.new) (O.facts output.old) (O.facts output.new) result }
-    ensures read_faults { (H.facts shelf.old).read_faults ≤ (H.facts shelf.new).read_faults }
-    ensures write_faults { (H.facts shelf.old).write_faults ≤ (H.facts shelf.new).write_faults }
-    ensures input_faults { (I.facts input.old).faults ≤ (I.facts input.new).faults }
-    ensures input_ends { (I.facts input.old).ends ≤ (I.facts input.new).ends }
-    ensures output_faults { (O.facts output.old).faults ≤ (O.facts output.new).faults }
+    ensures { (others : World) → WritesEntry key (record { path = path; time = time; payload_length = length; digest = digest; subspace = subspace })
+        (record others { shelf = H.facts shelf.old; input = I.facts input.old; output = O.facts output.old })
+        (record others { shelf = H.facts shelf.new; input = I.facts input.new; output = O.facts output.new }) result }
 {
     let capability = read_one(alloc, input)?;
     let entry = Entry {
@@ -62,21 +58,9 @@ pub fn write<H: Shelf, I: Source, O: Sink>(
     tell_row(alloc, row, output)
 }
 
-// What is signed of an entry: the letter E, and its spelling.
-#[tactic(auto, unfolding(auth_entry::specs::Authorised::entry_message))]
-fn entry_message(alloc: Global, entry: &Entry) -> Result<Vec<u8>, NoMemory>
-    ensures { IfOk result (λ message. message.items ≡ entry_message entry.now) }
-{
-    let mut message = Vec::new(alloc);
-    put_byte(&mut message, b'E')?;
-    entry.encode(&mut message)?;
-    Ok(message)
-}
-
 // Writes the row's frame, where it is authorised in the namespace of its capability.
 fn tell_row<O: Sink>(alloc: Global, row: RawRow, output: &mut O) -> Result<Done, Stop>
-    ensures frames { Frames (O.facts output.old) (O.facts output.new) row result }
-    ensures output_faults { (O.facts output.old).faults ≤ (O.facts output.new).faults }
+    ensures { (others : World) → TellsRow row (record others { output = O.facts output.old }) (record others { output = O.facts output.new }) result }
 {
     let namespace = row.token().capability.namespace;
     let authorised = match authorise(alloc, &PeerScheme, &namespace, row) {

@@ -1,8 +1,9 @@
 //! Noise from the machine.
 
-ghost use Rattle.std.specs.Prelude.{◌≡◌, None};
+ghost use Rattle.std.specs.Prelude.{◌≡◌, None, length};
+ghost use Rattle.willow_outside.specs.Draws.{IsDraw};
 
-use crate::faults::{fault_of, raised};
+use crate::faults::counted;
 use std::random::RandomSource;
 use willow_outside::{Fault, Noise};
 
@@ -22,17 +23,25 @@ impl<R: RandomSource + Drop> RandomNoise<R> {
     }
 }
 
+// The draw of these 32 bytes.
+fn drawn(words: &[u8]) -> [u8; 32]
+    requires { length words.now ≡ 32 }
+    ensures value { result ≡ words.now }
+    ensures size { IsDraw result }
+{
+    let mut draw = [0; 32];
+    draw.copy_from_slice(words);
+    draw
+}
+
 impl<R: RandomSource + Drop> Noise for RandomNoise<R> {
     ghost facts = { λ s. record { draws = None; faults = s.faults } };
 
     fn words(&mut self) -> Result<[u8; 32], Fault> {
         let mut words = [0; 32];
         match self.machine.fill_bytes(&mut words) {
-            Ok(()) => Ok(words),
-            Err(error) => {
-                self.faults = raised(self.faults);
-                Err(fault_of(&error))
-            }
+            Ok(()) => Ok(drawn(&words)),
+            Err(error) => { Err(counted(&mut self.faults, &error)) }
         }
     }
 }

@@ -2,7 +2,7 @@
 
 ghost use Rattle.std.specs.Prelude.{◌≡◌, None};
 
-use crate::faults::{fault_of, raised};
+use crate::faults::{counted, fault_of, raised};
 use std::fs::{File, OpenFile};
 use std::io::{ErrorKind, Write};
 use std::rt::Files;
@@ -69,10 +69,7 @@ impl<R: Files + AllocGlobal + Drop> Shelf for FileShelf<R> {
         match fs::read(&self.machine, name) {
             Ok(bytes) => Ok(Some(bytes)),
             Err(error) if error.kind() == ErrorKind::NotFound => Ok(None),
-            Err(error) => {
-                self.read_faults = raised(self.read_faults);
-                Err(fault_of(&error))
-            }
+            Err(error) => { Err(counted(&mut self.read_faults, &error)) }
         }
     }
 

@@ -1,12 +1,12 @@
 //! The standard streams.
 
-ghost use Rattle.std.specs.Prelude.{◌≡◌, None};
+ghost use Rattle.std.specs.Prelude.{◌≡◌};
 
-use crate::faults::{fault_of, raised};
+use crate::faults::{counted, raised};
 use std::io::{Read, Write};
 use willow_outside::{Fault, Sink, Source};
 
-/// A real reader, with counts of its faults and of its ends. What it has left is not told.
+/// A real reader, with counts of its faults and of its ends. What it has left is told where the reader tells it.
 #[derive(Drop)]
 pub struct StdSource<R> {
     reader: R,
@@ -17,7 +17,7 @@ pub struct StdSource<R> {
 impl<R: Read + Drop> StdSource<R> {
     /// Reads from the reader, with counts 0.
     pub fn new(reader: R) -> StdSource<R>
-        ensures { ⟦<StdSource<R> as Source>⟧.facts result ≡ record { left = None; faults = 0; ends = 0 } }
+        ensures { ⟦<StdSource<R> as Source>⟧.facts result ≡ record { left = R.remaining reader; faults = 0; ends = 0 } }
     {
         StdSource {
             reader,
@@ -28,7 +28,7 @@ impl<R: Read + Drop> StdSource<R> {
 }
 
 impl<R: Read + Drop> Source for StdSource<R> {
-    ghost facts = { λ s. record { left = None; faults = s.faults; ends = s.ends } };
+    ghost facts = { λ s. record { left = R.remaining s.reader; faults = s.faults; ends = s.ends } };
 
     fn read(&mut self, buf: &mut [u8]) -> Result<usize, Fault> {
         let room = buf.len();
@@ -38,15 +38,13 @@ impl<R: Read + Drop> Source for StdSource<R> {
                 Ok(0)
             }
             Ok(count) => Ok(count),
-            Err(error) => {
-                self.faults = raised(self.faults);
-                Err(fault_of(&error))
-            }
+            Err(error) => { Err(counted(&mut self.faults, &error)) }
         }
     }
 }
 
-/// A real writer, with a count of its faults. A write of nothing counts as a fault. What it holds is not told.
+/// A real writer, with a count of its faults. A write of nothing counts as a fault. What it holds is told where the
+/// writer tells it.
 #[derive(Drop)]
 pub struct StdSink<W> {
     writer: W,
@@ -59,14 +57,14 @@ pub type StdReport<W> = StdSink<W>;
 impl<W: Write + Drop> StdSink<W> {
     /// Writes to the writer, with the count 0.
     pub fn new(writer: W) -> StdSink<W>
-        ensures { ⟦<StdSink<W> as Sink>⟧.facts result ≡ record { held = None; faults = 0 } }
+        ensures { ⟦<StdSink<W> as Sink>⟧.facts result ≡ record { held = W.contents writer; faults = 0 } }
     {
         StdSink { writer, faults: 0 }
     }
 }
 
 impl<W: Write + Drop> Sink for StdSink<W> {
-    ghost facts = { λ s. record { held = None; faults = s.faults } };
+    ghost facts = { λ s. record { held = W.contents s.writer; faults = s.faults } };
 
     fn write(&mut self, piece: &[u8]) -> Result<usize, Fault> {
         if piece.is_empty() {
@@ -78,10 +76,7 @@ impl<W: Write + Drop> Sink for StdSink<W> {
                 Err(Fault::Failed)
             }
             Ok(count) => Ok(count),
-            Err(error) => {
-                self.faults = raised(self.faults);
-                Err(fault_of(&error))
-            }
+            Err(error) => { Err(counted(&mut self.faults, &error)) }
         }
     }
 }

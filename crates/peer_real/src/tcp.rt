@@ -1,10 +1,10 @@
 //! Links over TCP.
 
 ghost use Rattle.std.specs.Prelude.{◌≡◌, None, IfOk};
-ghost use Rattle.willow_outside.specs.Counts.{HasCause};
-ghost use Rattle.willow_outside.specs.Links.{HandsOut, IsFresh};
+ghost use Rattle.willow_outside.specs.Counts.{CountsFault};
+ghost use Rattle.willow_outside.specs.Links.{HandsOutLink, IsFresh};
 
-use crate::faults::{fault_of, raised};
+use crate::faults::{counted, raised};
 use std::io;
 use std::io::{ErrorKind, Read, Write};
 use std::net::{Net, TcpListener, TcpStream};
@@ -49,10 +49,7 @@ impl Link for TcpLink {
                 Ok(0)
             }
             Ok(count) => Ok(count),
-            Err(error) => {
-                self.read_faults = raised(self.read_faults);
-                Err(fault_of(&error))
-            }
+            Err(error) => { Err(counted(&mut self.read_faults, &error)) }
         }
     }
 
@@ -66,10 +63,7 @@ impl Link for TcpLink {
                 Err(Fault::Failed)
             }
             Ok(count) => Ok(count),
-            Err(error) => {
-                self.write_faults = raised(self.write_faults);
-                Err(fault_of(&error))
-            }
+            Err(error) => { Err(counted(&mut self.write_faults, &error)) }
         }
     }
 }
@@ -99,8 +93,8 @@ impl<N: Net<Listener = TcpListener, Stream = TcpStream> + Drop> TcpDoor<N> {
     // A link over the connection, counted as handed out. One too many for the count is closed.
     fn hand_out(&mut self, stream: io::Result<TcpStream>) -> Result<TcpLink, Fault>
         ensures fresh { IfOk result (λ link. IsFresh (⟦<TcpLink as Link>⟧.facts link)) }
-        ensures out { HandsOut self.old.out self.new.out result }
-        ensures cause { HasCause self.old.faults self.new.faults result }
+        ensures out { HandsOutLink self.old.out self.new.out result }
+        ensures cause { CountsFault self.old.faults self.new.faults result }
     {
         match (stream, self.out.checked_add(1)) {
             (Ok(stream), Some(out)) => {
@@ -111,10 +105,7 @@ impl<N: Net<Listener = TcpListener, Stream = TcpStream> + Drop> TcpDoor<N> {
                 self.faults = raised(self.faults);
                 Err(Fault::Failed)
             }
-            (Err(error), _) => {
-                self.faults = raised(self.faults);
-                Err(fault_of(&error))
-            }
+            (Err(error), _) => { Err(counted(&mut self.faults, &error)) }
         }
     }
 }
@@ -131,10 +122,7 @@ impl<N: Net<Listener = TcpListener, Stream = TcpStream> + Drop> Door for TcpDoor
                 self.listener = Some(listener);
                 Ok(())
             }
-            Err(error) => {
-                self.faults = raised(self.faults);
-                Err(fault_of(&error))
-            }
+            Err(error) => { Err(counted(&mut self.faults, &error)) }
         }
     }
 

@@ -1,15 +1,16 @@
 -- The status and the report's lines for each end of a run.
-use Rattle.std.specs.Prelude.{◌≡◌, ℕ, ◌<◌, ◌==◌, nat_le, length, if◌then◌else◌, ◌⊎◌, List, [], ◌∷◌, ◌++◌, codes, Option, Some, None, Result, Ok, Err}
+use Rattle.std.specs.Prelude.{◌≡◌, ℕ, nat_le, if◌then◌else◌, ◌⊎◌, List, [], ◌∷◌, ◌++◌, codes, Option, Some, None, Result, Ok, Err}
 use Rattle.std.specs.Fmt.{decimal}
 use Rattle.std.specs.String.{string_bytes}
 use Rattle.willow_outside.specs.Counts.{Rose}
 use Rattle.willow_outside.specs.Facts.{SinkFacts}
 use Rattle.mc_cap.specs.declared.refusal.RowRefusal.{RowRefusal}
 use Rattle.peer_text.specs.Refusals.{row_refusal_text}
+use Rattle.peer_stage.specs.Status.{status_of}
 use Rattle.peer_stage.specs.Stages.{IsWritten, IsPartlyWritten}
 use Rattle.peer_stage.specs.declared.outcome.JoinCounts.{JoinCounts}
 use Rattle.peer_stage.specs.declared.outcome.ShowCounts.{ShowCounts}
-use Rattle.peer_stage.specs.declared.outcome.RefusedRow.{RefusedRow}
+use Rattle.mc_cap.specs.declared.refusal.RefusedRow.{RefusedRow}
 use Rattle.peer_stage.specs.declared.outcome.Origin.{Origin}
 use Rattle.peer_stage.specs.declared.outcome.Origin.TheVariants as origin
 use Rattle.peer_stage.specs.declared.outcome.Done.{Done}
@@ -57,46 +58,33 @@ not_rising_line name row = line (codes "not rising " ++ (name ++ (codes " row " 
 abbrev pub pruned_line : List ℕ → ℕ → ℕ → List ℕ
 pruned_line name row by = line (codes "pruned " ++ (name ++ (codes " row " ++ (decimal row ++ (codes " by " ++ decimal by)))))
 
--- the lines of an end; what was made needs none
+-- the lines of what is done; what was made needs none
+abbrev pub done_lines : Done → List ℕ
+done_lines (done.Joined counts) = rows_line counts ++ first_line counts.first
+done_lines (done.Shown counts) = shown_line counts ++ first_line counts.first
+done_lines done.Made = []
+
+-- the line of a stop
+abbrev pub stop_line : Stop → List ℕ
+stop_line stop.Usage = line (codes "usage")
+stop_line stop.ReadFault = line (codes "read fault")
+stop_line stop.WriteFault = line (codes "write fault")
+stop_line (stop.BadInput from at) = bad_input_line (name_text from) at
+stop_line (stop.NotRising from row) = not_rising_line (name_text from) row
+stop_line (stop.Pruned from row by) = pruned_line (name_text from) row by
+stop_line (stop.Missing name) = line (codes "missing " ++ string_bytes name)
+stop_line (stop.Taken name) = line (codes "taken " ++ string_bytes name)
+stop_line (stop.Refused refusal) = codes "refused: " ++ refused_line refusal
+stop_line stop.NoMemory = line (codes "no memory")
+stop_line stop.LogFull = line (codes "log full")
+stop_line stop.KeySpent = line (codes "key spent")
+
+-- the lines of an end
 abbrev pub report_of : Result Done Stop → List ℕ
-report_of (Ok (done.Joined counts)) = rows_line counts ++ first_line counts.first
-report_of (Ok (done.Shown counts)) = shown_line counts ++ first_line counts.first
-report_of (Ok done.Made) = []
-report_of (Err stop.Usage) = line (codes "usage")
-report_of (Err stop.ReadFault) = line (codes "read fault")
-report_of (Err stop.WriteFault) = line (codes "write fault")
-report_of (Err (stop.BadInput from at)) = bad_input_line (name_text from) at
-report_of (Err (stop.NotRising from row)) = not_rising_line (name_text from) row
-report_of (Err (stop.Pruned from row by)) = pruned_line (name_text from) row by
-report_of (Err (stop.Missing name)) = line (codes "missing " ++ string_bytes name)
-report_of (Err (stop.Taken name)) = line (codes "taken " ++ string_bytes name)
-report_of (Err (stop.Refused refusal)) = codes "refused: " ++ refused_line refusal
-report_of (Err stop.NoMemory) = line (codes "no memory")
-report_of (Err stop.LogFull) = line (codes "log full")
-report_of (Err stop.KeySpent) = line (codes "key spent")
+report_of (Ok d) = done_lines d
+report_of (Err e) = stop_line e
 
 -- ---- the status
-
--- 0 where no row was refused, else 1
-abbrev pub refused_status : ℕ → ℕ
-refused_status refused = if refused == 0 then 0 else 1
-
-abbrev pub status_of : Result Done Stop → ℕ
-status_of (Ok (done.Joined counts)) = refused_status counts.refused
-status_of (Ok (done.Shown counts)) = refused_status counts.refused
-status_of (Ok done.Made) = 0
-status_of (Err (stop.Refused refusal)) = 1
-status_of (Err stop.Usage) = 2
-status_of (Err stop.ReadFault) = 3
-status_of (Err stop.WriteFault) = 4
-status_of (Err (stop.BadInput from at)) = 5
-status_of (Err (stop.NotRising from row)) = 5
-status_of (Err (stop.Pruned from row by)) = 5
-status_of (Err (stop.Missing name)) = 5
-status_of (Err (stop.Taken name)) = 5
-status_of (Err stop.NoMemory) = 7
-status_of (Err stop.LogFull) = 8
-status_of (Err stop.KeySpent) = 9
 
 -- a fault of the report gives 4 where the run itself ended with 0 or 1, and changes no other status
 abbrev pub after_report_fault : ℕ → ℕ
@@ -109,14 +97,13 @@ pub record IsReported (old new : SinkFacts) (end : Result Done Stop) (status : �
   pub status_is : status ≡ status_of end
   pub written : IsWritten old new (report_of end)
 
--- the report failed, after a front of the lines, of which there are some
+-- the report failed, after a front of the lines that is not all of them
 pub record IsReportFault (old new : SinkFacts) (end : Result Done Stop) (status : ℕ) : Type 0 where
   pub status_is : status ≡ after_report_fault (status_of end)
-  pub some_lines : 0 < length (report_of end)
   pub written : IsPartlyWritten old new (report_of end)
   pub fault : Rose old.faults new.faults
 
--- no memory was found for the lines
+-- no memory was found for the lines, of which not all are written
 pub record IsReportWithoutMemory (old new : SinkFacts) (end : Result Done Stop) (status : ℕ) : Type 0 where
   pub status_is : status ≡ 7
   pub written : IsPartlyWritten old new (report_of end)

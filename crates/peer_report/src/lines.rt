@@ -1,18 +1,19 @@
 //! The report's lines for each end of a run.
 
-ghost use Rattle.std.specs.Prelude.{◌≡◌, ◌++◌, IfOk, OnOk, Err, Ok};
+ghost use Rattle.std.specs.Prelude.{◌≡◌, ◌<◌, ◌++◌, length, IfOk, OnOk, OnErr};
 ghost use Rattle.peer_stage.specs.declared.outcome.Done.TheVariants as done;
-ghost use Rattle.peer_report.specs.Report.{report_of, rows_line, shown_line, first_line, name_text, refused_line, bad_input_line, not_rising_line, pruned_line};
+ghost use Rattle.peer_report.specs.Report.{report_of, stop_line, rows_line, shown_line, first_line, name_text, refused_line, bad_input_line, not_rising_line, pruned_line};
 
-use mc_cap::RowRefusal;
-use peer_stage::{Done, JoinCounts, Origin, RefusedRow, ShowCounts, Stop};
+use mc_cap::{RefusedRow, RowRefusal};
+use peer_stage::{Done, JoinCounts, Origin, ShowCounts, Stop};
 use peer_text::row_refusal_text;
 use spelling::{NoMemory, put_byte, put_bytes};
 use std::alloc::Global;
 
 /// The report's lines for a run that ended so.
 pub(crate) fn report_of(alloc: Global, end: &Result<Done, Stop>) -> Result<Vec<u8>, NoMemory>
-    ensures { IfOk result (λ text. text.items ≡ report_of end.now) }
+    ensures text { IfOk result (λ text. text.items ≡ report_of end.now) }
+    ensures some { OnErr result (0 < length (report_of end.now)) }
 {
     match end {
         Ok(Done::Joined(counts)) => joined_lines(alloc, counts),
@@ -81,7 +82,7 @@ fn put_refusal(refusal: RowRefusal, line: &mut Vec<u8>) -> Result<(), NoMemory>
 
 // The line of a stop.
 fn stop_line(alloc: Global, stop: &Stop) -> Result<Vec<u8>, NoMemory>
-    ensures { IfOk result (λ text. text.items ≡ report_of (Err stop.now)) }
+    ensures { IfOk result (λ text. text.items ≡ stop_line stop.now) }
 {
     match stop {
         Stop::Usage => plain_line(alloc, "usage\n"),

@@ -1,7 +1,8 @@
 //! The status of a run, and its report.
 
-ghost use Rattle.std.specs.Prelude.{◌≡◌, ◌≤◌};
-ghost use Rattle.peer_report.specs.Report.{status_of, after_report_fault, refused_status, Reports};
+ghost use Rattle.std.specs.Prelude.{◌≡◌, ◌≤◌, Ok};
+ghost use Rattle.peer_stage.specs.Status.{status_of, stop_status, refused_status};
+ghost use Rattle.peer_report.specs.Report.{after_report_fault, Reports};
 
 use crate::lines::report_of;
 use peer_stage::{Done, Stop, write_output};
@@ -13,21 +14,39 @@ fn status_of(end: &Result<Done, Stop>) -> u8
     ensures { result ≡ status_of end.now }
 {
     match end {
-        Ok(Done::Joined(counts)) => refused_status(counts.refused),
-        Ok(Done::Shown(counts)) => refused_status(counts.refused),
-        Ok(Done::Made) => 0,
-        Err(Stop::Refused(_)) => 1,
-        Err(Stop::Usage) => 2,
-        Err(Stop::ReadFault) => 3,
-        Err(Stop::WriteFault) => 4,
-        Err(Stop::BadInput { .. }) => 5,
-        Err(Stop::NotRising { .. }) => 5,
-        Err(Stop::Pruned { .. }) => 5,
-        Err(Stop::Missing { .. }) => 5,
-        Err(Stop::Taken { .. }) => 5,
-        Err(Stop::NoMemory) => 7,
-        Err(Stop::LogFull) => 8,
-        Err(Stop::KeySpent) => 9,
+        Ok(done) => done_status(done),
+        Err(stop) => stop_status(stop),
+    }
+}
+
+/// The status of what is done, by what was met on the way.
+fn done_status(done: &Done) -> u8
+    ensures { result ≡ status_of (Ok done.now) }
+{
+    match done {
+        Done::Joined(counts) => refused_status(counts.refused),
+        Done::Shown(counts) => refused_status(counts.refused),
+        Done::Made => 0,
+    }
+}
+
+/// The status of a stop.
+fn stop_status(stop: &Stop) -> u8
+    ensures { result ≡ stop_status stop.now }
+{
+    match stop {
+        Stop::Refused(_) => 1,
+        Stop::Usage => 2,
+        Stop::ReadFault => 3,
+        Stop::WriteFault => 4,
+        Stop::BadInput { .. } => 5,
+        Stop::NotRising { .. } => 5,
+        Stop::Pruned { .. } => 5,
+        Stop::Missing { .. } => 5,
+        Stop::Taken { .. } => 5,
+        Stop::NoMemory => 7,
+        Stop::LogFull => 8,
+        Stop::KeySpent => 9,
     }
 }
 

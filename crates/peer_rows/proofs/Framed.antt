@@ -9,20 +9,20 @@ use Rattle.lms_core.specs.Use.{peer_rules}
 use Rattle.cap_codec.specs.Rows.{RawValue, row_of, FitsFrame}
 use Rattle.cap_codec.proofs.RowReads.{body_short}
 use Rattle.auth_entry.specs.Authorised.{is_authorised}
-use Rattle.peer_image.specs.Image.{HasFrame}
-use Rattle.peer_rows.specs.Logged.{accepted}
+use Rattle.willow_entry.specs.Frame.{HasFrame}
+use Rattle.peer_rows.specs.Logged.{authorised_rows}
 
 all_members : (rows : List RowValue) → ((r : RowValue) → Member rows r → HasFrame r) → AllByRecursion HasFrame rows
 all_members [] each = tt
 all_members (r ∷ rows) each = (each r (inl refl), all_members rows (λ s m. each s (inr m)))
 
-accepted_framed : (n : List ℕ) (rows : List RawValue) → AllByRecursion FitsFrame rows → (r : RowValue) → Member (accepted n rows) r → HasFrame r
-accepted_framed n [] fit r m = absurd m
-accepted_framed n (x ∷ xs) fit r m = split (is_authorised peer_rules n x) (accepted_framed n xs fit.1 r) m where
-  split : (b : Bool) → (Member (accepted n xs) r → HasFrame r) → Member (map row_of (cond b (x ∷ filter (is_authorised peer_rules n) xs) (filter (is_authorised peer_rules n) xs))) r → HasFrame r
+authorised_framed : (n : List ℕ) (rows : List RawValue) → AllByRecursion FitsFrame rows → (r : RowValue) → Member (authorised_rows n rows) r → HasFrame r
+authorised_framed n [] fit r m = absurd m
+authorised_framed n (x ∷ xs) fit r m = split (is_authorised peer_rules n x) (authorised_framed n xs fit.1 r) m where
+  split : (b : Bool) → (Member (authorised_rows n xs) r → HasFrame r) → Member (map row_of (cond b (x ∷ filter (is_authorised peer_rules n) xs) (filter (is_authorised peer_rules n) xs))) r → HasFrame r
   split true more (inl same) = subst HasFrame same (body_short x fit.0)
   split true more (inr k) = more k
   split false more k = more k
 
-pub live_framed : (n : List ℕ) (rows : List RawValue) → AllByRecursion FitsFrame rows → AllByRecursion HasFrame (live (accepted n rows))
-live_framed n rows fit = all_members (live (accepted n rows)) (λ r m. accepted_framed n rows fit r (pruned_member is_dominating place_cmp rows_prune (accepted n rows) r m).0)
+pub live_framed : (n : List ℕ) (rows : List RawValue) → AllByRecursion FitsFrame rows → AllByRecursion HasFrame (live (authorised_rows n rows))
+live_framed n rows fit = all_members (live (authorised_rows n rows)) (λ r m. authorised_framed n rows fit r (pruned_member is_dominating place_cmp rows_prune (authorised_rows n rows) r m).0)

@@ -6,7 +6,7 @@ use Rattle.std.proofs.lemmas.List.FromFn.{map-range_with_len_more}
 use Rattle.willow_entry.specs.Frame.{row_frame}
 use Rattle.willow_entry.specs.RowBody.{row_body}
 use Rattle.cap_codec.specs.Rows.{RawValue, frame, row_of}
-use Rattle.peer_text.specs.Generator.{generated}
+use Rattle.peer_listing.specs.Generator.{generated}
 use Rattle.peer_rows.specs.Generate.{generated_frames}
 
 map_same : (xs : List ℕ) → map (λ (i : ℕ). i) xs ≡ xs

@@ -7,4 +7,5 @@ pub mod Framed
 pub mod Joined
 pub mod Listed
 pub mod Generated
-pub mod Valid
+pub mod Deeds
+pub mod Reading

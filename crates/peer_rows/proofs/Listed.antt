@@ -8,9 +8,9 @@ use Rattle.lms_core.specs.Use.{peer_rules}
 use Rattle.mc_cap.specs.declared.refusal.RowRefusal.{RowRefusal}
 use Rattle.cap_codec.specs.Rows.{RawValue}
 use Rattle.auth_entry.specs.Authorised.{row_refusal, is_authorised, authorised}
-use Rattle.peer_text.specs.Listing.{listing_line}
+use Rattle.peer_listing.specs.Listing.{listing_line}
 use Rattle.peer_stage.specs.declared.outcome.ShowCounts.{ShowCounts}
-use Rattle.peer_stage.specs.declared.outcome.RefusedRow.{RefusedRow}
+use Rattle.mc_cap.specs.declared.refusal.RefusedRow.{RefusedRow}
 use Rattle.peer_rows.specs.Listed.{IsListed, with_listed, with_left_out}
 use Rattle.peer_rows.proofs.Logged.{authorised_none, authorised_some, number, first-more, first-same}
 

@@ -14,8 +14,8 @@ use Rattle.auth_entry.specs.Authorised.{row_refusal, is_authorised}
 use Rattle.mc_cap.specs.declared.refusal.RowRefusal.{RowRefusal}
 use Rattle.spelling.specs.Answers.{or_else}
 use Rattle.peer_stage.specs.declared.outcome.JoinCounts.{JoinCounts}
-use Rattle.peer_stage.specs.declared.outcome.RefusedRow.{RefusedRow}
-use Rattle.peer_rows.specs.Logged.{accepted, numbered_refusal, first_refused, IsLogOf, with_refused, with_kept, with_stored}
+use Rattle.mc_cap.specs.declared.refusal.RefusedRow.{RefusedRow}
+use Rattle.peer_rows.specs.Logged.{authorised_rows, numbered_refusal, first_refused, IsLogOf, with_refused, with_kept, with_stored}
 use Rattle.peer_rows.proofs.Firsts.{first_some-snoc, or_else-none}
 use Rattle.peer_rows.proofs.NewRows.{unless, new_after-snoc}
 
@@ -27,15 +27,15 @@ pub authorised_some : (n : List ℕ) (r : RawValue) (x : RowRefusal) → row_ref
 unfolding is_authorised
 authorised_some n r x e = ap (λ (o : Option RowRefusal). not (is_some o)) e
 
-one_more : (n : List ℕ) (seen : List RawValue) (r : RawValue) → accepted n (seen ++ r ∷ []) ≡ accepted n seen ++ map row_of (filter (is_authorised peer_rules n) (r ∷ []))
+one_more : (n : List ℕ) (seen : List RawValue) (r : RawValue) → authorised_rows n (seen ++ r ∷ []) ≡ authorised_rows n seen ++ map row_of (filter (is_authorised peer_rules n) (r ∷ []))
 one_more n seen r =
     ap (map row_of) (filter-append (is_authorised peer_rules n) seen (r ∷ [])) ∙ map-append row_of (filter (is_authorised peer_rules n) seen) (filter (is_authorised peer_rules n) (r ∷ []))
 
-accepted-more : (n : List ℕ) (seen : List RawValue) (r : RawValue) → is_authorised peer_rules n r ≡ true → accepted n (seen ++ r ∷ []) ≡ accepted n seen ++ row_of r ∷ []
-accepted-more n seen r e = one_more n seen r ∙ ap (λ (b : Bool). accepted n seen ++ map row_of (cond b (r ∷ []) [])) e
+authorised_rows-more : (n : List ℕ) (seen : List RawValue) (r : RawValue) → is_authorised peer_rules n r ≡ true → authorised_rows n (seen ++ r ∷ []) ≡ authorised_rows n seen ++ row_of r ∷ []
+authorised_rows-more n seen r e = one_more n seen r ∙ ap (λ (b : Bool). authorised_rows n seen ++ map row_of (cond b (r ∷ []) [])) e
 
-accepted-same : (n : List ℕ) (seen : List RawValue) (r : RawValue) → is_authorised peer_rules n r ≡ false → accepted n (seen ++ r ∷ []) ≡ accepted n seen
-accepted-same n seen r e = one_more n seen r ∙ ap (λ (b : Bool). accepted n seen ++ map row_of (cond b (r ∷ []) [])) e ∙ append-nil (accepted n seen)
+authorised_rows-same : (n : List ℕ) (seen : List RawValue) (r : RawValue) → is_authorised peer_rules n r ≡ false → authorised_rows n (seen ++ r ∷ []) ≡ authorised_rows n seen
+authorised_rows-same n seen r e = one_more n seen r ∙ ap (λ (b : Bool). authorised_rows n seen ++ map row_of (cond b (r ∷ []) [])) e ∙ append-nil (authorised_rows n seen)
 
 -- ---- the test of what is new
 
@@ -92,7 +92,7 @@ first-same n seen r e = first-more n seen r None (length seen) refl e ∙ or_els
 pub IsLogOf-refused : (n : List ℕ) (seen : List RawValue) (held : List RowValue) (counts : JoinCounts) (r : RawValue) (x : RowRefusal)
     → row_refusal peer_rules n r ≡ Some x → IsLogOf n seen held counts → IsLogOf n (seen ++ r ∷ []) held (with_refused x counts)
 IsLogOf-refused n seen held counts r x e log =
-    let same = accepted-same n seen r (authorised_some n r x e) in
+    let same = authorised_rows-same n seen r (authorised_some n r x e) in
     let was = log.counted in
     record {
       held_is = log.held_is ∙ ap live (sym same);
@@ -106,25 +106,25 @@ IsLogOf-refused n seen held counts r x e log =
     }
 
 held_more : (n : List ℕ) (seen : List RawValue) (held held' : List RowValue) (r : RawValue)
-    → is_authorised peer_rules n r ≡ true → held ≡ live (accepted n seen) → held' ≡ live (held ++ row_of r ∷ []) → held' ≡ live (accepted n (seen ++ r ∷ []))
+    → is_authorised peer_rules n r ≡ true → held ≡ live (authorised_rows n seen) → held' ≡ live (held ++ row_of r ∷ []) → held' ≡ live (authorised_rows n (seen ++ r ∷ []))
 held_more n seen held held' r accepts is goes =
-    goes ∙ ap (λ (rows : List RowValue). live (rows ++ row_of r ∷ [])) is ∙ live_early_left (accepted n seen) (row_of r ∷ []) ∙ ap live (sym (accepted-more n seen r accepts))
+    goes ∙ ap (λ (rows : List RowValue). live (rows ++ row_of r ∷ [])) is ∙ live_early_left (authorised_rows n seen) (row_of r ∷ []) ∙ ap live (sym (authorised_rows-more n seen r accepts))
 
-one_longer : (n : List ℕ) (seen : List RawValue) (r : RawValue) → is_authorised peer_rules n r ≡ true → length (accepted n (seen ++ r ∷ [])) ≡ length (accepted n seen) + 1
-one_longer n seen r accepts = rw (accepted-more n seen r accepts) (omega (arith, length-append (accepted n seen) (row_of r ∷ [])))
+one_longer : (n : List ℕ) (seen : List RawValue) (r : RawValue) → is_authorised peer_rules n r ≡ true → length (authorised_rows n (seen ++ r ∷ [])) ≡ length (authorised_rows n seen) + 1
+one_longer n seen r accepts = rw (authorised_rows-more n seen r accepts) (omega (arith, length-append (authorised_rows n seen) (row_of r ∷ [])))
 
 pub IsLogOf-kept : (n : List ℕ) (seen : List RawValue) (held held' : List RowValue) (counts : JoinCounts) (r : RawValue)
     → row_refusal peer_rules n r ≡ None → HasCovering held (row_of r) → held' ≡ live (held ++ row_of r ∷ []) → IsLogOf n seen held counts → IsLogOf n (seen ++ r ∷ []) held' (with_kept counts)
 IsLogOf-kept n seen held held' counts r e covered goes log =
     let accepts = authorised_none n r e in
-    let covers = covering_from_live (accepted n seen) (row_of r) (subst (λ (rows : List RowValue). HasCovering rows (row_of r)) log.held_is covered) in
+    let covers = covering_from_live (authorised_rows n seen) (row_of r) (subst (λ (rows : List RowValue). HasCovering rows (row_of r)) log.held_is covered) in
     let was = log.counted in
     let longer = one_longer n seen r accepts in
     record {
       held_is = held_more n seen held held' r accepts log.held_is goes;
       counted = record {
         all = omega (arith, was.all, length-append seen (r ∷ []));
-        stored = was.stored ∙ ap length (sym (ap new (accepted-more n seen r accepts) ∙ new-covered (accepted n seen) (row_of r) covers));
+        stored = was.stored ∙ ap length (sym (ap new (authorised_rows-more n seen r accepts) ∙ new-covered (authorised_rows n seen) (row_of r) covers));
         kept = omega (arith, was.kept, longer);
         refused = omega (arith, was.refused, longer, length-append seen (r ∷ []));
         first = was.first ∙ sym (first-same n seen r e);
@@ -132,10 +132,10 @@ IsLogOf-kept n seen held held' counts r e covered goes log =
     }
 
 new_more : (n : List ℕ) (seen : List RawValue) (held : List RowValue) (r : RawValue)
-    → is_authorised peer_rules n r ≡ true → held ≡ live (accepted n seen) → (HasCovering held (row_of r) → ⊥) → new (accepted n (seen ++ r ∷ [])) ≡ new (accepted n seen) ++ row_of r ∷ []
+    → is_authorised peer_rules n r ≡ true → held ≡ live (authorised_rows n seen) → (HasCovering held (row_of r) → ⊥) → new (authorised_rows n (seen ++ r ∷ [])) ≡ new (authorised_rows n seen) ++ row_of r ∷ []
 new_more n seen held r accepts is none =
-    ap new (accepted-more n seen r accepts)
-    ∙ new-uncovered (accepted n seen) (row_of r) (λ c. none (subst (λ (rows : List RowValue). HasCovering rows (row_of r)) (sym is) (covering_to_live (accepted n seen) (row_of r) c)))
+    ap new (authorised_rows-more n seen r accepts)
+    ∙ new-uncovered (authorised_rows n seen) (row_of r) (λ c. none (subst (λ (rows : List RowValue). HasCovering rows (row_of r)) (sym is) (covering_to_live (authorised_rows n seen) (row_of r) c)))
 
 pub IsLogOf-stored : (n : List ℕ) (seen : List RawValue) (held held' : List RowValue) (counts : JoinCounts) (r : RawValue)
     → row_refusal peer_rules n r ≡ None → (HasCovering held (row_of r) → ⊥) → held' ≡ live (held ++ row_of r ∷ []) → IsLogOf n seen held counts → IsLogOf n (seen ++ r ∷ []) held' (with_stored counts)
@@ -148,7 +148,7 @@ IsLogOf-stored n seen held held' counts r e none goes log =
       held_is = held_more n seen held held' r accepts log.held_is goes;
       counted = record {
         all = omega (arith, was.all, length-append seen (r ∷ []));
-        stored = rw more (omega (arith, was.stored, length-append (new (accepted n seen)) (row_of r ∷ [])));
+        stored = rw more (omega (arith, was.stored, length-append (new (authorised_rows n seen)) (row_of r ∷ [])));
         kept = omega (arith, was.kept, longer);
         refused = omega (arith, was.refused, longer, length-append seen (r ∷ []));
         first = was.first ∙ sym (first-same n seen r e);

@@ -16,10 +16,10 @@ use Rattle.auth_entry.specs.Authorised.{is_authorised}
 use Rattle.willow_entry.specs.Pruning.{pruned, new_after}
 use Rattle.willow_entry.specs.Row.{RowValue, is_covering}
 use Rattle.cap_codec.specs.Rows.{RawValue, row_of, FitsFrame, frame, AreFrames}
-use Rattle.cap_codec.specs.Streams.{StopsAt, HasNoFrame}
+use Rattle.cap_codec.specs.Streams.{FramesStopAt, HasNoFrame}
 use Rattle.cap_codec.proofs.Frames.{FramesSo, frame_long, frame_on}
 use Rattle.peer_rows.proofs.NewRows.{new_after-longer}
-use Rattle.peer_rows.specs.Logged.{accepted, rows_of, AreCounts, IsLogOf, Offers, PassesLog}
+use Rattle.peer_rows.specs.Logged.{authorised_rows, stored_rows, AreCounts, IsLogOf, Offers, PassesLog}
 use Rattle.peer_rows.specs.Stored.{IsWholeLog, LogsBytes, StopsFull}
 use Rattle.peer_rows.specs.declared.log.LogFull.{LogFull}
 use Rattle.peer_rows.specs.declared.log.Log.{Log}
@@ -32,7 +32,7 @@ use Rattle.peer_stage.specs.declared.outcome.Stop.TheVariants as stop
 pub record HasSeen (namespace bytes left : List ℕ) (log : Log) : Type 0 where
   pub seen : List RawValue
   pub frames : FramesSo bytes seen left
-  pub is_log : IsLogOf namespace seen (rows_of log.store) log.counts
+  pub is_log : IsLogOf namespace seen (stored_rows log.store) log.counts
   pub fits : log.counts.stored ≤ LOG_LIMIT
 
 -- nothing is counted yet
@@ -50,7 +50,7 @@ HasSeen-start namespace bytes left log same empty none = record {
   seen = [];
   frames = record { fit = tt; parts = sym same };
   is_log = record {
-    held_is = ap rows_of empty;
+    held_is = ap stored_rows empty;
     counted = subst (λ (counts : JoinCounts). AreCounts namespace [] counts) (sym none) (counts_none namespace);
   };
   fits = rw none (omega arith);
@@ -62,7 +62,7 @@ frames_on bytes left left' seen row taken so one is = rw is (frame_on bytes left
 
 -- one more frame is read, and its row offered
 pub HasSeen-goes : (namespace bytes left left' : List ℕ) (row : RawValue) (taken : ℕ) (log log' : Log) → (h : HasSeen namespace bytes left log) → Decodes frame FitsFrame left (Ok (row, taken)) → left' ≡ drop taken left
-    → IsLogOf namespace (h.seen ++ row ∷ []) (rows_of log'.store) log'.counts → log'.counts.stored ≤ LOG_LIMIT → HasSeen namespace bytes left' log'
+    → IsLogOf namespace (h.seen ++ row ∷ []) (stored_rows log'.store) log'.counts → log'.counts.stored ≤ LOG_LIMIT → HasSeen namespace bytes left' log'
 HasSeen-goes namespace bytes left left' row taken log log' h one is next fits =
     record { seen = h.seen ++ row ∷ []; frames = frames_on bytes left left' h.seen row taken h.frames one is; is_log = next; fits = fits }
 
@@ -92,7 +92,7 @@ HasSeen-all namespace bytes [] log none h = (
 HasSeen-all namespace bytes (byte ∷ left) log none h = absurd (nothing_below none)
 
 -- behind the frames of some rows something else is left
-pub stops_there : (bytes left : List ℕ) (seen : List RawValue) (at : ℕ) → FramesSo bytes seen left → 0 < length left → HasNoFrame left → at ≡ length bytes - length left → StopsAt bytes at
+pub stops_there : (bytes left : List ℕ) (seen : List RawValue) (at : ℕ) → FramesSo bytes seen left → 0 < length left → HasNoFrame left → at ≡ length bytes - length left → FramesStopAt bytes at
 stops_there bytes left seen at so more none is = record {
   rows = seen;
   left = left;
@@ -101,11 +101,11 @@ stops_there bytes left seen at so more none is = record {
   more = more;
 }
 
-accepted-append : (n : List ℕ) (xs ys : List RawValue) → accepted n (xs ++ ys) ≡ accepted n xs ++ accepted n ys
-accepted-append n xs ys = ap (map row_of) (filter-append (is_authorised peer_rules n) xs ys) ∙ map-append row_of (filter (is_authorised peer_rules n) xs) (filter (is_authorised peer_rules n) ys)
+authorised_rows-append : (n : List ℕ) (xs ys : List RawValue) → authorised_rows n (xs ++ ys) ≡ authorised_rows n xs ++ authorised_rows n ys
+authorised_rows-append n xs ys = ap (map row_of) (filter-append (is_authorised peer_rules n) xs ys) ∙ map-append row_of (filter (is_authorised peer_rules n) xs) (filter (is_authorised peer_rules n) ys)
 
 PassesLog-longer : (n : List ℕ) (rows more : List RawValue) → PassesLog n rows → PassesLog n (rows ++ more)
-PassesLog-longer n rows more passes = rw (accepted-append n rows more) (omega (arith, passes, new_after-longer is_covering [] (accepted n rows) (accepted n more)))
+PassesLog-longer n rows more passes = rw (authorised_rows-append n rows more) (omega (arith, passes, new_after-longer is_covering [] (authorised_rows n rows) (authorised_rows n more)))
 
 -- frames of rows behind frames of rows
 frames_behind : (bytes left rest : List ℕ) (rows more : List RawValue) → FramesSo bytes rows left → left ≡ flat_map frame more ++ rest → bytes ≡ flat_map frame (rows ++ more) ++ rest

@@ -9,17 +9,17 @@ use Rattle.mc_cap.specs.declared.refusal.RowRefusal.{RowRefusal}
 use Rattle.cap_codec.specs.Rows.{RawValue, row_of}
 use Rattle.auth_entry.specs.Authorised.{AuthorisedValue, authorised, row_refusal}
 use Rattle.peer_stage.specs.declared.outcome.JoinCounts.{JoinCounts}
-use Rattle.peer_stage.specs.declared.outcome.RefusedRow.{RefusedRow}
+use Rattle.mc_cap.specs.declared.refusal.RefusedRow.{RefusedRow}
 use Rattle.peer_rows.specs.declared.log.LogFull.{LogFull}
 use Rattle.peer_rows.specs.declared.log.TheConstants.{LOG_LIMIT}
 
 -- the rows that are authorised, in order, as a store sees them
-abbrev pub accepted : List ℕ → List RawValue → List RowValue
-accepted namespace rows = map row_of (authorised peer_rules namespace rows)
+abbrev pub authorised_rows : List ℕ → List RawValue → List RowValue
+authorised_rows namespace rows = map row_of (authorised peer_rules namespace rows)
 
 -- the rows of authorised entries, as a store sees them
-abbrev pub rows_of : List AuthorisedValue → List RowValue
-rows_of = map (λ a. row_of a.row)
+abbrev pub stored_rows : List AuthorisedValue → List RowValue
+stored_rows = map (λ a. row_of a.row)
 
 -- ---- refused rows
 
@@ -37,9 +37,9 @@ first_refused namespace rows = first_some (numbered_refusal namespace) 1 rows
 -- covered, those that are not authorised, and the first of these
 pub record AreCounts (namespace : List ℕ) (rows : List RawValue) (counts : JoinCounts) : Type 0 where
   pub all : counts.rows ≡ length rows
-  pub stored : counts.stored ≡ length (new (accepted namespace rows))
-  pub kept : counts.stored + counts.kept ≡ length (accepted namespace rows)
-  pub refused : length (accepted namespace rows) + counts.refused ≡ length rows
+  pub stored : counts.stored ≡ length (new (authorised_rows namespace rows))
+  pub kept : counts.stored + counts.kept ≡ length (authorised_rows namespace rows)
+  pub refused : length (authorised_rows namespace rows) + counts.refused ≡ length rows
   pub first : counts.first ≡ first_refused namespace rows
 
 -- the numbers with one row more that was stored
@@ -60,18 +60,18 @@ with_refused refusal counts = record counts {
 
 -- ---- the log
 
--- Of the rows seen, the live ones among the accepted are held, and these are the numbers.
+-- Of the rows seen, the live ones among the authorised are held, and these are the numbers.
 pub record IsLogOf (namespace : List ℕ) (seen : List RawValue) (held : List RowValue) (counts : JoinCounts) : Type 0 where
-  pub held_is : held ≡ live (accepted namespace seen)
+  pub held_is : held ≡ live (authorised_rows namespace seen)
   pub counted : AreCounts namespace seen counts
 
 -- every row that would be stored found room
 abbrev pub FitsLog : List ℕ → List RawValue → Type 0
-FitsLog namespace rows = length (new (accepted namespace rows)) ≤ LOG_LIMIT
+FitsLog namespace rows = length (new (authorised_rows namespace rows)) ≤ LOG_LIMIT
 
 -- a row that would be stored met a full log
 abbrev pub PassesLog : List ℕ → List RawValue → Type 0
-PassesLog namespace rows = LOG_LIMIT < length (new (accepted namespace rows))
+PassesLog namespace rows = LOG_LIMIT < length (new (authorised_rows namespace rows))
 
 -- how the offer of a row ends, over the rows seen before it: the log is that of the rows with this one, or
 -- the row would be stored and is one too many

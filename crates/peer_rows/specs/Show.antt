@@ -2,19 +2,18 @@
 use Rattle.std.specs.Prelude.{◌≡◌, ℕ, ◌+◌, ◌⊎◌, List, ◌++◌, length, map, None, Result, Ok, Err}
 use Rattle.std.specs.List.{flat_map}
 use Rattle.std.specs.Global.{Vec}
-use Rattle.willow_outside.specs.Counts.{Rose}
-use Rattle.willow_outside.specs.Facts.{SourceFacts, SinkFacts}
+use Rattle.willow_outside.specs.Facts.{SourceFacts}
 use Rattle.lms_core.specs.Use.{peer_rules}
 use Rattle.cap_codec.specs.Rows.{RawValue, row_of}
 use Rattle.auth_entry.specs.Authorised.{authorised}
-use Rattle.peer_text.specs.Listing.{listing_head, listing_line}
+use Rattle.peer_listing.specs.Listing.{listing_head, listing_line}
 use Rattle.peer_image.specs.ImageReading.{IsImage, IsWrong, IsMisordered}
 use Rattle.peer_image.specs.Order.{order_refusal}
 use Rattle.peer_image.specs.declared.refusal.ImageRefusal.{ImageRefusal}
 use Rattle.peer_image.specs.declared.refusal.ImageRefusal.TheVariants as refusal
 use Rattle.peer_rows.specs.Logged.{first_refused}
-use Rattle.peer_rows.specs.Join.{IsReadSomewhat}
-use Rattle.peer_stage.specs.Stages.{IsInput, IsReadWhole, IsReadTooFar, IsReadToFault, IsWritten, IsPartlyWritten}
+use Rattle.peer_stage.specs.Steps.{Step, Then, OnInput, OnOutput}
+use Rattle.peer_stage.specs.Stages.{IsInput, IsReadWhole, IsReadTooFar, IsReadToFault, IsReadSomewhat, Writes}
 use Rattle.peer_stage.specs.declared.stage.TheConstants.{INPUT_LIMIT}
 use Rattle.peer_stage.specs.declared.outcome.ShowCounts.{ShowCounts}
 use Rattle.peer_stage.specs.declared.outcome.Done.{Done}
@@ -56,40 +55,36 @@ ShowsBytes bytes (Err (stop.Pruned origin row by)) = IsMisordered bytes (refusal
 ShowsBytes bytes (Err stop.NoMemory) = Unit {0}
 ShowsBytes bytes (Err e) = ⊥
 
--- ---- over the outside
+-- ---- over the bytes taken of the input
 
--- the showing came to its end: the input was read whole, and the listing is written
-pub record IsShown (i i' : SourceFacts) (o o' : SinkFacts) (counts : ShowCounts) : Type 0 where
+-- the input was read whole, and its listing is this text, with these numbers
+pub record IsShownRead (i i' : SourceFacts) (text : List ℕ) (counts : ShowCounts) : Type 0 where
   pub bytes : List ℕ
-  pub read : IsReadWhole i i' bytes
-  pub text : List ℕ
+  pub read : IsReadWhole INPUT_LIMIT i i' bytes
   pub shown : IsShownOf bytes text counts
-  pub written : IsWritten o o' text
-
--- the input was read whole, and a front of the listing is written
-pub record IsShownPartly (i i' : SourceFacts) (o o' : SinkFacts) : Type 0 where
-  pub bytes : List ℕ
-  pub read : IsReadWhole i i' bytes
-  pub text : List ℕ
-  pub counts : ShowCounts
-  pub shown : IsShownOf bytes text counts
-  pub written : IsPartlyWritten o o' text
 
 -- the input passes the limit, which is told as its place, or was read whole and goes wrong at this place
 abbrev pub IsBadImage : SourceFacts → SourceFacts → ℕ → Type 0
-IsBadImage i i' at = (bytes : List ℕ) × ((IsReadTooFar i i' bytes × (at ≡ INPUT_LIMIT)) ⊎ (IsReadWhole i i' bytes × IsWrong bytes at))
+IsBadImage i i' at = (bytes : List ℕ) × ((IsReadTooFar INPUT_LIMIT i i' bytes × (at ≡ INPUT_LIMIT)) ⊎ (IsReadWhole INPUT_LIMIT i i' bytes × IsWrong bytes at))
 
 -- the input was read whole, and is an image of rows that are refused just so for their order
 abbrev pub IsReadMisordered : SourceFacts → SourceFacts → ImageRefusal → Type 0
-IsReadMisordered i i' refused = (bytes : List ℕ) × IsReadWhole i i' bytes × IsMisordered bytes refused
+IsReadMisordered i i' refused = (bytes : List ℕ) × IsReadWhole INPUT_LIMIT i i' bytes × IsMisordered bytes refused
 
--- how the input and the output stand at each end of a showing
-abbrev pub ShowMeets : SourceFacts → SourceFacts → SinkFacts → SinkFacts → Result Done Stop → Type 0
-ShowMeets i i' o o' (Ok (done.Shown counts)) = IsShown i i' o o' counts
-ShowMeets i i' o o' (Err stop.WriteFault) = IsShownPartly i i' o o' × Rose o.faults o'.faults
-ShowMeets i i' o o' (Err stop.ReadFault) = ((bytes : List ℕ) × IsReadToFault i i' bytes) × (o' ≡ o)
-ShowMeets i i' o o' (Err (stop.BadInput origin at)) = IsBadImage i i' at × IsInput origin × (o' ≡ o)
-ShowMeets i i' o o' (Err (stop.NotRising origin row)) = IsReadMisordered i i' (refusal.NotRising row) × IsInput origin × (o' ≡ o)
-ShowMeets i i' o o' (Err (stop.Pruned origin row by)) = IsReadMisordered i i' (refusal.Pruned row by) × IsInput origin × (o' ≡ o)
-ShowMeets i i' o o' (Err stop.NoMemory) = IsReadSomewhat i i' × ((o' ≡ o) ⊎ IsShownPartly i i' o o')
-ShowMeets i i' o o' e = ⊥
+-- how the reading and listing of an input ends: with the head, the lines and the numbers
+abbrev pub ShowsInput : SourceFacts → SourceFacts → Result (Vec ℕ × Vec ℕ × ShowCounts) Stop → Type 0
+ShowsInput i i' (Ok x) = IsShownRead i i' (x.0.items ++ x.1.items) x.2
+ShowsInput i i' (Err stop.ReadFault) = (bytes : List ℕ) × IsReadToFault INPUT_LIMIT i i' bytes
+ShowsInput i i' (Err (stop.BadInput origin at)) = IsBadImage i i' at × IsInput origin
+ShowsInput i i' (Err (stop.NotRising origin row)) = IsReadMisordered i i' (refusal.NotRising row) × IsInput origin
+ShowsInput i i' (Err (stop.Pruned origin row by)) = IsReadMisordered i i' (refusal.Pruned row by) × IsInput origin
+ShowsInput i i' (Err stop.NoMemory) = IsReadSomewhat i i'
+ShowsInput i i' (Err e) = ⊥
+
+-- ---- the command
+
+-- It reads an image from the input, authorises its rows, and writes the listing.
+abbrev pub Shows : Step Done
+Shows =
+    Then (OnInput ShowsInput) (λ x.
+    OnOutput (Writes (x.0.items ++ x.1.items) (done.Shown x.2)))

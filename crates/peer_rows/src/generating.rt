@@ -1,20 +1,20 @@
 //! `generate`: the frames of the generator's rows.
 
 ghost use Rattle.std.specs.Prelude.{◌≡◌, ◌≤◌, IfOk};
-ghost use Rattle.peer_rows.specs.Generate.{generated_frames, GenMeets};
+ghost use Rattle.peer_stage.specs.World.{World};
+ghost use Rattle.peer_rows.specs.Generate.{generated_frames, Generates};
 
 use cap_codec::encode_frame;
+use peer_listing::{GENERATED_ROWS, generated_row};
 use peer_stage::{Done, Stop, write_output};
-use peer_text::generated_row;
 use spelling::NoMemory;
 use std::alloc::Global;
 use willow_outside::Sink;
 
-/// Writes the frames of the first `rows` rows of the generator, from row 0 on. There are at most 65,536.
+/// Writes the frames of the first `rows` rows of the generator, from row 0 on. There are at most `LOG_LIMIT`.
 pub fn generate<O: Sink>(alloc: Global, rows: u32, output: &mut O) -> Result<Done, Stop>
-    requires { rows ≤ 65536 }
-    ensures meets { GenMeets rows (O.facts output.old) (O.facts output.new) result }
-    ensures output_faults { (O.facts output.old).faults ≤ (O.facts output.new).faults }
+    requires { rows ≤ GENERATED_ROWS }
+    ensures { (others : World) → Generates rows (record others { output = O.facts output.old }) (record others { output = O.facts output.new }) result }
 {
     let frames = generated_frames(alloc, rows)?;
     write_output(output, &frames)?;
@@ -23,7 +23,7 @@ pub fn generate<O: Sink>(alloc: Global, rows: u32, output: &mut O) -> Result<Don
 
 // The frames of the first rows, one after the other.
 fn generated_frames(alloc: Global, rows: u32) -> Result<Vec<u8>, NoMemory>
-    requires { rows ≤ 65536 }
+    requires { rows ≤ GENERATED_ROWS }
     ensures { IfOk result (λ frames. frames.items ≡ generated_frames rows) }
 {
     let mut frames = Vec::new(alloc);

@@ -1,15 +1,14 @@
 //! `join`: the image of the live rows among the authorised rows of the input.
 
 ghost use Rattle.std.specs.Prelude.{◌≡◌, ◌+◌, ◌^◌, ◌<◌, ◌≤◌, length};
-ghost use Rattle.peer_rows.specs.Join.{JoinMeets, JoinsBytes};
+ghost use Rattle.peer_stage.specs.World.{World};
+ghost use Rattle.peer_rows.specs.Join.{Joins, JoinsInput, JoinsBytes};
 ghost use Rattle.peer_rows.specs.Stored.{LogsBytes, StopsFull};
-ghost use Rattle.peer_stage.specs.declared.outcome.Origin.TheVariants as origin;
-ghost use Rattle.peer_stage.specs.declared.outcome.Stop.TheVariants as stop;
 
 use crate::log::{Log, LogFull};
 use cap_codec::{BadFrames, behind, decode_frame, read_frames};
 use peer_image::write_image;
-use peer_stage::{Done, JoinCounts, Origin, Stop, read_input, write_output};
+use peer_stage::{Done, INPUT_LIMIT, JoinCounts, Stop, read_input, write_output};
 use spelling::{End, NotHere};
 use std::alloc::Global;
 use willow_outside::{Sink, Source};
@@ -23,15 +22,27 @@ pub fn join<I: Source, O: Sink>(
     input: &mut I,
     output: &mut O,
 ) -> Result<Done, Stop>
-    ensures meets { JoinMeets namespace.now (I.facts input.old) (I.facts input.new) (O.facts output.old) (O.facts output.new) result }
-    ensures input_faults { (I.facts input.old).faults ≤ (I.facts input.new).faults }
-    ensures input_ends { (I.facts input.old).ends ≤ (I.facts input.new).ends }
-    ensures output_faults { (O.facts output.old).faults ≤ (O.facts output.new).faults }
+    ensures { (others : World) → Joins namespace.now
+        (record others { input = I.facts input.old; output = O.facts output.old })
+        (record others { input = I.facts input.new; output = O.facts output.new }) result }
 {
-    let bytes = read_input(alloc, input)?;
-    let (image, counts) = join_bytes(alloc, namespace, &bytes)?;
+    let (image, counts) = join_input(alloc, namespace, input)?;
     write_output(output, &image)?;
     Ok(Done::Joined(counts))
+}
+
+// The image and the numbers of the rows of the input.
+fn join_input<I: Source>(
+    alloc: Global,
+    namespace: &NamespaceKey,
+    input: &mut I,
+) -> Result<(Vec<u8>, JoinCounts), Stop>
+    ensures joins { JoinsInput namespace.now (I.facts input.old) (I.facts input.new) result }
+    ensures faults { (I.facts input.old).faults ≤ (I.facts input.new).faults }
+    ensures ends { (I.facts input.old).ends ≤ (I.facts input.new).ends }
+{
+    let bytes = read_input(alloc, input, INPUT_LIMIT)?;
+    join_bytes(alloc, namespace, &bytes)
 }
 
 // The image and the numbers of a stream of rows.
@@ -58,7 +69,7 @@ fn log_of(alloc: Global, namespace: &NamespaceKey, bytes: &[u8]) -> Result<Log, 
     'frames: while left.len() > 0 {
         let (row, taken) = match decode_frame(alloc, left) {
             Ok(read) => read,
-            Err(End::Refused(NotHere)) => return Err(bad_input(whole - left.len())),
+            Err(End::Refused(NotHere)) => return Err(Stop::bad_input((whole - left.len()) as u64)),
             Err(End::NoMemory) => return Err(Stop::NoMemory),
         };
         left = behind(left, taken);
@@ -81,17 +92,7 @@ fn full_stop(alloc: Global, behind: &[u8], before: usize) -> Stop
 {
     match read_frames(alloc, behind) {
         Ok(_) => Stop::LogFull,
-        Err(End::Refused(BadFrames { at })) => bad_input(before + at),
+        Err(End::Refused(BadFrames { at })) => Stop::bad_input((before + at) as u64),
         Err(End::NoMemory) => Stop::NoMemory,
-    }
-}
-
-// The input goes wrong at this offset.
-fn bad_input(at: usize) -> Stop
-    ensures { result ≡ stop.BadInput origin.Input at }
-{
-    Stop::BadInput {
-        origin: Origin::Input,
-        at: at as u64,
     }
 }

@@ -5,12 +5,13 @@
 
 mod generating;
 mod joining;
-mod known;
+mod laws;
 mod log;
 mod showing;
 
 pub use generating::generate;
 pub use joining::join;
+pub use laws::log_limit;
 pub use log::LOG_LIMIT;
 pub use showing::show;
 

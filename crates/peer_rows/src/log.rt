@@ -5,14 +5,14 @@ ghost use Rattle.spelling.specs.Answers.{or_else};
 ghost use Rattle.cap_codec.specs.Rows.{RawValue};
 ghost use Rattle.auth_entry.specs.Authorised.{row_refusal};
 ghost use Rattle.lms_core.specs.Use.{peer_rules};
-ghost use Rattle.peer_rows.specs.Logged.{IsLogOf, Offers, rows_of, with_stored, with_kept, with_refused};
+ghost use Rattle.peer_rows.specs.Logged.{IsLogOf, Offers, stored_rows, with_stored, with_kept, with_refused};
 
-use crate::known::Known;
-use auth_entry::{AuthorisedEntry, RowRefusal};
+use auth_entry::{AuthorisedEntry, KnownCapabilities, RowRefusal};
 use block_store::BlockStore;
 use cap_codec::RawRow;
 use lms_core::PeerScheme;
-use peer_stage::{JoinCounts, RefusedRow};
+use mc_cap::RefusedRow;
+use peer_stage::JoinCounts;
 use spelling::End;
 use std::alloc::Global;
 use willow_entry::Placed;
@@ -30,7 +30,7 @@ pub(crate) struct LogFull;
 pub(crate) struct Log {
     pub(crate) store: BlockStore<AuthorisedEntry<PeerScheme>>,
     pub(crate) counts: JoinCounts,
-    known: Known,
+    known: KnownCapabilities<PeerScheme>,
     ghost few: { length store ≤ counts.stored },
     ghost sums: { counts.stored + counts.kept + counts.refused ≡ counts.rows },
 }
@@ -50,7 +50,7 @@ impl Log {
         Log {
             store: BlockStore::new(alloc),
             counts,
-            known: Known::new(alloc),
+            known: KnownCapabilities::new(alloc, PeerScheme),
         }
     }
 
@@ -63,8 +63,8 @@ impl Log {
     ) -> Result<(), End<LogFull>>
         requires few { self.old.counts.rows < 2 ^ 64 - 1 }
         requires fits { self.old.counts.stored ≤ LOG_LIMIT }
-        ensures offers { (seen : List RawValue) → IsLogOf namespace.now seen (rows_of self.old.store) self.old.counts
-            → Offers namespace.now seen row (rows_of self.new.store) self.new.counts result }
+        ensures offers { (seen : List RawValue) → IsLogOf namespace.now seen (stored_rows self.old.store) self.old.counts
+            → Offers namespace.now seen row (stored_rows self.new.store) self.new.counts result }
         ensures fits { OnOk result (self.new.counts.stored ≤ LOG_LIMIT) }
     {
         match self.known.check(alloc, namespace, &row) {
@@ -96,8 +96,8 @@ impl Log {
     fn keep(&mut self, entry: AuthorisedEntry<PeerScheme>) -> Result<(), End<LogFull>>
         requires few { self.old.counts.rows < 2 ^ 64 - 1 }
         requires fits { self.old.counts.stored ≤ LOG_LIMIT }
-        ensures offers { (seen : List RawValue) → row_refusal peer_rules entry.namespace entry.row ≡ None → IsLogOf entry.namespace seen (rows_of self.old.store) self.old.counts
-            → Offers entry.namespace seen entry.row (rows_of self.new.store) self.new.counts result }
+        ensures offers { (seen : List RawValue) → row_refusal peer_rules entry.namespace entry.row ≡ None → IsLogOf entry.namespace seen (stored_rows self.old.store) self.old.counts
+            → Offers entry.namespace seen entry.row (stored_rows self.new.store) self.new.counts result }
         ensures fits { OnOk result (self.new.counts.stored ≤ LOG_LIMIT) }
     {
         match self.store.ingest(entry)? {

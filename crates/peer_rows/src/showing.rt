@@ -4,16 +4,18 @@ ghost use Rattle.std.specs.Prelude.{◌≡◌, ◌+◌, ◌-◌, ◌≤◌, ◌<
 ghost use Rattle.lms_core.specs.Use.{peer_rules};
 ghost use Rattle.cap_codec.specs.Rows.{RawValue};
 ghost use Rattle.auth_entry.specs.Authorised.{row_refusal};
-ghost use Rattle.peer_rows.specs.Show.{ShowMeets, ShowsBytes};
+ghost use Rattle.peer_stage.specs.World.{World};
+ghost use Rattle.peer_rows.specs.Show.{Shows, ShowsInput, ShowsBytes};
 ghost use Rattle.peer_rows.specs.Listed.{IsListed, IsListing, with_listed, with_left_out};
 
-use crate::known::Known;
 use crate::log::first_of;
-use auth_entry::RowRefusal;
+use auth_entry::{KnownCapabilities, RowRefusal};
 use cap_codec::RawRow;
+use lms_core::PeerScheme;
+use mc_cap::RefusedRow;
 use peer_image::{ImageRefusal, read_image};
-use peer_stage::{Done, Origin, RefusedRow, ShowCounts, Stop, read_input, write_both};
-use peer_text::{listing_head, listing_line};
+use peer_listing::{listing_head, listing_line};
+use peer_stage::{Done, INPUT_LIMIT, Origin, ShowCounts, Stop, read_input, write_both};
 use spelling::{End, NoMemory};
 use std::alloc::Global;
 use willow_entry::Row;
@@ -24,15 +26,26 @@ use willow_path::NamespaceKey;
 /// namespace: a head with their number, and the line of each, in the order of the image. Told are the numbers of
 /// all rows and of those left out, with the first of these, counted from 1.
 pub fn show<I: Source, O: Sink>(alloc: Global, input: &mut I, output: &mut O) -> Result<Done, Stop>
-    ensures meets { ShowMeets (I.facts input.old) (I.facts input.new) (O.facts output.old) (O.facts output.new) result }
-    ensures input_faults { (I.facts input.old).faults ≤ (I.facts input.new).faults }
-    ensures input_ends { (I.facts input.old).ends ≤ (I.facts input.new).ends }
-    ensures output_faults { (O.facts output.old).faults ≤ (O.facts output.new).faults }
+    ensures { (others : World) → Shows
+        (record others { input = I.facts input.old; output = O.facts output.old })
+        (record others { input = I.facts input.new; output = O.facts output.new }) result }
 {
-    let bytes = read_input(alloc, input)?;
-    let (head, lines, counts) = show_bytes(alloc, &bytes)?;
+    let (head, lines, counts) = show_input(alloc, input)?;
     write_both(output, &head, &lines)?;
     Ok(Done::Shown(counts))
+}
+
+// The head and the lines of the listing of the input's image, and the numbers.
+fn show_input<I: Source>(
+    alloc: Global,
+    input: &mut I,
+) -> Result<(Vec<u8>, Vec<u8>, ShowCounts), Stop>
+    ensures shows { ShowsInput (I.facts input.old) (I.facts input.new) result }
+    ensures faults { (I.facts input.old).faults ≤ (I.facts input.new).faults }
+    ensures ends { (I.facts input.old).ends ≤ (I.facts input.new).ends }
+{
+    let bytes = read_input(alloc, input, INPUT_LIMIT)?;
+    show_bytes(alloc, &bytes)
 }
 
 // The head and the lines of the listing of an image, and the numbers.
@@ -41,10 +54,7 @@ fn show_bytes(alloc: Global, bytes: &[u8]) -> Result<(Vec<u8>, Vec<u8>, ShowCoun
 {
     match read_image(alloc, bytes) {
         Ok(image) => Ok(list_rows(alloc, &image.namespace, &image.rows)?),
-        Err(End::Refused(ImageRefusal::BadImage { at })) => Err(Stop::BadInput {
-            origin: Origin::Input,
-            at,
-        }),
+        Err(End::Refused(ImageRefusal::BadImage { at })) => Err(Stop::bad_input(at)),
         Err(End::Refused(ImageRefusal::NotRising { at })) => Err(Stop::NotRising {
             origin: Origin::Input,
             row: at,
@@ -99,7 +109,7 @@ impl Listing {
             lines: Vec::new(alloc),
             counts,
         };
-        let mut known = Known::new(alloc);
+        let mut known = KnownCapabilities::new(alloc, PeerScheme);
         for row in rows {
             listing.add(alloc, &mut known, namespace, row)?;
         }
@@ -110,7 +120,7 @@ impl Listing {
     fn add(
         &mut self,
         alloc: Global,
-        known: &mut Known,
+        known: &mut KnownCapabilities<PeerScheme>,
         namespace: &NamespaceKey,
         row: &RawRow,
     ) -> Result<(), NoMemory>

@@ -3,8 +3,8 @@
 ghost use Rattle.std.specs.Prelude.{◌≤◌};
 
 use super::*;
-use mc_cap::RowRefusal;
-use peer_stage::{Done, Origin, RefusedRow, ShowCounts, Stop};
+use mc_cap::{RefusedRow, RowRefusal};
+use peer_stage::{Done, Origin, ShowCounts, Stop};
 use std::alloc::Global;
 use willow_outside::{MemSink, MemSource};
 
@@ -75,7 +75,8 @@ fn joined(alloc: Global, texts: &[&str]) -> Option<Vec<u8>> {
 // How a command ended over the input.
 #[derive(Clone, Copy, Debug, PartialEq, Eq)]
 enum Ended {
-    Done(Done),
+    Shown(ShowCounts),
+    Made,
     Bad(u64),
     NotRising(u32),
     Pruned(u32, u32),
@@ -86,7 +87,8 @@ enum Ended {
 
 fn ending_of(end: Result<Done, Stop>) -> Ended {
     match end {
-        Ok(done) => Ended::Done(done),
+        Ok(Done::Shown(counts)) => Ended::Shown(counts),
+        Ok(Done::Made) => Ended::Made,
         Err(
             Stop::BadInput {
                 origin: Origin::Input,
@@ -108,16 +110,16 @@ fn ending_of(end: Result<Done, Stop>) -> Ended {
         ) => Ended::Pruned(row, by),
         Err(Stop::ReadFault) => Ended::ReadFault,
         Err(Stop::WriteFault) => Ended::WriteFault,
-        Err(_) => Ended::Otherwise,
+        _ => Ended::Otherwise,
     }
 }
 
 fn shown(rows: u64, refused: u64, first: Option<RefusedRow>) -> Ended {
-    Ended::Done(Done::Shown(ShowCounts {
+    Ended::Shown(ShowCounts {
         rows,
         refused,
         first,
-    }))
+    })
 }
 
 // How the showing of the image ends, where it writes this text.
@@ -189,7 +191,7 @@ fn images_shown(rt: HostRuntime) {
 
 // How the making of so many rows ends, where it writes these texts' bytes.
 fn generates(alloc: Global, rows: u32, texts: &[&str]) -> Option<Ended>
-    requires { rows ≤ 65536 }
+    requires { rows ≤ LOG_LIMIT }
 {
     let wanted = joined(alloc, texts)?;
     let mut output = MemSink::new(alloc, Vec::new(alloc), Vec::new(alloc), 100);
@@ -203,7 +205,7 @@ fn generates(alloc: Global, rows: u32, texts: &[&str]) -> Option<Ended>
 #[test]
 fn rows_generated(rt: HostRuntime) {
     let alloc = rt.alloc();
-    let made = Some(Ended::Done(Done::Made));
+    let made = Some(Ended::Made);
     assert_eq!(rt; generates(alloc, 0, &[]), made);
     assert_eq!(rt; generates(alloc, 3, &[ROW_0, ROW_1, ROW_2]), made);
 }

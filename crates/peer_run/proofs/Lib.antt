@@ -1,6 +1,7 @@
+pub mod Laws
 pub mod Ends
-pub mod Faults
 pub mod Causes
-pub mod OneJoin
-pub mod Ready
+pub mod WholeJoin
 pub mod Complete
+pub mod Reported
+pub mod Keeps

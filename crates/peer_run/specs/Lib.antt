@@ -1,4 +1,4 @@
-pub mod Meets
-pub mod Runs
-pub mod Ready
-pub mod Statuses
+pub mod Deeds
+pub mod Run
+pub mod Headline
+pub mod Promises

@@ -1,15 +1,13 @@
 //! The one call that `main` makes.
 
-ghost use Rattle.std.specs.Prelude.{◌≡◌, ◌≢◌, ◌⊎◌, ℕ, List, ◌≤◌};
-ghost use Rattle.willow_outside.specs.Facts.{ShelfFacts, DoorFacts, NoiseFacts};
-ghost use Rattle.peer_stage.specs.World.{NeverFall};
+ghost use Rattle.std.specs.Prelude.{ℕ, List, ◌≤◌};
+ghost use Rattle.peer_stage.specs.World.{World};
+ghost use Rattle.peer_rows.specs.Deeds.{show_deed};
 ghost use Rattle.peer_words.specs.Words.{texts};
 ghost use Rattle.peer_words.specs.Commands.{IsWords};
-ghost use Rattle.peer_words.specs.declared.command.Command.{Command};
-ghost use Rattle.peer_words.specs.declared.command.Command.TheVariants as cmd;
-ghost use Rattle.peer_run.specs.Meets.{Meets, MeetsShow, world};
-ghost use Rattle.peer_run.specs.Runs.{RunsWords};
-ghost use Rattle.peer_run.specs.Statuses.{IsWholeJoin, HasEnded, IsNoRun, IsUnbuiltCommand, HasReadFault, HasWriteFault, HasStopped, IsBadStop, IsLogFull, IsKeySpent, HasNoFault, CanEnd};
+ghost use Rattle.peer_run.specs.Deeds.{deed_of};
+ghost use Rattle.peer_run.specs.Run.{RunsWords};
+ghost use Rattle.peer_run.specs.Promises.{KeepsPromises};
 
 use peer_make::{delegate, grant, make_key, write};
 use peer_report::end_run;
@@ -30,8 +28,9 @@ fn run_command<H: Shelf, I: Source, O: Sink, N: Noise>(
     noise: &mut N,
 ) -> Result<Done, Stop>
     requires { (words : List (List ℕ)) × IsWords words command }
-    ensures meets { (door : DoorFacts) → Meets command (world (H.facts shelf.old) (I.facts input.old) (O.facts output.old) door (N.facts noise.old)) (world (H.facts shelf.new) (I.facts input.new) (O.facts output.new) door (N.facts noise.new)) result }
-    ensures counts { (door : DoorFacts) → NeverFall (world (H.facts shelf.old) (I.facts input.old) (O.facts output.old) door (N.facts noise.old)) (world (H.facts shelf.new) (I.facts input.new) (O.facts output.new) door (N.facts noise.new)) }
+    ensures { (others : World) → (deed_of command).meets
+        (record others { shelf = H.facts shelf.old; input = I.facts input.old; output = O.facts output.old; noise = N.facts noise.old })
+        (record others { shelf = H.facts shelf.new; input = I.facts input.new; output = O.facts output.new; noise = N.facts noise.new }) result }
 {
     match command {
         Command::Join { namespace } => join(alloc, &namespace, input, output),
@@ -70,10 +69,9 @@ fn run_show<I: Source, O: Sink>(
     input: &mut I,
     output: &mut O,
 ) -> Result<Done, Stop>
-    ensures meets { (shelf : ShelfFacts) (door : DoorFacts) (noise : NoiseFacts) → MeetsShow newest (world shelf (I.facts input.old) (O.facts output.old) door noise) (world shelf (I.facts input.new) (O.facts output.new) door noise) result }
-    ensures input_faults { (I.facts input.old).faults ≤ (I.facts input.new).faults }
-    ensures input_ends { (I.facts input.old).ends ≤ (I.facts input.new).ends }
-    ensures output_faults { (O.facts output.old).faults ≤ (O.facts output.new).faults }
+    ensures { (others : World) → (show_deed newest).meets
+        (record others { input = I.facts input.old; output = O.facts output.old })
+        (record others { input = I.facts input.new; output = O.facts output.new }) result }
 {
     match newest {
         None => show(alloc, input, output),
@@ -91,8 +89,12 @@ fn run_words<H: Shelf, I: Source, O: Sink, E: Sink, N: Noise>(
     report: &mut E,
     noise: &mut N,
 ) -> u8
-    ensures runs { (door : DoorFacts) → RunsWords (texts words.now) (world (H.facts shelf.old) (I.facts input.old) (O.facts output.old) door (N.facts noise.old)) (world (H.facts shelf.new) (I.facts input.new) (O.facts output.new) door (N.facts noise.new)) (E.facts report.old) (E.facts report.new) result }
-    ensures counts { (door : DoorFacts) → NeverFall (world (H.facts shelf.old) (I.facts input.old) (O.facts output.old) door (N.facts noise.old)) (world (H.facts shelf.new) (I.facts input.new) (O.facts output.new) door (N.facts noise.new)) }
+    ensures runs { (others : World) → RunsWords (record {
+      words = texts words.now;
+      old = record others { shelf = H.facts shelf.old; input = I.facts input.old; output = O.facts output.old; report = E.facts report.old; noise = N.facts noise.old };
+      new = record others { shelf = H.facts shelf.new; input = I.facts input.new; output = O.facts output.new; report = E.facts report.new; noise = N.facts noise.new };
+      status = result;
+    }) }
     ensures report { (E.facts report.old).faults ≤ (E.facts report.new).faults }
 {
     match read_words(alloc, words) {
@@ -120,32 +122,26 @@ pub fn peer_run<H: Shelf, I: Source, O: Sink, E: Sink, D: Door, N: Noise>(
     door: &mut D,
     noise: &mut N,
 ) -> u8
-    // What the run does, by its command and its end, and what the report and the status say of it.
-    ensures runs { RunsWords (texts words.now) (world (H.facts shelf.old) (I.facts input.old) (O.facts output.old) (D.facts door.old) (N.facts noise.old)) (world (H.facts shelf.new) (I.facts input.new) (O.facts output.new) (D.facts door.new) (N.facts noise.new)) (E.facts report.old) (E.facts report.new) result }
-
-    // The store is the join of all authorised entries: its image is what a join writes.
-    ensures joined { (namespace : List ℕ) → IsWords (texts words.now) (cmd.Join namespace) → result ≤ 1 → IsWholeJoin namespace (world (H.facts shelf.old) (I.facts input.old) (O.facts output.old) (D.facts door.old) (N.facts noise.old)) (world (H.facts shelf.new) (I.facts input.new) (O.facts output.new) (D.facts door.new) (N.facts noise.new)) (E.facts report.old) (E.facts report.new) result }
-
-    // Why each status comes.
-    ensures ended { result ≤ 1 → HasEnded (texts words.now) (world (H.facts shelf.old) (I.facts input.old) (O.facts output.old) (D.facts door.old) (N.facts noise.old)) (world (H.facts shelf.new) (I.facts input.new) (O.facts output.new) (D.facts door.new) (N.facts noise.new)) (E.facts report.old) (E.facts report.new) result }
-    ensures usage { result ≡ 2 → IsNoRun (texts words.now) }
-    ensures untouched { result ≡ 2 → world (H.facts shelf.new) (I.facts input.new) (O.facts output.new) (D.facts door.new) (N.facts noise.new) ≡ world (H.facts shelf.old) (I.facts input.old) (O.facts output.old) (D.facts door.old) (N.facts noise.old) }
-    ensures command { result ≢ 2 → result ≢ 7 → (command : Command) × IsWords (texts words.now) command × (IsUnbuiltCommand command → ⊥) }
-    ensures read_fault { result ≡ 3 → HasReadFault (texts words.now) (world (H.facts shelf.old) (I.facts input.old) (O.facts output.old) (D.facts door.old) (N.facts noise.old)) (world (H.facts shelf.new) (I.facts input.new) (O.facts output.new) (D.facts door.new) (N.facts noise.new)) }
-    ensures write_fault { result ≡ 4 → HasWriteFault (texts words.now) (world (H.facts shelf.old) (I.facts input.old) (O.facts output.old) (D.facts door.old) (N.facts noise.old)) (world (H.facts shelf.new) (I.facts input.new) (O.facts output.new) (D.facts door.new) (N.facts noise.new)) (E.facts report.old) (E.facts report.new) }
-    ensures bad_input { result ≡ 5 → HasStopped IsBadStop (texts words.now) (world (H.facts shelf.old) (I.facts input.old) (O.facts output.old) (D.facts door.old) (N.facts noise.old)) (world (H.facts shelf.new) (I.facts input.new) (O.facts output.new) (D.facts door.new) (N.facts noise.new)) }
-    ensures log_full { result ≡ 8 → HasStopped IsLogFull (texts words.now) (world (H.facts shelf.old) (I.facts input.old) (O.facts output.old) (D.facts door.old) (N.facts noise.old)) (world (H.facts shelf.new) (I.facts input.new) (O.facts output.new) (D.facts door.new) (N.facts noise.new)) }
-    ensures key_spent { result ≡ 9 → HasStopped IsKeySpent (texts words.now) (world (H.facts shelf.old) (I.facts input.old) (O.facts output.old) (D.facts door.old) (N.facts noise.old)) (world (H.facts shelf.new) (I.facts input.new) (O.facts output.new) (D.facts door.new) (N.facts noise.new)) }
-    ensures statuses { (result ≤ 5) ⊎ ((7 ≤ result) × (result ≤ 9)) }
-
-    // No count falls.
-    ensures counts { NeverFall (world (H.facts shelf.old) (I.facts input.old) (O.facts output.old) (D.facts door.old) (N.facts noise.old)) (world (H.facts shelf.new) (I.facts input.new) (O.facts output.new) (D.facts door.new) (N.facts noise.new)) }
-    ensures report_faults { (E.facts report.old).faults ≤ (E.facts report.new).faults }
-
-    // A command that is ready comes to its end, but for faults and want of memory.
-    ensures complete { CanEnd (texts words.now) (world (H.facts shelf.old) (I.facts input.old) (O.facts output.old) (D.facts door.old) (N.facts noise.old))
-        → HasNoFault (texts words.now) (world (H.facts shelf.old) (I.facts input.old) (O.facts output.old) (D.facts door.old) (N.facts noise.old)) (world (H.facts shelf.new) (I.facts input.new) (O.facts output.new) (D.facts door.new) (N.facts noise.new)) (E.facts report.old) (E.facts report.new)
-        → result ≢ 7 → result ≤ 1 }
+    ensures promises { KeepsPromises (record {
+      words = texts words.now;
+      old = record {
+        shelf = H.facts shelf.old;
+        input = I.facts input.old;
+        output = O.facts output.old;
+        report = E.facts report.old;
+        door = D.facts door.old;
+        noise = N.facts noise.old;
+      };
+      new = record {
+        shelf = H.facts shelf.new;
+        input = I.facts input.new;
+        output = O.facts output.new;
+        report = E.facts report.new;
+        door = D.facts door.new;
+        noise = N.facts noise.new;
+      };
+      status = result;
+    }) }
 {
     run_words(alloc, words, shelf, input, output, report, noise)
 }

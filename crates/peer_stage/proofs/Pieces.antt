@@ -24,7 +24,7 @@ rose_later before mid now up rose = omega (arith, up, rose)
 -- where the first piece was written, the second decides
 pub both_end : (old mid new : SinkFacts) (first behind : List ℕ) (result : Result (Unit {0}) Stop) → IsWritten old mid first → old.faults ≤ mid.faults → WritesOutput mid new behind result → WritesOutput old new (first ++ behind) result
 both_end old mid new first behind (Ok u) w up h = Appends-trans old.held mid.held new.held first behind w h
-both_end old mid new first behind (Err stop.WriteFault) w up h = (partly_behind old mid new first behind w h.0, rose_later old.faults mid.faults new.faults up h.1, omega (arith, h.2, length-append first behind))
+both_end old mid new first behind (Err stop.WriteFault) w up h = (partly_behind old mid new first behind w h.0, rose_later old.faults mid.faults new.faults up h.1)
 both_end old mid new first behind (Err stop.NoMemory) w up h = partly_behind old mid new first behind w h
 both_end old mid new first behind (Err stop.Usage) w up h = absurd h
 both_end old mid new first behind (Err stop.ReadFault) w up h = absurd h

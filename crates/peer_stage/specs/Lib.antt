@@ -1,2 +1,6 @@
 pub mod World
+pub mod Status
+pub mod Deed
 pub mod Stages
+pub mod Inputs
+pub mod Steps

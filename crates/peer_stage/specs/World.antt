@@ -1,4 +1,4 @@
--- What a command finds and leaves of the objects outside, but for the report, on which only its end is told.
+-- The objects outside, as a run finds and leaves them.
 use Rattle.std.specs.Prelude.{◌≤◌}
 use Rattle.willow_outside.specs.Facts.{ShelfFacts, SourceFacts, SinkFacts, NoiseFacts, DoorFacts}
 
@@ -6,6 +6,7 @@ pub record World : Type 0 where
   pub shelf : ShelfFacts
   pub input : SourceFacts
   pub output : SinkFacts
+  pub report : SinkFacts
   pub door : DoorFacts
   pub noise : NoiseFacts
 
@@ -16,5 +17,6 @@ pub record NeverFall (old new : World) : Type 0 where
   pub input_faults : old.input.faults ≤ new.input.faults
   pub input_ends : old.input.ends ≤ new.input.ends
   pub output_faults : old.output.faults ≤ new.output.faults
+  pub report_faults : old.report.faults ≤ new.report.faults
   pub door_faults : old.door.faults ≤ new.door.faults
   pub noise_faults : old.noise.faults ≤ new.noise.faults

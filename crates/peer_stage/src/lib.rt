@@ -2,8 +2,10 @@
 //! The contract: each stage says what it took or gave, and each end why it came.
 #![tactic(auto)]
 
+mod laws;
 mod outcome;
 mod stage;
 
-pub use outcome::{Done, JoinCounts, Origin, RefusedRow, ShowCounts, Stop};
+pub use laws::input_limit;
+pub use outcome::{Done, JoinCounts, Origin, ShowCounts, Stop};
 pub use stage::{INPUT_LIMIT, read_input, write_both, write_output};

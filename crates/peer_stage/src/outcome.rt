@@ -1,16 +1,11 @@
 //! How a command ends: as plain numbers and causes, before any status or text is made of it.
 
-use mc_cap::RowRefusal;
-use spelling::NoMemory;
+ghost use Rattle.std.specs.Prelude.{◌≡◌};
+ghost use Rattle.peer_stage.specs.declared.outcome.Origin.TheVariants as origin;
+ghost use Rattle.peer_stage.specs.declared.outcome.Stop.TheVariants as stop;
 
-/// A row that is not authorised: its number among the rows read, from 1, and why.
-#[derive(Clone, Copy, Debug, PartialEq, Eq)]
-pub struct RefusedRow {
-    /// Its number, from 1.
-    pub row: u64,
-    /// The first condition that fails.
-    pub refusal: RowRefusal,
-}
+use mc_cap::{RefusedRow, RowRefusal};
+use spelling::NoMemory;
 
 /// The numbers of a join: every row read, those stored when they came, those that an earlier row covered,
 /// and those that are not authorised, with the first of these.
@@ -39,8 +34,8 @@ pub struct ShowCounts {
     pub first: Option<RefusedRow>,
 }
 
-/// What a command did that came to its end.
-#[derive(Clone, Copy, Debug, PartialEq, Eq)]
+/// What a command did that came to its end. What it met on the way gives the status: the rows that were left out.
+#[derive(Debug, PartialEq, Eq, Drop)]
 pub enum Done {
     /// Rows were joined.
     Joined(JoinCounts),
@@ -86,6 +81,18 @@ pub enum Stop {
     LogFull,
     /// A key file has fewer indices left than were asked for.
     KeySpent,
+}
+
+impl Stop {
+    /// The input goes wrong at this offset.
+    pub fn bad_input(at: u64) -> Stop
+        ensures { result ≡ stop.BadInput origin.Input at }
+    {
+        Stop::BadInput {
+            origin: Origin::Input,
+            at,
+        }
+    }
 }
 
 impl From<NoMemory> for Stop {

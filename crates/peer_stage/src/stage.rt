@@ -3,27 +3,24 @@
 ghost use Rattle.std.specs.Prelude.{◌≤◌, ◌++◌};
 ghost use Rattle.peer_stage.specs.Stages.{ReadsInput, WritesOutput};
 
-use crate::outcome::{Origin, Stop};
+use crate::outcome::Stop;
 use spelling::End;
 use std::alloc::Global;
 use willow_outside::{Fault, ReadEnd, Sink, Source, read_all, write_whole};
 
-/// The greatest number of bytes that is taken from the input.
+/// The greatest number of bytes that a command takes from the input.
 pub const INPUT_LIMIT: u64 = 4_294_967_295;
 
-/// All of the input.
-pub fn read_input<I: Source>(alloc: Global, input: &mut I) -> Result<Vec<u8>, Stop>
-    ensures reads { ReadsInput (I.facts input.old) (I.facts input.new) result }
+/// All of the input, which has at most `limit` bytes.
+pub fn read_input<I: Source>(alloc: Global, input: &mut I, limit: u64) -> Result<Vec<u8>, Stop>
+    ensures reads { ReadsInput limit (I.facts input.old) (I.facts input.new) result }
     ensures faults { (I.facts input.old).faults ≤ (I.facts input.new).faults }
     ensures ends { (I.facts input.old).ends ≤ (I.facts input.new).ends }
 {
-    match read_all(alloc, input, INPUT_LIMIT) {
+    match read_all(alloc, input, limit) {
         Ok(bytes) => Ok(bytes),
         Err(End::Refused(ReadEnd::Failed)) => Err(Stop::ReadFault),
-        Err(End::Refused(ReadEnd::TooLong)) => Err(Stop::BadInput {
-            origin: Origin::Input,
-            at: INPUT_LIMIT,
-        }),
+        Err(End::Refused(ReadEnd::TooLong)) => Err(Stop::bad_input(limit)),
         Err(End::NoMemory) => Err(Stop::NoMemory),
     }
 }

@@ -1,3 +1,1 @@
-pub mod Listing
 pub mod Refusals
-pub mod Generator

@@ -5,7 +5,7 @@ use Rattle.lms_core.specs.declared.height.Height.{Height}
 use Rattle.mc_cap.specs.declared.capability.Mode.{Mode}
 use Rattle.willow_path.specs.declared.key.Digest.{Digest}
 use Rattle.peer_words.specs.Commands.{IsOf, HasKey, HasGrant, HasDelegate, HasWrite, HasMeet, HasSync, HasServe, HasWatch}
-use Rattle.peer_words.specs.Options.{Setting, Gives, MayGive}
+use Rattle.peer_words.specs.Options.{Setting, IsSetTo, MayBeSet}
 use Rattle.peer_words.specs.Values.{IsKeyWord, IsCount}
 use Rattle.peer_words.specs.declared.command.AreaWords.{AreaWords}
 use Rattle.peer_words.specs.declared.command.Command.{Command}
@@ -13,11 +13,11 @@ use Rattle.peer_words.specs.declared.command.Command.TheVariants as cmd
 use Rattle.peer_words.specs.declared.command.SignerWord.{SignerWord}
 use Rattle.peer_words.specs.declared.verb.Verb.TheVariants as verbs
 
-pub of_join : (P : Command → Type 0) (settings : List Setting) (command : Command) → IsOf verbs.Join settings command → ((namespace : List ℕ) → Gives IsKeyWord settings (codes "--namespace") namespace → P (cmd.Join namespace)) → P command
+pub of_join : (P : Command → Type 0) (settings : List Setting) (command : Command) → IsOf verbs.Join settings command → ((namespace : List ℕ) → IsSetTo IsKeyWord settings (codes "--namespace") namespace → P (cmd.Join namespace)) → P command
 of_join P settings (cmd.Join namespace) is found = found namespace is.1
 of_join P settings command is found = absurd (cc is.0)
 
-pub of_show : (P : Command → Type 0) (settings : List Setting) (command : Command) → IsOf verbs.Show settings command → ((newest : Option ℕ) → MayGive IsCount settings (codes "--newest") newest → P (cmd.Show newest)) → P command
+pub of_show : (P : Command → Type 0) (settings : List Setting) (command : Command) → IsOf verbs.Show settings command → ((newest : Option ℕ) → MayBeSet IsCount settings (codes "--newest") newest → P (cmd.Show newest)) → P command
 of_show P settings (cmd.Show newest) is found = found newest is.1
 of_show P settings command is found = absurd (cc is.0)
 
@@ -37,11 +37,11 @@ pub of_write : (P : Command → Type 0) (settings : List Setting) (command : Com
 of_write P settings (cmd.Write key path time length digest subspace) is found = found key path time length digest subspace is.1
 of_write P settings command is found = absurd (cc is.0)
 
-pub of_generate : (P : Command → Type 0) (settings : List Setting) (command : Command) → IsOf verbs.Gen settings command → ((rows : ℕ) → Gives IsCount settings (codes "--rows") rows → P (cmd.Gen rows)) → P command
+pub of_generate : (P : Command → Type 0) (settings : List Setting) (command : Command) → IsOf verbs.Gen settings command → ((rows : ℕ) → IsSetTo IsCount settings (codes "--rows") rows → P (cmd.Gen rows)) → P command
 of_generate P settings (cmd.Gen rows) is found = found rows is.1
 of_generate P settings command is found = absurd (cc is.0)
 
-pub of_drill : (P : Command → Type 0) (settings : List Setting) (command : Command) → IsOf verbs.Drill settings command → ((rows : ℕ) → Gives IsCount settings (codes "--rows") rows → P (cmd.Drill rows)) → P command
+pub of_drill : (P : Command → Type 0) (settings : List Setting) (command : Command) → IsOf verbs.Drill settings command → ((rows : ℕ) → IsSetTo IsCount settings (codes "--rows") rows → P (cmd.Drill rows)) → P command
 of_drill P settings (cmd.Drill rows) is found = found rows is.1
 of_drill P settings command is found = absurd (cc is.0)
 

@@ -4,7 +4,7 @@ use Rattle.std.specs.Option.{is_some}
 use Rattle.std.proofs.lemmas.Bool.{false≢true}
 use Rattle.spelling.specs.declared.ending.End.{End}
 use Rattle.spelling.specs.declared.ending.End.TheVariants.{Refused, NoMemory}
-use Rattle.peer_words.specs.Options.{Setting, HaveOwnNames, IsSet, Gives, MayGive}
+use Rattle.peer_words.specs.Options.{Setting, HaveOwnNames, IsSet, IsSetTo, MayBeSet}
 use Rattle.peer_words.specs.Words.{Reads}
 use Rattle.peer_words.specs.declared.command.Usage.{Usage}
 use Rattle.peer_words.proofs.SetOnce.{one_word}
@@ -33,16 +33,16 @@ only_found within settings same own name found finds =
 
 -- what the only value spells is what the name gives
 pub gives_read : {A : Type 0} (P : List ℕ → A → Type 0) (settings : List Setting) (name value : List ℕ) (result : Result A (End Usage)) → IsSet settings name value → ((word : List ℕ) → IsSet settings name word → word ≡ value)
-    → Reads (P value) result → Reads (Gives P settings name) result
+    → Reads (P value) result → Reads (IsSetTo P settings name) result
 gives_read P settings name value (Ok x) is only reads = (value, is, reads)
 gives_read P settings name value (Err (Refused e)) is only reads = λ x gives. reads x (subst (λ (word : List ℕ). P word x) (only gives.0 gives.1) gives.2)
 gives_read P settings name value (Err NoMemory) is only reads = tt
 
-pub gives_nothing : {A : Type 0} (P : List ℕ → A → Type 0) (settings : List Setting) (name : List ℕ) → ((word : List ℕ) → IsSet settings name word → ⊥) → (x : A) → Gives P settings name x → ⊥
+pub gives_nothing : {A : Type 0} (P : List ℕ → A → Type 0) (settings : List Setting) (name : List ℕ) → ((word : List ℕ) → IsSet settings name word → ⊥) → (x : A) → IsSetTo P settings name x → ⊥
 gives_nothing P settings name none x gives = none gives.0 gives.1
 
 -- where the only value spells nothing, there is nothing that the name may give
 pub may_give_nothing : {A : Type 0} (P : List ℕ → A → Type 0) (settings : List Setting) (name value : List ℕ) → IsSet settings name value → ((word : List ℕ) → IsSet settings name word → word ≡ value)
-    → ((x : A) → P value x → ⊥) → (y : Option A) → MayGive P settings name y → ⊥
+    → ((x : A) → P value x → ⊥) → (y : Option A) → MayBeSet P settings name y → ⊥
 may_give_nothing P settings name value is only none None may = may value is
 may_give_nothing P settings name value is only none (Some x) gives = none x (subst (λ (word : List ℕ). P word x) (only gives.0 gives.1) gives.2)

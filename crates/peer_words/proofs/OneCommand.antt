@@ -11,10 +11,11 @@ use Rattle.mc_cap.specs.declared.capability.Mode.{Mode}
 use Rattle.mc_cap.specs.declared.capability.Mode.TheVariants as mode
 use Rattle.scheme_core.specs.Open.{is_communal}
 use Rattle.willow_path.specs.declared.key.Digest.{Digest}
+use Rattle.peer_words.specs.declared.limits.TheConstants.{MOST_LINKS, MOST_ROWS}
 use Rattle.peer_words.specs.Alike.{AreSameText, AreSameSigner, AreSameIfAny, AreAlike}
 use Rattle.peer_words.specs.Areas.{HasArea}
 use Rattle.peer_words.specs.Commands.{verb_of, HasGrant, HasValues, IsOf, IsWords}
-use Rattle.peer_words.specs.Options.{Setting, HaveOwnNames, Gives, MayGive}
+use Rattle.peer_words.specs.Options.{Setting, HaveOwnNames, IsSetTo, MayBeSet}
 use Rattle.peer_words.specs.Signers.{IsSignerWord}
 use Rattle.peer_words.specs.Values.{IsKeyWord, IsAnyOrKey, IsDigestWord, IsNumber, IsNumberOrNone, IsNumberWithin, IsCount, IsLinks, IsNameWord, IsPlaceWord, IsHeight, IsMode, AreParts, IsPathWord}
 use Rattle.peer_words.specs.declared.command.AreaWords.{AreaWords}
@@ -123,22 +124,22 @@ one_area settings own a b x y =
 
 -- ---- each command
 
-key_there : (settings : List Setting) → HaveOwnNames settings → (name : List ℕ) (x y : List ℕ) → Gives IsKeyWord settings name x → Gives IsKeyWord settings name y → x ≡ y
+key_there : (settings : List Setting) → HaveOwnNames settings → (name : List ℕ) (x y : List ℕ) → IsSetTo IsKeyWord settings name x → IsSetTo IsKeyWord settings name y → x ≡ y
 key_there = gives_one IsKeyWord one_key
 
-number_there : (settings : List Setting) → HaveOwnNames settings → (name : List ℕ) (x y : ℕ) → Gives IsNumber settings name x → Gives IsNumber settings name y → x ≡ y
+number_there : (settings : List Setting) → HaveOwnNames settings → (name : List ℕ) (x y : ℕ) → IsSetTo IsNumber settings name x → IsSetTo IsNumber settings name y → x ≡ y
 number_there = gives_one IsNumber one_number
 
-name_there : (settings : List Setting) → HaveOwnNames settings → (name : List ℕ) (x y : String Global) → Gives IsNameWord settings name x → Gives IsNameWord settings name y → AreSameText x y
+name_there : (settings : List Setting) → HaveOwnNames settings → (name : List ℕ) (x y : String Global) → IsSetTo IsNameWord settings name x → IsSetTo IsNameWord settings name y → AreSameText x y
 name_there = gives_same AreSameText IsNameWord one_name
 
-place_there : (settings : List Setting) → HaveOwnNames settings → (name : List ℕ) (x y : String Global) → Gives IsPlaceWord settings name x → Gives IsPlaceWord settings name y → AreSameText x y
+place_there : (settings : List Setting) → HaveOwnNames settings → (name : List ℕ) (x y : String Global) → IsSetTo IsPlaceWord settings name x → IsSetTo IsPlaceWord settings name y → AreSameText x y
 place_there = gives_same AreSameText IsPlaceWord one_place
 
-signer_there : (settings : List Setting) → HaveOwnNames settings → (name : List ℕ) (x y : SignerWord) → Gives IsSignerWord settings name x → Gives IsSignerWord settings name y → AreSameSigner x y
+signer_there : (settings : List Setting) → HaveOwnNames settings → (name : List ℕ) (x y : SignerWord) → IsSetTo IsSignerWord settings name x → IsSetTo IsSignerWord settings name y → AreSameSigner x y
 signer_there = gives_same AreSameSigner IsSignerWord one_signer
 
-signer_if_there : (settings : List Setting) → HaveOwnNames settings → (name : List ℕ) (x y : Option SignerWord) → MayGive IsSignerWord settings name x → MayGive IsSignerWord settings name y → AreSameIfAny x y
+signer_if_there : (settings : List Setting) → HaveOwnNames settings → (name : List ℕ) (x y : Option SignerWord) → MayBeSet IsSignerWord settings name x → MayBeSet IsSignerWord settings name y → AreSameIfAny x y
 signer_if_there settings own name None None a b = tt
 signer_if_there settings own name None (Some y) a b = a b.0 b.1
 signer_if_there settings own name (Some x) None a b = b a.0 a.1
@@ -155,7 +156,7 @@ some_alike None (Some b) same = absurd same
 some_alike (Some a) None same = absurd same
 
 -- where options give a signer just where the namespace that they give is communal, they grant nothing
-pub not_granted : (settings : List Setting) → HaveOwnNames settings → (n : List ℕ) (k : Option SignerWord) → Gives IsKeyWord settings (codes "--namespace") n → MayGive IsSignerWord settings (codes "--key") k
+pub not_granted : (settings : List Setting) → HaveOwnNames settings → (n : List ℕ) (k : Option SignerWord) → IsSetTo IsKeyWord settings (codes "--namespace") n → MayBeSet IsSignerWord settings (codes "--key") k
     → is_some k ≡ is_communal n → (m : List ℕ) (mode : Mode) (user : List ℕ) (l : Option SignerWord) → HasGrant settings m mode user l → ⊥
 not_granted settings own n k namespace_given key_given same m mode user l has =
     not_itself (is_communal n) (sym same ∙ (some_alike k l (signer_if_there settings own (codes "--key") k l key_given has.key_given) ∙
@@ -163,7 +164,7 @@ not_granted settings own n k namespace_given key_given same m mode user l has =
 
 alike : (settings : List Setting) → HaveOwnNames settings → (one other : Command) → HasValues settings one → IsOf (verb_of one) settings other → AreAlike one other
 alike s own (cmd.Join a) other has is = of_join (AreAlike (cmd.Join a)) s other is (λ b had. key_there s own (codes "--namespace") a b has had)
-alike s own (cmd.Show a) other has is = of_show (AreAlike (cmd.Show a)) s other is (λ b had. may_give_one IsCount (one_within 1 65536) s own (codes "--newest") a b has had)
+alike s own (cmd.Show a) other has is = of_show (AreAlike (cmd.Show a)) s other is (λ b had. may_give_one IsCount (one_within 1 MOST_ROWS) s own (codes "--newest") a b has had)
 alike s own (cmd.Key a h) other has is = of_key (AreAlike (cmd.Key a h)) s other is (λ b i had. (
   name_there s own (codes "--name") a b has.name_given had.name_given,
   gives_one IsHeight one_height s own (codes "--height") h i has.height_given had.height_given,
@@ -187,8 +188,8 @@ alike s own (cmd.Write k p t n d r) other has is = of_write (AreAlike (cmd.Write
   gives_one IsDigestWord one_digest s own (codes "--digest") d e has.digest_given had.digest_given,
   may_give_one IsKeyWord one_key s own (codes "--subspace") r v has.subspace_given had.subspace_given,
 ))
-alike s own (cmd.Gen a) other has is = of_generate (AreAlike (cmd.Gen a)) s other is (λ b had. gives_one IsCount (one_within 1 65536) s own (codes "--rows") a b has had)
-alike s own (cmd.Drill a) other has is = of_drill (AreAlike (cmd.Drill a)) s other is (λ b had. gives_one IsCount (one_within 1 65536) s own (codes "--rows") a b has had)
+alike s own (cmd.Gen a) other has is = of_generate (AreAlike (cmd.Gen a)) s other is (λ b had. gives_one IsCount (one_within 1 MOST_ROWS) s own (codes "--rows") a b has had)
+alike s own (cmd.Drill a) other has is = of_drill (AreAlike (cmd.Drill a)) s other is (λ b had. gives_one IsCount (one_within 1 MOST_ROWS) s own (codes "--rows") a b has had)
 alike s own (cmd.Meet a b c d e f g) other has is = of_meet (AreAlike (cmd.Meet a b c d e f g)) s other is (λ h i j k l m n had. (
   name_there s own (codes "--left") a h has.left_given had.left_given,
   name_there s own (codes "--right") b i has.right_given had.right_given,
@@ -210,7 +211,7 @@ alike s own (cmd.Serve a b c d e f) other has is = of_serve (AreAlike (cmd.Serve
   name_there s own (codes "--cap") b h has.cap_given had.cap_given,
   signer_there s own (codes "--key") c i has.key_given had.key_given,
   place_there s own (codes "--at") d j has.at_given had.at_given,
-  gives_one IsLinks (one_within 1 64) s own (codes "--links") e k has.links_given had.links_given,
+  gives_one IsLinks (one_within 1 MOST_LINKS) s own (codes "--links") e k has.links_given had.links_given,
   one_area s own f l has.area_given had.area_given,
 ))
 alike s own (cmd.Watch a b) other has is = of_watch (AreAlike (cmd.Watch a b)) s other is (λ c d had. (

@@ -11,7 +11,7 @@ use Rattle.hex.proofs.HexLemmas.{decode_of-ok}
 use Rattle.willow_path.specs.Path.{IsPath}
 use Rattle.willow_path.specs.PathPush.{push_refusal, HasRoom}
 use Rattle.willow_path.specs.declared.path.PathRefusal.{PathRefusal}
-use Rattle.willow_path.specs.Answers.{Answers}
+use Rattle.spelling.specs.Answers.{JudgesFirst}
 use Rattle.spelling.specs.declared.ending.End.{End}
 use Rattle.spelling.specs.declared.ending.End.TheVariants as ends
 use Rattle.willow_path.proofs.PathLimits.{room_of}
@@ -147,5 +147,5 @@ no_room word left path n part why front some slash end decoded refused whole is 
     none_some why same = cc
 
 -- a push that is refused tells why
-pub refused_push : (end : End PathRefusal) (why : PathRefusal) (cause : Option PathRefusal) → Answers {A = Unit {0}} (Err end) cause → end ≡ ends.Refused why → cause ≡ Some why
-refused_push end why cause answer is = subst (λ (e : End PathRefusal). Answers {A = Unit {0}} (Err e) cause) is answer
+pub refused_push : (end : End PathRefusal) (why : PathRefusal) (cause : Option PathRefusal) → JudgesFirst {T = Unit {0}} (Err end) cause → end ≡ ends.Refused why → cause ≡ Some why
+refused_push end why cause answer is = subst (λ (e : End PathRefusal). JudgesFirst {T = Unit {0}} (Err e) cause) is answer

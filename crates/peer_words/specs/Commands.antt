@@ -7,7 +7,7 @@ use Rattle.mc_cap.specs.declared.capability.Mode.{Mode}
 use Rattle.scheme_core.specs.Open.{is_communal}
 use Rattle.willow_path.specs.declared.key.Digest.{Digest}
 use Rattle.peer_words.specs.Areas.{HasArea}
-use Rattle.peer_words.specs.Options.{Setting, IsSpelled, Gives, MayGive}
+use Rattle.peer_words.specs.Options.{Setting, IsSpelled, IsSetTo, MayBeSet}
 use Rattle.peer_words.specs.Signers.{IsSignerWord}
 use Rattle.peer_words.specs.Values.{IsKeyWord, IsCount, IsLinks, IsNumber, IsDigestWord, IsNameWord, IsPlaceWord, IsHeight, IsMode, IsPathWord}
 use Rattle.peer_words.specs.Verbs.{verb_at, names_of}
@@ -37,75 +37,75 @@ verb_of (cmd.Watch image area) = verbs.Watch
 
 -- a new key file
 pub record HasKey (settings : List Setting) (name : String Global) (height : Height) : Type 0 where
-  pub name_given : Gives IsNameWord settings (codes "--name") name
-  pub height_given : Gives IsHeight settings (codes "--height") height
+  pub name_given : IsSetTo IsNameWord settings (codes "--name") name
+  pub height_given : IsSetTo IsHeight settings (codes "--height") height
 
 -- A first capability. There is a signer exactly where the namespace is not communal.
 pub record HasGrant (settings : List Setting) (namespace : List ℕ) (mode : Mode) (user : List ℕ) (key : Option SignerWord) : Type 0 where
-  pub namespace_given : Gives IsKeyWord settings (codes "--namespace") namespace
-  pub mode_given : Gives IsMode settings (codes "--mode") mode
-  pub user_given : Gives IsKeyWord settings (codes "--user") user
-  pub key_given : MayGive IsSignerWord settings (codes "--key") key
+  pub namespace_given : IsSetTo IsKeyWord settings (codes "--namespace") namespace
+  pub mode_given : IsSetTo IsMode settings (codes "--mode") mode
+  pub user_given : IsSetTo IsKeyWord settings (codes "--user") user
+  pub key_given : MayBeSet IsSignerWord settings (codes "--key") key
   pub key_due : is_some key ≡ not (is_communal namespace)
 
 -- a capability that is handed on
 pub record HasDelegate (settings : List Setting) (key : SignerWord) (to : List ℕ) (area : AreaWords) : Type 0 where
-  pub key_given : Gives IsSignerWord settings (codes "--key") key
-  pub to_given : Gives IsKeyWord settings (codes "--to") to
+  pub key_given : IsSetTo IsSignerWord settings (codes "--key") key
+  pub to_given : IsSetTo IsKeyWord settings (codes "--to") to
   pub area_given : HasArea settings area
 
 -- a row
 pub record HasWrite (settings : List Setting) (key : SignerWord) (path : List (List ℕ)) (time length : ℕ) (digest : Digest) (subspace : Option (List ℕ)) : Type 0 where
-  pub key_given : Gives IsSignerWord settings (codes "--key") key
-  pub path_given : Gives IsPathWord settings (codes "--path") path
-  pub time_given : Gives IsNumber settings (codes "--time") time
-  pub length_given : Gives IsNumber settings (codes "--length") length
-  pub digest_given : Gives IsDigestWord settings (codes "--digest") digest
-  pub subspace_given : MayGive IsKeyWord settings (codes "--subspace") subspace
+  pub key_given : IsSetTo IsSignerWord settings (codes "--key") key
+  pub path_given : IsSetTo IsPathWord settings (codes "--path") path
+  pub time_given : IsSetTo IsNumber settings (codes "--time") time
+  pub length_given : IsSetTo IsNumber settings (codes "--length") length
+  pub digest_given : IsSetTo IsDigestWord settings (codes "--digest") digest
+  pub subspace_given : MayBeSet IsKeyWord settings (codes "--subspace") subspace
 
 -- two images that meet
 pub record HasMeet (settings : List Setting) (left right left_cap right_cap left_out right_out : String Global) (area : AreaWords) : Type 0 where
-  pub left_given : Gives IsNameWord settings (codes "--left") left
-  pub right_given : Gives IsNameWord settings (codes "--right") right
-  pub left_cap_given : Gives IsNameWord settings (codes "--left-cap") left_cap
-  pub right_cap_given : Gives IsNameWord settings (codes "--right-cap") right_cap
-  pub left_out_given : Gives IsNameWord settings (codes "--left-out") left_out
-  pub right_out_given : Gives IsNameWord settings (codes "--right-out") right_out
+  pub left_given : IsSetTo IsNameWord settings (codes "--left") left
+  pub right_given : IsSetTo IsNameWord settings (codes "--right") right
+  pub left_cap_given : IsSetTo IsNameWord settings (codes "--left-cap") left_cap
+  pub right_cap_given : IsSetTo IsNameWord settings (codes "--right-cap") right_cap
+  pub left_out_given : IsSetTo IsNameWord settings (codes "--left-out") left_out
+  pub right_out_given : IsSetTo IsNameWord settings (codes "--right-out") right_out
   pub area_given : HasArea settings area
 
 -- a session as caller
 pub record HasSync (settings : List Setting) (image cap : String Global) (key : SignerWord) (to : String Global) (area : AreaWords) : Type 0 where
-  pub image_given : Gives IsNameWord settings (codes "--image") image
-  pub cap_given : Gives IsNameWord settings (codes "--cap") cap
-  pub key_given : Gives IsSignerWord settings (codes "--key") key
-  pub to_given : Gives IsPlaceWord settings (codes "--to") to
+  pub image_given : IsSetTo IsNameWord settings (codes "--image") image
+  pub cap_given : IsSetTo IsNameWord settings (codes "--cap") cap
+  pub key_given : IsSetTo IsSignerWord settings (codes "--key") key
+  pub to_given : IsSetTo IsPlaceWord settings (codes "--to") to
   pub area_given : HasArea settings area
 
 -- sessions as answerer
 pub record HasServe (settings : List Setting) (image cap : String Global) (key : SignerWord) (at : String Global) (links : ℕ) (area : AreaWords) : Type 0 where
-  pub image_given : Gives IsNameWord settings (codes "--image") image
-  pub cap_given : Gives IsNameWord settings (codes "--cap") cap
-  pub key_given : Gives IsSignerWord settings (codes "--key") key
-  pub at_given : Gives IsPlaceWord settings (codes "--at") at
-  pub links_given : Gives IsLinks settings (codes "--links") links
+  pub image_given : IsSetTo IsNameWord settings (codes "--image") image
+  pub cap_given : IsSetTo IsNameWord settings (codes "--cap") cap
+  pub key_given : IsSetTo IsSignerWord settings (codes "--key") key
+  pub at_given : IsSetTo IsPlaceWord settings (codes "--at") at
+  pub links_given : IsSetTo IsLinks settings (codes "--links") links
   pub area_given : HasArea settings area
 
 -- Rows of an area that are told as they come. The area's times do not end at 0.
 pub record HasWatch (settings : List Setting) (image : String Global) (area : AreaWords) : Type 0 where
-  pub image_given : Gives IsNameWord settings (codes "--image") image
+  pub image_given : IsSetTo IsNameWord settings (codes "--image") image
   pub area_given : HasArea settings area
   pub some_time : area.until ≢ Some (Some 0)
 
 -- the fields of the command are what the options give
 abbrev pub HasValues : List Setting → Command → Type 0
-HasValues settings (cmd.Join namespace) = Gives IsKeyWord settings (codes "--namespace") namespace
-HasValues settings (cmd.Show newest) = MayGive IsCount settings (codes "--newest") newest
+HasValues settings (cmd.Join namespace) = IsSetTo IsKeyWord settings (codes "--namespace") namespace
+HasValues settings (cmd.Show newest) = MayBeSet IsCount settings (codes "--newest") newest
 HasValues settings (cmd.Key name height) = HasKey settings name height
 HasValues settings (cmd.Grant namespace mode user key) = HasGrant settings namespace mode user key
 HasValues settings (cmd.Delegate key to area) = HasDelegate settings key to area
 HasValues settings (cmd.Write key path time length digest subspace) = HasWrite settings key path time length digest subspace
-HasValues settings (cmd.Gen rows) = Gives IsCount settings (codes "--rows") rows
-HasValues settings (cmd.Drill rows) = Gives IsCount settings (codes "--rows") rows
+HasValues settings (cmd.Gen rows) = IsSetTo IsCount settings (codes "--rows") rows
+HasValues settings (cmd.Drill rows) = IsSetTo IsCount settings (codes "--rows") rows
 HasValues settings (cmd.Meet left right left_cap right_cap left_out right_out area) = HasMeet settings left right left_cap right_cap left_out right_out area
 HasValues settings (cmd.Sync image cap key to area) = HasSync settings image cap key to area
 HasValues settings (cmd.Serve image cap key at links area) = HasServe settings image cap key at links area

@@ -35,10 +35,10 @@ abbrev pub IsSet : List Setting → List ℕ → List ℕ → Type 0
 IsSet settings name word = Contains {X = Setting} settings (record { name = name; value = word })
 
 -- the value behind the name is a word of the form P for x
-abbrev pub Gives : {A : Type 0} → (List ℕ → A → Type 0) → List Setting → List ℕ → A → Type 0
-Gives P settings name x = (word : List ℕ) × IsSet settings name word × P word x
+abbrev pub IsSetTo : {A : Type 0} → (List ℕ → A → Type 0) → List Setting → List ℕ → A → Type 0
+IsSetTo P settings name x = (word : List ℕ) × IsSet settings name word × P word x
 
 -- the same where there is an x, and where there is none the name does not stand
-abbrev pub MayGive : {A : Type 0} → (List ℕ → A → Type 0) → List Setting → List ℕ → Option A → Type 0
-MayGive P settings name None = (word : List ℕ) → IsSet settings name word → ⊥
-MayGive P settings name (Some x) = Gives P settings name x
+abbrev pub MayBeSet : {A : Type 0} → (List ℕ → A → Type 0) → List Setting → List ℕ → Option A → Type 0
+MayBeSet P settings name None = (word : List ℕ) → IsSet settings name word → ⊥
+MayBeSet P settings name (Some x) = IsSetTo P settings name x

@@ -12,6 +12,7 @@ use Rattle.mc_cap.specs.declared.capability.Mode.TheVariants as mode
 use Rattle.willow_path.specs.Key.{IsKey}
 use Rattle.willow_path.specs.Path.{IsPath}
 use Rattle.willow_path.specs.declared.key.Digest.{Digest}
+use Rattle.peer_words.specs.declared.limits.TheConstants.{MOST_LINKS, MOST_NAME_BYTES, MOST_PLACE_BYTES, MOST_PORT, MOST_ROWS}
 
 -- 66 hexadecimal digits, of either case, that are the bytes of a key
 pub record IsKeyWord (word key : List ℕ) : Type 0 where
@@ -43,13 +44,13 @@ pub record IsNumberWithin (least most : ℕ) (word : List ℕ) (n : ℕ) : Type 
   pub low : least ≤ n
   pub high : n ≤ most
 
--- how many rows: from 1 to 65,536
+-- how many rows: at least 1
 abbrev pub IsCount : List ℕ → ℕ → Type 0
-IsCount = IsNumberWithin 1 65536
+IsCount = IsNumberWithin 1 MOST_ROWS
 
--- how many links: from 1 to 64
+-- how many links: at least 1
 abbrev pub IsLinks : List ℕ → ℕ → Type 0
-IsLinks = IsNumberWithin 1 64
+IsLinks = IsNumberWithin 1 MOST_LINKS
 
 -- a letter or a digit of ASCII
 abbrev pub is_letter_or_digit : ℕ → Bool
@@ -59,11 +60,11 @@ is_letter_or_digit c = (nat_le 48 c && nat_le c 57) || ((nat_le 65 c && nat_le c
 abbrev pub is_name_byte : ℕ → Bool
 is_name_byte c = is_letter_or_digit c || ((c == 46) || ((c == 95) || (c == 45)))
 
--- the name of a file: 1 to 128 letters, digits, `.`, `_` and `-`, of which the first is a letter or digit
+-- the name of a file: letters, digits, `.`, `_` and `-`, of which the first is a letter or digit
 pub record IsName (word : List ℕ) : Type 0 where
   pub first : IsTrue (is_letter_or_digit (slice_index word 0))
   pub others : IsTrue (list_all is_name_byte word)
-  pub short : length word ≤ 128
+  pub short : length word ≤ MOST_NAME_BYTES
 
 -- a text that is the word
 abbrev pub IsNameWord : List ℕ → String Global → Type 0
@@ -87,11 +88,11 @@ pub record IsHostAndPort (word : List ℕ) : Type 0 where
   pub spelled : word ≡ host ++ 58 ∷ digits
   pub is_host : EachIndex host (λ k. slice_index host k ≢ 58)
   pub some_host : 0 < length host
-  pub is_port : IsNumberWithin 1 65535 digits port
+  pub is_port : IsNumberWithin 1 MOST_PORT digits port
 
--- of at most 255 bytes
+-- a host and a port, not too long
 pub record IsPlace (word : List ℕ) : Type 0 where
-  pub short : length word ≤ 255
+  pub short : length word ≤ MOST_PLACE_BYTES
   pub parts : IsHostAndPort word
 
 abbrev pub IsPlaceWord : List ℕ → String Global → Type 0

@@ -4,7 +4,8 @@
 
 mod area;
 mod command;
-mod laws;
+pub mod laws;
+mod limits;
 mod name;
 mod number;
 mod options;
@@ -15,7 +16,7 @@ mod verb;
 mod word;
 
 pub use command::{AreaWords, Command, SignerWord, Usage};
-pub use laws::one_command;
+pub use limits::{MOST_LINKS, MOST_NAME_BYTES, MOST_PLACE_BYTES, MOST_PORT, MOST_ROWS};
 pub use read::read_words;
 
 #[cfg(test)]

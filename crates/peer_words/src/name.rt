@@ -6,6 +6,7 @@ ghost use Rattle.peer_words.specs.Values.{IsName, IsNameWord, IsPlace, IsPlaceWo
 ghost use Rattle.peer_words.specs.Words.{Reads};
 
 use crate::command::Usage;
+use crate::limits::{MOST_NAME_BYTES, MOST_PLACE_BYTES, MOST_PORT};
 use crate::number::number_within;
 use crate::word::Word;
 use std::alloc::Global;
@@ -34,7 +35,7 @@ fn is_name(word: &str) -> bool
     if bytes.is_empty() {
         return false;
     }
-    if bytes.len() > 128 {
+    if bytes.len() > MOST_NAME_BYTES {
         return false;
     }
     if !is_letter_or_digit(bytes[0]) {
@@ -62,7 +63,7 @@ impl Word for Place {
 fn is_place(word: &str) -> bool
     ensures { MatchBool result (IsPlace word.now) (IsPlace word.now → ⊥) }
 {
-    if word.len() > 255 {
+    if word.len() > MOST_PLACE_BYTES {
         return false;
     }
     let Some((host, digits)) = word.split_once(':') else {
@@ -71,7 +72,7 @@ fn is_place(word: &str) -> bool
     if host.is_empty() {
         return false;
     }
-    number_within(1, 65535, digits).is_some()
+    number_within(1, MOST_PORT, digits).is_some()
 }
 
 // Whether each byte may stand in the name of a file.

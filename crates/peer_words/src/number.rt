@@ -5,6 +5,7 @@ ghost use Rattle.peer_words.specs.Values.{IsNumber, IsNumberWithin, IsNumberOrNo
 ghost use Rattle.peer_words.specs.Words.{Reads};
 
 use crate::command::Usage;
+use crate::limits::{MOST_LINKS, MOST_ROWS};
 use crate::word::Word;
 use std::alloc::Global;
 use willow_path::End;
@@ -68,7 +69,7 @@ impl Word for u32 {
     ghost spells = { IsCount };
 
     fn of_word(_alloc: Global, word: &str) -> Result<u32, End<Usage>> {
-        number_within(1, 65536, word).ok_or(End::Refused(Usage))
+        number_within(1, MOST_ROWS, word).ok_or(End::Refused(Usage))
     }
 }
 
@@ -80,7 +81,7 @@ impl Word for Links {
     ghost spells = { λ word links. IsLinks word links.0 };
 
     fn of_word(_alloc: Global, word: &str) -> Result<Links, End<Usage>> {
-        match number_within(1, 64, word) {
+        match number_within(1, MOST_LINKS, word) {
             Some(n) => Ok(Links(n)),
             None => Err(End::Refused(Usage)),
         }

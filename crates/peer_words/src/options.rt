@@ -1,7 +1,7 @@
 //! The options of a command.
 
 ghost use Rattle.std.specs.Prelude.{◌≡◌, ℕ, List, MatchBool, MatchOption};
-ghost use Rattle.peer_words.specs.Options.{Setting, IsValue, HaveOwnNames, AreSettings, IsSpelled, IsSet, Gives, MayGive};
+ghost use Rattle.peer_words.specs.Options.{Setting, IsValue, HaveOwnNames, AreSettings, IsSpelled, IsSet, IsSetTo, MayBeSet};
 ghost use Rattle.peer_words.specs.Pairs.{settings_of};
 ghost use Rattle.peer_words.specs.Verbs.{names_of};
 ghost use Rattle.peer_words.specs.Words.{texts, Reads};
@@ -63,7 +63,7 @@ impl<'a> Options<'a> {
 
     /// What the value behind a name spells; refused where the name does not stand, or its value spells nothing.
     pub(crate) fn given<T: Word>(&self, alloc: Global, name: &str) -> Result<T, End<Usage>>
-        ensures { Reads (Gives T.spells self.now name.now) result }
+        ensures { Reads (IsSetTo T.spells self.now name.now) result }
     {
         match self.value_of(name) {
             Some(word) => T::of_word(alloc, word),
@@ -77,7 +77,7 @@ impl<'a> Options<'a> {
         alloc: Global,
         name: &str,
     ) -> Result<Option<T>, End<Usage>>
-        ensures { Reads (MayGive T.spells self.now name.now) result }
+        ensures { Reads (MayBeSet T.spells self.now name.now) result }
     {
         match self.value_of(name) {
             Some(word) => Ok(Some(T::of_word(alloc, word)?)),

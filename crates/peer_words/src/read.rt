@@ -1,7 +1,6 @@
 //! Words to commands.
 
 ghost use Rattle.std.specs.Prelude.{◌≡◌, List, not};
-ghost use Rattle.scheme_core.specs.Open.{is_communal};
 ghost use Rattle.peer_words.specs.Commands.{IsOf, ReadsWords};
 ghost use Rattle.peer_words.specs.Words.{Reads, texts};
 ghost use Rattle.peer_words.specs.declared.verb.Verb.TheVariants as verbs;
@@ -12,8 +11,9 @@ use crate::name::{Name, Place};
 use crate::number::Links;
 use crate::options::Options;
 use crate::verb::{Verb, verb_at};
-use lms_core::Height;
+use lms_core::{Height, PeerScheme};
 use mc_cap::Mode;
+use scheme_core::Verify;
 use std::alloc::Global;
 use willow_path::{Digest, End, NamespaceKey, Path, UserKey};
 
@@ -86,7 +86,7 @@ fn grant(alloc: Global, options: &Options) -> Result<Command, End<Usage>>
     let user = options.given::<UserKey>(alloc, "--user")?;
     let key = options.given_if::<SignerWord>(alloc, "--key")?;
     options.have_own_names();
-    if key.is_some() == is_communal(&namespace) {
+    if key.is_some() == PeerScheme.is_communal(&namespace) {
         return Err(End::Refused(Usage));
     }
     Ok(Command::Grant {
@@ -95,14 +95,6 @@ fn grant(alloc: Global, options: &Options) -> Result<Command, End<Usage>>
         user,
         key,
     })
-}
-
-// Whether the namespace belongs to everybody.
-#[tactic(auto, unfolding(scheme_core::specs::Open::is_communal))]
-fn is_communal(namespace: &NamespaceKey) -> bool
-    ensures { result ≡ is_communal namespace.now }
-{
-    namespace.to_bytes()[32] % 2 == 0
 }
 
 fn delegate(alloc: Global, options: &Options) -> Result<Command, End<Usage>>

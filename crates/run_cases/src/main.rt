@@ -1,5 +1,6 @@
 //! Runs each case on standard input and prints for how many of them everything came as expected, and the name of each
-//! of which it did not. A line is one case: fields with one space between, `-` for nothing, bytes in hexadecimal.
+//! of which it did not. A line that begins with `#` is a heading; any other is one case: fields with one space between,
+//! `-` for nothing, bytes in hexadecimal.
 //!
 //! 1. A name, and the words joined by commas.
 //! 2. What lies on the shelf, each as `NAME:BYTES`, and the draws of noise, each of 32 bytes; both joined by commas.
@@ -9,8 +10,8 @@
 //! 5. What is expected: the output, the report, the status, and what lies on the shelf behind the run. A name of the words that
 //!    is not there is absent.
 //!
-//! Input and output move at most 100 bytes a call, the report 7. The cases were made by a program that shares no code with
-//! this one. It promises nothing: what a run does is the contract of `peer_run`.
+//! Input and output move at most 100 bytes a call, the report 7. The cases are made by `bench/cases/make.py`, which shares
+//! no code with this program. It promises nothing: what a run does is the contract of `peer_run`.
 #![tactic(auto)]
 
 mod case;
@@ -24,6 +25,9 @@ fn main(rt: HostRuntime) -> io::Result<()> {
     let mut cases = 0u64;
     for line in rt.lines(rt.alloc()) {
         let line = line?;
+        if line.as_str().starts_with('#') {
+            continue;
+        }
         cases = cases.saturating_add(1);
         match case::differs(rt.alloc(), line.as_str()) {
             None => agreed = agreed.saturating_add(1),

@@ -2,6 +2,7 @@
 //! The contract: a scheme answers by the rules of its type; a signer gives only signatures of its relation.
 #![tactic(auto)]
 
+pub mod laws;
 mod open;
 mod scheme;
 mod signer;

@@ -1,15 +1,11 @@
 -- The reader of bytes that are known goes with them.
-use Rattle.std.proofs.Common.{◌≡◌, ℕ, zero, suc, ◌+◌, ◌-◌, ◌<◌, ◌≤◌, Bool, true, false, eqb, List, [], ◌∷◌, ◌++◌, length, get_or, drop, refl, sym, ap, subst, ◌∙◌, append_assoc, arith}
+use Rattle.std.proofs.Common.{◌≡◌, ℕ, Bool, true, false, eqb, List, [], ◌∷◌, ◌++◌, refl, sym, ap, subst, ◌∙◌}
 use Rattle.std.proofs.lemmas.Bool.{eqb-true, eq-eqb}
 use Rattle.spelling.specs.Front.{Front, Whole, Part, Wrong}
 use Rattle.spelling.specs.Form.{AreBytes}
-use Rattle.spelling.specs.Reading.{guard, byte_at, exactly_at}
-use Rattle.spelling.proofs.Joining.{Takes, Reads, whole_value, whole_rest}
-
--- a test that did not make it wrong
-pub guard_whole : {A : Type 0} (test : Bool) (front : Front A) (x : A) (rest : List ℕ) → guard test front ≡ Whole x rest → (test ≡ true) × (front ≡ Whole x rest)
-guard_whole true front x rest e = (refl, e)
-guard_whole false front x rest e = absurd cc
+use Rattle.spelling.specs.Reading.{guard, exactly_at}
+use Rattle.spelling.proofs.Guards.{guard_whole, guard_part}
+use Rattle.spelling.proofs.Joining.{Takes, Reads, whole_rest}
 
 exactly_takes : (due bytes : List ℕ) (x : Unit {0}) (rest : List ℕ) → AreBytes bytes → exactly_at due bytes ≡ Whole x rest → Takes bytes due rest (Unit {0})
 unfolding exactly_at
@@ -43,5 +39,15 @@ exactly_wrong [] bytes tail e = absurd cc
 exactly_wrong (b ∷ due) [] tail e = absurd cc
 exactly_wrong (b ∷ due) (c ∷ bytes) tail e = wrong_by (eqb c b) (exactly_at due bytes) (exactly_at due (bytes ++ tail)) (exactly_wrong due bytes tail) e
 
+-- a part of the due bytes, and the others
+exactly_part : (due bytes : List ℕ) → exactly_at due bytes ≡ Part → (more : List ℕ) × (due ≡ bytes ++ more)
+unfolding exactly_at
+exactly_part [] bytes e = absurd cc
+exactly_part (b ∷ due) [] e = (b ∷ due, refl)
+exactly_part (b ∷ due) (c ∷ bytes) e =
+    let g = guard_part (eqb c b) (exactly_at due bytes) e in
+    let h = exactly_part due bytes g.1 in
+    (h.0, ap (λ (n : ℕ). n ∷ due) (sym (eqb-true c b g.0)) ∙ ap (λ (l : List ℕ). c ∷ l) h.1)
+
 pub exactly-reads : (due : List ℕ) → Reads (exactly_at due) (λ _. due) (λ _. Unit {0})
-exactly-reads due = record { takes = exactly_takes due; again = exactly_again due; more = exactly_more due; wrong = exactly_wrong due }
+exactly-reads due = record { takes = exactly_takes due; again = exactly_again due; more = exactly_more due; wrong = exactly_wrong due; part = λ bytes are e. let p = exactly_part due bytes e in record { value = tt; more = p.0; fits_value = tt; parts = p.1 } }

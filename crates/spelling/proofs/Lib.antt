@@ -1,7 +1,9 @@
 pub mod Lists
+pub mod Guards
 pub mod Joining
 pub mod Fields
 pub mod Repeated
 pub mod Loop
 pub mod Causes
 pub mod Exact
+pub mod Reader

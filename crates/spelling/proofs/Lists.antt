@@ -1,5 +1,5 @@
 -- Lists of bytes, and lists of values spelled one after the other.
-use Rattle.std.proofs.Common.{◌≡◌, ℕ, zero, suc, ◌+◌, ◌-◌, ◌^◌, ◌<◌, ◌≤◌, List, [], ◌∷◌, ◌++◌, length, get_or, take, drop, refl, sym, ap, ◌∙◌, append_assoc, arith, Fits, w8}
+use Rattle.std.proofs.Common.{◌≡◌, ℕ, zero, suc, ◌-◌, ◌^◌, ◌<◌, List, [], ◌∷◌, ◌++◌, length, get_or, take, drop, sym, ap, ◌∙◌, append_assoc, arith, Fits, w8}
 use Rattle.std.proofs.lemmas.List.{append-nil, take_at, take-append-drop, length-append}
 use Rattle.std.specs.List.{AllByRecursion}
 use Rattle.spelling.specs.Form.{AreBytes}

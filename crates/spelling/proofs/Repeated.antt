@@ -1,21 +1,31 @@
 -- Readers of many values, of an optional value and of counted ones go with their spellings.
-use Rattle.std.proofs.Common.{◌≡◌, ℕ, zero, suc, ◌+◌, ◌^◌, ◌<◌, ◌≤◌, Bool, true, false, List, [], ◌∷◌, ◌++◌, length, Option, Some, None, refl, sym, ap, subst, ◌∙◌, append_assoc, arith}
-use Rattle.std.specs.Prelude.{IfSome, nat_le}
+use Rattle.std.proofs.Common.{◌≡◌, ℕ, zero, suc, ◌^◌, ◌<◌, ◌≤◌, List, [], ◌∷◌, ◌++◌, length, Option, Some, None, refl, sym, ap, subst, ◌∙◌, append_assoc, arith, replicate, inl, inr}
+use Rattle.std.specs.Prelude.{IfSome}
 use Rattle.std.specs.List.{flat_map, AllByRecursion}
-use Rattle.std.proofs.lemmas.Bool.{leb-true, le-leb}
+use Rattle.std.proofs.lemmas.List.{length-replicate}
 use Rattle.std.proofs.lemmas.List.Concat.{flat_map-cons}
 use Rattle.spelling.specs.Front.{Front, Whole, Part, Wrong, ◌>>=◌}
 use Rattle.spelling.specs.Form.{AreBytes}
 use Rattle.spelling.specs.Spelling.{byte_spelling, option_spelling, text_spelling, list_spelling, AreSoManyBytes, AreMany, IsText, IsList}
-use Rattle.spelling.specs.Reading.{guard, byte_at, bytes_at, many_at, behind_flag, option_at, text_at, list_at}
-use Rattle.spelling.proofs.Joining.{Takes, Reads, Reads-then, Reads-made, Reads-last, Reads-guard, Reads-is, whole_value, whole_rest, bind_whole, bind_wrong}
-use Rattle.spelling.proofs.Fields.{byte-reads, bytes-reads}
+use Rattle.spelling.specs.Reading.{bytes_at, many_at, behind_flag, option_at, text_at, list_at}
+use Rattle.spelling.proofs.Joining.{Takes, Reads, Completes, Reads-then, Reads-is, any_follows, whole_value, whole_rest, whole_not_part, bind_whole, bind_part, bind_wrong}
+use Rattle.spelling.proofs.Fields.{byte-reads, byte_follows, bytes-reads}
 
 -- ---- many values in a row
 
 -- reads on behind the first of many
 abbrev others : {A : Type 0} → (List ℕ → Front A) → ℕ → A × List ℕ → Front (List A)
 others at n first = many_at at n first.1 >>= λ more. Whole (first.0 ∷ more.0) more.1
+
+-- the others are a part where all of them are
+others_part : {A : Type 0} (at : List ℕ → Front A) (n : ℕ) (x : A) (bytes : List ℕ) (r : Front (List A)) → many_at at n bytes ≡ r → (r >>= λ more. Whole (x ∷ more.0) more.1) ≡ Part → r ≡ Part
+others_part at n x bytes (Whole xs rest) is e = absurd cc
+others_part at n x bytes Part is e = refl
+others_part at n x bytes Wrong is e = absurd cc
+
+All-copies : {A : Type 0} (fits : A → Type 0) (n : ℕ) (x : A) → fits x → AllByRecursion fits (replicate n x)
+All-copies fits zero x f = tt
+All-copies fits (suc n) x f = (f, All-copies fits n x f)
 
 module _ {A : Type 0} (at : List ℕ → Front A) (spell : A → List ℕ) (fits : A → Type 0) (one : Reads at spell fits) where
   many_take : (n : ℕ) (bytes : List ℕ) (xs : List A) (rest : List ℕ) → AreBytes bytes → many_at at n bytes ≡ Whole xs rest → Takes bytes (flat_map spell xs) rest (AreMany fits n xs)
@@ -67,12 +77,39 @@ module _ {A : Type 0} (at : List ℕ → Front A) (spell : A → List ℕ) (fits
       bind_wrong (at bytes) (at (bytes ++ tail)) (others at n) tail (λ x left h. one.more bytes x left tail h) (one.wrong bytes tail)
       (λ x left h. bind_wrong (many_at at n left) (many_at at n (left ++ tail)) (λ more. Whole (x ∷ more.0) more.1) tail (λ ys l k. many_more n left ys l tail k) (many_wrong n left tail) (λ ys l k. absurd cc) h) e
 
+  -- the beginning of many is completed by copies of the first value that is not whole
+  many_part : (n : ℕ) (bytes : List ℕ) → AreBytes bytes → many_at at n bytes ≡ Part → Completes (λ xs. flat_map spell xs) (AreMany fits n) bytes
+  unfolding many_at
+  many_part zero bytes are e = absurd cc
+  many_part (suc n) bytes are e =
+      elim (bind_part (at bytes) (others at n) e) [
+        | inl h ↦
+            let c = one.part bytes are h in
+            let copies = replicate n c.value in
+            record {
+              value = c.value ∷ copies;
+              more = c.more ++ flat_map spell copies;
+              fits_value = (ap suc (length-replicate n c.value), (c.fits_value, All-copies fits n c.value c.fits_value));
+              parts = flat_map-cons spell c.value copies ∙ ap (λ (l : List ℕ). l ++ flat_map spell copies) c.parts ∙ append_assoc bytes c.more (flat_map spell copies);
+            }
+        | inr b ↦
+            let p = one.takes bytes b.0 b.1 are b.2 in
+            let c = many_part n b.1 p.rest_are (others_part at n b.0 b.1 (many_at at n b.1) refl b.3) in
+            record {
+              value = b.0 ∷ c.value;
+              more = c.more;
+              fits_value = (ap suc c.fits_value.0, (p.fits, c.fits_value.1));
+              parts = flat_map-cons spell b.0 c.value ∙ ap (λ (l : List ℕ). spell b.0 ++ l) c.parts ∙ sym (append_assoc (spell b.0) b.1 c.more) ∙ ap (λ (l : List ℕ). l ++ c.more) (sym p.parts);
+            }
+      ]
+
 pub many-reads : {A : Type 0} {at : List ℕ → Front A} {spell : A → List ℕ} {fits : A → Type 0} (n : ℕ) → Reads at spell fits → Reads (many_at at n) (λ xs. flat_map spell xs) (AreMany fits n)
 many-reads {A} {at} {spell} {fits} n one = record {
   takes = many_take at spell fits one n;
   again = many_again at spell fits one n;
   more = many_more at spell fits one n;
   wrong = many_wrong at spell fits one n;
+  part = many_part at spell fits one n;
 }
 
 -- ---- an optional value
@@ -131,8 +168,18 @@ module _ {A : Type 0} (at : List ℕ → Front A) (spell : A → List ℕ) (fits
       bind_wrong (at bytes) (at (bytes ++ tail)) (λ x. Whole (Some x.0) x.1) tail (λ x left h. one.more bytes x left tail h) (one.wrong bytes tail) (λ x left h. absurd cc) e
   flag_wrong (suc (suc flag)) bytes tail e = refl
 
+  flag_part : (flag : ℕ) (bytes : List ℕ) → AreBytes bytes → behind_flag at flag bytes ≡ Part → Completes (behind_spelling spell) (Behind fits flag) bytes
+  unfolding behind_flag
+  flag_part zero bytes are e = absurd cc
+  flag_part (suc zero) bytes are e =
+      elim (bind_part (at bytes) (λ x. Whole (Some x.0) x.1) e) [
+        | inl h ↦ let c = one.part bytes are h in record { value = Some c.value; more = c.more; fits_value = (refl, c.fits_value); parts = c.parts }
+        | inr b ↦ absurd (whole_not_part (Some b.0) b.1 (Whole (Some b.0) b.1) refl b.3)
+      ]
+  flag_part (suc (suc flag)) bytes are e = absurd cc
+
   behind_reads : (flag : ℕ) → Reads (behind_flag at flag) (behind_spelling spell) (Behind fits flag)
-  behind_reads flag = record { takes = flag_takes flag; again = flag_again flag; more = flag_more flag; wrong = flag_wrong flag }
+  behind_reads flag = record { takes = flag_takes flag; again = flag_again flag; more = flag_more flag; wrong = flag_wrong flag; part = flag_part flag }
 
 option_groups : {A : Type 0} (spell : A → List ℕ) (o : Option A) → byte_spelling (flag_of o) ++ behind_spelling spell o ≡ option_spelling spell o
 option_groups spell None = refl
@@ -148,22 +195,28 @@ option_back fits (Some x) f = (omega arith, (refl, f))
 pub option-reads : {A : Type 0} {at : List ℕ → Front A} {spell : A → List ℕ} {fits : A → Type 0} → Reads at spell fits → Reads (option_at at) (option_spelling spell) (λ o. IfSome o fits)
 unfolding option_at
 option-reads {A} {at} {spell} {fits} one =
-    Reads-is (Reads-then (λ flag. behind_flag at flag.0 flag.1) flag_of byte-reads (λ flag. behind_reads at spell fits one flag) (λ flag o f. f.0)) (option_groups spell) (option_there fits) (option_back fits)
+    Reads-is (Reads-then (λ flag. behind_flag at flag.0 flag.1) flag_of byte-reads (λ flag. behind_reads at spell fits one flag) (λ flag o f. f.0) (byte_follows 0 None (omega arith) (refl, tt))) (option_groups spell) (option_there fits) (option_back fits)
 
 -- ---- counted bytes and counted values
 
-limited : (n limit : ℕ) → n ≤ limit → nat_le n limit ≡ true
-limited n limit le = le-leb n limit le
+-- a count up to a limit and below the top of its width
+abbrev IsCount : ℕ → ℕ → ℕ → Type 0
+IsCount limit top n = (n ≤ limit) × (n < top)
 
-pub text-reads : {count_at : List ℕ → Front ℕ} {count : ℕ → List ℕ} {top : ℕ} (limit : ℕ) → limit < top → Reads count_at count (λ n. n < top) → Reads (text_at count_at limit) (text_spelling count) (IsText limit)
+zeros_are : (n : ℕ) → AreSoManyBytes n (replicate n 0)
+zeros_are n = (length-replicate {A = ℕ} n 0, All-copies (λ b. b < 2 ^ 8) n 0 (omega arith))
+
+pub text-reads : {count_at : List ℕ → Front ℕ} {count : ℕ → List ℕ} {top : ℕ} (limit : ℕ) → limit < top → Reads count_at count (IsCount limit top) → Reads (text_at count_at) (text_spelling count) (IsText limit)
 unfolding text_at
 text-reads {count_at} {count} {top} limit below counts =
-    Reads-is (Reads-then (λ n. guard (nat_le n.0 limit) (bytes_at n.0 n.1)) length counts (λ n. Reads-guard (nat_le n limit) (bytes-reads n)) (λ n bytes f. f.1.0)) (λ bytes. refl)
-    (λ bytes f. (leb-true _ _ f.1.0, f.1.1.1)) (λ bytes f. (omega (arith, f.0, below), (limited _ _ f.0, (refl, f.1))))
+    Reads-is (Reads-then (λ n. bytes_at n.0 n.1) length counts (λ n. bytes-reads n) (λ n bytes f. f.0) (any_follows counts (λ n f. (replicate n 0, zeros_are n)))) (λ bytes. refl)
+    (λ bytes f. (f.0.0, f.1.1)) (λ bytes f. ((f.0, omega (arith, f.0, below)), (refl, f.1)))
 
-pub list-reads : {A : Type 0} {count_at : List ℕ → Front ℕ} {count : ℕ → List ℕ} {top : ℕ} {at : List ℕ → Front A} {spell : A → List ℕ} {fits : A → Type 0} (limit : ℕ) → limit < top → Reads count_at count (λ n. n < top) → Reads at spell fits
-    → Reads (list_at count_at limit at) (list_spelling count spell) (IsList limit fits)
+-- of the values there is at least one that fits
+pub list-reads : {A : Type 0} {count_at : List ℕ → Front ℕ} {count : ℕ → List ℕ} {top : ℕ} {at : List ℕ → Front A} {spell : A → List ℕ} {fits : A → Type 0} (limit : ℕ) → limit < top → (some : A) → fits some
+    → Reads count_at count (IsCount limit top) → Reads at spell fits → Reads (list_at count_at at) (list_spelling count spell) (IsList limit fits)
 unfolding list_at
-list-reads {A} {count_at} {count} {top} {at} {spell} {fits} limit below counts one =
-    Reads-is (Reads-then (λ n. guard (nat_le n.0 limit) (many_at at n.0 n.1)) length counts (λ n. Reads-guard (nat_le n limit) (many-reads n one)) (λ n xs f. f.1.0)) (λ xs. refl)
-    (λ xs f. (leb-true _ _ f.1.0, f.1.1.1)) (λ xs f. (omega (arith, f.0, below), (limited _ _ f.0, (refl, f.1))))
+list-reads {A} {count_at} {count} {top} {at} {spell} {fits} limit below some some_fits counts one =
+    Reads-is (Reads-then (λ n. many_at at n.0 n.1) length counts (λ n. many-reads n one) (λ n xs f. f.0)
+    (any_follows counts (λ n f. (replicate n some, (length-replicate n some, All-copies fits n some some_fits))))) (λ xs. refl)
+    (λ xs f. (f.0.0, f.1.1)) (λ xs f. ((f.0, omega (arith, f.0, below)), (refl, f.1)))

@@ -5,10 +5,16 @@ use Rattle.spelling.specs.declared.ending.End.TheVariants.{Refused, NoMemory}
 
 -- The check passes exactly where there is no cause, and refuses with just the cause that there is;
 -- for want of memory nothing is said.
-abbrev pub Answers : {T E : Type 0} → Result T (End E) → Option E → Type 0
-Answers (Ok x) cause = cause ≡ None
-Answers (Err (Refused e)) cause = cause ≡ Some e
-Answers (Err NoMemory) cause = Unit {0}
+abbrev pub Judges : {T E : Type 0} → Result T (End E) → Option E → Type 0
+Judges (Ok x) cause = cause ≡ None
+Judges (Err (Refused e)) cause = cause ≡ Some e
+Judges (Err NoMemory) cause = Unit {0}
+
+-- The same of a check that asks for memory only where there is no cause to refuse.
+abbrev pub JudgesFirst : {T E : Type 0} → Result T (End E) → Option E → Type 0
+JudgesFirst (Ok x) cause = cause ≡ None
+JudgesFirst (Err (Refused e)) cause = cause ≡ Some e
+JudgesFirst (Err NoMemory) cause = cause ≡ None
 
 -- the first cause, or else the other
 abbrev pub or_else : {E : Type 0} → Option E → Option E → Option E

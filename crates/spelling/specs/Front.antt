@@ -1,5 +1,5 @@
 -- What stands at the front of bytes, for a reader that goes from left to right.
-use Rattle.std.specs.Prelude.{◌≡◌, ℕ, List, Result, Ok, Err}
+use Rattle.std.specs.Prelude.{ℕ, List}
 
 -- one whole value and the bytes behind it, the beginning of a value, or neither
 pub data Front (A : Type 0) : Type 0 where

@@ -1,5 +1,7 @@
 pub mod Front
 pub mod Form
+pub mod Reader
 pub mod Spelling
 pub mod Reading
 pub mod Answers
+pub mod Laws

@@ -1,8 +1,8 @@
 //! Bytes that are read from the front, field by field.
 
-ghost use Rattle.std.specs.Prelude.{◌≡◌, List, ℕ, ◌-◌, length, if◌then◌else◌};
+ghost use Rattle.std.specs.Prelude.{◌≡◌, List, ℕ, ◌-◌, length, slice_index, if◌then◌else◌};
 ghost use Rattle.std.specs.Int.{w16, w32, w64};
-ghost use Rattle.spelling.specs.Reading.{Gives, IsEndOf, byte_at, bytes_at, exactly_at, number_at};
+ghost use Rattle.spelling.specs.Reading.{Gives, IsEndOf, NeedsNoMemory, byte_at, byte_up_to, bytes_at, exactly_at, number_at, number_up_to};
 ghost use Rattle.spelling.specs.declared.ending.End.TheVariants as ends;
 ghost use Rattle.spelling.specs.declared.input.Unread.TheVariants as unread;
 
@@ -66,7 +66,8 @@ impl<'a> Input<'a> {
 
     /// One byte.
     pub fn byte(&mut self) -> Result<u8, Unread>
-        ensures { Gives (λ b. b) result self.new (byte_at self.old) }
+        ensures gives { Gives (λ b. b) result self.new (byte_at self.old) }
+        ensures sure { NeedsNoMemory result }
     {
         match self.bytes {
             [] => Err(Unread::Part),
@@ -77,9 +78,25 @@ impl<'a> Input<'a> {
         }
     }
 
+    /// One byte up to the limit; wrong where it is above.
+    pub fn byte_up_to(&mut self, limit: u8) -> Result<u8, Unread>
+        ensures gives { Gives (λ b. b) result self.new (byte_up_to limit self.old) }
+        ensures sure { NeedsNoMemory result }
+    {
+        match self.bytes {
+            [] => Err(Unread::Part),
+            [byte, left @ ..] => {
+                guard(*byte <= limit)?;
+                self.bytes = left;
+                Ok(*byte)
+            }
+        }
+    }
+
     /// So many bytes, borrowed.
     pub fn slice(&mut self, n: usize) -> Result<&'a [u8], Unread>
-        ensures { Gives (λ x. x.now) result self.new (bytes_at n self.old) }
+        ensures gives { Gives (λ x. x.now) result self.new (bytes_at n self.old) }
+        ensures sure { NeedsNoMemory result }
     {
         if self.bytes.len() < n {
             return Err(Unread::Part);
@@ -91,7 +108,8 @@ impl<'a> Input<'a> {
 
     /// N bytes.
     pub fn array<const N: usize>(&mut self) -> Result<[u8; N], Unread>
-        ensures { Gives (λ x. x) result self.new (bytes_at N self.old) }
+        ensures gives { Gives (λ x. x) result self.new (bytes_at N self.old) }
+        ensures sure { NeedsNoMemory result }
     {
         let front = self.slice(N)?;
         let mut array = [0; N];
@@ -110,7 +128,8 @@ impl<'a> Input<'a> {
     /// Just these few bytes, as a format's first; wrong at the first that differs.
     #[tactic(auto, unfolding(crate::specs::Reading::exactly_at))]
     pub fn exactly(&mut self, due: &[u8]) -> Result<(), Unread>
-        ensures { Gives (λ x. x) result self.new (exactly_at due.now self.old) }
+        ensures gives { Gives (λ x. x) result self.new (exactly_at due.now self.old) }
+        ensures sure { NeedsNoMemory result }
     {
         match due {
             [] => Ok(()),
@@ -124,23 +143,62 @@ impl<'a> Input<'a> {
 
     /// A number of two bytes, the highest first.
     pub fn number_u16(&mut self) -> Result<u16, Unread>
-        ensures { Gives (λ n. n) result self.new (number_at w16 self.old) }
+        ensures gives { Gives (λ n. n) result self.new (number_at w16 self.old) }
+        ensures sure { NeedsNoMemory result }
     {
         Ok(u16::from_be_bytes(self.array()?))
     }
 
+    /// A number of two bytes up to the limit, the highest first; wrong as soon as no such number begins with the
+    /// bytes.
+    pub fn number_u16_up_to(&mut self, limit: u16) -> Result<u16, Unread>
+        ensures gives { Gives (λ n. n) result self.new (number_up_to w16 limit self.old) }
+        ensures sure { NeedsNoMemory result }
+    {
+        guard(u16::from_be_bytes([self.byte_or_zero(0), self.byte_or_zero(1)]) <= limit)?;
+        self.number_u16()
+    }
+
     /// A number of four bytes, the highest first.
     pub fn number_u32(&mut self) -> Result<u32, Unread>
-        ensures { Gives (λ n. n) result self.new (number_at w32 self.old) }
+        ensures gives { Gives (λ n. n) result self.new (number_at w32 self.old) }
+        ensures sure { NeedsNoMemory result }
     {
         Ok(u32::from_be_bytes(self.array()?))
     }
 
+    /// A number of four bytes up to the limit, the highest first; wrong as soon as no such number begins with the
+    /// bytes.
+    pub fn number_u32_up_to(&mut self, limit: u32) -> Result<u32, Unread>
+        ensures gives { Gives (λ n. n) result self.new (number_up_to w32 limit self.old) }
+        ensures sure { NeedsNoMemory result }
+    {
+        let least = u32::from_be_bytes([
+            self.byte_or_zero(0),
+            self.byte_or_zero(1),
+            self.byte_or_zero(2),
+            self.byte_or_zero(3),
+        ]);
+        guard(least <= limit)?;
+        self.number_u32()
+    }
+
     /// A number of eight bytes, the highest first.
     pub fn number_u64(&mut self) -> Result<u64, Unread>
-        ensures { Gives (λ n. n) result self.new (number_at w64 self.old) }
+        ensures gives { Gives (λ n. n) result self.new (number_at w64 self.old) }
+        ensures sure { NeedsNoMemory result }
     {
         Ok(u64::from_be_bytes(self.array()?))
+    }
+
+    // The byte at a place, or zero behind the end.
+    fn byte_or_zero(&self, at: usize) -> u8
+        ensures { result ≡ slice_index self.now at }
+    {
+        match self.bytes.get(at) {
+            Some(byte) => *byte,
+            None => 0,
+        }
     }
 }
 

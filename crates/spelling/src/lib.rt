@@ -4,6 +4,7 @@
 
 mod ending;
 mod input;
+pub mod laws;
 mod output;
 
 pub use ending::{End, NoMemory, NotHere};

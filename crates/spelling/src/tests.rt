@@ -36,6 +36,32 @@ fn part_and_wrong(rt: HostRuntime) {
     assert_eq!(rt; guard(false), Err(Unread::Wrong));
 }
 
+// What is read of two bytes with a limit, and of four.
+fn up_to_u16(bytes: &[u8], limit: u16) -> Result<u16, Unread> {
+    Input::new(bytes).number_u16_up_to(limit)
+}
+
+fn up_to_u32(bytes: &[u8], limit: u32) -> Result<u32, Unread> {
+    Input::new(bytes).number_u32_up_to(limit)
+}
+
+#[test]
+fn limits_are_judged_byte_by_byte(rt: HostRuntime) {
+    assert_eq!(rt; up_to_u16(&[0x05, 0xe4], 1508), Ok(1508));
+    assert_eq!(rt; up_to_u16(&[0x05, 0xe5], 1508), Err(Unread::Wrong));
+    assert_eq!(rt; up_to_u16(&[0x05], 1508), Err(Unread::Part));
+    assert_eq!(rt; up_to_u16(&[0x06], 1508), Err(Unread::Wrong));
+    assert_eq!(rt; up_to_u16(&[], 0), Err(Unread::Part));
+    assert_eq!(rt; up_to_u32(&[0, 2, 0, 0, 9], 131_072), Ok(131_072));
+    assert_eq!(rt; up_to_u32(&[0, 2, 0, 1], 131_072), Err(Unread::Wrong));
+    assert_eq!(rt; up_to_u32(&[0, 2, 0], 131_072), Err(Unread::Part));
+    assert_eq!(rt; up_to_u32(&[0, 3], 131_072), Err(Unread::Wrong));
+    assert_eq!(rt; up_to_u32(&[1], 131_072), Err(Unread::Wrong));
+    assert_eq!(rt; Input::new(&[8, 1]).byte_up_to(8), Ok(8));
+    assert_eq!(rt; Input::new(&[9]).byte_up_to(8), Err(Unread::Wrong));
+    assert_eq!(rt; Input::new(&[]).byte_up_to(8), Err(Unread::Part));
+}
+
 #[test]
 fn ends(rt: HostRuntime) {
     let part: End<NotHere> = Unread::Part.into();

@@ -1,8 +1,12 @@
 //! Four rows, and those of them that a box includes.
 
+ghost use Rattle.std.specs.Prelude.{◌≡◌};
+
 use crate::rows::{Rank, path_of_bytes, row_of, user};
 use block_store::{BlockStore, Snapshot};
 use std::alloc::Global;
+use std::sync::ledger::{Blank, Ledger};
+use step_count::Steps;
 use willow_area::{Area, Box3, TimeRange, box_of};
 use willow_entry::{BareRow, same};
 
@@ -20,7 +24,7 @@ fn offer(
         digest: 0x11,
     };
     let row = row_of(alloc, subspace, path_of_bytes(alloc, parts)?, rank, 0)?;
-    if store.len() > 1000 {
+    if store.is_full() {
         return None;
     }
     let _placed = store.ingest(row).ok()?;
@@ -78,6 +82,17 @@ pub(crate) type Place<'a> = (Option<u8>, &'a [u8], u64, Option<u64>);
 pub(crate) fn found(alloc: Global, place: &Place) -> Option<(u32, [Option<u32>; 5])> {
     let area = area_box(alloc, place.0, place.1, place.2, place.3)?;
     Some(positions(&snapshot(alloc)?, &area))
+}
+
+// The fingerprint of the rows that the box of an area includes.
+pub(crate) fn fingerprint<L: Ledger>(alloc: Global, place: &Place, blank: Blank) -> Option<[u8; 32]>
+    requires name { blank.name ≡ L.name }
+    requires parts { blank.parts ≡ L.parts }
+    requires one { blank.parts ≡ 1 }
+{
+    let area = area_box(alloc, place.0, place.1, place.2, place.3)?;
+    let mut steps = Steps::<L>::new(blank);
+    Some(snapshot(alloc)?.fingerprint(&area, &mut steps))
 }
 
 // Whether two snapshots have the same rows in the same order.

@@ -51,7 +51,7 @@ fn offer_flat(alloc: Global, store: &mut FlatStore<BareRow>, list: u64) -> Optio
     for _ in 0..LENGTH {
         number = next(number);
         let row = row_at(alloc, number)?;
-        if store.rows().len() > LENGTH {
+        if store.is_full() {
             return None;
         }
         answers.push(store.ingest(row).ok()?).ok()?;
@@ -66,7 +66,7 @@ fn offer_shared(alloc: Global, store: &mut BlockStore<BareRow>, list: u64) -> Op
     for _ in 0..LENGTH {
         number = next(number);
         let row = row_at(alloc, number)?;
-        if store.len() > LENGTH as u32 {
+        if store.is_full() {
             return None;
         }
         answers.push(store.ingest(row).ok()?).ok()?;

@@ -1,9 +1,13 @@
 //! Tables of what the stores answer.
 
-use crate::boxes::{Place, found, shared};
+use crate::boxes::{Place, fingerprint, found, shared};
 use crate::lists::{Outcome, outcome_in_both};
 use crate::pairs::{Made, offer_both};
 use block_store::laws::numbering;
+use hex::FromHex;
+use std::marker::Brand;
+use std::sync::ledger::Blank;
+use std::test::Fail;
 use willow_entry::Placed;
 
 const STORED: Placed = Placed::Stored { pruned: 0 };
@@ -161,6 +165,43 @@ fn rows_in_boxes(rt: HostRuntime) {
         assert_eq!(rt; found(rt.alloc(), place), Some((*count, *positions)));
     }
     assert_eq!(rt; shared(rt.alloc()), Some(4));
+}
+
+// An area, and the fingerprint of those of the four rows that are in its box, made by another program. The last
+// is the digest of forty zero bytes.
+const FINGERPRINTS: [(Place<'static>, &str); 5] = [
+    (
+        (None, b"", 0, None),
+        "258c823c59a9fed80ccb91ccb677d4822471b711883d7840ef6bbcd3b052641c",
+    ),
+    (
+        (None, b"a", 0, None),
+        "84cd6ea5a5c08146cfbc140a7a225212c011bd7706ac3727bff6c9fc41624136",
+    ),
+    (
+        (None, b"", 5, Some(6)),
+        "b0f9744c59431c3f56b254512c84f01483b77d2d4caa6edb3b1cce7e85e6867e",
+    ),
+    (
+        (None, b"", 6, None),
+        "c8cc0c1580abe05a6f29efd4ec31cbdbd6599859ea88b0df43547e0e28eea9a8",
+    ),
+    (
+        (Some(2), b"b", 0, None),
+        "2c34ce1df23b838c5abf2a7f6437cca3d3067ed509ff25f11df6b11b582b51eb",
+    ),
+];
+
+#[test]
+fn fingerprints(rt: HostRuntime) -> Result<(), Fail> {
+    for (place, wanted) in &FINGERPRINTS {
+        let wanted = <[u8; 32] as FromHex>::from_hex(wanted)?;
+        assert_eq!(rt;
+            fingerprint::<Brand>(rt.alloc(), place, Blank::new(1)),
+            Some(wanted)
+        );
+    }
+    Ok(())
 }
 
 #[test]

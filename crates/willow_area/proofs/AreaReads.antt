@@ -1,8 +1,10 @@
 -- The reader of an area goes with its spelling.
-use Rattle.std.proofs.Common.{◌≡◌, ℕ, List, ◌++◌, Option, refl, ap}
+use Rattle.std.proofs.Common.{◌≡◌, ℕ, List, [], ◌++◌, Option, None, refl, ap, arith}
 use Rattle.spelling.specs.Front.{Whole, ◌>>=◌}
 use Rattle.spelling.specs.Form.{IsForm}
-use Rattle.spelling.proofs.Joining.{Reads, Reads-then, Reads-last, Reads-is, one_spelling}
+use Rattle.spelling.specs.Reader.{IsReader}
+use Rattle.spelling.proofs.Reader.{reader}
+use Rattle.spelling.proofs.Joining.{Reads, Reads-then, Reads-last, Reads-is, any_follows, one_spelling}
 use Rattle.spelling.proofs.Repeated.{option-reads}
 use Rattle.willow_path.specs.Path.{IsPath}
 use Rattle.willow_path.specs.PathSpelling.{path_at, path_spelling}
@@ -17,6 +19,17 @@ use Rattle.willow_area.proofs.TimesReads.{times-reads}
 abbrev made : Option (List ℕ) → List (List ℕ) → Times → Area
 made subspace path times = record { subspace = subspace; path = path; times = times }
 
+-- the range of all times, and the path without components
+unfoldable from_zero : Times
+from_zero = record { start = 0; end = None }
+
+from_zero_fits : IsTimes from_zero
+unfolding from_zero
+from_zero_fits = record { starts = omega arith; ends = tt }
+
+no_parts : IsPath []
+no_parts = record { few = omega arith; parts_fit = tt; short = omega arith }
+
 from_path : (subspace : Option (List ℕ)) (path : List (List ℕ)) → Reads (λ bytes. times_at bytes >>= λ times. Whole (made subspace path times.0) times.1) (λ (area : Area). times_spelling area.times)
     (λ area. IsTimes area.times × (area ≡ made subspace path area.times))
 from_path subspace path = Reads-last (λ (area : Area). area.times) (made subspace path) times-reads (λ times. refl)
@@ -24,13 +37,18 @@ from_path subspace path = Reads-last (λ (area : Area). area.times) (made subspa
 from_subspace : (subspace : Option (List ℕ)) → Reads (λ bytes. path_at bytes >>= λ path. times_at path.1 >>= λ times. Whole (made subspace path.0 times.0) times.1) (λ (area : Area). path_spelling area.path ++ times_spelling area.times)
     (λ area. IsPath area.path × (IsTimes area.times × (area ≡ made subspace area.path area.times)))
 from_subspace subspace = Reads-then (λ (path : List (List ℕ) × List ℕ). times_at path.1 >>= λ times. Whole (made subspace path.0 times.0) times.1) (λ (area : Area). area.path) path-reads (from_path subspace) (λ path area f. ap (λ (a : Area). a.path) f.1)
+    (any_follows path-reads (λ path f. (made subspace path from_zero, (from_zero_fits, refl))))
 
 pub area-reads : Reads area_at area_spelling IsArea
 unfolding area_at
 area-reads =
     let joined = Reads-then (λ (subspace : Option (List ℕ) × List ℕ). path_at subspace.1 >>= λ path. times_at path.1 >>= λ times. Whole (made subspace.0 path.0 times.0) times.1) (λ (area : Area). area.subspace)
-    (option-reads key-reads) from_subspace (λ subspace area f. ap (λ (a : Area). a.subspace) f.1.1) in
+    (option-reads key-reads) from_subspace (λ subspace area f. ap (λ (a : Area). a.subspace) f.1.1)
+    (any_follows (option-reads key-reads) (λ subspace f. (made subspace [] from_zero, (no_parts, (from_zero_fits, refl))))) in
     Reads-is joined (λ area. refl) (λ area f. record { subspace_fits = f.0; path_fits = f.1.0; times_fit = f.1.1.0 }) (λ area f. (f.subspace_fits, (f.path_fits, (f.times_fit, refl))))
 
 pub area_form : IsForm area_spelling IsArea
 area_form = one_spelling area-reads
+
+pub area_reader : IsReader area_at area_spelling IsArea
+area_reader = reader area-reads

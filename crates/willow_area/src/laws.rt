@@ -3,10 +3,11 @@
 
 ghost use Rattle.std.specs.Prelude.{◌≡◌, ◌↔◌, IsTrue, Some, None};
 ghost use Rattle.spelling.specs.Form.{IsForm};
+ghost use Rattle.spelling.specs.Reader.{IsReader};
 ghost use Rattle.willow_area.specs.Area.{IsArea, includes_area, meet_area};
 ghost use Rattle.willow_area.specs.AreaMeaning.{Includes, AreApart, HasTriplesOfBoth};
 ghost use Rattle.willow_area.specs.AreaBox.{HasTriplesOf, area_box};
-ghost use Rattle.willow_area.specs.AreaSpelling.{area_spelling};
+ghost use Rattle.willow_area.specs.AreaSpelling.{area_at, area_spelling};
 ghost use Rattle.willow_area.specs.Boxes.{Ranges};
 ghost use Rattle.willow_area.specs.Cuts.{can_cut, lower_part, upper_part, HasWhatIsBelow, HasTheRest};
 ghost use Rattle.willow_area.specs.declared.area.Area.{Area};
@@ -29,6 +30,13 @@ pub fn intersection()
 #[tactic(auto, using(crate::proofs::AreaReads::area_form))]
 pub fn one_spelling()
     ensures area { IsForm area_spelling IsArea }
+{}
+
+/// The reader of areas goes by the spellings alone: an area is whole exactly where its spelling stands in front, the
+/// bytes are a part exactly where they begin a spelling and more is due, and wrong exactly where none begins so.
+#[tactic(auto, using(crate::proofs::AreaReads::area_reader))]
+pub fn readers()
+    ensures area { IsReader area_at area_spelling IsArea }
 {}
 
 /// The two parts of a cut have the triples of the box: the lower part those below the point, the upper part

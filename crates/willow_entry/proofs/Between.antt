@@ -6,15 +6,14 @@ use Rattle.std.specs.Cmp.{IsTotalOrder}
 use Rattle.std.specs.Ordering.{ordering_reverse}
 use Rattle.std.proofs.lemmas.List.{map-append, take-append-drop, get_or_default}
 use Rattle.std.proofs.lemmas.List.Kept.{IsStrictlySortedBy-filter}
-use Rattle.willow_entry.specs.Pruning.{placed, pruned}
-use Rattle.willow_entry.specs.Row.{RowValue, is_dominating, place_cmp, live, HasCovering, IsCoveringAt}
+use Rattle.willow_entry.specs.Pruning.{placed, pruned, IsPlace}
+use Rattle.willow_entry.specs.Row.{RowValue, is_dominating, place_cmp, live, left_of, HasCovering, IsCoveringAt}
 use Rattle.willow_entry.proofs.Members.{Member, member_append_right, filter_member}
 use Rattle.willow_entry.proofs.Rising.{all_member, all_from_members}
 use Rattle.willow_entry.proofs.Pruning.{IsCovered}
 use Rattle.willow_entry.proofs.Ranks.{place_total}
 use Rattle.willow_entry.proofs.RowLaws.{rows_prune, covering_from_covered}
 use Rattle.std.proofs.lemmas.Bool.{not-true, false≢true}
-use Rattle.willow_entry.proofs.Local.{left_of}
 use Rattle.willow_entry.proofs.Live.{live-uncovered, live-covered, live-rises, live-live}
 
 pub less_from_test : (o : Ordering) → is_lt o ≡ true → o ≡ Less
@@ -48,13 +47,8 @@ module _ {X : Type 0} (cmp : X → X → Ordering) where
   placed-between x [] (y ∷ after) a b = rw b.0 refl
   placed-between x (y ∷ before) after a b = rw a.0 (ap (λ l. y ∷ l) (placed-between x before after a.1 b))
 
-  -- the first n items are below x, and no later one is
-  pub record IsPlace (x : X) (ys : List X) (n : ℕ) : Type 0 where
-    pub below : AllByRecursion (λ y. cmp y x ≡ Less) (take n ys)
-    pub beyond : AllByRecursion (λ y. is_lt (cmp y x) ≡ false) (drop n ys)
-
   -- what a search among rising items finds is the place
-  pub place_from_point : {Y : Type 0} (f : Y → X) (x : X) (ys : List Y) (n : ℕ) → IsPartitionPoint (λ y. is_lt (cmp (f y) x) ≡ true) (λ y. is_lt (cmp (f y) x) ≡ false) ys n → IsPlace x (map f ys) n
+  pub place_from_point : {Y : Type 0} (f : Y → X) (x : X) (ys : List Y) (n : ℕ) → IsPartitionPoint (λ y. is_lt (cmp (f y) x) ≡ true) (λ y. is_lt (cmp (f y) x) ≡ false) ys n → IsPlace cmp x (map f ys) n
   place_from_point f x ys n p = record {
     below = all_before f (λ y. cmp y x ≡ Less) ys n (λ k d le lt. less_from_test _ (p.0 k d le lt));
     beyond = all_from f (λ y. is_lt (cmp y x) ≡ false) ys n p.1;

@@ -1,13 +1,15 @@
 -- The reader of entries goes with their spelling.
-use Rattle.std.proofs.Common.{◌≡◌, ℕ, zero, suc, ◌<◌, ◌^◌, List, [], ◌∷◌, ◌++◌, take, drop, refl, sym, ap, ap₂, ◌∙◌, subst, append_assoc, length, ◌-◌, arith}
-use Rattle.std.proofs.lemmas.List.{take-append-drop, take_all, length-drop}
+use Rattle.std.proofs.Common.{◌≡◌, ℕ, zero, suc, ◌<◌, ◌^◌, List, [], ◌∷◌, ◌++◌, take, drop, refl, sym, ap, ap₂, ◌∙◌, subst, append_assoc, length, replicate, ◌-◌, arith}
+use Rattle.std.proofs.lemmas.List.{take-append-drop, take_all, length-drop, length-replicate}
 use Rattle.std.specs.Int.{w64, to_be_bytes}
 use Rattle.spelling.specs.Front.{Front, Whole, ◌>>=◌}
 use Rattle.spelling.specs.Form.{IsForm, AreBytes}
+use Rattle.spelling.specs.Reader.{IsReader}
 use Rattle.spelling.specs.Reading.{number_at, bytes_at}
 use Rattle.spelling.specs.Spelling.{AreSoManyBytes}
-use Rattle.spelling.proofs.Joining.{Reads, Reads-then, Reads-last, Reads-is, one_spelling}
-use Rattle.spelling.proofs.Fields.{bytes-reads, u64-reads}
+use Rattle.spelling.proofs.Joining.{Reads, Reads-then, Reads-last, Reads-is, any_follows, one_spelling}
+use Rattle.spelling.proofs.Reader.{reader}
+use Rattle.spelling.proofs.Fields.{bytes-reads, u64-reads, zeros_are_bytes}
 use Rattle.willow_path.specs.Key.{IsKey, key_at}
 use Rattle.willow_path.specs.Path.{IsPath}
 use Rattle.willow_path.specs.PathSpelling.{path_spelling, path_at}
@@ -24,6 +26,17 @@ made n s p t l d = record { namespace = n; subspace = s; path = p; timestamp = t
 pub regroup : (a b c d : List ℕ) → ((a ++ b) ++ c) ++ d ≡ a ++ (b ++ (c ++ d))
 regroup a b c d = append_assoc (a ++ b) c d ∙ append_assoc a b (c ++ d)
 
+-- ---- what may follow a field: the path without components, zeros in place of the numbers, the key and the digest
+
+no_parts : IsPath []
+no_parts = record { few = omega arith; parts_fit = tt; short = omega arith }
+
+zeros : (n : ℕ) → AreSoManyBytes n (replicate n 0)
+zeros n = (length-replicate {A = ℕ} n 0, zeros_are_bytes n)
+
+zero_key : IsKey (replicate 33 0)
+zero_key = record { whole = (zeros 33).0; kind = omega arith; bytes_fit = (zeros 33).1 }
+
 -- ---- the fields from the last back to the first
 
 abbrev digest_at : List ℕ → List ℕ → List (List ℕ) → ℕ → ℕ → List ℕ → Front Entry
@@ -39,6 +52,7 @@ length_at n s p t bytes = number_at w64 bytes >>= λ l. digest_at n s p t l.0 l.
 from_time : (n s : List ℕ) (p : List (List ℕ)) (t : ℕ) → Reads (length_at n s p t) (λ (e : Entry). to_be_bytes w64 e.length ++ e.digest.0)
     (λ e. (e.length < 2 ^ 64) × (AreSoManyBytes 32 e.digest.0 × (e ≡ made n s p t e.length e.digest.0)))
 from_time n s p t = Reads-then (λ (l : ℕ × List ℕ). digest_at n s p t l.0 l.1) (λ (e : Entry). e.length) u64-reads (from_length n s p t) (λ l e f. ap (λ (x : Entry). x.length) f.1)
+    (any_follows u64-reads (λ l f. (made n s p t l (replicate 32 0), (zeros 32, refl))))
 
 abbrev time_at : List ℕ → List ℕ → List (List ℕ) → List ℕ → Front Entry
 time_at n s p bytes = number_at w64 bytes >>= λ t. length_at n s p t.0 t.1
@@ -46,6 +60,7 @@ time_at n s p bytes = number_at w64 bytes >>= λ t. length_at n s p t.0 t.1
 from_path : (n s : List ℕ) (p : List (List ℕ)) → Reads (time_at n s p) (λ (e : Entry). to_be_bytes w64 e.timestamp ++ (to_be_bytes w64 e.length ++ e.digest.0))
     (λ e. (e.timestamp < 2 ^ 64) × ((e.length < 2 ^ 64) × (AreSoManyBytes 32 e.digest.0 × (e ≡ made n s p e.timestamp e.length e.digest.0))))
 from_path n s p = Reads-then (λ (t : ℕ × List ℕ). length_at n s p t.0 t.1) (λ (e : Entry). e.timestamp) u64-reads (from_time n s p) (λ t e f. ap (λ (x : Entry). x.timestamp) f.1.1)
+    (any_follows u64-reads (λ t f. (made n s p t 0 (replicate 32 0), (omega arith, (zeros 32, refl)))))
 
 abbrev named_at : List ℕ → List ℕ → List ℕ → Front Entry
 named_at n s bytes = path_at bytes >>= λ p. time_at n s p.0 p.1
@@ -53,6 +68,7 @@ named_at n s bytes = path_at bytes >>= λ p. time_at n s p.0 p.1
 from_subspace : (n s : List ℕ) → Reads (named_at n s) (λ (e : Entry). path_spelling e.path ++ (to_be_bytes w64 e.timestamp ++ (to_be_bytes w64 e.length ++ e.digest.0)))
     (λ e. IsPath e.path × ((e.timestamp < 2 ^ 64) × ((e.length < 2 ^ 64) × (AreSoManyBytes 32 e.digest.0 × (e ≡ made n s e.path e.timestamp e.length e.digest.0)))))
 from_subspace n s = Reads-then (λ (p : List (List ℕ) × List ℕ). time_at n s p.0 p.1) (λ (e : Entry). e.path) path-reads (from_path n s) (λ p e f. ap (λ (x : Entry). x.path) f.1.1.1)
+    (any_follows path-reads (λ p f. (made n s p 0 0 (replicate 32 0), (omega arith, (omega arith, (zeros 32, refl))))))
 
 abbrev owned_at : List ℕ → List ℕ → Front Entry
 owned_at n bytes = key_at bytes >>= λ s. named_at n s.0 s.1
@@ -60,11 +76,13 @@ owned_at n bytes = key_at bytes >>= λ s. named_at n s.0 s.1
 from_namespace : (n : List ℕ) → Reads (owned_at n) (λ (e : Entry). e.subspace ++ (path_spelling e.path ++ (to_be_bytes w64 e.timestamp ++ (to_be_bytes w64 e.length ++ e.digest.0))))
     (λ e. IsKey e.subspace × (IsPath e.path × ((e.timestamp < 2 ^ 64) × ((e.length < 2 ^ 64) × (AreSoManyBytes 32 e.digest.0 × (e ≡ made n e.subspace e.path e.timestamp e.length e.digest.0))))))
 from_namespace n = Reads-then (λ (s : List ℕ × List ℕ). named_at n s.0 s.1) (λ (e : Entry). e.subspace) key-reads (from_subspace n) (λ s e f. ap (λ (x : Entry). x.subspace) f.1.1.1.1)
+    (any_follows key-reads (λ s f. (made n s [] 0 0 (replicate 32 0), (no_parts, (omega arith, (omega arith, (zeros 32, refl)))))))
 
 pub entry-reads : Reads entry_at entry_spelling IsEntry
 unfolding entry_at entry_spelling
 entry-reads =
-    let joined = Reads-then (λ (n : List ℕ × List ℕ). owned_at n.0 n.1) (λ (e : Entry). e.namespace) key-reads from_namespace (λ n e f. ap (λ (x : Entry). x.namespace) f.1.1.1.1.1) in
+    let joined = Reads-then (λ (n : List ℕ × List ℕ). owned_at n.0 n.1) (λ (e : Entry). e.namespace) key-reads from_namespace (λ n e f. ap (λ (x : Entry). x.namespace) f.1.1.1.1.1)
+    (any_follows key-reads (λ n f. (made n (replicate 33 0) [] 0 0 (replicate 32 0), (zero_key, (no_parts, (omega arith, (omega arith, (zeros 32, refl)))))))) in
     Reads-is joined (λ e. refl)
     (λ e f. record { namespace = f.0; subspace = f.1.0; path = f.1.1.0; timestamp = f.1.1.1.0; length_fits = f.1.1.1.1.0; digest = f.1.1.1.1.1.0 })
     (λ e f. (f.namespace, (f.subspace, (f.path, (f.timestamp, (f.length_fits, (f.digest, refl)))))))
@@ -72,6 +90,10 @@ entry-reads =
 -- an entry within its limits has one spelling, and none begins another
 pub entry_form : IsForm entry_spelling IsEntry
 entry_form = one_spelling entry-reads
+
+-- the reader of entries goes by the spellings alone
+pub entry_reader : IsReader entry_at entry_spelling IsEntry
+entry_reader = reader entry-reads
 
 -- a body is that of one row
 pub one_body : (r s : RowValue) → IsEntry r.entry → IsEntry s.entry → row_body r ≡ row_body s → r ≡ s

@@ -1,5 +1,5 @@
 -- Where to look for the rows that a row dominates, and for a row that covers it, among rows that rise.
-use Rattle.std.proofs.Common.{◌≡◌, ◌⊎◌, ℕ, ◌+◌, ◌≤◌, inl, inr, Bool, true, false, not, ◌&&◌, cond, List, [], ◌∷◌, ◌++◌, take, drop, length, filter, sym, refl, ap, ◌∙◌, subst, Ordering, Less, Equal, Greater, is_lt, is_gt, one-add}
+use Rattle.std.proofs.Common.{◌≡◌, ◌⊎◌, ℕ, ◌+◌, ◌≤◌, inl, inr, Bool, true, false, not, ◌&&◌, cond, List, [], ◌∷◌, ◌++◌, take, drop, length, sym, refl, ap, ◌∙◌, subst, Ordering, Less, Equal, Greater, is_lt, is_gt, one-add}
 use Rattle.std.specs.List.{AllByRecursion, prefix_len}
 use Rattle.std.specs.List.Sorted.{IsStrictlySortedBy}
 use Rattle.std.specs.Ordering.{ordering_then, match_ordering, ordering_reverse}
@@ -10,7 +10,7 @@ use Rattle.willow_path.specs.Path.{is_prefix, IsPrefix, path_cmp}
 use Rattle.willow_path.proofs.PathOrder.{is_prefix_decides, prefix_at_most, prefix_between}
 use Rattle.willow_entry.specs.Entry.{bytes_cmp, same_bytes}
 use Rattle.willow_entry.specs.Pruning.{placed}
-use Rattle.willow_entry.specs.Row.{RowValue, is_at_prefix, is_dominating, place_cmp, Dominates, HasCovering, IsRising}
+use Rattle.willow_entry.specs.Row.{RowValue, is_at_prefix, is_dominating, place_cmp, left_of, Dominates, HasCovering, IsRising}
 use Rattle.willow_entry.proofs.Members.{Member, contains_from_member, member_from_contains, filter_member}
 use Rattle.willow_entry.proofs.Rising.{all_member}
 use Rattle.willow_entry.proofs.Ranks.{place_total, tie_from_tests, bytes_same, bytes_tie}
@@ -93,10 +93,6 @@ between_at_prefix r b c p h k =
     }
 
 -- ---- the run of what a row may dominate
-
--- what r leaves of the rows
-abbrev pub left_of : RowValue → List RowValue → List RowValue
-left_of r rows = filter (λ s. not (is_dominating r s)) rows
 
 -- how many rows from the front on stand at the prefix r
 abbrev pub run_of : RowValue → List RowValue → ℕ

@@ -7,8 +7,9 @@ use Rattle.std.proofs.lemmas.Cmp.{nat_cmp_total, nat_list_cmp_total, lists_total
 use Rattle.std.proofs.lemmas.Bool.{and_parts, and_from, false≢true}
 use Rattle.willow_path.specs.Path.{path_cmp}
 use Rattle.willow_entry.specs.declared.entry.Entry.{Entry}
-use Rattle.willow_entry.specs.Entry.{bytes_cmp, same_bytes, rank_cmp, is_newer, same_entry, IsNewer}
-use Rattle.willow_entry.specs.Row.{RowValue, place_cmp}
+use Rattle.willow_entry.specs.Rank.{RankValue, rank_cmp}
+use Rattle.willow_entry.specs.Entry.{bytes_cmp, same_bytes, rank_of, entry_rank_cmp, is_newer, same_entry, IsNewer}
+use Rattle.willow_entry.specs.Row.{RowValue, subspace_path_cmp, inner_place_cmp, place_cmp}
 
 -- ---- ties
 
@@ -38,15 +39,21 @@ path_tie = list_tie (slice_cmp nat_cmp) bytes_tie
 
 pub rank_total : IsTotalOrder rank_cmp
 unfolding rank_cmp
-rank_total = then_total (on_total (λ (e : Entry). e.timestamp) nat_cmp_total) (then_total (on_total (λ (e : Entry). e.digest.0) nat_list_cmp_total) (on_total (λ (e : Entry). e.length) nat_cmp_total))
+rank_total = then_total (on_total (λ (r : RankValue). r.timestamp) nat_cmp_total) (then_total (on_total (λ (r : RankValue). r.digest) nat_list_cmp_total) (on_total (λ (r : RankValue). r.length) nat_cmp_total))
 
--- equal ranks have equal timestamps, digests and lengths
-pub rank_tie : (e f : Entry) → rank_cmp e f ≡ Equal → (e.timestamp ≡ f.timestamp) × (e.digest.0 ≡ f.digest.0) × (e.length ≡ f.length)
+pub entry_rank_total : IsTotalOrder entry_rank_cmp
+entry_rank_total = on_total rank_of rank_total
+
+-- ranks that tie are equal
+pub rank_tie : (r s : RankValue) → rank_cmp r s ≡ Equal → r ≡ s
 unfolding rank_cmp
-rank_tie e f h =
-    let first = then_equal (nat_cmp e.timestamp f.timestamp) (ordering_then (bytes_cmp e.digest.0 f.digest.0) (nat_cmp e.length f.length)) h in
-    let second = then_equal (bytes_cmp e.digest.0 f.digest.0) (nat_cmp e.length f.length) first.1 in
-    (nat_tie e.timestamp f.timestamp first.0, bytes_tie e.digest.0 f.digest.0 second.0, nat_tie e.length f.length second.1)
+rank_tie r s h =
+    let first = then_equal (nat_cmp r.timestamp s.timestamp) (ordering_then (bytes_cmp r.digest s.digest) (nat_cmp r.length s.length)) h in
+    let second = then_equal (bytes_cmp r.digest s.digest) (nat_cmp r.length s.length) first.1 in
+    let t = nat_tie r.timestamp s.timestamp first.0 in
+    let d = bytes_tie r.digest s.digest second.0 in
+    let l = nat_tie r.length s.length second.1 in
+    λ i. record { timestamp = t i; digest = d i; length = l i }
 
 pub greater_from_test : (o : Ordering) → is_gt o ≡ true → o ≡ Greater
 greater_from_test Less e = absurd (false≢true e)
@@ -98,7 +105,7 @@ above_nat x y h =
     ] in
     each (nat_cmp x y) (ranked x y (nat_cmp x y) refl)
 
-pub newer_from_rank : (e f : Entry) → rank_cmp e f ≡ Greater → IsNewer e f
+pub newer_from_rank : (e f : Entry) → entry_rank_cmp e f ≡ Greater → IsNewer e f
 unfolding rank_cmp
 newer_from_rank e f h = elim (then_greater (nat_cmp e.timestamp f.timestamp) (ordering_then (bytes_cmp e.digest.0 f.digest.0) (nat_cmp e.length f.length)) h) [
   | inl a ↦ inl (nat_above e.timestamp f.timestamp a)
@@ -108,7 +115,7 @@ newer_from_rank e f h = elim (then_greater (nat_cmp e.timestamp f.timestamp) (or
   ]
 ]
 
-pub rank_from_newer : (e f : Entry) → IsNewer e f → rank_cmp e f ≡ Greater
+pub rank_from_newer : (e f : Entry) → IsNewer e f → entry_rank_cmp e f ≡ Greater
 unfolding rank_cmp
 rank_from_newer e f (inl a) = ap (λ o. ordering_then o (ordering_then (bytes_cmp e.digest.0 f.digest.0) (nat_cmp e.length f.length))) (above_nat e.timestamp f.timestamp a)
 rank_from_newer e f (inr (inl t)) = ap₂ (λ o p. ordering_then o (ordering_then p (nat_cmp e.length f.length))) (nat_same e.timestamp f.timestamp t.0) t.1
@@ -116,7 +123,7 @@ rank_from_newer e f (inr (inr t)) = ap₂ (λ o p. ordering_then o (ordering_the
 
 pub newer_decides : (e f : Entry) → Decides (is_newer e f) (IsNewer e f)
 unfolding is_newer
-newer_decides e f = (λ h. newer_from_rank e f (greater_from_test (rank_cmp e f) h), λ n. ap is_gt (rank_from_newer e f n))
+newer_decides e f = (λ h. newer_from_rank e f (greater_from_test (entry_rank_cmp e f) h), λ n. ap is_gt (rank_from_newer e f n))
 
 -- ---- the same entry
 
@@ -148,9 +155,22 @@ same_entry_decides e f = (same_from_test e f, λ h. ap (λ g. same_entry e g) (s
 
 -- ---- places
 
+pub subspace_path_total : IsTotalOrder subspace_path_cmp
+subspace_path_total = then_total (on_total (λ (p : List ℕ × List (List ℕ)). p.0) nat_list_cmp_total) (on_total (λ (p : List ℕ × List (List ℕ)). p.1) (lists_total nat_list_cmp_total))
+
+pub subspace_path_tie : (p q : List ℕ × List (List ℕ)) → subspace_path_cmp p q ≡ Equal → p ≡ q
+subspace_path_tie p q h =
+    let both = then_equal (bytes_cmp p.0 q.0) (path_cmp p.1 q.1) h in
+    let subspaces = bytes_tie p.0 q.0 both.0 in
+    let paths = path_tie p.1 q.1 both.1 in
+    λ i. (subspaces i, paths i)
+
+pub inner_place_total : IsTotalOrder inner_place_cmp
+inner_place_total = on_total (λ (r : RowValue). (r.entry.subspace, r.entry.path)) subspace_path_total
+
 pub place_total : IsTotalOrder place_cmp
 unfolding place_cmp
-place_total = then_total (on_total (λ (r : RowValue). r.entry.namespace) nat_list_cmp_total) (then_total (on_total (λ (r : RowValue). r.entry.subspace) nat_list_cmp_total) (on_total (λ (r : RowValue). r.entry.path) (lists_total nat_list_cmp_total)))
+place_total = then_total (on_total (λ (r : RowValue). r.entry.namespace) nat_list_cmp_total) inner_place_total
 
 -- rows at one place have the same namespace, subspace and path
 pub place_tie : (r s : RowValue) → place_cmp r s ≡ Equal → (r.entry.namespace ≡ s.entry.namespace) × (r.entry.subspace ≡ s.entry.subspace) × (r.entry.path ≡ s.entry.path)
@@ -161,6 +181,6 @@ place_tie r s h =
     (bytes_tie r.entry.namespace s.entry.namespace first.0, bytes_tie r.entry.subspace s.entry.subspace second.0, path_tie r.entry.path s.entry.path second.1)
 
 -- within one namespace the place is (subspace, path)
-pub place-in_one_namespace : (r s : RowValue) → r.entry.namespace ≡ s.entry.namespace → place_cmp r s ≡ ordering_then (bytes_cmp r.entry.subspace s.entry.subspace) (path_cmp r.entry.path s.entry.path)
+pub place-in_one_namespace : (r s : RowValue) → r.entry.namespace ≡ s.entry.namespace → place_cmp r s ≡ inner_place_cmp r s
 unfolding place_cmp
-place-in_one_namespace r s e = ap (λ o. ordering_then o (ordering_then (bytes_cmp r.entry.subspace s.entry.subspace) (path_cmp r.entry.path s.entry.path))) (bytes_same r.entry.namespace s.entry.namespace e)
+place-in_one_namespace r s e = ap (λ o. ordering_then o (inner_place_cmp r s)) (bytes_same r.entry.namespace s.entry.namespace e)

@@ -5,12 +5,13 @@ use Rattle.std.proofs.lemmas.Cmp.{nat_list_cmp_total, tied_back}
 use Rattle.std.proofs.lemmas.Bool.{false≢true, both_ways, and_parts, and_from, or_cases, or_left, or_right, or_parts, and_cases, false_from_ne_true}
 use Rattle.willow_path.specs.Path.{is_prefix, IsPrefix}
 use Rattle.willow_entry.specs.declared.entry.Entry.{Entry}
-use Rattle.willow_entry.specs.Entry.{bytes_cmp, same_bytes, rank_cmp, is_newer, same_entry, IsNewer, IsAbove}
+use Rattle.willow_entry.specs.Rank.{RankValue}
+use Rattle.willow_entry.specs.Entry.{bytes_cmp, same_bytes, rank_of, entry_rank_cmp, is_newer, same_entry, IsNewer, IsAbove}
 use Rattle.willow_entry.specs.Pruning.{Covers, IsPruning}
 use Rattle.willow_entry.specs.Row.{RowValue, same_row, is_stronger, is_dominating, is_covering, place_cmp, Dominates, HasCovering, IsUndominatedBy, IsLive, live}
 use Rattle.willow_path.proofs.PathOrder.{is_prefix_decides}
 use Rattle.willow_entry.proofs.Prefixes.{prefix_of_itself, prefix_chain}
-use Rattle.willow_entry.proofs.Ranks.{newer_decides, rank_from_newer, newer_from_rank, rank_total, rank_tie, greater_from_test, tie_from_tests, above_chain, not_above_itself, bytes_tie, entry_same, same_entry_decides, place_total, place_tie}
+use Rattle.willow_entry.proofs.Ranks.{newer_decides, rank_from_newer, newer_from_rank, entry_rank_total, rank_tie, greater_from_test, tie_from_tests, above_chain, not_above_itself, bytes_tie, entry_same, same_entry_decides, place_total, place_tie}
 use Rattle.willow_entry.proofs.Members.{contains_from_member, member_from_contains}
 use Rattle.willow_entry.proofs.Pruning.{IsUndominated, IsCovered, pruned_member, member_pruned, pruned-rises, pruned-only}
 
@@ -36,13 +37,13 @@ stronger_decides r s = (there, back) where
       (and_from (same_entry r.entry s.entry) (is_gt (bytes_cmp r.token s.token)) ((same_entry_decides r.entry s.entry).1 t.0) (ap is_gt t.1))
 
 stronger_chain : (r s t : RowValue) → IsStronger r s → IsStronger s t → IsStronger r t
-stronger_chain r s t (inl a) (inl b) = inl (newer_from_rank r.entry t.entry (above_chain rank_total r.entry s.entry t.entry (rank_from_newer r.entry s.entry a) (rank_from_newer s.entry t.entry b)))
+stronger_chain r s t (inl a) (inl b) = inl (newer_from_rank r.entry t.entry (above_chain entry_rank_total r.entry s.entry t.entry (rank_from_newer r.entry s.entry a) (rank_from_newer s.entry t.entry b)))
 stronger_chain r s t (inl a) (inr b) = inl (subst (λ e. IsNewer r.entry e) b.0 a)
 stronger_chain r s t (inr a) (inl b) = inl (subst (λ e. IsNewer e t.entry) (sym a.0) b)
 stronger_chain r s t (inr a) (inr b) = inr (a.0 ∙ b.0, above_chain nat_list_cmp_total r.token s.token t.token a.1 b.1)
 
 not_stronger_itself : (r : RowValue) → IsStronger r r → ⊥
-not_stronger_itself r (inl n) = false≢true (sym (not_above_itself rank_total r.entry) ∙ ap is_gt (rank_from_newer r.entry r.entry n))
+not_stronger_itself r (inl n) = false≢true (sym (not_above_itself entry_rank_total r.entry) ∙ ap is_gt (rank_from_newer r.entry r.entry n))
 not_stronger_itself r (inr t) = false≢true (sym (not_above_itself nat_list_cmp_total r.token) ∙ ap is_gt t.1)
 
 -- ---- domination
@@ -141,9 +142,9 @@ not_stronger_there r s tie e =
       stronger = (stronger_decides r s).0 t;
     })))
 
-not_newer_either : (e f : Entry) → is_newer e f ≡ false → is_newer f e ≡ false → rank_cmp e f ≡ Equal
+not_newer_either : (e f : Entry) → is_newer e f ≡ false → is_newer f e ≡ false → entry_rank_cmp e f ≡ Equal
 unfolding is_newer
-not_newer_either e f a b = tie_from_tests rank_total e f a b
+not_newer_either e f a b = tie_from_tests entry_rank_total e f a b
 
 back_tie : (r s : RowValue) → place_cmp r s ≡ Equal → place_cmp s r ≡ Equal
 back_tie r s tie = tied_back place_total r s tie
@@ -153,8 +154,8 @@ settled_rows r s tie a b =
     let at = place_tie r s tie in
     let x = not_stronger_there r s tie a in
     let y = not_stronger_there s r (back_tie r s tie) b in
-    let rank = rank_tie r.entry s.entry (not_newer_either r.entry s.entry (not_stronger_newer r s x) (not_stronger_newer s r y)) in
-    let entries = entry_same r.entry s.entry at.0 at.1 at.2 rank.0 rank.2 rank.1 in
+    let rank = rank_tie (rank_of r.entry) (rank_of s.entry) (not_newer_either r.entry s.entry (not_stronger_newer r s x) (not_stronger_newer s r y)) in
+    let entries = entry_same r.entry s.entry at.0 at.1 at.2 (ap (λ (v : RankValue). v.timestamp) rank) (ap (λ (v : RankValue). v.length) rank) (ap (λ (v : RankValue). v.digest) rank) in
     row_same r s entries (bytes_tie r.token s.token (tie_from_tests nat_list_cmp_total r.token s.token (not_stronger_token r s x entries) (not_stronger_token s r y (sym entries))))
 
 pub rows_prune : IsPruning is_dominating place_cmp

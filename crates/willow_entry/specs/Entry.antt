@@ -1,26 +1,28 @@
 -- Entries: which are the same, and which of two is newer.
 use Rattle.std.specs.Prelude.{◌≡◌, ℕ, ◌<◌, Bool, ◌&&◌, ◌⊎◌, List, nat_eq, ◌==◌}
-use Rattle.std.specs.Ordering.{nat_cmp, ordering_then, is_gt}
-use Rattle.std.specs.Cmp.Lexicographic.{slice_cmp, pointwise}
+use Rattle.std.specs.Ordering.{is_gt}
+use Rattle.std.specs.Cmp.Lexicographic.{pointwise}
 use Rattle.std.specs.declared.cmp.Ordering.{Ordering}
 use Rattle.std.specs.declared.cmp.Ordering.TheVariants.{Greater}
 use Rattle.willow_entry.specs.declared.entry.Entry.{Entry}
-
--- the order of byte strings
-abbrev pub bytes_cmp : List ℕ → List ℕ → Ordering
-bytes_cmp = slice_cmp nat_cmp
+pub use Rattle.willow_entry.specs.Rank.{bytes_cmp}
+use Rattle.willow_entry.specs.Rank.{RankValue, rank_cmp}
 
 -- two byte strings are equal
 abbrev pub same_bytes : List ℕ → List ℕ → Bool
 same_bytes = pointwise nat_eq
 
--- by timestamp, then by digest, then by payload length
-unfoldable pub rank_cmp : Entry → Entry → Ordering
-rank_cmp e f = ordering_then (nat_cmp e.timestamp f.timestamp) (ordering_then (bytes_cmp e.digest.0 f.digest.0) (nat_cmp e.length f.length))
+-- the rank of an entry
+abbrev pub rank_of : Entry → RankValue
+rank_of e = record { timestamp = e.timestamp; digest = e.digest.0; length = e.length }
+
+-- by rank
+abbrev pub entry_rank_cmp : Entry → Entry → Ordering
+entry_rank_cmp e f = rank_cmp (rank_of e) (rank_of f)
 
 -- e ranks above f
 unfoldable pub is_newer : Entry → Entry → Bool
-is_newer e f = is_gt (rank_cmp e f)
+is_newer e f = is_gt (entry_rank_cmp e f)
 
 -- all six fields are equal
 unfoldable pub same_entry : Entry → Entry → Bool

@@ -1,7 +1,10 @@
 pub mod Pruning
+pub mod Rank
 pub mod Entry
 pub mod EntryForm
 pub mod Row
 pub mod Placed
 pub mod RowBody
 pub mod Frame
+pub mod Message
+pub mod LogRow

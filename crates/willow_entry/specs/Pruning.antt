@@ -1,9 +1,9 @@
 -- What a list keeps of its items where some items dominate others and an order gives each item its place.
-use Rattle.std.specs.Prelude.{◌≡◌, Bool, true, false, not, List, [], ◌∷◌, ◌++◌, filter, if◌then◌else◌, ◌⊎◌}
-use Rattle.std.specs.List.{list_any, Contains}
-use Rattle.std.specs.Ordering.{match_ordering}
+use Rattle.std.specs.Prelude.{◌≡◌, ℕ, Bool, true, false, not, List, [], ◌∷◌, ◌++◌, take, drop, filter, if◌then◌else◌, ◌⊎◌}
+use Rattle.std.specs.List.{list_any, Contains, AllByRecursion}
+use Rattle.std.specs.Ordering.{match_ordering, is_lt}
 use Rattle.std.specs.declared.cmp.Ordering.{Ordering}
-use Rattle.std.specs.declared.cmp.Ordering.TheVariants.{Equal}
+use Rattle.std.specs.declared.cmp.Ordering.TheVariants.{Less, Equal}
 use Rattle.std.specs.Cmp.{IsTotalOrder}
 
 -- x in its place among rising items, where that place is free
@@ -15,6 +15,11 @@ placed cmp x (y ∷ ys) = match_ordering (cmp x y) (x ∷ y ∷ ys) (y ∷ ys) (
 abbrev pub rising : {X : Type 0} → (X → X → Ordering) → List X → List X
 rising cmp [] = []
 rising cmp (x ∷ xs) = placed cmp x (rising cmp xs)
+
+-- the first n items are below x, and no later one is
+pub record IsPlace {X : Type 0} (cmp : X → X → Ordering) (x : X) (ys : List X) (n : ℕ) : Type 0 where
+  pub below : AllByRecursion (λ y. cmp y x ≡ Less) (take n ys)
+  pub beyond : AllByRecursion (λ y. is_lt (cmp y x) ≡ false) (drop n ys)
 
 -- no item of the list dominates x
 abbrev pub is_undominated : {X : Type 0} → (X → X → Bool) → List X → X → Bool

@@ -1,5 +1,5 @@
 -- Rows: entries with the bytes of their write tokens; which dominate which, and what a set of rows keeps.
-use Rattle.std.specs.Prelude.{◌≡◌, ℕ, Bool, ◌&&◌, ◌||◌, ◌⊎◌, List, [], ◌++◌, ◌<◌, length, slice_index_or, Contains, ◌↔◌}
+use Rattle.std.specs.Prelude.{◌≡◌, ℕ, Bool, ◌&&◌, ◌||◌, ◌⊎◌, List, [], ◌++◌, ◌<◌, length, slice_index_or, Contains, ◌↔◌, filter, not}
 use Rattle.std.specs.Ordering.{ordering_then, is_gt}
 use Rattle.std.specs.List.Sorted.{IsStrictlySortedBy}
 use Rattle.std.specs.declared.cmp.Ordering.{Ordering}
@@ -37,15 +37,29 @@ is_at_prefix r s =
 unfoldable pub is_covering : RowValue → RowValue → Bool
 is_covering r s = same_row r s || is_dominating r s
 
--- by namespace, then by subspace, then by path
+-- by subspace, then by path: the order of places within a namespace
+abbrev pub subspace_path_cmp : List ℕ × List (List ℕ) → List ℕ × List (List ℕ) → Ordering
+subspace_path_cmp p q = ordering_then (bytes_cmp p.0 q.0) (path_cmp p.1 q.1)
+
+-- the order of rows within a namespace, whatever namespaces they are of
+abbrev pub inner_place_cmp : RowValue → RowValue → Ordering
+inner_place_cmp r s = subspace_path_cmp (r.entry.subspace, r.entry.path) (s.entry.subspace, s.entry.path)
+
+-- by namespace, then by the place within it
 unfoldable pub place_cmp : RowValue → RowValue → Ordering
-place_cmp r s =
-    ordering_then (bytes_cmp r.entry.namespace s.entry.namespace)
-    (ordering_then (bytes_cmp r.entry.subspace s.entry.subspace) (path_cmp r.entry.path s.entry.path))
+place_cmp r s = ordering_then (bytes_cmp r.entry.namespace s.entry.namespace) (inner_place_cmp r s)
+
+-- the rows that r does not dominate
+abbrev pub left_of : RowValue → List RowValue → List RowValue
+left_of r rows = filter (λ s. not (is_dominating r s)) rows
 
 -- the rows that no row of the list dominates, each once, by rising place
 abbrev pub live : List RowValue → List RowValue
 live = pruned is_dominating place_cmp
+
+-- the rows are just what is live of them
+abbrev pub AreLive : List RowValue → Type 0
+AreLive rows = live rows ≡ rows
 
 -- in the list's order, each row that no row before it covers
 abbrev pub new : List RowValue → List RowValue

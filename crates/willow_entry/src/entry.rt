@@ -1,8 +1,9 @@
 //! Entries, and which of two is newer.
 
 ghost use Rattle.std.specs.Prelude.{◌≡◌, IfOk};
-ghost use Rattle.willow_entry.specs.Entry.{is_newer, same_entry};
+ghost use Rattle.willow_entry.specs.Entry.{is_newer, rank_of, same_entry};
 
+use crate::rank::{Rank, by_rank};
 use std::cmp::Ordering;
 use willow_path::{Digest, NamespaceKey, NoMemory, Path, UserKey};
 
@@ -37,17 +38,22 @@ impl Entry {
             digest: self.digest,
         })
     }
+
+    /// The rank of the entry.
+    pub fn rank(&self) -> Rank<'_>
+        ensures { result ≡ rank_of self.now }
+    {
+        Rank::new(self.timestamp, &self.digest, self.length)
+    }
 }
 
 /// Whether e is newer than f: its timestamp is greater; or these are equal and its digest is greater;
 /// or both are equal and its payload is longer.
-#[tactic(auto, unfolding(crate::specs::Entry::is_newer, crate::specs::Entry::rank_cmp))]
+#[tactic(auto, unfolding(crate::specs::Entry::is_newer))]
 pub fn newer(e: &Entry, f: &Entry) -> bool
     ensures { result ≡ is_newer e.now f.now }
 {
-    let rank = e.timestamp.cmp(&f.timestamp);
-    let rank = rank.then(e.digest.cmp(&f.digest));
-    rank.then(e.length.cmp(&f.length)) == Ordering::Greater
+    by_rank(&e.rank(), &f.rank()) == Ordering::Greater
 }
 
 // Whether all fields are equal.

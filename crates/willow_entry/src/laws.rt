@@ -1,16 +1,22 @@
 //! The laws of rows, for whoever reasons about stores: each is the contract of a function that does nothing,
 //! over lists of what contracts see of rows.
 
-ghost use Rattle.std.specs.Prelude.{◌≡◌, ◌≤◌, ◌<◌, ◌↔◌, ◌⊎◌, List, [], ◌∷◌, ◌++◌, Contains, IsTrue, IsPermutation};
+ghost use Rattle.std.specs.Prelude.{◌≡◌, ℕ, ◌^◌, ◌-◌, ◌≤◌, ◌<◌, ◌↔◌, ◌⊎◌, List, [], ◌∷◌, ◌++◌, Contains, IsTrue, IsPermutation};
 ghost use Rattle.std.specs.Cmp.{IsTotalOrder};
-ghost use Rattle.std.specs.Ordering.{ordering_then};
-ghost use Rattle.willow_path.specs.Path.{path_cmp};
+ghost use Rattle.std.specs.List.{IsDistinct};
+ghost use Rattle.std.specs.Ordering.{eq_by_cmp, is_gt};
+ghost use Rattle.std.specs.declared.cmp.Ordering.TheVariants.{Equal};
 ghost use Rattle.willow_entry.specs.declared.entry.Entry.{Entry};
-ghost use Rattle.willow_entry.specs.Entry.{bytes_cmp, is_newer, IsNewer};
+ghost use Rattle.willow_entry.specs.Rank.{RankValue, rank_cmp};
+ghost use Rattle.willow_entry.specs.Entry.{is_newer, rank_of, IsNewer};
 ghost use Rattle.spelling.specs.Form.{IsForm};
-ghost use Rattle.willow_entry.specs.EntryForm.{entry_spelling, IsEntry};
+ghost use Rattle.spelling.specs.Reader.{IsReader};
+ghost use Rattle.willow_entry.specs.EntryForm.{entry_at, entry_spelling, IsEntry};
 ghost use Rattle.willow_entry.specs.RowBody.{row_body};
-ghost use Rattle.willow_entry.specs.Row.{RowValue, is_dominating, is_covering, place_cmp, live, new, join, Dominates, HasCovering, IsLive, same_row};
+ghost use Rattle.willow_entry.specs.Row.{RowValue, is_dominating, is_covering, subspace_path_cmp, inner_place_cmp, place_cmp, live, new, join, Dominates, HasCovering, IsLive, same_row};
+
+use crate::frame::MAX_FRAME;
+use crate::placed::MAX_ROWS;
 
 /// Newer is a strict order of entries, by timestamp, then digest, then payload length.
 pub fn newer()
@@ -33,17 +39,40 @@ pub fn covering()
     ensures live { (rows : List RowValue) (r : RowValue) → Contains rows r → HasCovering (live rows) r }
 {}
 
+/// Ranks are totally ordered, and those that tie are equal. An entry is newer where its rank is above.
+#[tactic(auto, unfolding(crate::specs::Entry::is_newer), using(crate::proofs::Ranks::rank_total, crate::proofs::Ranks::rank_tie))]
+pub fn ranks()
+    ensures total { IsTotalOrder rank_cmp }
+    ensures tied { (r s : RankValue) → rank_cmp r s ≡ Equal → r ≡ s }
+    ensures newer { (e f : Entry) → is_newer e f ≡ is_gt (rank_cmp (rank_of e) (rank_of f)) }
+{}
+
 /// Rows are ordered by namespace, subspace and path. Within one namespace that is by subspace and path.
 pub fn places()
     ensures total { IsTotalOrder place_cmp }
     ensures in_one_namespace { (r s : RowValue) → r.entry.namespace ≡ s.entry.namespace
-        → place_cmp r s ≡ ordering_then (bytes_cmp r.entry.subspace s.entry.subspace)
-        (path_cmp r.entry.path s.entry.path) }
+        → place_cmp r s ≡ inner_place_cmp r s }
 {}
 
-/// The live rows are just the undominated ones, each once, by strictly rising places; and nothing else is.
+/// Places within a namespace are totally ordered, and those that tie are equal.
+#[tactic(auto, using(crate::proofs::Ranks::subspace_path_total, crate::proofs::Ranks::subspace_path_tie, crate::proofs::Ranks::inner_place_total))]
+pub fn inner_places()
+    ensures total { IsTotalOrder subspace_path_cmp }
+    ensures tied { (p q : List ℕ × List (List ℕ)) → subspace_path_cmp p q ≡ Equal → p ≡ q }
+    ensures of_rows { IsTotalOrder inner_place_cmp }
+{}
+
+/// The limits are these numbers.
+pub fn limits()
+    ensures frame { MAX_FRAME ≡ 131072 }
+    ensures rows { MAX_ROWS ≡ 2 ^ 32 - 1 }
+{}
+
+/// The live rows are just the undominated ones, each once, by strictly rising places, and nothing else is: so no
+/// two of them stand at one place.
 pub fn liveness()
     ensures holds { (rows : List RowValue) → IsLive rows (live rows) }
+    ensures distinct { (rows : List RowValue) → IsDistinct (eq_by_cmp place_cmp) (live rows) }
     ensures only { (rows kept : List RowValue) → IsLive rows kept → kept ≡ live rows }
     ensures settled { (rows : List RowValue) → live (live rows) ≡ live rows }
 {}
@@ -73,6 +102,13 @@ pub fn joins()
     ensures commutative { (xs ys : List RowValue) → join xs ys ≡ join ys xs }
     ensures associative { (xs ys zs : List RowValue) → join (join xs ys) zs ≡ join xs (join ys zs) }
     ensures idempotent { (xs : List RowValue) → live xs ≡ xs → join xs xs ≡ xs }
+{}
+
+/// The reader of entries goes by the spellings alone: an entry is whole exactly where its spelling stands in front, the
+/// bytes are a part exactly where they begin a spelling and more is due, and wrong exactly where none begins so.
+#[tactic(auto, using(crate::proofs::EntryReads::entry_reader))]
+pub fn readers()
+    ensures entry { IsReader entry_at entry_spelling IsEntry }
 {}
 
 /// An entry within its limits has one spelling, and no spelling of an entry begins another. A body is that of

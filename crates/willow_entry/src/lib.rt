@@ -5,16 +5,25 @@
 mod bare_row;
 mod entry;
 mod entry_codec;
+mod frame;
 pub mod laws;
+mod message;
 mod placed;
+mod rank;
 mod row;
 mod row_form;
 
 pub use bare_row::{BareRow, BareRows};
 pub use entry::{Entry, newer};
 pub use entry_codec::read_entry;
-pub use placed::Placed;
-pub use row::{LogRow, Row, SharedRow, by_place, cover, covers, dominates, same};
+pub use frame::{MAX_FRAME, encode_row_frame};
+pub use message::{entry_message, row_message};
+pub use placed::{MAX_ROWS, Placed};
+pub use rank::{Rank, by_rank};
+pub use row::{
+    LogRow, Row, SharedRow, by_inner_place, by_place, by_subspace_path, cover, covers, dominates,
+    same,
+};
 pub use row_form::RowForm;
 
 #[cfg(test)]

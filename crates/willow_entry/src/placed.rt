@@ -1,5 +1,8 @@
 //! What becomes of a row that is offered to a store.
 
+/// The greatest number of rows of a store.
+pub const MAX_ROWS: usize = 4_294_967_295;
+
 /// What a store did with a row.
 #[derive(Debug, Clone, Copy, PartialEq, Eq)]
 pub enum Placed {

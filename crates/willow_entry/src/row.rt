@@ -2,11 +2,12 @@
 
 ghost use Rattle.std.specs.Prelude.{◌≡◌, map, position, IfOk, IfSome, IfNone};
 ghost use Rattle.willow_entry.specs.EntryForm.{entry_spelling, IsEntry};
-ghost use Rattle.willow_entry.specs.Row.{RowValue, same_row, is_stronger, is_dominating, is_covering, place_cmp, IsCoveringAt, HasCovering};
+ghost use Rattle.willow_entry.specs.LogRow.{log_value};
+ghost use Rattle.willow_entry.specs.Row.{RowValue, same_row, is_stronger, is_dominating, is_covering, subspace_path_cmp, inner_place_cmp, place_cmp, IsCoveringAt, HasCovering};
 
 use crate::entry::{Entry, newer, same_entry};
 use std::cmp::Ordering;
-use willow_path::NoMemory;
+use willow_path::{NoMemory, Path, UserKey};
 
 /// A row: an entry with the bytes of its write token. A contract sees these two, whatever else a row keeps.
 pub trait Row: Drop + Sized {
@@ -58,8 +59,8 @@ fn is_stronger<R: Row>(r: &R, s: &R) -> bool
 
 /// Whether r and s have the same entry and the same token.
 #[tactic(auto, unfolding(crate::specs::Row::same_row))]
-pub fn same<R: Row>(r: &R, s: &R) -> bool
-    ensures { result ≡ same_row (R.value r.now) (R.value s.now) }
+pub fn same<R: Row, Q: Row>(r: &R, s: &Q) -> bool
+    ensures { result ≡ same_row (R.value r.now) (Q.value s.now) }
 {
     same_entry(r.entry(), s.entry()) && r.token_bytes() == s.token_bytes()
 }
@@ -72,15 +73,33 @@ pub fn covers<R: Row>(r: &R, s: &R) -> bool
     same(r, s) || dominates(r, s)
 }
 
+/// How places within a namespace are ordered: by subspace, then by path.
+pub fn by_subspace_path(p: (&UserKey, &Path), q: (&UserKey, &Path)) -> Ordering
+    ensures { result ≡ subspace_path_cmp (p.entry.0.now, p.entry.1.now) (q.entry.0.now, q.entry.1.now) }
+{
+    match p.0.cmp(q.0) {
+        Ordering::Equal => p.1.cmp(q.1),
+        order => order,
+    }
+}
+
+/// How r and s are ordered within a namespace, whatever namespaces they are of: by subspace, then by path.
+pub fn by_inner_place<R: Row, Q: Row>(r: &R, s: &Q) -> Ordering
+    ensures { result ≡ inner_place_cmp (R.value r.now) (Q.value s.now) }
+{
+    let (e, f) = (r.entry(), s.entry());
+    by_subspace_path((&e.subspace, &e.path), (&f.subspace, &f.path))
+}
+
 /// How the places of r and s are ordered: by namespace, then by subspace, then by path.
 #[tactic(auto, unfolding(crate::specs::Row::place_cmp))]
 pub fn by_place<R: Row>(r: &R, s: &R) -> Ordering
     ensures { result ≡ place_cmp (R.value r.now) (R.value s.now) }
 {
-    let (e, f) = (r.entry(), s.entry());
-    let order = e.namespace.cmp(&f.namespace);
-    let order = order.then(e.subspace.cmp(&f.subspace));
-    order.then(e.path.cmp(&f.path))
+    match r.entry().namespace.cmp(&s.entry().namespace) {
+        Ordering::Equal => by_inner_place(r, s),
+        order => order,
+    }
 }
 
 /// The first position whose row is s or dominates it.
@@ -99,11 +118,23 @@ fn first_cover<R: Row>(rows: &[R], s: &R) -> Option<usize>
     rows.iter().position(|r| covers(r, s))
 }
 
-/// A row with the number of the pass that offered it.
+/// A row with the number of the pass that offered it. A contract sees both.
 #[derive(Drop)]
 pub struct LogRow<R> {
     /// The number of the pass.
     pub pass: u32,
     /// The row that it offered.
     pub row: R,
+}
+
+impl<R: Row> LogRow<R> {
+    /// The same pass and a row of the same entry and token.
+    pub fn copy(&self) -> Result<LogRow<R>, NoMemory>
+        ensures { IfOk result (λ copy. log_value R.value copy ≡ log_value R.value self.now) }
+    {
+        Ok(LogRow {
+            pass: self.pass,
+            row: self.row.copy()?,
+        })
+    }
 }

@@ -1,14 +1,16 @@
 //! Which of two entries is newer, which rows dominate others, and how entries and rows are spelled and read.
 
 use crate::{
-    BareRow, BareRows, Entry, LogRow, Placed, Row, RowForm, SharedRow, by_place, cover, covers,
-    dominates, newer, read_entry, same,
+    BareRow, BareRows, Entry, LogRow, Placed, Rank, Row, RowForm, SharedRow, by_inner_place,
+    by_place, by_rank, by_subspace_path, cover, covers, dominates, encode_row_frame, entry_message,
+    newer, read_entry, row_message, same,
 };
 use spelling::Input;
 use std::alloc::Global;
 use std::cmp::Ordering;
+use std::sync::Arc;
 use std::test::Fail;
-use willow_path::{Digest, NamespaceKey, Path, UserKey};
+use willow_path::{Digest, NamespaceKey, NoMemory, Path, UserKey};
 
 // An open key with this byte throughout its body.
 fn key(byte: u8) -> [u8; 33] {
@@ -44,10 +46,19 @@ fn row(alloc: Global, parts: &[u8], time: u64, token: u8) -> Result<BareRow, Fai
     Ok(BareRow::new(alloc, entry, token).ok().ok_or("memory")?)
 }
 
+// Whether an entry of the first rank is newer than one of the second, where their ranks agree.
 fn is_newer(alloc: Global, e: (u64, u8, u64), f: (u64, u8, u64)) -> Result<bool, Fail> {
+    let above = by_rank(
+        &Rank::new(e.0, &Digest([e.1; 32]), e.2),
+        &Rank::new(f.0, &Digest([f.1; 32]), f.2),
+    );
     let e = entry(alloc, b"a", e.0, e.1, e.2)?;
-    let f = entry(alloc, b"a", f.0, f.1, f.2)?;
-    Ok(newer(&e, &f))
+    let f = entry(alloc, b"b", f.0, f.1, f.2)?;
+    let is = newer(&e, &f);
+    if is != above.is_gt() {
+        return Err(Fail::from("ranks that differ"));
+    }
+    Ok(is)
 }
 
 #[test]
@@ -100,6 +111,36 @@ fn covering_rows(rt: HostRuntime) -> Result<(), Fail> {
     Ok(())
 }
 
+// A row that is kept once for all its copies.
+#[derive(Drop)]
+struct OnceKept {
+    row: Arc<BareRow>,
+}
+
+impl Row for OnceKept {
+    ghost value = { λ r. r.row.value };
+
+    fn entry(&self) -> &Entry {
+        self.row.entry()
+    }
+
+    fn entry_bytes(&self) -> &[u8] {
+        self.row.entry_bytes()
+    }
+
+    fn token_bytes(&self) -> &[u8] {
+        self.row.token_bytes()
+    }
+
+    fn copy(&self) -> Result<OnceKept, NoMemory> {
+        Ok(OnceKept {
+            row: Arc::try_clone(&self.row)?,
+        })
+    }
+}
+
+impl SharedRow for OnceKept {}
+
 // The timestamp of a row that threads may share.
 fn shared_timestamp<R: SharedRow>(row: &R) -> u64 {
     row.entry().timestamp
@@ -113,8 +154,38 @@ fn copies(rt: HostRuntime) -> Result<(), Fail> {
     assert_eq!(rt; by_place(&made, &copy), Ordering::Equal);
     assert_eq!(rt; shared_timestamp(&copy), 6);
     let logged = LogRow { pass: 3, row: copy };
-    assert_eq!(rt; logged.row.entry().timestamp, 6);
+    let again = logged.copy().ok().ok_or("memory")?;
+    assert_eq!(rt; (again.pass, again.row.entry().timestamp), (3, 6));
     assert!(rt; Placed::Kept { by: 1 } != Placed::Stored { pruned: 1 });
+    Ok(())
+}
+
+#[test]
+fn rows_of_two_types(rt: HostRuntime) -> Result<(), Fail> {
+    let made = row(rt.alloc(), b"a", 6, 0)?;
+    let copy = made.copy().ok().ok_or("memory")?;
+    let kept = OnceKept {
+        row: Arc::new(rt.alloc(), copy).ok().ok_or("memory")?,
+    };
+    let again = kept.copy().ok().ok_or("memory")?;
+    assert!(rt; same(&made, &again));
+    assert_eq!(rt; by_inner_place(&again, &made), Ordering::Equal);
+    assert_eq!(rt; shared_timestamp(&again), 6);
+    Ok(())
+}
+
+#[test]
+fn places_within_a_namespace(rt: HostRuntime) -> Result<(), Fail> {
+    let (one, two) = (path(rt.alloc(), b"a")?, path(rt.alloc(), b"b")?);
+    let low = UserKey::from_bytes(key(1)).ok_or("a key")?;
+    let high = UserKey::from_bytes(key(2)).ok_or("a key")?;
+    for (p, q, wanted) in [
+        ((&low, &two), (&high, &one), Ordering::Less),
+        ((&low, &one), (&low, &two), Ordering::Less),
+        ((&high, &one), (&high, &one), Ordering::Equal),
+    ] {
+        assert_eq!(rt; by_subspace_path(p, q), wanted);
+    }
     Ok(())
 }
 
@@ -142,6 +213,32 @@ fn spellings(rt: HostRuntime) -> Result<(), Fail> {
         .ok()
         .ok_or("memory")?;
     assert_eq!(rt; text_of(rt.alloc(), &longer)?.len(), 120);
+    Ok(())
+}
+
+// The frame of a short row.
+#[tactic(auto, unfolding(crate::specs::RowBody::row_body))]
+fn frame_of(alloc: Global, row: &BareRow) -> Result<Vec<u8>, Fail> {
+    let mut frame = Vec::new(alloc);
+    if row.entry_bytes().len() < 1000 && row.token_bytes().len() < 1000 {
+        encode_row_frame(row, &mut frame).ok().ok_or("memory")?;
+    }
+    Ok(frame)
+}
+
+#[test]
+fn messages_and_frames(rt: HostRuntime) -> Result<(), Fail> {
+    let made = row(rt.alloc(), b"a", 5, 9)?;
+    let message = entry_message(rt.alloc(), made.entry())
+        .ok()
+        .ok_or("memory")?;
+    let again = row_message(rt.alloc(), &made).ok().ok_or("memory")?;
+    assert_eq!(rt; message.len(), 118);
+    assert!(rt; message.starts_with(b"E") && message.ends_with(made.entry_bytes()));
+    assert!(rt; message.as_slice() == again.as_slice());
+    let frame = frame_of(rt.alloc(), &made)?;
+    assert_eq!(rt; frame.len(), 122);
+    assert!(rt; frame.starts_with(&[0, 0, 0, 118]) && frame.ends_with(&[9]));
     Ok(())
 }
 
@@ -181,7 +278,10 @@ fn the_laws_can_be_called() {
     crate::laws::newer();
     crate::laws::domination();
     crate::laws::covering();
+    crate::laws::ranks();
     crate::laws::places();
+    crate::laws::inner_places();
+    crate::laws::limits();
     crate::laws::liveness();
     crate::laws::order_is_free();
     crate::laws::pruning_early();

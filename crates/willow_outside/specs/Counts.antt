@@ -1,16 +1,41 @@
 -- How a count moves over one call, and which answers it is the cause of.
 use Rattle.std.specs.Prelude.{◌≡◌, ℕ, ◌+◌, ◌-◌, ◌^◌, ◌<◌, ◌≤◌, min, List, length, Result, Ok, Err}
+use Rattle.spelling.specs.declared.ending.End.{End}
+use Rattle.spelling.specs.declared.ending.End.TheVariants as ends
 use Rattle.willow_outside.specs.declared.fault.Fault.{Fault}
-use Rattle.willow_outside.specs.declared.fault.Fault.TheVariants.{Failed}
+use Rattle.willow_outside.specs.declared.fault.Fault.TheVariants.{Failed, NoMemory}
+use Rattle.willow_outside.specs.declared.reading.ReadEnd.{ReadEnd}
+use Rattle.willow_outside.specs.declared.reading.ReadEnd.TheVariants as read_ends
+
+-- one more, up to the last value of a u64
+abbrev pub one_more : ℕ → ℕ
+one_more count = min (count + 1) (2 ^ 64 - 1)
 
 -- a count rose, or stands at the last value of a u64
 abbrev pub Rose : ℕ → ℕ → Type 0
-Rose before now = min (before + 1) (2 ^ 64 - 1) ≤ now
+Rose before now = one_more before ≤ now
 
--- a count of faults never falls, and a call failed only where the count rose in it
-pub record HasCause {A : Type 0} (before now : ℕ) (result : Result A Fault) : Type 0 where
+-- a count rose in a call that failed
+pub record HasRisen (before now : ℕ) : Type 0 where
   pub never_falls : before ≤ now
-  pub failed : result ≡ Err Failed → Rose before now
+  pub rose : Rose before now
+
+-- a count of faults rises where the call failed, and never falls at want of memory, which a machine may count too
+abbrev pub CountsCause : ℕ → ℕ → Fault → Type 0
+CountsCause before now Failed = HasRisen before now
+CountsCause before now NoMemory = before ≤ now
+
+-- and stays where the call did its work
+abbrev pub CountsFault : {A : Type 0} → ℕ → ℕ → Result A Fault → Type 0
+CountsFault before now (Ok x) = now ≡ before
+CountsFault before now (Err fault) = CountsCause before now fault
+
+-- So too over all reads up to the end. Where the bytes are too many none failed.
+abbrev pub CountsReads : {A : Type 0} → ℕ → ℕ → Result A (End ReadEnd) → Type 0
+CountsReads before now (Ok x) = now ≡ before
+CountsReads before now (Err (ends.Refused read_ends.Failed)) = HasRisen before now
+CountsReads before now (Err (ends.Refused read_ends.TooLong)) = now ≡ before
+CountsReads before now (Err ends.NoMemory) = before ≤ now
 
 -- a count of ends rises where a read with room gave nothing, and stays where it gave some or had no room
 pub record CountsEnd (before now given : ℕ) (buf : List ℕ) : Type 0 where

@@ -1,7 +1,10 @@
 pub mod Counts
 pub mod Draws
 pub mod Facts
+pub mod InMemory
 pub mod Links
 pub mod Names
-pub mod Passed
+pub mod Plan
+pub mod ShelfCode
+pub mod Supplied
 pub mod Whole

@@ -14,11 +14,11 @@ abbrev pub list_with : {A : Type 0} → A → Option (List A) → Option (List A
 list_with x told = option_map (λ xs. xs ++ x ∷ []) told
 
 -- the place was asked for at Ok, and at a fault none
-abbrev pub Asks : {A E : Type 0} → Option (List (List ℕ)) → Option (List (List ℕ)) → List ℕ → Result A E → Type 0
-Asks old new place (Ok x) = new ≡ list_with place old
-Asks old new place (Err e) = new ≡ old
+abbrev pub AsksPlace : {A E : Type 0} → Option (List (List ℕ)) → Option (List (List ℕ)) → List ℕ → Result A E → Type 0
+AsksPlace old new place (Ok x) = new ≡ list_with place old
+AsksPlace old new place (Err e) = new ≡ old
 
 -- one more link is out at Ok, and at a fault none
-abbrev pub HandsOut : {A E : Type 0} → ℕ → ℕ → Result A E → Type 0
-HandsOut old new (Ok x) = new ≡ old + 1
-HandsOut old new (Err e) = new ≡ old
+abbrev pub HandsOutLink : {A E : Type 0} → ℕ → ℕ → Result A E → Type 0
+HandsOutLink old new (Ok x) = new ≡ old + 1
+HandsOutLink old new (Err e) = new ≡ old

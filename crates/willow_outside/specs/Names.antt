@@ -16,8 +16,8 @@ abbrev pub name_put : List ℕ → List ℕ → Names → Names
 name_put name bytes names = λ q. cond (bytes_eq name q) (Some bytes) (names q)
 
 -- the names of a map from texts to bytes
-abbrev pub names_of : BTreeMap (String Global) (Vec ℕ Global) → Names
-names_of contents = λ q. option_map (λ v. v.items) (get_by_text contents q)
+abbrev pub names_in : BTreeMap (String Global) (Vec ℕ Global) → Names
+names_in contents = λ q. option_map (λ v. v.items) (get_by_text contents q)
 
 -- a get found what the name holds, if that is told
 abbrev pub GetsName : Option Names → List ℕ → Option (List ℕ) → Type 0

@@ -21,7 +21,7 @@ TookBefore old new limit (Refused Failed) = TookAtMost old new limit
 TookBefore old new limit (Refused TooLong) = TookMore old new limit
 TookBefore old new limit NoMemory = TookAtMost old new limit
 
--- all bytes were given, or at a fault a front of them
+-- all bytes were given, or at a fault a front of them that is not all
 abbrev pub GivesAll : {E : Type 0} → Option (List ℕ) → Option (List ℕ) → List ℕ → Result (Unit {0}) E → Type 0
 GivesAll old new bytes (Ok u) = Appends old new bytes
-GivesAll old new bytes (Err e) = (k : ℕ) × (k ≤ length bytes) × Appends old new (take k bytes)
+GivesAll old new bytes (Err e) = (k : ℕ) × (k < length bytes) × Appends old new (take k bytes)

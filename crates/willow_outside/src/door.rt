@@ -1,9 +1,9 @@
 //! Where links come from.
 
 ghost use Rattle.std.specs.Prelude.{◌≡◌, ◌-◌, ◌≤◌, IfOk};
-ghost use Rattle.willow_outside.specs.Counts.{HasCause};
+ghost use Rattle.willow_outside.specs.Counts.{CountsFault};
 ghost use Rattle.willow_outside.specs.Facts.{DoorFacts};
-ghost use Rattle.willow_outside.specs.Links.{Asks, HandsOut, IsFresh, list_with};
+ghost use Rattle.willow_outside.specs.Links.{AsksPlace, HandsOutLink, IsFresh, list_with};
 
 use crate::{Fault, Link};
 
@@ -15,25 +15,25 @@ pub trait Door {
 
     /// Waits for links at `place` from now on. `Failed` comes only where `faults` rose.
     fn listen(&mut self, place: &str) -> Result<(), Fault>
-        ensures asked { Asks (facts self.old).asked (facts self.new).asked place.now result }
-        ensures cause { HasCause (facts self.old).faults (facts self.new).faults result }
+        ensures asked { AsksPlace (facts self.old).asked (facts self.new).asked place.now result }
+        ensures cause { CountsFault (facts self.old).faults (facts self.new).faults result }
         ensures out { (facts self.new).out ≡ (facts self.old).out }
         ensures back { (facts self.new).back ≡ (facts self.old).back };
 
     /// A link from one who asked for a place that is listened at. `Failed` comes only where `faults` rose.
     fn accept(&mut self) -> Result<Self::L, Fault>
         ensures fresh { IfOk result (λ link. IsFresh (Self.L.facts link)) }
-        ensures out { HandsOut (facts self.old).out (facts self.new).out result }
-        ensures cause { HasCause (facts self.old).faults (facts self.new).faults result }
+        ensures out { HandsOutLink (facts self.old).out (facts self.new).out result }
+        ensures cause { CountsFault (facts self.old).faults (facts self.new).faults result }
         ensures asked { (facts self.new).asked ≡ (facts self.old).asked }
         ensures back { (facts self.new).back ≡ (facts self.old).back };
 
     /// A link to `place`. `Failed` comes only where `faults` rose.
     fn connect(&mut self, place: &str) -> Result<Self::L, Fault>
         ensures fresh { IfOk result (λ link. IsFresh (Self.L.facts link)) }
-        ensures out { HandsOut (facts self.old).out (facts self.new).out result }
-        ensures asked { Asks (facts self.old).asked (facts self.new).asked place.now result }
-        ensures cause { HasCause (facts self.old).faults (facts self.new).faults result }
+        ensures out { HandsOutLink (facts self.old).out (facts self.new).out result }
+        ensures asked { AsksPlace (facts self.old).asked (facts self.new).asked place.now result }
+        ensures cause { CountsFault (facts self.old).faults (facts self.new).faults result }
         ensures back { (facts self.new).back ≡ (facts self.old).back };
 
     /// Takes back a link, for which there is room since it was handed out.

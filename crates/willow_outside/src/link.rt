@@ -3,7 +3,7 @@
 ghost use Rattle.std.specs.Prelude.{◌≡◌};
 ghost use Rattle.std.specs.Io.{ReadsAtMost, WritesAtMost};
 ghost use Rattle.std.specs.Io.KnownBytes.{ReadConsumes, WriteAppends};
-ghost use Rattle.willow_outside.specs.Counts.{HasCause, EndHasCause, TakesSome};
+ghost use Rattle.willow_outside.specs.Counts.{CountsFault, EndHasCause, TakesSome};
 ghost use Rattle.willow_outside.specs.Facts.{LinkFacts};
 
 use crate::Fault;
@@ -18,7 +18,7 @@ pub trait Link: Send + Drop {
         ensures bound { ReadsAtMost result buf.new }
         ensures bytes { ReadConsumes (facts self.old).left (facts self.new).left result buf.new }
         ensures taken { WriteAppends (facts self.old).taken (facts self.new).taken result buf.new }
-        ensures cause { HasCause (facts self.old).read_faults (facts self.new).read_faults result }
+        ensures cause { CountsFault (facts self.old).read_faults (facts self.new).read_faults result }
         ensures end { EndHasCause (facts self.old).ends (facts self.new).ends result buf.new }
         ensures held { (facts self.new).held ≡ (facts self.old).held }
         ensures write_faults { (facts self.new).write_faults ≡ (facts self.old).write_faults };
@@ -29,7 +29,7 @@ pub trait Link: Send + Drop {
         ensures bound { WritesAtMost result piece.now }
         ensures moves { TakesSome result piece.now }
         ensures bytes { WriteAppends (facts self.old).held (facts self.new).held result piece.now }
-        ensures cause { HasCause (facts self.old).write_faults (facts self.new).write_faults result }
+        ensures cause { CountsFault (facts self.old).write_faults (facts self.new).write_faults result }
         ensures left { (facts self.new).left ≡ (facts self.old).left }
         ensures taken { (facts self.new).taken ≡ (facts self.old).taken }
         ensures read_faults { (facts self.new).read_faults ≡ (facts self.old).read_faults }

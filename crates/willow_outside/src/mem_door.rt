@@ -1,15 +1,16 @@
 //! A door over links in memory, with faults where they are wanted.
 
-ghost use Rattle.std.specs.Prelude.{◌≡◌, ◌≤◌, Some, [], map, Contains};
+ghost use Rattle.std.specs.Prelude.{◌≡◌, ◌-◌, ◌≤◌, ◌++◌, ◌∷◌, Some, [], IfOk, map};
 ghost use Rattle.std.specs.List.{AllByRecursion};
-ghost use Rattle.std.specs.String.{string_bytes};
-ghost use Rattle.std.proofs.Props.{props};
-ghost use Rattle.willow_outside.specs.Links.{IsFresh};
+ghost use Rattle.willow_outside.specs.Counts.{CountsFault};
+ghost use Rattle.willow_outside.specs.Links.{AsksPlace, HandsOutLink, IsFresh, list_with};
+ghost use Rattle.willow_outside.specs.Plan.{plan_of, called, IsPlanned, HandsOutPlanned};
 
 use crate::schedule::Schedule;
 use crate::traffic::Traffic;
 use crate::{Door, Fault, Link};
 use std::alloc::Global;
+use std::marker::Model;
 
 /// A door that hands out known links in order and keeps those that come back. It fails at given calls,
 /// and where no link is left.
@@ -20,7 +21,19 @@ pub struct MemDoor<L: Link> {
     schedule: Schedule,
     faults: u64,
     alloc: Global,
-    ghost fresh: { (link : L) → Contains traffic.to_come.items link → IsFresh (L.facts link) } by { Prim.hlevel props },
+}
+
+impl<L: Link> Model for MemDoor<L> {
+    ghost use Rattle.std.specs.Prelude.{Contains, map};
+    ghost use Rattle.std.specs.String.{string_bytes};
+    ghost use Rattle.willow_outside.specs.InMemory.{MemoryDoor};
+    ghost use Rattle.willow_outside.specs.Links.{IsFresh};
+
+    ghost Value = { MemoryDoor L };
+
+    ghost view = { λ s. record { to_come = s.traffic.to_come.items; back = s.traffic.back.items; out = s.traffic.out; asked = map string_bytes s.asked.items; plan = s.schedule; faults = s.faults } };
+
+    ghost invariant = { λ s. (link : L) → Contains s.traffic.to_come.items link → IsFresh (L.facts link) };
 }
 
 impl<L: Link> MemDoor<L> {
@@ -28,7 +41,8 @@ impl<L: Link> MemDoor<L> {
     /// `give_back` is not counted.
     pub fn new(alloc: Global, links: Vec<L>, fails: Vec<u64>) -> MemDoor<L>
         requires { AllByRecursion (λ link. IsFresh (L.facts link)) links.items }
-        ensures { ⟦<MemDoor<L> as Door>⟧.facts result ≡ record { faults = 0; out = 0; asked = Some []; back = Some [] } }
+        ensures value { result ≡ record { to_come = links.items; back = []; out = 0; asked = []; plan = plan_of fails.items; faults = 0 } }
+        ensures facts { ⟦<MemDoor<L> as Door>⟧.facts result ≡ record { faults = 0; out = 0; asked = Some []; back = Some [] } }
     {
         MemDoor {
             traffic: Traffic::new(alloc, links),
@@ -50,9 +64,17 @@ impl<L: Link> MemDoor<L> {
 impl<L: Link> Door for MemDoor<L> {
     type L = L;
 
-    ghost facts = { λ s. record { faults = s.faults; out = s.traffic.out; asked = Some (map string_bytes s.asked.items); back = Some (map L.facts s.traffic.back.items) } };
+    ghost facts = { λ s. record { faults = s.faults; out = s.out; asked = Some s.asked; back = Some (map L.facts s.back) } };
 
-    fn listen(&mut self, place: &str) -> Result<(), Fault> {
+    fn listen(&mut self, place: &str) -> Result<(), Fault>
+        ensures planned { IsPlanned self.old.plan result }
+        ensures plan { self.new.plan ≡ called self.old.plan }
+        ensures to_come { self.new.to_come ≡ self.old.to_come }
+        ensures asked { AsksPlace (Some self.old.asked) (Some self.new.asked) place.now result }
+        ensures cause { CountsFault self.old.faults self.new.faults result }
+        ensures out { self.new.out ≡ self.old.out }
+        ensures back { self.new.back ≡ self.old.back }
+    {
         if self.schedule.next_fails() {
             self.faults = self.faults.saturating_add(1);
             return Err(Fault::Failed);
@@ -62,7 +84,15 @@ impl<L: Link> Door for MemDoor<L> {
         Ok(())
     }
 
-    fn accept(&mut self) -> Result<L, Fault> {
+    fn accept(&mut self) -> Result<L, Fault>
+        ensures planned { HandsOutPlanned self.old.plan self.old.to_come self.new.to_come result }
+        ensures plan { self.new.plan ≡ called self.old.plan }
+        ensures fresh { IfOk result (λ link. IsFresh (L.facts link)) }
+        ensures out { HandsOutLink self.old.out self.new.out result }
+        ensures cause { CountsFault self.old.faults self.new.faults result }
+        ensures asked { self.new.asked ≡ self.old.asked }
+        ensures back { self.new.back ≡ self.old.back }
+    {
         if self.schedule.next_fails() || self.traffic.to_come.is_empty() {
             self.faults = self.faults.saturating_add(1);
             return Err(Fault::Failed);
@@ -71,7 +101,15 @@ impl<L: Link> Door for MemDoor<L> {
         Ok(self.traffic.hand_out())
     }
 
-    fn connect(&mut self, place: &str) -> Result<L, Fault> {
+    fn connect(&mut self, place: &str) -> Result<L, Fault>
+        ensures planned { HandsOutPlanned self.old.plan self.old.to_come self.new.to_come result }
+        ensures plan { self.new.plan ≡ called self.old.plan }
+        ensures fresh { IfOk result (λ link. IsFresh (L.facts link)) }
+        ensures out { HandsOutLink self.old.out self.new.out result }
+        ensures asked { AsksPlace (Some self.old.asked) (Some self.new.asked) place.now result }
+        ensures cause { CountsFault self.old.faults self.new.faults result }
+        ensures back { self.new.back ≡ self.old.back }
+    {
         if self.schedule.next_fails() || self.traffic.to_come.is_empty() {
             self.faults = self.faults.saturating_add(1);
             return Err(Fault::Failed);
@@ -82,7 +120,17 @@ impl<L: Link> Door for MemDoor<L> {
         Ok(self.traffic.hand_out())
     }
 
-    fn give_back(&mut self, link: L) {
+    /// Keeps the link. It is no call of the schedule.
+    fn give_back(&mut self, link: L)
+        requires { 1 ≤ self.old.out }
+        ensures plan { self.new.plan ≡ self.old.plan }
+        ensures to_come { self.new.to_come ≡ self.old.to_come }
+        ensures links { self.new.back ≡ self.old.back ++ link ∷ [] }
+        ensures back { Some (map L.facts self.new.back) ≡ list_with (L.facts link) (Some (map L.facts self.old.back)) }
+        ensures out { self.new.out ≡ self.old.out - 1 }
+        ensures asked { self.new.asked ≡ self.old.asked }
+        ensures faults { self.new.faults ≡ self.old.faults }
+    {
         self.traffic.take_back(link);
     }
 }

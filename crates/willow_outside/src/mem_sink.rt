@@ -1,10 +1,15 @@
 //! Bytes kept in memory, with faults where they are wanted.
 
-ghost use Rattle.std.specs.Prelude.{◌≡◌, ◌≤◌, Some};
+ghost use Rattle.std.specs.Prelude.{◌≡◌, ◌≤◌, Some, IfOk, length, min};
+ghost use Rattle.std.specs.Io.{WritesAtMost};
+ghost use Rattle.std.specs.Io.KnownBytes.{WriteAppends};
+ghost use Rattle.willow_outside.specs.Counts.{CountsFault, TakesSome};
+ghost use Rattle.willow_outside.specs.Plan.{plan_of, called, IsPlanned};
 
 use crate::schedule::Schedule;
 use crate::{Fault, Sink};
 use std::alloc::Global;
+use std::marker::Model;
 
 /// A sink that keeps its bytes and fails at given calls.
 #[derive(Drop)]
@@ -13,14 +18,25 @@ pub struct MemSink {
     most: usize,
     schedule: Schedule,
     faults: u64,
-    ghost moves: { 1 ≤ most },
+}
+
+impl Model for MemSink {
+    ghost use Rattle.std.specs.Prelude.{◌≤◌};
+    ghost use Rattle.willow_outside.specs.InMemory.{MemorySink};
+
+    ghost Value = { MemorySink };
+
+    ghost view = { λ s. record { held = s.held.items; plan = s.schedule; most = s.most; faults = s.faults } };
+
+    ghost invariant = { λ s. 1 ≤ s.most };
 }
 
 impl MemSink {
     /// Takes bytes behind `held`, at most `most` of them a call. The calls whose numbers, from 1, are in `fails` fail.
     pub fn new(_alloc: Global, held: Vec<u8>, fails: Vec<u64>, most: usize) -> MemSink
         requires { 1 ≤ most }
-        ensures { ⟦<MemSink as Sink>⟧.facts result ≡ record { held = Some held.items; faults = 0 } }
+        ensures value { result ≡ record { held = held.items; plan = plan_of fails.items; most = most; faults = 0 } }
+        ensures facts { ⟦<MemSink as Sink>⟧.facts result ≡ record { held = Some held.items; faults = 0 } }
     {
         MemSink {
             held,
@@ -39,9 +55,19 @@ impl MemSink {
 }
 
 impl Sink for MemSink {
-    ghost facts = { λ s. record { held = Some s.held.items; faults = s.faults } };
+    ghost facts = { λ s. record { held = Some s.held; faults = s.faults } };
 
-    fn write(&mut self, piece: &[u8]) -> Result<usize, Fault> {
+    /// Takes as many bytes as `piece` has and `most` allows.
+    fn write(&mut self, piece: &[u8]) -> Result<usize, Fault>
+        ensures planned { IsPlanned self.old.plan result }
+        ensures count { IfOk result (λ n. n ≡ min (length piece.now) self.old.most) }
+        ensures plan { self.new.plan ≡ called self.old.plan }
+        ensures most { self.new.most ≡ self.old.most }
+        ensures bound { WritesAtMost result piece.now }
+        ensures moves { TakesSome result piece.now }
+        ensures bytes { WriteAppends (Some self.old.held) (Some self.new.held) result piece.now }
+        ensures cause { CountsFault self.old.faults self.new.faults result }
+    {
         if self.schedule.next_fails() {
             self.faults = self.faults.saturating_add(1);
             return Err(Fault::Failed);

@@ -4,7 +4,7 @@ ghost use Rattle.std.specs.Prelude.{◌≡◌, ◌≤◌, length, Ok, Err, IfOk,
 ghost use Rattle.std.specs.Io.KnownBytes.{Consumes, IsAtEnd};
 ghost use Rattle.spelling.specs.declared.ending.End.TheVariants as stops;
 ghost use Rattle.willow_outside.specs.declared.reading.ReadEnd.TheVariants as read_ends;
-ghost use Rattle.willow_outside.specs.Counts.{Rose};
+ghost use Rattle.willow_outside.specs.Counts.{Rose, CountsReads};
 ghost use Rattle.willow_outside.specs.Whole.{TookBefore};
 
 use crate::{Fault, Source};
@@ -31,7 +31,7 @@ fn room(alloc: Global, size: usize) -> Result<Vec<u8>, AllocError>
 }
 
 /// All bytes of `source` up to its end. `Failed` comes only where a read failed, and `TooLong` exactly
-/// where more than `limit` bytes came. What was read is taken off at every answer.
+/// where more than `limit` bytes came, and then no read failed. What was read is taken off at every answer.
 pub fn read_all<S: Source>(
     alloc: Global,
     source: &mut S,
@@ -46,6 +46,7 @@ pub fn read_all<S: Source>(
     ensures ends { (S.facts source.old).ends ≤ (S.facts source.new).ends }
     ensures failed { result ≡ Err (stops.Refused read_ends.Failed) → Rose (S.facts source.old).faults (S.facts source.new).faults }
     ensures faults { (S.facts source.old).faults ≤ (S.facts source.new).faults }
+    ensures cause { CountsReads (S.facts source.old).faults (S.facts source.new).faults result }
 {
     let mut bytes = Vec::new(alloc);
     let mut piece = room(alloc, PIECE)?;

@@ -2,7 +2,7 @@
 
 ghost use Rattle.std.specs.Io.{WritesAtMost};
 ghost use Rattle.std.specs.Io.KnownBytes.{WriteAppends};
-ghost use Rattle.willow_outside.specs.Counts.{HasCause, TakesSome};
+ghost use Rattle.willow_outside.specs.Counts.{CountsFault, TakesSome};
 ghost use Rattle.willow_outside.specs.Facts.{SinkFacts};
 
 use crate::Fault;
@@ -17,5 +17,5 @@ pub trait Sink {
         ensures bound { WritesAtMost result piece.now }
         ensures moves { TakesSome result piece.now }
         ensures bytes { WriteAppends (facts self.old).held (facts self.new).held result piece.now }
-        ensures cause { HasCause (facts self.old).faults (facts self.new).faults result };
+        ensures cause { CountsFault (facts self.old).faults (facts self.new).faults result };
 }

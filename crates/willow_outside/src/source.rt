@@ -2,7 +2,7 @@
 
 ghost use Rattle.std.specs.Io.{ReadsAtMost};
 ghost use Rattle.std.specs.Io.KnownBytes.{ReadConsumes};
-ghost use Rattle.willow_outside.specs.Counts.{HasCause, EndHasCause};
+ghost use Rattle.willow_outside.specs.Counts.{CountsFault, EndHasCause};
 ghost use Rattle.willow_outside.specs.Facts.{SourceFacts};
 
 use crate::Fault;
@@ -16,6 +16,6 @@ pub trait Source {
     fn read(&mut self, buf: &mut [u8]) -> Result<usize, Fault>
         ensures bound { ReadsAtMost result buf.new }
         ensures bytes { ReadConsumes (facts self.old).left (facts self.new).left result buf.new }
-        ensures cause { HasCause (facts self.old).faults (facts self.new).faults result }
+        ensures cause { CountsFault (facts self.old).faults (facts self.new).faults result }
         ensures end { EndHasCause (facts self.old).ends (facts self.new).ends result buf.new };
 }

@@ -1,8 +1,8 @@
 //! Bytes in memory that are given from the front.
 
-ghost use Rattle.std.specs.Prelude.{◌≡◌, ◌<◌, ◌≤◌, ℕ, List, [], ◌++◌, length, take, drop};
+ghost use Rattle.std.specs.Prelude.{◌≡◌, ◌<◌, ◌≤◌, ℕ, List, [], ◌++◌, length, take, drop, min};
 ghost use Rattle.willow_outside.specs.Counts.{CountsEnd};
-ghost use Rattle.willow_outside.specs.Passed.{Passed};
+ghost use Rattle.willow_outside.specs.Supplied.{Supplied};
 
 use std::marker::Model;
 
@@ -14,7 +14,7 @@ pub(crate) struct Supply {
 }
 
 impl Model for Supply {
-    ghost Value = { Passed };
+    ghost Value = { Supplied };
 
     ghost view = { λ s. record { given = take s.at s.bytes.items; left = drop s.at s.bytes.items } };
 
@@ -32,6 +32,7 @@ impl Supply {
     pub(crate) fn give(&mut self, buf: &mut [u8], most: usize) -> usize
         requires { 1 ≤ most }
         ensures bound { result ≤ length buf.new }
+        ensures count { result ≡ min (min (length buf.new) most) (length self.old.left) }
         ensures bytes { self.old.left ≡ take result buf.new ++ self.new.left }
         ensures given { self.new.given ≡ self.old.given ++ take result buf.new }
         ensures none { result ≡ 0 → 0 < length buf.new → self.new.left ≡ [] }

@@ -1,4 +1,4 @@
-//! What no clause says: which calls of an object in memory fail, and that calls can succeed.
+//! That calls can succeed, and what the clauses say of them at some values.
 
 use crate::{
     Door, Fault, Link, MemDoor, MemLink, MemNoise, MemShelf, MemSink, MemSource, Noise, ReadEnd,

@@ -1,7 +1,7 @@
 -- How a path is spelled, and how it is read.
-use Rattle.std.specs.Prelude.{ℕ, zero, suc, ◌-◌, min, List, [], ◌∷◌, length, nat_le}
+use Rattle.std.specs.Prelude.{ℕ, zero, suc, ◌-◌, min, List, [], ◌∷◌, length}
 use Rattle.spelling.specs.Front.{Front, Whole, ◌>>=◌}
-use Rattle.spelling.specs.Reading.{guard, byte_at, text_at}
+use Rattle.spelling.specs.Reading.{byte_up_to, text_at}
 use Rattle.spelling.specs.Spelling.{byte_spelling, text_spelling, list_spelling}
 use Rattle.willow_path.specs.declared.limits.TheConstants.{MAX_PART, MAX_PARTS, MAX_TOTAL}
 
@@ -15,7 +15,7 @@ path_spelling = list_spelling byte_spelling part_spelling
 
 -- a component of a path that has room for so many bytes; wrong as soon as its length is known to be too great
 unfoldable pub part_at : ℕ → List ℕ → Front (List ℕ)
-part_at room = text_at byte_at (min MAX_PART room)
+part_at room = text_at (byte_up_to (min MAX_PART room))
 
 -- so many components, which have room for so many bytes together
 unfoldable pub parts_at : ℕ → ℕ → List ℕ → Front (List (List ℕ))
@@ -28,5 +28,5 @@ parts_at room (suc count) bytes = do
 -- a path
 unfoldable pub path_at : List ℕ → Front (List (List ℕ))
 path_at bytes = do
-  count ← byte_at bytes
-  guard (nat_le count.0 MAX_PARTS) (parts_at MAX_TOTAL count.0 count.1)
+  count ← byte_up_to MAX_PARTS bytes
+  parts_at MAX_TOTAL count.0 count.1

@@ -1,10 +1,10 @@
 //! Keys of users and namespaces, and digests.
 
 ghost use Rattle.std.specs.Prelude.{◌≡◌, ℕ, ◌<◌, ◌≤◌, List, slice_index, replicate, MatchBool, MatchOption, IfOk};
-ghost use Rattle.spelling.specs.Reading.{Gives, bytes_at};
+ghost use Rattle.spelling.specs.Reading.{Gives, NeedsNoMemory, bytes_at};
 ghost use Rattle.willow_path.specs.Key.{IsKey, key_at};
 
-use spelling::{Input, Unread, guard};
+use spelling::{Input, Unread};
 use std::marker::Model;
 
 // Whether the bytes are a key's.
@@ -103,21 +103,24 @@ pub struct Digest(pub [u8; 32]);
 
 /// Reads the key of a user: its 33 bytes. It is wrong as soon as its first byte is read and is above 1.
 pub fn read_user_key(input: &mut Input) -> Result<UserKey, Unread>
-    ensures { Gives (λ key. key) result input.new (key_at input.old) }
+    ensures gives { Gives (λ key. key) result input.new (key_at input.old) }
+    ensures sure { NeedsNoMemory result }
 {
     UserKey::from_bytes(read_key(input)?).ok_or(Unread::Wrong)
 }
 
 /// Reads the key of a namespace: its 33 bytes. It is wrong as soon as its first byte is read and is above 1.
 pub fn read_namespace_key(input: &mut Input) -> Result<NamespaceKey, Unread>
-    ensures { Gives (λ key. key) result input.new (key_at input.old) }
+    ensures gives { Gives (λ key. key) result input.new (key_at input.old) }
+    ensures sure { NeedsNoMemory result }
 {
     NamespaceKey::from_bytes(read_key(input)?).ok_or(Unread::Wrong)
 }
 
 /// Reads a digest: its 32 bytes.
 pub fn read_digest(input: &mut Input) -> Result<Digest, Unread>
-    ensures { Gives (λ digest. digest.0) result input.new (bytes_at 32 input.old) }
+    ensures gives { Gives (λ digest. digest.0) result input.new (bytes_at 32 input.old) }
+    ensures sure { NeedsNoMemory result }
 {
     Ok(Digest(input.array()?))
 }
@@ -127,9 +130,9 @@ pub fn read_digest(input: &mut Input) -> Result<Digest, Unread>
 fn read_key(input: &mut Input) -> Result<[u8; 33], Unread>
     ensures read { Gives (λ bytes. bytes) result input.new (key_at input.old) }
     ensures kind { IfOk result (λ bytes. slice_index bytes 0 ≤ 1) }
+    ensures sure { NeedsNoMemory result }
 {
-    let kind = input.byte()?;
-    guard(kind <= 1)?;
+    let kind = input.byte_up_to(1)?;
     let body: [u8; 32] = input.array()?;
     let mut bytes = [kind; 33];
     bytes[1..].copy_from_slice(&body);

@@ -7,13 +7,16 @@ ghost use Rattle.std.specs.Ordering.{is_gt};
 ghost use Rattle.std.specs.Cmp.{IsTotalOrder};
 ghost use Rattle.std.specs.Cmp.Lexicographic.{pointwise};
 ghost use Rattle.spelling.specs.Form.{IsForm};
-ghost use Rattle.willow_path.specs.Key.{IsKey};
+ghost use Rattle.spelling.specs.Reader.{IsReader};
+ghost use Rattle.spelling.specs.Reading.{bytes_at};
+ghost use Rattle.spelling.specs.Spelling.{AreSoManyBytes};
+ghost use Rattle.willow_path.specs.Key.{IsKey, key_at};
 ghost use Rattle.willow_path.specs.Path.{IsPath, IsPrefix, is_prefix, part_cmp, path_cmp, total};
 ghost use Rattle.willow_path.specs.Successor.{IsAfter, IsBelow, after, part_after};
 ghost use Rattle.std.specs.Option.{option_map, option_or};
-ghost use Rattle.willow_path.specs.PathSpelling.{path_spelling};
+ghost use Rattle.willow_path.specs.PathSpelling.{path_at, path_spelling};
 
-use crate::limits::{MAX_PART, MAX_TOTAL};
+use crate::limits::{MAX_PART, MAX_PARTS, MAX_TOTAL};
 
 /// Bytes are ordered as strings of numbers are. Keys and digests compare equal, by `==` and by their
 /// order, exactly where their bytes are the same.
@@ -49,6 +52,22 @@ pub fn prefixes()
 pub fn one_spelling()
     ensures path { IsForm path_spelling IsPath }
     ensures key { IsForm (λ key. key) IsKey }
+{}
+
+/// The readers of keys, digests and paths go by the spellings alone: a value is whole exactly where its spelling stands
+/// in front, a part exactly where the bytes begin a spelling and more is due, and wrong exactly where none begins so.
+#[tactic(auto, using(crate::proofs::PathReads::key_reader, crate::proofs::PathReads::digest_reader, crate::proofs::PathReads::path_reader))]
+pub fn readers()
+    ensures key { IsReader key_at (λ key. key) IsKey }
+    ensures digest { IsReader (bytes_at 32) (λ digest. digest) (AreSoManyBytes 32) }
+    ensures path { IsReader path_at path_spelling IsPath }
+{}
+
+/// The limits of a path: components of 255 bytes, 16 of them, 1,024 bytes together.
+pub fn limits()
+    ensures part { MAX_PART ≡ 255 }
+    ensures parts { MAX_PARTS ≡ 16 }
+    ensures total { MAX_TOTAL ≡ 1024 }
 {}
 
 /// The answer of `after_prefixed` is the only one that is right. At or above a path and below that answer

@@ -8,7 +8,7 @@ ghost use Rattle.std.specs.Cmp.{partial_order_from_own_ties};
 ghost use Rattle.std.proofs.Common.{rules};
 ghost use Rattle.willow_path.specs.Path.{IsPath, total, is_prefix, part_cmp, path_cmp};
 ghost use Rattle.willow_path.specs.PathPush.{HasRoom, push_refusal};
-ghost use Rattle.willow_path.specs.Answers.{Answers};
+ghost use Rattle.spelling.specs.Answers.{JudgesFirst};
 
 use crate::limits::{MAX_PART, MAX_PARTS, MAX_TOTAL};
 use smallvec::SmallVec;
@@ -75,7 +75,7 @@ impl Path {
     /// Memory is asked for after these; an error leaves the path as it was.
     #[tactic(auto, using(crate::proofs::PathLimits::room))]
     pub fn push(&mut self, part: &[u8]) -> Result<(), End<PathRefusal>>
-        ensures answer { Answers result (push_refusal self.old part.now) }
+        ensures answer { JudgesFirst result (push_refusal self.old part.now) }
         ensures added { OnOk result (self.new ≡ self.old ++ part.now ∷ []) }
         ensures path { IsPath self.new }
         ensures err { OnErr result (self.new ≡ self.old) }

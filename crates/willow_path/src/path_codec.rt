@@ -2,13 +2,13 @@
 
 ghost use Rattle.std.specs.Prelude.{◌≡◌, ℕ, ◌≤◌, ◌++◌, List, length, min, OnOk, OnErr, IfOk};
 ghost use Rattle.spelling.specs.Form.{Decodes};
-ghost use Rattle.spelling.specs.Reading.{Gives};
+ghost use Rattle.spelling.specs.Reading.{Gives, NeedsNoMemory};
 ghost use Rattle.willow_path.specs.Path.{IsPath};
 ghost use Rattle.willow_path.specs.PathSpelling.{part_at, part_spelling, parts_at, path_at, path_spelling};
 
 use crate::limits::{MAX_PART, MAX_PARTS, MAX_TOTAL};
 use crate::path::Path;
-use spelling::{End, Input, NoMemory, NotHere, Unread, guard};
+use spelling::{End, Input, NoMemory, NotHere, Unread};
 use std::alloc::Global;
 
 impl Path {
@@ -39,8 +39,7 @@ impl Path {
 pub fn read_path(alloc: Global, input: &mut Input) -> Result<Path, Unread>
     ensures { Gives (λ path. path) result input.new (path_at input.old) }
 {
-    let count = usize::from(input.byte()?);
-    guard(count <= MAX_PARTS)?;
+    let count = usize::from(input.byte_up_to(MAX_PARTS as u8)?);
     read_parts(alloc, input, count)
 }
 
@@ -62,9 +61,10 @@ fn read_parts(alloc: Global, input: &mut Input, count: usize) -> Result<Path, Un
 fn read_part<'a>(input: &mut Input<'a>, room: usize) -> Result<&'a [u8], Unread>
     ensures read { Gives (λ part. part.now) result input.new (part_at room input.old) }
     ensures short { IfOk result (λ part. length part.now ≤ min MAX_PART room) }
+    ensures sure { NeedsNoMemory result }
 {
-    let len = usize::from(input.byte()?);
-    guard(len <= MAX_PART.min(room))?;
+    let limit = MAX_PART.min(room) as u8;
+    let len = usize::from(input.byte_up_to(limit)?);
     input.slice(len)
 }
 

@@ -2,49 +2,100 @@
 //! current folder, the network and the machine's noise, and ends with the status that it answers.
 #![tactic(auto)]
 
+ghost use Rattle.std.specs.Prelude.{◌≡◌, drop};
+ghost use Rattle.std.specs.Process.{exit_status};
+ghost use Rattle.peer_run.specs.Promises.{KeepsPromises};
+ghost use Rattle.peer_words.specs.Words.{texts};
+
 use peer_real::{FileShelf, RandomNoise, StdReport, StdSink, StdSource, TcpDoor};
 use peer_run::peer_run;
-use std::alloc::AllocError;
+use std::alloc::{AllocError, Global};
 use std::env;
-use std::io::ErrorKind;
+use std::io::{ErrorKind, Stderr, Stdin, Stdout};
 use std::process::ExitCode;
+use willow_outside::{Door, Noise, Shelf, Sink, Source};
 
-/// The words behind the program's name, where there is memory for them. Words that are no text are none, which is no
+/// All words of the command line, where there is memory for them. Words that are no text are none, which is no
 /// command.
-fn words(rt: &HostRuntime) -> Result<Vec<String>, AllocError> {
+fn all_words(rt: &HostRuntime) -> Result<Vec<String>, AllocError> {
     match env::args(rt) {
-        Ok(args) => args.skip(1).collect(rt.alloc()),
+        Ok(args) => args.collect(rt.alloc()),
         Err(error) if error.kind() == ErrorKind::OutOfMemory => Err(AllocError),
         Err(_) => Ok(Vec::new(rt.alloc())),
     }
 }
 
-/// Runs the words over the real objects, and answers the status.
-fn run(rt: &HostRuntime, words: &[String]) -> u8 {
-    let mut shelf = FileShelf::new(rt);
-    let mut input = StdSource::new(rt.stdin());
-    let mut output = StdSink::new(rt.stdout());
-    let mut report = StdReport::new(rt.stderr());
-    let mut door = TcpDoor::new(rt);
-    let mut noise = RandomNoise::new(rt);
-    peer_run(
+/// The words behind the first, which is the program's name.
+fn behind_name(all: &[String]) -> &[String]
+    ensures { result.now ≡ drop 1 all.now }
+{
+    match all.split_first() {
+        Some((_, words)) => words,
+        None => all,
+    }
+}
+
+/// Runs the words behind the program's name over the standard streams and the other objects, with standard error as
+/// the report. The exit code is the status that the run answers.
+fn run<H: Shelf, D: Door, N: Noise>(
+    alloc: Global,
+    all: &[String],
+    shelf: &mut H,
+    input: &mut StdSource<Stdin>,
+    output: &mut StdSink<Stdout>,
+    report: &mut StdReport<Stderr>,
+    door: &mut D,
+    noise: &mut N,
+) -> ExitCode
+    ensures promises { KeepsPromises (record {
+      words = texts (drop 1 all.now);
+      old = record {
+        shelf = H.facts shelf.old;
+        input = ⟦<StdSource<Stdin> as Source>⟧.facts input.old;
+        output = ⟦<StdSink<Stdout> as Sink>⟧.facts output.old;
+        report = ⟦<StdSink<Stderr> as Sink>⟧.facts report.old;
+        door = D.facts door.old;
+        noise = N.facts noise.old;
+      };
+      new = record {
+        shelf = H.facts shelf.new;
+        input = ⟦<StdSource<Stdin> as Source>⟧.facts input.new;
+        output = ⟦<StdSink<Stdout> as Sink>⟧.facts output.new;
+        report = ⟦<StdSink<Stderr> as Sink>⟧.facts report.new;
+        door = D.facts door.new;
+        noise = N.facts noise.new;
+      };
+      status = exit_status result;
+    }) }
+{
+    let words = behind_name(all);
+    let status = peer_run(alloc, words, shelf, input, output, report, door, noise);
+    ExitCode::from(status)
+}
+
+/// Runs the words behind the program's name over the machine.
+fn run_here(rt: &HostRuntime, all: &[String]) -> ExitCode {
+    run(
         rt.alloc(),
-        words,
-        &mut shelf,
-        &mut input,
-        &mut output,
-        &mut report,
-        &mut door,
-        &mut noise,
+        all,
+        &mut FileShelf::new(rt),
+        &mut StdSource::new(rt.stdin()),
+        &mut StdSink::new(rt.stdout()),
+        &mut StdReport::new(rt.stderr()),
+        &mut TcpDoor::new(rt),
+        &mut RandomNoise::new(rt),
     )
 }
 
 fn main(rt: HostRuntime) -> ExitCode {
-    match words(&rt) {
-        Ok(words) => ExitCode::from(run(&rt, &words)),
+    match all_words(&rt) {
+        Ok(all) => run_here(&rt, &all),
         Err(AllocError) => {
             let _ = rt.eprintln("no memory");
             ExitCode::from(7)
         }
     }
 }
+
+#[cfg(test)]
+mod tests;

@@ -1,7 +1,7 @@
 use Rattle.std.proofs.Common.{length, map, ap, ◌∙◌, subst, Global}
 use Rattle.std.specs.declared.sync.Arc.{Arc}
+use Rattle.willow_entry.specs.Pruning.{IsPlace}
 use Rattle.willow_entry.specs.Row.{RowValue, place_cmp}
-use Rattle.willow_entry.proofs.Between.{IsPlace}
 use Rattle.block_store.specs.Front.{front}
 use Rattle.block_store.proofs.Covered.{front_whole}
 use Rattle.block_store.proofs.search.own_place.Goals as goal

@@ -1,7 +1,8 @@
 use Rattle.std.proofs.Common.{length, map, sym, subst, Global}
 use Rattle.std.specs.declared.sync.Arc.{Arc}
+use Rattle.willow_entry.specs.Pruning.{IsPlace}
 use Rattle.willow_entry.specs.Row.{RowValue, place_cmp}
-use Rattle.willow_entry.proofs.Between.{IsPlace, rising_live}
+use Rattle.willow_entry.proofs.Between.{rising_live}
 use Rattle.block_store.specs.Front.{front}
 use Rattle.block_store.proofs.Covered.{front_whole, found_at, passed_at, none_left}
 use Rattle.block_store.proofs.search.place_or_cover.Goals as goal

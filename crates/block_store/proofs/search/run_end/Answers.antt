@@ -5,8 +5,7 @@ use Rattle.std.specs.Option.{option_map, option_copied}
 use Rattle.std.proofs.lemmas.List.{drop-drop, length-drop}
 use Rattle.std.proofs.lemmas.Option.{slice_get-map}
 use Rattle.std.proofs.lemmas.List.Sorted.{IsPartitionPoint-from_clause}
-use Rattle.willow_entry.specs.Row.{RowValue, IsRising, is_at_prefix, place_cmp}
-use Rattle.willow_entry.proofs.Local.{left_of}
+use Rattle.willow_entry.specs.Row.{RowValue, IsRising, is_at_prefix, place_cmp, left_of}
 use Rattle.willow_entry.proofs.Between.{all_from}
 use Rattle.block_store.proofs.Covered.{rising_drop}
 use Rattle.block_store.proofs.Extensions.{extensions_partitioned, others_stay, first_tells}

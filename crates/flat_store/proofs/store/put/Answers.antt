@@ -1,7 +1,7 @@
 use Rattle.std.proofs.Common.{◌≡◌, map, ap, ◌∙◌, subst, insert, sym}
-use Rattle.willow_entry.specs.Row.{place_cmp, IsRising}
-use Rattle.willow_entry.proofs.Local.{left_of}
-use Rattle.willow_entry.proofs.Between.{IsPlace, left_rises, live-inserted, live-again, map-insert}
+use Rattle.willow_entry.specs.Pruning.{IsPlace}
+use Rattle.willow_entry.specs.Row.{place_cmp, left_of, IsRising}
+use Rattle.willow_entry.proofs.Between.{left_rises, live-inserted, live-again, map-insert}
 use Rattle.flat_store.proofs.store.put.Goals as goal
 
 pub place-at-requires : goal.place-at-requires

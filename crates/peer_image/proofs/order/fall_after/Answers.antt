@@ -1,7 +1,8 @@
 use Rattle.std.proofs.Common.{◌≡◌, ◌+◌, false, true, [], map, drop, Some, sym, ap, ◌∙◌, arith, is_lt}
 use Rattle.std.proofs.lemmas.List.{length-map, drop_all}
+use Rattle.willow_entry.specs.Row.{inner_place_cmp}
 use Rattle.peer_image.specs.declared.refusal.ImageRefusal.TheVariants.{NotRising}
-use Rattle.peer_image.specs.Order.{fall_after, inner_cmp}
+use Rattle.peer_image.specs.Order.{fall_after}
 use Rattle.peer_image.proofs.Falls.{fall_end, falls, rises}
 use Rattle.peer_image.proofs.Places.{left_is}
 use Rattle.peer_image.proofs.order.fall_after.Goals as goal
@@ -13,7 +14,7 @@ returns-then-not-is_lt g c =
     let last = value c.loop-row.last.now in
     let next = value c.row-item.result in
     let rest = drop (k + 1) (map value c.args.others.now) in
-    let e : is_lt (inner_cmp last next) ≡ false = cc in
+    let e : is_lt (inner_place_cmp last next) ≡ false = cc in
     ap (λ n. Some (NotRising n)) (omega (arith, c.loop-row.invariant.counted))
     ∙ sym (falls (k + 2) last next rest e)
     ∙ ap (fall_after (k + 2) last) (sym (left_is value c.args.others.now k c.row-item.result c.loop-row-test.true c.row-item.is))
@@ -26,7 +27,7 @@ loop-row-preserved g c =
     let last = value c.loop-row.last.now in
     let next = value c.row-item.result in
     let rest = drop (k + 1) (map value c.args.others.now) in
-    let e : is_lt (inner_cmp last next) ≡ true = cc in
+    let e : is_lt (inner_place_cmp last next) ≡ true = cc in
     record {
       counted = omega (arith, c.loop-row.invariant.counted);
       left =

@@ -3,8 +3,8 @@ use Rattle.peer_image.specs.Image.{trailer}
 use Rattle.peer_image.proofs.Stops.{front_behind, image_of_front}
 use Rattle.peer_image.proofs.read.read_behind.Goals as goal
 
-pub returns-then-is_trailer : goal.returns-then-is_trailer
-returns-then-is_trailer c =
+pub returns-then-is_trailer-clause-rows : goal.returns-then-is_trailer-clause-rows
+returns-then-is_trailer-clause-rows c =
     let rows = c.in-Ok.rows.items in
     let left = c.in-Ok.left.now in
     let n : c.len.result ≡ length rows = omega (arith, c.len.ensures) in

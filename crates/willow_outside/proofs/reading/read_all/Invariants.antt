@@ -8,7 +8,7 @@ invariant-loop-bytes g l = record {
   room : 0 < length l.piece.items;
   within : length l.bytes.items ≤ l.limit;
   ends : (g.S.Source.facts l.source).ends ≡ (g.S.Source.facts l.fn.source).ends;
-  faults : (g.S.Source.facts l.fn.source).faults ≤ (g.S.Source.facts l.source).faults;
+  faults : (g.S.Source.facts l.source).faults ≡ (g.S.Source.facts l.fn.source).faults;
 }
 
 abbrev pub decreases-loop-bytes : goal.decreases-loop-bytes

@@ -7,5 +7,5 @@ pub loop-at-preserved : goal.loop-at-preserved
 loop-at-preserved g c = record {
   in_range = omega (arith, simp (length-take, length-drop) at c.in_ok-at.ensures.bound);
   given = given-on _ _ _ _ _ _ c.loop-at.invariant.given c.in_ok-at.ensures.bytes;
-  faults = omega (arith, c.in_ok-at.ensures.cause.never_falls, c.loop-at.invariant.faults);
+  faults = omega (arith, c.in_ok-at.ensures.cause, c.loop-at.invariant.faults);
 }

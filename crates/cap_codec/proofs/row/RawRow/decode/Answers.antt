@@ -12,22 +12,22 @@ returns-in_err-entry c =
 pub returns-in_err-token : goal.returns-in_err-token
 returns-in_err-token c =
     whole_end c.args.body.now c.in_err-token.field-0.0 c.from_residual-in_err-token.result
-    (fails_token c.in_err-token.field-0.0 c.args.body.now c.new-input.result c.in_ok-entry.entry c.read_entry.new.input c.new-input.ensures c.in_ok-entry.ensures c.in_err-token.ensures)
+    (fails_token c.in_err-token.field-0.0 c.args.body.now c.new-input.result c.in_ok-entry.entry c.read_entry.new.input c.new-input.ensures c.in_ok-entry.ensures c.in_err-token.ensures.gives)
     c.from_residual-in_err-token.ensures.1
 
 pub returns-then-len-gt0 : goal.returns-then-len-gt0
 returns-then-len-gt0 c =
-    whole_more c.args.body.now c.new-input.result c.in_ok-entry.entry c.read_entry.new.input c.in_ok-token.token c.read_token.new.input (record {}) c.new-input.ensures c.in_ok-entry.ensures c.in_ok-token.ensures
+    whole_more c.args.body.now c.new-input.result c.in_ok-entry.entry c.read_entry.new.input c.in_ok-token.token c.read_measured.new.input (record {}) c.new-input.ensures c.in_ok-entry.ensures c.in_ok-token.ensures.gives
     (omega (arith, c.if-len-gt0.true, c.len.ensures))
 
 pub invariant_of-result : goal.invariant_of-result
 invariant_of-result c =
-    let p = parts c.args.body.now c.new-input.result c.in_ok-entry.entry c.read_entry.new.input c.in_ok-token.token c.read_token.new.input c.taken_of-entry_len.result
-    (are_bytes c.args.body.now c.type_inv.body) c.new-input.ensures c.in_ok-entry.ensures c.in_ok-token.ensures (omega (arith, c.if-len-gt0.false, c.len.ensures)) c.taken_of-entry_len.ensures in
-    (p.fits, c.in_ok-from_slice.ensures.items ∙ p.spelled, p.entry_long)
+    let p = parts c.args.body.now c.new-input.result c.in_ok-entry.entry c.read_entry.new.input c.in_ok-token.token c.read_measured.new.input c.taken_of-entry_len.result
+    (are_bytes c.args.body.now c.type_inv.body) c.new-input.ensures c.in_ok-entry.ensures c.in_ok-token.ensures.gives (omega (arith, c.if-len-gt0.false, c.len.ensures)) c.taken_of-entry_len.ensures in
+    (p.fits, c.in_ok-from_slice.ensures.items ∙ p.spelled, p.entry_long, c.in_ok-token.ensures.measured)
 
 pub returns : goal.returns
 returns c =
-    let p = parts c.args.body.now c.new-input.result c.in_ok-entry.entry c.read_entry.new.input c.in_ok-token.token c.read_token.new.input c.taken_of-entry_len.result
-    (are_bytes c.args.body.now c.type_inv.body) c.new-input.ensures c.in_ok-entry.ensures c.in_ok-token.ensures (omega (arith, c.if-len-gt0.false, c.len.ensures)) c.taken_of-entry_len.ensures in
+    let p = parts c.args.body.now c.new-input.result c.in_ok-entry.entry c.read_entry.new.input c.in_ok-token.token c.read_measured.new.input c.taken_of-entry_len.result
+    (are_bytes c.args.body.now c.type_inv.body) c.new-input.ensures c.in_ok-entry.ensures c.in_ok-token.ensures.gives (omega (arith, c.if-len-gt0.false, c.len.ensures)) c.taken_of-entry_len.ensures in
     (p.fits, p.spelled)

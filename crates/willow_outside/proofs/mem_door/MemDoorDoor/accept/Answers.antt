@@ -5,10 +5,10 @@ use Rattle.willow_outside.proofs.mem_door.MemDoorDoor.accept.Goals as goal
 
 pub invariant_of-self-2 : goal.invariant_of-self-2
 invariant_of-self-2 g c =
-    let next : c.args.self.now.traffic.to_come.items ≡ c.hand_out.result ∷ c.hand_out.new.self.to_come.items = cc in
-    record { fresh = first_out-rest (λ l. IsFresh (g.L.Link.facts l)) _ _ _ next c.args.self.now.fresh }
+    let next : c.self.inside.traffic.to_come.items ≡ c.hand_out.result ∷ c.hand_out.new.self.to_come.items = cc in
+    first_out-rest (λ l. IsFresh (g.L.Link.facts l)) _ _ _ next c.self.invariant
 
 pub returns-clause-fresh : goal.returns-clause-fresh
 returns-clause-fresh g c =
-    let next : c.args.self.now.traffic.to_come.items ≡ c.hand_out.result ∷ c.hand_out.new.self.to_come.items = cc in
-    first_out-first (λ l. IsFresh (g.L.Link.facts l)) _ _ _ next c.args.self.now.fresh
+    let next : c.self.inside.traffic.to_come.items ≡ c.hand_out.result ∷ c.hand_out.new.self.to_come.items = cc in
+    first_out-first (λ l. IsFresh (g.L.Link.facts l)) _ _ _ next c.self.invariant

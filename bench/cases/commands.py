@@ -1,0 +1,204 @@
+"""What each command does: `run` is the whole program over the objects outside."""
+from dataclasses import dataclass
+
+import lms
+from capabilities import (Area, Capability, Delegation, entry_message, initial_message, open_signature,
+                          read_capability)
+from entries import Entry, Store, live
+from octets import NotSpelled, whole
+from outside import Fault, Objects
+from report import (BAD_INPUT, KEY_SPENT, LOG_FULL, MISSING, NOT_RISING, PRUNED, READ_FAULT, REFUSED, TAKEN, USAGE,
+                    WRITE_FAULT, Stop, first_refused)
+from rows import BadBytes, NotRising, Pruned, Row, generated, image, read_image, read_rows
+from grammar import NONE, ANY, Usage, read_words
+
+LOG_LIMIT = 65_536
+SMALL = 100  # so many rows can be compared two by two
+INPUT = "-"  # how a report names the input
+
+
+@dataclass(frozen=True)
+class End:
+    """A command that came to its end: the lines of its report, and whether something was refused."""
+    lines: str = ""
+    refused: bool = False
+
+
+def taken(read):
+    """What is read outside; a fault stops the run."""
+    try:
+        return read()
+    except Fault:
+        raise Stop(READ_FAULT) from None
+
+
+def given(write) -> None:
+    try:
+        write()
+    except Fault:
+        raise Stop(WRITE_FAULT) from None
+
+
+def judged(rows: list, namespace: bytes):
+    """The authorised rows, and the end of each row that is not: its number and why."""
+    refusals = [row.refusal(namespace) for row in rows]
+    authorised = [row for row, refusal in zip(rows, refusals) if refusal is None]
+    return authorised, [(at, refusal) for at, refusal in enumerate(refusals, 1) if refusal is not None]
+
+
+def join(objects: Objects, namespace: bytes) -> End:
+    data = taken(objects.input.read_all)
+    try:
+        rows = read_rows(data)
+    except BadBytes as bad:
+        raise Stop(BAD_INPUT, name=INPUT, offset=bad.offset) from None
+    authorised, refusals = judged(rows, namespace)
+    store = Store()
+    for row in authorised:
+        if store.stored == LOG_LIMIT and not store.covers(row):
+            raise Stop(LOG_FULL)
+        store.take(row)
+    kept = store.live()
+    assert len(authorised) > SMALL or kept == live(authorised)
+    given(lambda: objects.output.write_whole(image(namespace, kept)))
+    counts = f"rows {len(rows)} stored {store.stored} kept {store.kept} refused {len(refusals)}\n"
+    return End(counts + first_refused(refusals), bool(refusals))
+
+
+def show(objects: Objects) -> End:
+    data = taken(objects.input.read_all)
+    try:
+        namespace, rows = read_image(data)
+    except BadBytes as bad:
+        raise Stop(BAD_INPUT, name=INPUT, offset=bad.offset) from None
+    except NotRising as wrong:
+        raise Stop(NOT_RISING, name=INPUT, at=wrong.args[0]) from None
+    except Pruned as wrong:
+        raise Stop(PRUNED, name=INPUT, at=wrong.args[0], by=wrong.args[1]) from None
+    authorised, refusals = judged(rows, namespace)
+    # In how many pieces a listing is written is not part of what a run must do: it is taken from the program, and only
+    # the cases in which a call of the output fails rest on it.
+    head = f"namespace {namespace.hex()} rows {len(authorised)}\n"
+    listing = "".join(row.entry.line() for row in authorised)
+    given(lambda: objects.output.write_whole(head.encode()))
+    given(lambda: objects.output.write_whole(listing.encode()))
+    return End(f"rows {len(rows)} refused {len(refusals)}\n" + first_refused(refusals), bool(refusals))
+
+
+def key(objects: Objects, name: str, height: int) -> End:
+    if taken(lambda: objects.shelf.get(name)) is not None:
+        raise Stop(TAKEN, name=name)
+    identifier = taken(objects.noise.words)[:16]
+    made = lms.LmsKey(height, identifier, taken(objects.noise.words))
+    given(lambda: objects.shelf.put(name, made.file()))
+    given(lambda: objects.output.write_whole(made.user().hex().encode() + b"\n"))
+    return End()
+
+
+class Signer:
+    """The signer of a word. A key file loses an index before its signer is there."""
+
+    def __init__(self, objects: Objects, word):
+        kind, self.told = word
+        self.file = reserved(objects, self.told) if kind == "lms" else None
+
+    def sign(self, message: bytes) -> bytes:
+        return open_signature(self.told, message) if self.file is None else self.file.sign(message)
+
+
+def reserved(objects: Objects, name: str) -> lms.LmsKey:
+    """The key of the file, with its next index, which is then used up on the shelf."""
+    data = taken(lambda: objects.shelf.get(name))
+    if data is None:
+        raise Stop(MISSING, name=name)
+    try:
+        file = lms.read_key_file(data)
+    except NotSpelled:
+        raise Stop(BAD_INPUT, name=name, offset=0) from None
+    if file.spent():
+        raise Stop(KEY_SPENT)
+    given(lambda: objects.shelf.put(name, file.after().file()))
+    return file
+
+
+def made(objects: Objects, value, refusal, spelled) -> End:
+    """Writes what was made, unless it is refused."""
+    if refusal is not None:
+        return End(REFUSED.format(text=refusal), True)
+    given(lambda: objects.output.write_whole(spelled(value)))
+    return End()
+
+
+def made_capability(objects: Objects, capability: Capability) -> End:
+    refusal = capability.refusal()
+    return made(objects, capability, refusal and f"Chain {refusal}", Capability.spelled)
+
+
+def grant(objects: Objects, namespace: bytes, mode: int, user: bytes, key=None) -> End:
+    initial = None if key is None else Signer(objects, key).sign(initial_message(mode, user))
+    return made_capability(objects, Capability(mode, namespace, user, initial))
+
+
+def input_capability(objects: Objects) -> Capability:
+    data = taken(objects.input.read_all)
+    try:
+        return whole(read_capability, data)
+    except NotSpelled:
+        raise Stop(BAD_INPUT, name=INPUT, offset=0) from None
+
+
+def asked_area(granted: Area, words: dict) -> Area:
+    """The area of the words; what they do not say is as it was granted."""
+    subspace = words.get("subspace", granted.subspace)
+    end = words.get("until", granted.end)
+    return Area(None if subspace == ANY else subspace, words.get("under", granted.path),
+                words.get("from", granted.start), None if end == NONE else end)
+
+
+def delegate(objects: Objects, key, to: bytes, **words) -> End:
+    capability = input_capability(objects)
+    area = asked_area(capability.grant(), words)
+    # An area without times is refused in any case, so it is not signed and no index is used up.
+    signature = b"" if area.is_empty() else Signer(objects, key).sign(capability.handover(area, to))
+    return made_capability(objects, capability.delegated(Delegation(area, to, signature)))
+
+
+def write(objects: Objects, key, path: tuple, time: int, length: int, digest: bytes, subspace=None) -> End:
+    capability = input_capability(objects)
+    entry = Entry(capability.namespace, subspace or capability.receiver(), path, time, length, digest)
+    row = Row(entry, capability, Signer(objects, key).sign(entry_message(entry)))
+    return made(objects, row, row.refusal(capability.namespace), Row.frame)
+
+
+def gen(objects: Objects, rows: int) -> End:
+    frames = b"".join(generated(index).frame() for index in range(rows))
+    given(lambda: objects.output.write_whole(frames))
+    return End()
+
+
+COMMANDS = {"join": join, "show": show, "key": key, "grant": grant, "delegate": delegate, "write": write, "gen": gen}
+
+
+def run(words: list, objects: Objects) -> int:
+    """Runs the words over the objects and answers the status."""
+    try:
+        command, options = read_words(words)
+        end = COMMANDS[command](objects, **options)
+    except Usage:
+        return stopped(objects, Stop(USAGE))
+    except Stop as stop:
+        return stopped(objects, stop)
+    try:
+        objects.report.write_whole(end.lines.encode())
+    except Fault:
+        return WRITE_FAULT.status
+    return 1 if end.refused else 0
+
+
+def stopped(objects: Objects, stop: Stop) -> int:
+    """Reports a stop. Its status stands, even where the report fails."""
+    try:
+        objects.report.write_whole(stop.line().encode())
+    except Fault:
+        pass
+    return stop.kind.status

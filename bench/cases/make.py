@@ -1,0 +1,106 @@
+"""Makes the cases that crates/run_cases runs, what crates/large_join prints, and the files of samples/, by a model of
+the program that shares no code with it and knows only the rules that docs/FORMATS.md tells.
+
+    python3 bench/cases/make.py             writes them
+    python3 bench/cases/make.py --check     compares them with what is stored, and exits with 0 where nothing differs
+    python3 bench/cases/make.py --covers F  tells which cases of a file F are none of these, or have another outcome
+
+The model: `octets` (bytes and readers), `entries` (paths, entries, stores), `lms` (LMS keys), `capabilities`, `rows`
+(tokens, frames, images, the generator), `grammar` (the words), `outside` (the objects), `commands`, `report`. The cases:
+`situations` (what they are made of) and a module a command; `large` and `samples`.
+
+Two things are taken from the program, since what a run must do leaves them open: that each read of the input offers
+room for all that a call may give, and that a listing is written in two pieces. Only cases in which a call fails rest on
+them. Not tried: input past its limit, which is 4 GB, and want of memory.
+"""
+import sys
+from pathlib import Path
+
+sys.dont_write_bytecode = True
+
+import delegate_cases
+import gen_cases
+import grant_cases
+import join_cases
+import key_cases
+import large
+import samples
+import show_cases
+import words_cases
+import write_cases
+
+CRATES = Path(__file__).resolve().parents[2] / "crates"
+COMMANDS = {
+    "join": join_cases,
+    "show": show_cases,
+    "key": key_cases,
+    "grant": grant_cases,
+    "delegate": delegate_cases,
+    "write": write_cases,
+    "gen": gen_cases,
+    "words": words_cases,
+}
+
+
+def groups():
+    """The headings, each with its cases."""
+    for command, cases in COMMANDS.items():
+        for title, group in cases.GROUPS.items():
+            yield f"# {command}: {title}", group
+
+
+def lines_of(text: str) -> list:
+    return [line for line in text.splitlines() if not line.startswith("#")]
+
+
+def cases() -> str:
+    """The lines of all cases, below headings."""
+    lines = []
+    for heading, group in groups():
+        lines += [heading, *(case.line() for case in group)]
+    return "".join(f"{line}\n" for line in lines)
+
+
+def made() -> dict:
+    """The bytes of each file that is made, by its path."""
+    text = cases()
+    names = [line.split(" ")[0] for line in lines_of(text)]
+    assert len(names) == len(set(names)), "two cases of one name"
+    folder = CRATES / "run_cases"
+    return {folder / "stdin": text.encode(), folder / "stdout": f"{len(names)} of {len(names)}\n".encode(),
+            CRATES / "large_join" / "stdout": large.lines().encode(), **samples.files()}
+
+
+def check(files: dict) -> int:
+    differ = [path for path, data in files.items() if path.read_bytes() != data]
+    for path in differ:
+        print(f"{path.relative_to(CRATES.parent)} is not what is made")
+    count = len(lines_of(files[CRATES / "run_cases" / "stdin"].decode()))
+    print(f"{count} cases made, {len(files) - len(differ)} of {len(files)} files as stored")
+    return 1 if differ else 0
+
+
+def covers(other: str) -> int:
+    """The name of a case is not compared."""
+    ours = {line.split(" ", 1)[1] for line in lines_of(cases())}
+    theirs = lines_of(Path(other).read_text())
+    wanting = [line.split(" ")[0] for line in theirs if line.split(" ", 1)[1] not in ours]
+    for name in wanting:
+        print(f"not among these: {name}")
+    print(f"{len(theirs) - len(wanting)} of {len(theirs)} stand among {len(ours)}")
+    return 1 if wanting else 0
+
+
+def main(words: list) -> int:
+    if len(words) == 2 and words[0] == "--covers":
+        return covers(words[1])
+    files = made()
+    if words == ["--check"]:
+        return check(files)
+    for path, data in files.items():
+        path.write_bytes(data)
+    return 0
+
+
+if __name__ == "__main__":
+    sys.exit(main(sys.argv[1:]))

@@ -1,0 +1,95 @@
+"""The objects that a run is over: input, output, report, shelf and noise, each with the calls of it that fail.
+
+A call is counted from 1, all kinds of call of one object together. A call that fails reads or writes nothing, but for
+the put of a shelf, which leaves the new bytes.
+"""
+
+INPUT_PIECE, OUTPUT_PIECE, REPORT_PIECE = 100, 100, 7  # the most bytes a call
+
+
+class Fault(Exception):
+    """A call failed."""
+
+
+class Counted:
+    def __init__(self, fails):
+        self.fails = set(fails)
+        self.calls = 0
+
+    def call(self) -> bool:
+        """Counts a call, and answers whether it fails."""
+        self.calls += 1
+        return self.calls in self.fails
+
+
+class Source(Counted):
+    def __init__(self, data: bytes, fails=()):
+        super().__init__(fails)
+        self.data = data
+        self.taken = 0
+
+    def read(self) -> bytes:
+        if self.call():
+            raise Fault
+        piece = self.data[self.taken:self.taken + INPUT_PIECE]
+        self.taken += len(piece)
+        return piece
+
+    def read_all(self) -> bytes:
+        # That each call of `read` offers room for as much as a call may give is not part of what a run must do: it is
+        # taken from the program, and only the cases in which a call of the input fails rest on it.
+        pieces = []
+        while piece := self.read():
+            pieces.append(piece)
+        return b"".join(pieces)
+
+
+class Sink(Counted):
+    def __init__(self, most: int, fails=()):
+        super().__init__(fails)
+        self.most = most
+        self.held = bytearray()
+
+    def write_whole(self, data: bytes) -> None:
+        for begin in range(0, len(data), self.most):
+            if self.call():
+                raise Fault
+            self.held += data[begin:begin + self.most]
+
+
+class Shelf(Counted):
+    def __init__(self, names: dict, fails=()):
+        super().__init__(fails)
+        self.names = dict(names)
+
+    def get(self, name: str):
+        if self.call():
+            raise Fault
+        return self.names.get(name)
+
+    def put(self, name: str, data: bytes) -> None:
+        self.names[name] = data
+        if self.call():
+            raise Fault
+
+
+class Noise(Counted):
+    def __init__(self, draws, fails=()):
+        super().__init__(fails)
+        self.draws = list(draws)
+
+    def words(self) -> bytes:
+        if self.call() or not self.draws:
+            raise Fault
+        return self.draws.pop(0)
+
+
+class Objects:
+    """All of them. `fails` has the numbers of the calls that fail, by the object's letter."""
+
+    def __init__(self, names: dict, draws, given: bytes, fails: dict):
+        self.shelf = Shelf(names, fails.get("s", ()))
+        self.noise = Noise(draws, fails.get("n", ()))
+        self.input = Source(given, fails.get("i", ()))
+        self.output = Sink(OUTPUT_PIECE, fails.get("o", ()))
+        self.report = Sink(REPORT_PIECE, fails.get("r", ()))

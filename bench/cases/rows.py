@@ -1,0 +1,141 @@
+"""Rows with their tokens, frames, images, and the rows of the generator."""
+from dataclasses import dataclass
+
+from capabilities import (WRITE, Capability, accepts, entry_message, initial_message, open_signature,
+                          read_capability, read_signature, signature_field)
+from entries import Entry, dominates, read_entry, read_key
+from octets import NotSpelled, Reader, number, whole
+
+LONGEST_BODY = 131_072
+LETTERS = b"WIM1"
+END_OF_ROWS = bytes(4)
+HEAD_LENGTH = 37  # the letters and a key
+OWNED = b"\x00" + b"O" * 32  # the namespace of the generator's rows
+
+
+@dataclass(frozen=True)
+class Row:
+    entry: Entry
+    capability: Capability
+    signature: bytes
+
+    @property
+    def token_bytes(self) -> bytes:
+        return self.capability.spelled() + signature_field(self.signature)
+
+    def body(self) -> bytes:
+        return self.entry.spelled() + self.token_bytes
+
+    def frame(self) -> bytes:
+        return number(4, len(self.body())) + self.body()
+
+    def refusal(self, namespace: bytes):
+        """Why the row is not authorised in the namespace: what fails first."""
+        if self.entry.namespace != namespace or self.capability.namespace != namespace:
+            return "WrongNamespace"
+        if self.capability.mode != WRITE:
+            return "NotWrite"
+        chain = self.capability.refusal()
+        if chain is not None:
+            return f"Chain {chain}"
+        if not self.capability.grant().includes(self.entry):
+            return "OutsideGrant"
+        if not accepts(self.capability.receiver(), entry_message(self.entry), self.signature):
+            return "BadEntrySignature"
+        return None
+
+
+def read_row(reader: Reader) -> Row:
+    return Row(read_entry(reader), read_capability(reader), read_signature(reader))
+
+
+class WrongFrame(Exception):
+    """A frame is wrong or ends early."""
+
+
+def read_frame(reader: Reader) -> Row:
+    try:
+        length = reader.number(4)
+        if not 1 <= length <= LONGEST_BODY:
+            raise NotSpelled
+        return whole(read_row, reader.take(length))
+    except NotSpelled:
+        raise WrongFrame from None
+
+
+class BadBytes(Exception):
+    """Bytes go wrong at an offset."""
+
+    def __init__(self, offset: int):
+        super().__init__(offset)
+        self.offset = offset
+
+
+def frame_at(reader: Reader) -> Row:
+    """The row of the next frame. A wrong frame is told at its length."""
+    offset = reader.taken
+    try:
+        return read_frame(reader)
+    except WrongFrame:
+        raise BadBytes(offset) from None
+
+
+def read_rows(data: bytes) -> list:
+    """The rows of a stream of frames."""
+    reader, rows = Reader(data), []
+    while reader.left() > 0:
+        rows.append(frame_at(reader))
+    return rows
+
+
+def image(namespace: bytes, rows: list) -> bytes:
+    return (LETTERS + namespace + b"".join(row.frame() for row in rows) + END_OF_ROWS + number(4, len(rows)))
+
+
+class NotRising(Exception):
+    """A row, counted from 1, is not above the one before it."""
+
+
+class Pruned(Exception):
+    """A row, counted from 1, is dropped by an earlier one."""
+
+
+def read_image(data: bytes):
+    """The namespace and the rows of an image."""
+    namespace, rows = spelled_image(data)
+    for at in range(1, len(rows)):
+        if not rows[at].entry.place() > rows[at - 1].entry.place():
+            raise NotRising(at + 1)
+    for at, row in enumerate(rows):
+        for by in range(at):
+            if dominates(rows[by], row):
+                raise Pruned(at + 1, by + 1)
+    return namespace, rows
+
+
+def spelled_image(data: bytes):
+    reader, rows = Reader(data), []
+    try:
+        letters, namespace = reader.take(4), read_key(reader)
+    except NotSpelled:
+        raise BadBytes(0) from None
+    if letters != LETTERS:
+        raise BadBytes(0)
+    while reader.data[reader.taken:reader.taken + 4] != END_OF_ROWS:
+        # Where the image ends before a length begins, the length's place is the image's own length.
+        rows.append(frame_at(reader))
+    if reader.data[reader.taken + 4:] != number(4, len(rows)):
+        raise BadBytes(reader.taken)
+    return namespace, rows
+
+
+def generated(index: int) -> Row:
+    """A row of the generator."""
+    number_of_writer = index % 8
+    first, second = divmod(index // 8, 32)
+    writer = b"\x00" + b"U" * 31 + bytes((number_of_writer,))
+    path = (number(2, first),) if index % 50 == 49 else (number(2, first), number(1, second))
+    entry = Entry(OWNED, writer, path, 1_700_000_000_000_000 + index, index % 4096, number(8, index) * 4)
+    initial = open_signature(OWNED, initial_message(WRITE, writer))
+    capability = Capability(WRITE, OWNED, writer, initial)
+    return Row(entry, capability, open_signature(writer, entry_message(entry)))

@@ -1,0 +1,207 @@
+"""What cases are made of: keys, capabilities, rows, and the case itself. The modules of cases take all of it."""
+from dataclasses import dataclass, field, replace
+from pathlib import Path
+
+import lms
+from capabilities import (READ, WRITE, Area, Capability, Delegation, entry_message, initial_message,
+                          open_signature, signature_field)
+from commands import run
+from entries import Entry, Store, path_bytes
+from octets import number
+from outside import Objects
+from rows import Row, generated, image
+
+GREATEST = 2 ** 64 - 1
+SAMPLES = Path(__file__).resolve().parents[2] / "samples"
+
+
+def open_key(letter: str) -> bytes:
+    return b"\x00" + letter.encode() * 32
+
+
+N = open_key("N")  # a communal namespace
+OTHER = open_key("^")  # another one
+P = open_key("P")  # and a third
+O = open_key("O")  # an owned namespace
+U, V, W = open_key("U"), open_key("V"), open_key("W")  # authors
+
+K = lms.LmsKey(5, bytes(range(1, 17)), bytes(range(101, 133)))  # an author's key
+OWN = lms.LmsKey(5, b"!" * 16, b"!" * 32)  # its user key is an owned namespace
+COMMON = lms.LmsKey(5, b"8" * 16, b"8" * 32)  # its user key is a communal namespace
+TALL = lms.LmsKey(10, b"w" * 16, b"x" * 32)
+
+
+def at(key: lms.LmsKey, index: int) -> lms.LmsKey:
+    return replace(key, next=index)
+
+
+def signed(by, message: bytes) -> bytes:
+    """The message's signature by an open key or by an LMS key's next index."""
+    return by.sign(message) if isinstance(by, lms.LmsKey) else open_signature(by, message)
+
+
+def key_of(signer) -> bytes:
+    return signer.user() if isinstance(signer, lms.LmsKey) else signer
+
+
+def flipped(data: bytes, place: int, bits: int = 1) -> bytes:
+    """The bytes with some bits of one of them turned over."""
+    place %= len(data)
+    return data[:place] + bytes((data[place] ^ bits,)) + data[place + 1:]
+
+
+def replaced(data: bytes, old: bytes, new: bytes) -> bytes:
+    """The bytes with the one place of `old` replaced."""
+    assert data.count(old) == 1, old
+    return data.replace(old, new)
+
+
+# Capabilities
+
+def communal(user: bytes = U, mode: int = WRITE, space: bytes = N) -> Capability:
+    return Capability(mode, space, user)
+
+
+def owned(user: bytes = U, mode: int = WRITE, space=O, by=None) -> Capability:
+    """Signed by the namespace, or by another signer."""
+    initial = signed(by or space, initial_message(mode, user))
+    return Capability(mode, key_of(space), user, initial)
+
+
+GRANTED = object()  # as it was granted
+
+
+def handed(capability: Capability, to: bytes, by=None, subspace=GRANTED, under=GRANTED, start=GRANTED, end=GRANTED,
+           signature=None) -> Capability:
+    """The capability handed over by its receiver, or by another signer; of the area what is not said stays."""
+    grant = capability.grant()
+    area = Area(grant.subspace if subspace is GRANTED else subspace, grant.path if under is GRANTED else under,
+                grant.start if start is GRANTED else start, grant.end if end is GRANTED else end)
+    if signature is None:
+        signature = signed(by or capability.receiver(), capability.handover(area, to))
+    return capability.delegated(Delegation(area, to, signature))
+
+
+def handed_on(capability: Capability, *users: bytes, **area) -> Capability:
+    """Handed from user to user."""
+    for user in users:
+        capability = handed(capability, user, **area)
+    return capability
+
+
+def ending(end: int) -> Capability:
+    """A capability of a delegation from 4 on, of which another end was signed."""
+    signed_one = handed(communal(), U, start=4, end=9)
+    delegation = signed_one.chain[0]
+    return replace(signed_one, chain=(replace(delegation, area=replace(delegation.area, end=end)),))
+
+
+# Rows
+
+def path(*parts: str) -> tuple:
+    return tuple(part.encode() for part in parts)
+
+
+A, B, AB = path("a"), path("b"), path("a", "b")
+
+
+def row(at_path: tuple = A, time: int = 5, length: int = 1, digest: int = 0x11, author: bytes = U, capability=None,
+        by=None, subspace=None, space=None, signature=None) -> Row:
+    """A row. By default its author writes to the own subspace of N, and the receiver of the capability signs."""
+    capability = capability or communal(author)
+    entry = Entry(space or capability.namespace, subspace or capability.user, at_path, time, length,
+                  bytes((digest,)) * 32)
+    if signature is None:
+        signature = signed(by or capability.receiver(), entry_message(entry))
+    return Row(entry, capability, signature)
+
+
+def spoilt(whole_row: Row, place: int = 0, bits: int = 1) -> Row:
+    """The row with another signature."""
+    return replace(whole_row, signature=flipped(whole_row.signature, place, bits))
+
+
+def body_frame(body: bytes) -> bytes:
+    """A frame around any bytes."""
+    return number(4, len(body)) + body
+
+
+def image_of(*rows: Row, space: bytes = N) -> bytes:
+    return image(space, rows)
+
+
+def joined(pieces) -> bytes:
+    """Rows as frames and bytes as they are."""
+    return b"".join(piece.frame() if isinstance(piece, Row) else piece for piece in pieces)
+
+
+# Cases
+
+def listed(items) -> str:
+    """The items of a field; `-` for none."""
+    return ",".join(items) or "-"
+
+
+def hexadecimal(data: bytes) -> str:
+    return data.hex() or "-"
+
+
+@dataclass(frozen=True)
+class Case:
+    """A run: the words, what lies on the shelf, the draws of noise, the input, and the calls that fail."""
+    name: str
+    words: tuple
+    given: bytes = b""
+    names: dict = field(default_factory=dict)
+    draws: tuple = ()
+    fails: str = ""  # as `i1 r2`: a letter for the object and the number of its call
+
+    def situation(self) -> str:
+        """The fields of the case's line that say what is run."""
+        return " ".join((
+            listed(self.words), listed(f"{name}:{data.hex()}" for name, data in sorted(self.names.items())),
+            listed(draw.hex() for draw in self.draws), hexadecimal(self.given), listed(self.fails.split())))
+
+    def objects(self) -> Objects:
+        fails = {}
+        for call in self.fails.split():
+            fails.setdefault(call[0], []).append(int(call[1:]))
+        return Objects(self.names, self.draws, self.given, fails)
+
+    def line(self) -> str:
+        """The case's line: its name, what is run, and what comes of it."""
+        objects = self.objects()
+        status = run(list(self.words), objects)
+        return " ".join((
+            self.name, self.situation(), hexadecimal(objects.output.held), hexadecimal(objects.report.held), str(status),
+            listed(f"{name}:{data.hex()}" for name, data in sorted(objects.shelf.names.items()))))
+
+
+def word_of(value) -> str:
+    """A key as its word is; any other value as its text."""
+    return value.hex() if isinstance(value, bytes) else str(value)
+
+
+def words_of(command: str, **options) -> tuple:
+    """The words of a command with its options in order."""
+    return (command, *(word for name, value in options.items() for word in (f"--{name}", word_of(value))))
+
+
+def open_signer(key: bytes) -> str:
+    return "open:" + key[1:].hex()
+
+
+# What `delegate` and `write` are tried with
+
+BY_U, BY_V = open_signer(U), open_signer(V)
+D_WORD = "11" * 32  # a digest
+PLAIN = communal().spelled()
+UNSIGNED = handed(handed(communal(), V), U, by=U)  # the second delegation is not V's
+GROWN = handed(handed(communal(), V, under=A), U, under=(), by=U)  # nor is this one, and its path is shorter
+OF_K = communal(K.user())
+FROM_K = handed(OF_K, V, by=K)
+WITH_K = {"k": K.file()}
+
+
+def bytes_of(given) -> bytes:
+    return given.spelled() if isinstance(given, Capability) else given

@@ -1,0 +1,218 @@
+"""Writes the table of items that `crates/item_cases` reads from its standard input.
+
+A line `item NAME BEFORE BYTES ANSWER` is a case: a reader that took the bytes BEFORE is given BYTES, both in
+hexadecimal (`-` for none). Each line `at CUT ZERO FULL NEXT FLIP` behind it is about one byte of BYTES, the first for
+the first: what is answered to the bytes in front of it, and to BYTES with 0 in its place, with 255, with one more (0
+for 255), and with its highest bit turned.
+
+An answer is `more`, `bad`, or an item with the number of its bytes behind a colon. Behind its kind stand the first
+bytes of its fingerprints, its count, or the length of its token: `first.17:33`, `split-key.34.51:99`, `entries.16:2`.
+
+The answers are those of a reader that goes over the bytes from the left and stops at the first that is missing or
+that nothing can begin with. It shares no code with the crates.
+
+usage: python3 bench/items/make.py > crates/item_cases/stdin
+"""
+import struct
+
+MAX_ENTRIES, MAX_REST, MAX_FRAME = 16, 65_536, 131_072
+MAX_PART, MAX_PARTS, MAX_TOTAL = 255, 16, 1024  # of a path: bytes of a component, components, bytes of all
+
+
+class More(Exception):
+    """The bytes end inside what is read."""
+
+
+class Bad(Exception):
+    """Nothing begins with the bytes."""
+
+
+class Bytes:
+    """Bytes that are read from the left."""
+
+    def __init__(self, text):
+        self.text = text
+        self.taken = 0
+
+    def byte(self, most=255):
+        if self.taken == len(self.text):
+            raise More
+        value = self.text[self.taken]
+        if value > most:
+            raise Bad
+        self.taken += 1
+        return value
+
+    def some(self, count):
+        front = self.text[self.taken:self.taken + count]
+        if len(front) < count:
+            raise More
+        self.taken += count
+        return front
+
+    def number(self, most):
+        """Four bytes, the highest first: bad at the first byte behind which every number is above `most`."""
+        value = 0
+        for place in (24, 16, 8, 0):
+            value += self.byte() << place
+            if value > most:
+                raise Bad
+        return value
+
+    def key(self):
+        return bytes([self.byte(most=1)]) + self.some(32)
+
+    def path(self):
+        room = MAX_TOTAL
+        for _ in range(self.byte(most=MAX_PARTS)):
+            length = self.byte(most=min(MAX_PART, room))
+            room -= length
+            self.some(length)
+
+    def row(self):
+        """A frame whose body is an entry and any bytes behind it; the body is looked at once it is there."""
+        body = Bytes(self.some(self.number(most=MAX_FRAME)))
+        try:
+            body.key()  # the namespace
+            body.key()  # the subspace
+            body.path()
+            body.some(8 + 8 + 32)  # the timestamp, the payload's length, its digest
+        except More:
+            raise Bad from None
+        return f"row.{len(body.text) - body.taken}"
+
+    def split(self):
+        dimension = self.byte(most=1)
+        if dimension == 0:
+            self.key()
+        else:
+            self.path()
+        lower, upper = self.some(32), self.some(32)
+        return f"split-{('key', 'path')[dimension]}.{lower[0]}.{upper[0]}"
+
+    def head(self):
+        """An item that is no row."""
+        kind = self.byte()
+        if kind == 1:
+            return f"first.{self.some(32)[0]}"
+        if kind == 2:
+            return "agree"
+        if kind == 3:
+            return self.split()
+        if kind == 4:
+            return f"entries.{self.byte(most=MAX_ENTRIES)}"
+        if kind == 5:
+            return f"rest.{self.number(most=MAX_REST)}"
+        if kind == 6:
+            return "turn"
+        if kind == 7:
+            return "bye"
+        raise Bad
+
+
+def answer(due, text):
+    """The answer of a reader to the text, and how many rows are due behind it."""
+    reading = Bytes(text)
+    try:
+        item = reading.row() if due > 0 else reading.head()
+    except More:
+        return "more", due
+    except Bad:
+        return "bad", due
+    kind, *facts = item.split(".")
+    if kind in ("entries", "rest"):
+        due = int(facts[0])
+    elif kind == "row":
+        due -= 1
+    return f"{item}:{reading.taken}", due
+
+
+def due_behind(before):
+    """How many rows are due behind the bytes, which are whole items."""
+    due = 0
+    while before:
+        found, due = answer(due, before)
+        before = before[int(found.split(":")[1]):]
+    return due
+
+
+def hexadecimal(text):
+    return text.hex() or "-"
+
+
+def case(name, before, text):
+    due = due_behind(before)
+    print("item", name, hexadecimal(before), hexadecimal(text), answer(due, text)[0])
+    for place, byte in enumerate(text):
+        answers = [answer(due, text[:place])[0]]
+        for value in (0, 255, (byte + 1) % 256, byte ^ 0x80):
+            answers.append(answer(due, text[:place] + bytes([value]) + text[place + 1:])[0])
+        print("at", *answers)
+
+
+def spelled_path(*parts):
+    return bytes([len(parts)]) + b"".join(bytes([len(part)]) + part for part in parts)
+
+
+def entry(path):
+    keys = b"\x00" + b"\x4e" * 32 + b"\x01" + b"\x55" * 32
+    return keys + path + struct.pack(">QQ", 5, 1) + b"\x11" * 32
+
+
+def frame(body):
+    return struct.pack(">I", len(body)) + body
+
+
+def entries(count):
+    return bytes([4, count])
+
+
+def rest(count):
+    return b"\x05" + struct.pack(">I", count)
+
+
+def main():
+    key = b"\x00" + b"\x61" * 32
+    prints = b"\x22" * 32 + b"\x33" * 32
+    full = spelled_path(*[b"c" * 255] * 4, b"d" * 4)  # 1,024 bytes
+    short, plain = frame(entry(spelled_path()) + b"\x07"), frame(entry(spelled_path(b"a", b"bc")))
+
+    case("first", b"", b"\x01" + b"\x11" * 32)
+    case("agree", b"", b"\x02")
+    case("split-at-a-key", b"", b"\x03\x00" + key + prints)
+    case("split-at-the-empty-path", b"", b"\x03\x01" + spelled_path() + prints)
+    case("split-at-a-path", b"", b"\x03\x01" + spelled_path(b"a", b"", b"bc") + prints)
+    case("split-at-a-time", b"", b"\x03\x02" + b"\x00" * 8 + prints)
+    case("path-of-all-components", b"", b"\x03\x01" + spelled_path(*[b""] * 16) + prints)
+    case("path-of-too-many-components", b"", b"\x03\x01" + spelled_path(*[b""] * 17) + prints)
+    for count in (0, 1, 16, 17):
+        case(f"entries-{count}", b"", entries(count))
+    for count in (0, 2, 65_536, 65_537):
+        case(f"rest-{count}", b"", rest(count))
+    case("end-of-turn", b"", b"\x06")
+    case("bye", b"", b"\x07")
+    case("no-kind", b"", b"\x00")
+    case("no-kind-above", b"", b"\x08")
+    case("two-items", b"", b"\x02\x03\x00")
+
+    case("row", entries(1), short)
+    case("row-without-a-token", rest(2), plain)
+    case("row-and-what-follows", entries(16), plain + b"\x00\x00")
+    case("last-row", entries(2) + short, plain)
+    case("empty-frame", entries(1), frame(b"") + b"\x02")
+    case("longest-frame", entries(1), struct.pack(">I", MAX_FRAME) + b"\x4e\x4e")
+    case("frame-too-long", entries(1), struct.pack(">I", MAX_FRAME + 1))
+    case("body-of-no-row", rest(65_536), frame(b"\x02\x00"))
+    case("body-cut-short", rest(1), frame(entry(spelled_path())[:-1]))
+    case("row-of-the-longest-path", entries(1), frame(entry(full))[:77])
+    case("path-too-long", b"", b"\x03\x01" + spelled_path(*[b"c" * 255] * 4, b"d" * 5)[:1026])
+    case("no-head-while-a-row-is-due", entries(1), b"\x06")
+    case("no-head-while-rows-are-due", rest(2) + short, b"\x01" + b"\x11" * 32)
+    case("head-behind-no-entries", entries(0), b"\x02")
+    case("head-behind-no-rest", rest(0), b"\x06")
+    case("head-behind-the-rows", entries(2) + short + plain, b"\x07")
+    case("entries-behind-rows", rest(1) + plain, entries(3))
+    case("row-is-no-head", b"\x06", plain[:6])
+
+
+main()

@@ -1,0 +1,11 @@
+use Rattle.peer_report.proofs.Statuses.{joined_status, shown_status, made_status}
+use Rattle.peer_report.proofs.report.done_status.Goals as goal
+
+pub returns-in-Joined : goal.returns-in-Joined
+returns-in-Joined c = joined_status c.args.done.now c.in-Joined.counts c.refused_status.result c.in-Joined.is c.refused_status.ensures
+
+pub returns-in-Shown : goal.returns-in-Shown
+returns-in-Shown c = shown_status c.args.done.now c.in-Shown.counts c.refused_status-in-Shown.result c.in-Shown.is c.refused_status-in-Shown.ensures
+
+pub returns-in-Made : goal.returns-in-Made
+returns-in-Made c = made_status c.args.done.now c.in-Made.is

@@ -1,0 +1,121 @@
+-- The laws of the commands over rows.
+use Rattle.std.proofs.Common.{◌≡◌, ℕ, inl, inr, List, ◌++◌, Option, Some, None, sym, ap, ◌∙◌, subst, arith}
+use Rattle.std.specs.List.{flat_map}
+use Rattle.std.specs.Prelude.{Err}
+use Rattle.std.proofs.lemmas.List.{append-nil}
+use Rattle.willow_outside.specs.Counts.{Rose}
+use Rattle.willow_outside.specs.Facts.{SourceFacts}
+use Rattle.cap_codec.specs.Rows.{RawValue, frame}
+use Rattle.cap_codec.specs.Streams.{FramesStopAt}
+use Rattle.cap_codec.proofs.Frames.{same_rows, never_both}
+use Rattle.peer_image.specs.ImageReading.{IsImage, IsWrong, raw_rows}
+use Rattle.peer_image.specs.Order.{order_refusal}
+use Rattle.peer_image.specs.declared.refusal.ImageRefusal.{ImageRefusal}
+use Rattle.peer_image.proofs.Stops.{one_image}
+use Rattle.peer_image.proofs.Stops as images
+use Rattle.peer_stage.specs.World.{World}
+use Rattle.peer_stage.specs.Deed.{IsLawful}
+use Rattle.peer_stage.specs.Steps.{OnInput}
+use Rattle.peer_stage.specs.declared.outcome.Done.TheVariants as done
+use Rattle.peer_stage.specs.declared.outcome.Stop.{Stop}
+use Rattle.peer_stage.specs.declared.outcome.Stop.TheVariants as stop
+use Rattle.peer_stage.proofs.Ends.{IsCondition}
+use Rattle.peer_stage.proofs.Inputs.{few_taken, not_too_far, is_all}
+use Rattle.peer_stage.proofs.Owing.{Owes, then_owes, writes_owe, input_counts, input_lasts, output_lasts, lawful, not_built_is_lawful}
+use Rattle.peer_rows.specs.Logged.{PassesLog}
+use Rattle.peer_rows.specs.Join.{JoinsInput, IsBadStream, IsFullStream}
+use Rattle.peer_rows.specs.Show.{ShowsInput, IsBadImage, IsReadMisordered}
+use Rattle.peer_rows.specs.Deeds.{CanJoin, CanShow, join_deed, show_deed, gen_deed}
+
+-- a read or a write failed
+abbrev Reads : World → World → Type 0
+Reads old new = Rose old.input.faults new.input.faults
+
+abbrev Wrote : World → World → Type 0
+Wrote old new = Rose old.output.faults new.output.faults
+
+-- ---- join
+
+no_bad_stream : (n : List ℕ) (i i' : SourceFacts) (at : ℕ) → CanJoin n i → IsBadStream i i' at → ⊥
+no_bad_stream n i i' at can bad =
+    let few = few_taken i i' can.had bad.bytes can.input bad.taken in
+    never_both can.had at can.rows (subst (λ (b : List ℕ). FramesStopAt b at) (is_all i i' can.had bad.bytes can.input (bad.read few)) (bad.wrong few)) can.frames
+
+no_full : (n : List ℕ) (i i' : SourceFacts) → CanJoin n i → IsFullStream n i i' → ⊥
+no_full n i i' can full =
+    let all = is_all i i' can.had full.bytes can.input full.read in
+    let whole = sym (append-nil (flat_map frame full.rows)) ∙ ap (λ (l : List ℕ). flat_map frame full.rows ++ l) (sym full.nothing_left) ∙ sym full.frames.parts in
+    let same = same_rows full.rows can.rows full.frames.fit can.frames.fit (whole ∙ all ∙ can.frames.spelled) in
+    let passes = subst (λ (rows : List RawValue). PassesLog n rows) same full.passes in
+    omega (arith, passes, can.fits_log)
+
+join_stops : (n : List ℕ) (i i' : SourceFacts) (e : Stop) → CanJoin n i → IsCondition e → JoinsInput n i i' (Err e) → ⊥
+join_stops n i i' (stop.BadInput from at) can condition s = no_bad_stream n i i' at can s.0
+join_stops n i i' stop.LogFull can condition s = no_full n i i' can s
+join_stops n i i' stop.ReadFault can condition s = condition
+join_stops n i i' stop.NoMemory can condition s = condition
+join_stops n i i' e can condition s = s
+
+joining_owes : (n : List ℕ) → Owes Reads Wrote (λ old. CanJoin n old.input) (λ x new. Unit {0}) (OnInput (JoinsInput n))
+joining_owes n =
+    record {
+      counts = input_counts (JoinsInput n);
+      read_fault = λ old new s. s.does.1.fault;
+      write_fault = λ old new s. absurd s.does;
+      usage = λ old new s. s.does;
+      stops = λ old new e can condition s. join_stops n old.input new.input e can condition s.does;
+      goes_on = λ old new x can s. tt;
+    }
+
+pub join_is_lawful : (n : List ℕ) → IsLawful (join_deed n)
+join_is_lawful n =
+    lawful (join_deed n) (λ old. CanJoin n old.input) (λ d new. Unit {0}) (λ unbuilt. unbuilt) (λ old new ready. ready)
+    (then_owes Reads Wrote (λ old. CanJoin n old.input) (λ x new. Unit {0}) (λ d new. Unit {0}) _ _ input_lasts output_lasts (joining_owes n)
+    (λ x. writes_owe Reads Wrote (λ old. Unit {0}) x.0.items (done.Joined x.1) (λ old new rose. rose)))
+
+-- ---- show
+
+no_bad_image : (i i' : SourceFacts) (at : ℕ) → CanShow i → IsBadImage i i' at → ⊥
+no_bad_image i i' at can (bytes, inl far) = not_too_far i i' can.had bytes can.input far.0
+no_bad_image i i' at can (bytes, inr whole) =
+    images.never_both can.had can.namespace can.rows at can.is_image (subst (λ (b : List ℕ). IsWrong b at) (is_all i i' can.had bytes can.input whole.0) whole.1)
+
+no_misorder : (i i' : SourceFacts) (refusal : ImageRefusal) → CanShow i → IsReadMisordered i i' refusal → ⊥
+no_misorder i i' refusal can (bytes, read, wrong) =
+    let image = subst (λ (b : List ℕ). IsImage b wrong.namespace wrong.rows) (is_all i i' can.had bytes can.input read) wrong.is_image in
+    let same = (one_image can.had can.namespace wrong.namespace can.rows wrong.rows can.is_image image).1 in
+    let none : None ≡ Some refusal = sym can.in_order ∙ ap (λ (rows : List RawValue). order_refusal (raw_rows rows)) same ∙ wrong.refused in
+    absurd cc
+
+show_stops : (i i' : SourceFacts) (e : Stop) → CanShow i → IsCondition e → ShowsInput i i' (Err e) → ⊥
+show_stops i i' (stop.BadInput from at) can condition s = no_bad_image i i' at can s.0
+show_stops i i' (stop.NotRising from row) can condition s = no_misorder i i' _ can s.0
+show_stops i i' (stop.Pruned from row by) can condition s = no_misorder i i' _ can s.0
+show_stops i i' stop.ReadFault can condition s = condition
+show_stops i i' stop.NoMemory can condition s = condition
+show_stops i i' e can condition s = s
+
+showing_owes : Owes Reads Wrote (λ old. CanShow old.input) (λ x new. Unit {0}) (OnInput ShowsInput)
+showing_owes =
+    record {
+      counts = input_counts ShowsInput;
+      read_fault = λ old new s. s.does.1.fault;
+      write_fault = λ old new s. absurd s.does;
+      usage = λ old new s. s.does;
+      stops = λ old new e can condition s. show_stops old.input new.input e can condition s.does;
+      goes_on = λ old new x can s. tt;
+    }
+
+pub show_is_lawful : (newest : Option ℕ) → IsLawful (show_deed newest)
+show_is_lawful None =
+    lawful (show_deed None) (λ old. CanShow old.input) (λ d new. Unit {0}) (λ unbuilt. unbuilt) (λ old new ready. ready)
+    (then_owes Reads Wrote (λ old. CanShow old.input) (λ x new. Unit {0}) (λ d new. Unit {0}) _ _ input_lasts output_lasts showing_owes
+    (λ x. writes_owe Reads Wrote (λ old. Unit {0}) (x.0.items ++ x.1.items) (done.Shown x.2) (λ old new rose. rose)))
+show_is_lawful (Some newest) = not_built_is_lawful
+
+-- ---- gen
+
+pub gen_is_lawful : (rows : ℕ) → IsLawful (gen_deed rows)
+gen_is_lawful rows =
+    lawful (gen_deed rows) (λ old. Unit {0}) (λ d new. Unit {0}) (λ unbuilt. unbuilt) (λ old new ready. ready)
+    (writes_owe (λ old new. ⊥) Wrote (λ old. Unit {0}) _ done.Made (λ old new rose. rose))

@@ -1,0 +1,68 @@
+-- The commands over rows as values.
+use Rattle.std.specs.Prelude.{◌≡◌, ℕ, List, Option, Some, None}
+use Rattle.willow_outside.specs.Counts.{Rose}
+use Rattle.willow_outside.specs.Facts.{SourceFacts}
+use Rattle.cap_codec.specs.Rows.{RawValue, AreFrames}
+use Rattle.peer_image.specs.ImageReading.{IsImage, raw_rows}
+use Rattle.peer_image.specs.Order.{order_refusal}
+use Rattle.peer_stage.specs.Deed.{Deed, not_built}
+use Rattle.peer_stage.specs.Inputs.{HasInput}
+use Rattle.peer_rows.specs.Logged.{FitsLog}
+use Rattle.peer_rows.specs.Join.{Joins}
+use Rattle.peer_rows.specs.Show.{Shows}
+use Rattle.peer_rows.specs.Generate.{Generates}
+
+-- ---- join
+
+-- the input has the frames of rows, which fit the log
+pub record CanJoin (namespace : List ℕ) (i : SourceFacts) : Type 0 where
+  pub had : List ℕ
+  pub input : HasInput i had
+  pub rows : List RawValue
+  pub frames : AreFrames had rows
+  pub fits_log : FitsLog namespace rows
+
+abbrev pub join_deed : List ℕ → Deed
+join_deed namespace =
+    record {
+      meets = Joins namespace;
+      ready = λ old new. CanJoin namespace old.input;
+      reads = λ old new. Rose old.input.faults new.input.faults;
+      writes = λ old new. Rose old.output.faults new.output.faults;
+      unbuilt = ⊥;
+    }
+
+-- ---- show
+
+-- the input is an image of rows in order
+pub record CanShow (i : SourceFacts) : Type 0 where
+  pub had : List ℕ
+  pub input : HasInput i had
+  pub namespace : List ℕ
+  pub rows : List RawValue
+  pub is_image : IsImage had namespace rows
+  pub in_order : order_refusal (raw_rows rows) ≡ None
+
+-- all rows are listed; a listing of the newest is not built yet
+abbrev pub show_deed : Option ℕ → Deed
+show_deed None =
+    record {
+      meets = Shows;
+      ready = λ old new. CanShow old.input;
+      reads = λ old new. Rose old.input.faults new.input.faults;
+      writes = λ old new. Rose old.output.faults new.output.faults;
+      unbuilt = ⊥;
+    }
+show_deed (Some newest) = not_built
+
+-- ---- gen
+
+abbrev pub gen_deed : ℕ → Deed
+gen_deed rows =
+    record {
+      meets = Generates rows;
+      ready = λ old new. Unit {0};
+      reads = λ old new. ⊥;
+      writes = λ old new. Rose old.output.faults new.output.faults;
+      unbuilt = ⊥;
+    }

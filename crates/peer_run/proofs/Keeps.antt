@@ -1,0 +1,27 @@
+-- What follows of every run.
+use Rattle.std.proofs.Common.{◌≤◌}
+use Rattle.peer_run.specs.Run.{Run, RunsWords}
+use Rattle.peer_run.specs.Promises.{KeepsPromises}
+use Rattle.peer_run.proofs.Causes.{ended, usage, is_command, read_fault, write_fault, bad_input, log_full, key_spent, statuses}
+use Rattle.peer_run.proofs.Complete.{complete}
+use Rattle.peer_run.proofs.WholeJoin.{whole_join}
+use Rattle.peer_run.proofs.Reported.{counts_stand}
+
+pub keeps : (run : Run) → RunsWords run → run.old.report.faults ≤ run.new.report.faults → KeepsPromises run
+keeps run runs faults =
+    record {
+      runs = runs;
+      joined = λ namespace is_join small. whole_join run namespace (ended run runs small) is_join;
+      ended = ended run runs;
+      usage = λ is. (usage run runs is).0;
+      untouched = λ is. (usage run runs is).1;
+      command = is_command run runs;
+      read_fault = read_fault run runs;
+      write_fault = write_fault run runs;
+      bad_input = bad_input run runs;
+      log_full = log_full run runs;
+      key_spent = key_spent run runs;
+      statuses = statuses run runs;
+      counts = counts_stand run runs faults;
+      complete = complete run runs;
+    }

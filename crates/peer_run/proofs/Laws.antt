@@ -1,0 +1,19 @@
+-- The laws of each command.
+use Rattle.peer_stage.specs.Deed.{IsLawful}
+use Rattle.peer_stage.proofs.Owing.{not_built_is_lawful}
+use Rattle.peer_rows.proofs.Deeds.{join_is_lawful, show_is_lawful, gen_is_lawful}
+use Rattle.peer_make.proofs.Deeds.{key_is_lawful, grant_is_lawful, delegate_is_lawful, write_is_lawful}
+use Rattle.peer_words.specs.declared.command.Command.{Command}
+use Rattle.peer_words.specs.declared.command.Command.TheVariants as cmd
+use Rattle.peer_run.specs.Deeds.{deed_of}
+
+-- One line a command.
+pub laws_of : (c : Command) → IsLawful (deed_of c)
+laws_of (cmd.Join namespace) = join_is_lawful namespace
+laws_of (cmd.Show newest) = show_is_lawful newest
+laws_of (cmd.Key name height) = key_is_lawful name height
+laws_of (cmd.Grant namespace mode user key) = grant_is_lawful namespace mode user key
+laws_of (cmd.Delegate key to area) = delegate_is_lawful key to area
+laws_of (cmd.Write key path time payload_length digest subspace) = write_is_lawful key (record { path = path; time = time; payload_length = payload_length; digest = digest; subspace = subspace })
+laws_of (cmd.Gen rows) = gen_is_lawful rows
+laws_of command = not_built_is_lawful

@@ -1,0 +1,17 @@
+-- The deed of each command.
+use Rattle.peer_stage.specs.Deed.{Deed, not_built}
+use Rattle.peer_rows.specs.Deeds.{join_deed, show_deed, gen_deed}
+use Rattle.peer_make.specs.Deeds.{key_deed, grant_deed, delegate_deed, write_deed}
+use Rattle.peer_words.specs.declared.command.Command.{Command}
+use Rattle.peer_words.specs.declared.command.Command.TheVariants as cmd
+
+-- One line a command.
+abbrev pub deed_of : Command → Deed
+deed_of (cmd.Join namespace) = join_deed namespace
+deed_of (cmd.Show newest) = show_deed newest
+deed_of (cmd.Key name height) = key_deed name height
+deed_of (cmd.Grant namespace mode user key) = grant_deed namespace mode user key
+deed_of (cmd.Delegate key to area) = delegate_deed key to area
+deed_of (cmd.Write key path time payload_length digest subspace) = write_deed key (record { path = path; time = time; payload_length = payload_length; digest = digest; subspace = subspace })
+deed_of (cmd.Gen rows) = gen_deed rows
+deed_of command = not_built

@@ -1,0 +1,138 @@
+-- What every run keeps: the headline, why each status comes, and that a command that is ready comes to its end.
+use Rattle.std.specs.Prelude.{◌≡◌, ◌≢◌, ℕ, ◌≤◌, ◌⊎◌, List, Result, Ok, Err}
+use Rattle.willow_outside.specs.Counts.{Rose}
+use Rattle.peer_stage.specs.World.{World, NeverFall}
+use Rattle.peer_stage.specs.Status.{status_of}
+use Rattle.peer_stage.specs.Stages.{IsWritten, IsPartlyWritten}
+use Rattle.willow_outside.specs.Facts.{SinkFacts}
+use Rattle.peer_stage.specs.declared.outcome.Done.{Done}
+use Rattle.peer_stage.specs.declared.outcome.Stop.{Stop}
+use Rattle.peer_stage.specs.declared.outcome.Stop.TheVariants as stop
+use Rattle.peer_report.specs.Report.{report_of}
+use Rattle.peer_words.specs.Commands.{IsWords, IsNoCommand}
+use Rattle.peer_words.specs.declared.command.Command.{Command}
+use Rattle.peer_run.specs.Deeds.{deed_of}
+use Rattle.peer_run.specs.Run.{Run, RunsWords, before_report}
+use Rattle.peer_run.specs.Headline.{Headline}
+
+-- ---- 0 and 1
+
+-- an end of a command that gives 0 or 1: what was to be done is done, or what was to be made is refused
+abbrev pub IsEnd : Result Done Stop → Type 0
+IsEnd (Ok d) = Unit {0}
+IsEnd (Err (stop.Refused refusal)) = Unit {0}
+IsEnd (Err e) = ⊥
+
+-- The words are a command that came to such an end, and its lines are reported.
+pub record HasEnded (run : Run) : Type 0 where
+  pub command : Command
+  pub is_words : IsWords run.words command
+  pub end : Result Done Stop
+  pub is_end : IsEnd end
+  pub meets : (deed_of command).meets run.old (before_report run) end
+  pub reported : IsWritten run.old.report run.new.report (report_of end)
+  pub status_is : run.status ≡ status_of end
+
+-- ---- 2
+
+-- the words are no command, or one that is not built yet
+abbrev pub IsNoRun : List (List ℕ) → Type 0
+IsNoRun words = IsNoCommand words ⊎ ((command : Command) × IsWords words command × (deed_of command).unbuilt)
+
+-- the words are a command that is built
+abbrev pub IsSomeRun : List (List ℕ) → Type 0
+IsSomeRun words = (command : Command) × IsWords words command × ((deed_of command).unbuilt → ⊥)
+
+-- ---- 3 and 4
+
+-- The words are a command, and a count of what it reads rose.
+pub record HasReadFault (run : Run) : Type 0 where
+  pub command : Command
+  pub is_words : IsWords run.words command
+  pub rose : (deed_of command).reads run.old (before_report run)
+
+-- The words are a command, and a count of what it writes rose, or that of the report.
+pub record HasWriteFault (run : Run) : Type 0 where
+  pub command : Command
+  pub is_words : IsWords run.words command
+  pub rose : (deed_of command).writes run.old (before_report run) ⊎ Rose run.old.report.faults run.new.report.faults
+
+-- ---- 5, 8 and 9
+
+-- bytes of the input or of a name are not in their grammar or too many, a name is missing or taken
+abbrev pub IsBadEnd : Result Done Stop → Type 0
+IsBadEnd (Err (stop.BadInput origin at)) = Unit {0}
+IsBadEnd (Err (stop.NotRising origin row)) = Unit {0}
+IsBadEnd (Err (stop.Pruned origin row by)) = Unit {0}
+IsBadEnd (Err (stop.Missing name)) = Unit {0}
+IsBadEnd (Err (stop.Taken name)) = Unit {0}
+IsBadEnd end = ⊥
+
+-- a row that would be stored met a full log
+abbrev pub IsFullEnd : Result Done Stop → Type 0
+IsFullEnd (Err stop.LogFull) = Unit {0}
+IsFullEnd end = ⊥
+
+-- a key file has no index left
+abbrev pub IsSpentEnd : Result Done Stop → Type 0
+IsSpentEnd (Err stop.KeySpent) = Unit {0}
+IsSpentEnd end = ⊥
+
+-- the report grew by these lines, or by a front of them where it failed
+abbrev pub HasTold : SinkFacts → SinkFacts → List ℕ → Type 0
+HasTold old new lines = IsWritten old new lines ⊎ (IsPartlyWritten old new lines × Rose old.faults new.faults)
+
+-- the words are a command that ended so, which is one of these ends, and the report tells just this one
+pub record HasStopped (IsOne : Result Done Stop → Type 0) (run : Run) : Type 0 where
+  pub command : Command
+  pub is_words : IsWords run.words command
+  pub end : Result Done Stop
+  pub is_one : IsOne end
+  pub meets : (deed_of command).meets run.old (before_report run) end
+  pub told : HasTold run.old.report run.new.report (report_of end)
+
+-- ---- completeness
+
+-- The words are a command, and it is ready: no condition keeps it from its end.
+pub record CanEnd (run : Run) : Type 0 where
+  pub some_command : Command
+  pub is_words : IsWords run.words some_command
+  pub is_ready : (command : Command) → IsWords run.words command → (deed_of command).ready run.old (before_report run)
+
+-- no count of faults rose in the run, of the objects that its command calls and of the report
+pub record HasNoFault (run : Run) : Type 0 where
+  pub reads : (command : Command) → IsWords run.words command → (deed_of command).reads run.old (before_report run) → ⊥
+  pub writes : (command : Command) → IsWords run.words command → (deed_of command).writes run.old (before_report run) → ⊥
+  pub report_stands : Rose run.old.report.faults run.new.report.faults → ⊥
+
+-- ---- all of it
+
+pub record KeepsPromises (run : Run) : Type 0 where
+  -- what the run does, by its command and its end, and what the report and the status say of it
+  pub runs : RunsWords run
+  -- a join leaves the join of all authorised entries
+  pub joined : Headline run
+  -- 0 and 1: the command came to its end, and its lines are reported
+  pub ended : run.status ≤ 1 → HasEnded run
+  -- 2: the words are no command, or one that is not built yet
+  pub usage : run.status ≡ 2 → IsNoRun run.words
+  -- and nothing but the report is touched
+  pub untouched : run.status ≡ 2 → before_report run ≡ run.old
+  -- at any other but 7 the words are a command that is built
+  pub command : run.status ≢ 2 → run.status ≢ 7 → IsSomeRun run.words
+  -- 3: a count rose of what the command reads
+  pub read_fault : run.status ≡ 3 → HasReadFault run
+  -- 4: a count rose of what it writes, or that of the report
+  pub write_fault : run.status ≡ 4 → HasWriteFault run
+  -- 5: bytes or a name are not as they must be, and the report tells which
+  pub bad_input : run.status ≡ 5 → HasStopped IsBadEnd run
+  -- 8: a row met a full log, and the report tells it
+  pub log_full : run.status ≡ 8 → HasStopped IsFullEnd run
+  -- 9: a key file has no index left, and the report tells it
+  pub key_spent : run.status ≡ 9 → HasStopped IsSpentEnd run
+  -- no other status comes but 7, for want of memory
+  pub statuses : (run.status ≤ 5) ⊎ ((7 ≤ run.status) × (run.status ≤ 9))
+  -- no count falls, that of the report's faults included
+  pub counts : NeverFall run.old run.new
+  -- a command that is ready comes to its end, but for faults and want of memory
+  pub complete : CanEnd run → HasNoFault run → run.status ≢ 7 → run.status ≤ 1

@@ -1,0 +1,50 @@
+-- The status of each end of a command.
+use Rattle.std.specs.Prelude.{ℕ, ◌==◌, if◌then◌else◌, List, [], ◌∷◌, Result, Ok, Err}
+use Rattle.std.specs.List.{list_any}
+use Rattle.peer_stage.specs.declared.outcome.Done.{Done}
+use Rattle.peer_stage.specs.declared.outcome.Done.TheVariants as done
+use Rattle.peer_stage.specs.declared.outcome.Stop.{Stop}
+use Rattle.peer_stage.specs.declared.outcome.Stop.TheVariants as stop
+
+-- ---- what is done
+
+-- 0 where no row was refused, else 1
+abbrev pub refused_status : ℕ → ℕ
+refused_status refused = if refused == 0 then 0 else 1
+
+-- the statuses of what was met on the way to what is done, which stopped nothing
+abbrev pub statuses_met : Done → List ℕ
+statuses_met (done.Joined counts) = refused_status counts.refused ∷ []
+statuses_met (done.Shown counts) = refused_status counts.refused ∷ []
+statuses_met done.Made = []
+
+-- the first of these statuses that was met, 0 where none was
+unfoldable pub first_met : List ℕ → List ℕ → ℕ
+first_met [] met = 0
+first_met (status ∷ later) met = if list_any (λ m. m == status) met then status else first_met later met
+
+-- in which order statuses are told that were met on the way
+abbrev pub told_order : List ℕ
+told_order = 7 ∷ 3 ∷ 4 ∷ 6 ∷ 8 ∷ 1 ∷ []
+
+-- ---- stops
+
+abbrev pub stop_status : Stop → ℕ
+stop_status (stop.Refused refusal) = 1
+stop_status stop.Usage = 2
+stop_status stop.ReadFault = 3
+stop_status stop.WriteFault = 4
+stop_status (stop.BadInput from at) = 5
+stop_status (stop.NotRising from row) = 5
+stop_status (stop.Pruned from row by) = 5
+stop_status (stop.Missing name) = 5
+stop_status (stop.Taken name) = 5
+stop_status stop.NoMemory = 7
+stop_status stop.LogFull = 8
+stop_status stop.KeySpent = 9
+
+-- ---- both
+
+abbrev pub status_of : Result Done Stop → ℕ
+status_of (Ok d) = first_met told_order (statuses_met d)
+status_of (Err e) = stop_status e

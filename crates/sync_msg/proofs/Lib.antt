@@ -1,0 +1,3 @@
+pub mod HeadReads
+pub mod InFront
+pub mod OneAnswer

@@ -1,0 +1,119 @@
+-- Items: what contracts see of them, which are in the grammar, and how they are spelled.
+use Rattle.std.specs.Prelude.{ℕ, ◌≤◌, ◌-◌, Bool, true, false, List, [], ◌∷◌, ◌++◌}
+use Rattle.std.specs.Int.{w32, to_be_bytes}
+use Rattle.spelling.specs.Spelling.{AreSoManyBytes}
+use Rattle.willow_path.specs.Key.{IsKey}
+use Rattle.willow_path.specs.Path.{IsPath}
+use Rattle.willow_path.specs.PathSpelling.{path_spelling}
+use Rattle.willow_area.specs.declared.cut.CutAt.{CutAt}
+use Rattle.willow_area.specs.declared.cut.CutAt.TheVariants as cuts
+use Rattle.willow_entry.specs.Row.{RowValue}
+use Rattle.willow_entry.specs.Frame.{row_frame, HasFrame}
+use Rattle.sync_msg.specs.declared.item.Item.{Item}
+use Rattle.sync_msg.specs.declared.item.Item.TheVariants.{First, Agree, Split, Entries, Rest, Row, EndTurn, Bye}
+use Rattle.sync_msg.specs.declared.item.TheConstants.{MAX_ENTRIES, MAX_REST}
+
+-- what contracts see of an item: of its row, if it is one, the row's value
+abbrev pub ItemValue : Type 0
+ItemValue = Item RowValue
+
+abbrev pub item_value : {R : Type 0} → (R → RowValue) → Item R → ItemValue
+item_value value (First print) = First print
+item_value value Agree = Agree
+item_value value (Split at lower upper) = Split at lower upper
+item_value value (Entries count) = Entries count
+item_value value (Rest count) = Rest count
+item_value value (Row row) = Row (value row)
+item_value value EndTurn = EndTurn
+item_value value Bye = Bye
+
+-- the items that count against the limit of an exchange
+abbrev pub is_counted : {R : Type 0} → Item R → Bool
+is_counted (First print) = true
+is_counted Agree = true
+is_counted (Split at lower upper) = true
+is_counted (Entries count) = true
+is_counted (Rest count) = true
+is_counted (Row row) = false
+is_counted EndTurn = false
+is_counted Bye = false
+
+-- ---- what fits
+
+-- a key or a path within its limits; a cut by time is not in the grammar
+abbrev pub IsCut : CutAt → Type 0
+IsCut (cuts.Subspace key) = IsKey key
+IsCut (cuts.Path path) = IsPath path
+IsCut (cuts.Time time) = ⊥
+
+-- an item within the grammar that is no row
+abbrev pub IsHead : ItemValue → Type 0
+IsHead (First print) = AreSoManyBytes 32 print
+IsHead Agree = Unit {0}
+IsHead (Split at lower upper) = IsCut at × (AreSoManyBytes 32 lower × AreSoManyBytes 32 upper)
+IsHead (Entries count) = count ≤ MAX_ENTRIES
+IsHead (Rest count) = count ≤ MAX_REST
+IsHead (Row row) = ⊥
+IsHead EndTurn = Unit {0}
+IsHead Bye = Unit {0}
+
+-- a row of the grammar of bodies that a frame can carry
+abbrev pub IsRowItem : (RowValue → Type 0) → ItemValue → Type 0
+IsRowItem IsRow (First print) = ⊥
+IsRowItem IsRow Agree = ⊥
+IsRowItem IsRow (Split at lower upper) = ⊥
+IsRowItem IsRow (Entries count) = ⊥
+IsRowItem IsRow (Rest count) = ⊥
+IsRowItem IsRow (Row row) = IsRow row × HasFrame row
+IsRowItem IsRow EndTurn = ⊥
+IsRowItem IsRow Bye = ⊥
+
+-- the cut is at a key or at a path
+abbrev pub HasPoint : CutAt → Type 0
+HasPoint (cuts.Subspace key) = Unit {0}
+HasPoint (cuts.Path path) = Unit {0}
+HasPoint (cuts.Time time) = ⊥
+
+-- What there is to know of an item before it is spelled: its count is within the grammar, its cut is not by time, its
+-- row fits a frame.
+abbrev pub HasSpelling : ItemValue → Type 0
+HasSpelling (First print) = Unit {0}
+HasSpelling Agree = Unit {0}
+HasSpelling (Split at lower upper) = HasPoint at
+HasSpelling (Entries count) = count ≤ MAX_ENTRIES
+HasSpelling (Rest count) = count ≤ MAX_REST
+HasSpelling (Row row) = HasFrame row
+HasSpelling EndTurn = Unit {0}
+HasSpelling Bye = Unit {0}
+
+-- ---- how they are spelled
+
+-- the dimension in a byte, and the point
+abbrev pub cut_spelling : CutAt → List ℕ
+cut_spelling (cuts.Subspace key) = 0 ∷ key
+cut_spelling (cuts.Path path) = 1 ∷ path_spelling path
+cut_spelling (cuts.Time time) = []
+
+-- a byte for the kind and what it carries; a row is its frame
+abbrev pub item_spelling : ItemValue → List ℕ
+item_spelling (First print) = 1 ∷ print
+item_spelling Agree = 2 ∷ []
+item_spelling (Split at lower upper) = 3 ∷ cut_spelling at ++ (lower ++ upper)
+item_spelling (Entries count) = 4 ∷ count ∷ []
+item_spelling (Rest count) = 5 ∷ to_be_bytes w32 count
+item_spelling (Row row) = row_frame row
+item_spelling EndTurn = 6 ∷ []
+item_spelling Bye = 7 ∷ []
+
+-- ---- the rows that follow
+
+-- how many rows are due behind the item, where so many were due before it
+abbrev pub due_behind : ℕ → ItemValue → ℕ
+due_behind due (First print) = due
+due_behind due Agree = due
+due_behind due (Split at lower upper) = due
+due_behind due (Entries count) = count
+due_behind due (Rest count) = count
+due_behind due (Row row) = due - 1
+due_behind due EndTurn = due
+due_behind due Bye = due

@@ -1,0 +1,108 @@
+//! Items, spelled as bytes.
+
+ghost use Rattle.std.specs.Int.{w32, to_be_bytes};
+ghost use Rattle.std.specs.Prelude.{◌≡◌, ◌++◌, ◌∷◌, [], take, OnErr, OnOk, vec_len};
+ghost use Rattle.sync_msg.specs.Items.{item_value, item_spelling, cut_spelling, HasPoint, HasSpelling};
+
+use crate::item::Item;
+use spelling::{NoMemory, put_byte, put_bytes, put_u32};
+use willow_area::CutAt;
+use willow_entry::{Row, encode_row_frame};
+
+/// Appends the item's spelling to `out`: a byte for its kind and what it carries, numbers with their highest byte
+/// first; a row is its frame. Without memory `out` stays as it was.
+pub fn encode_item<R: Row>(item: &Item<R>, out: &mut Vec<u8>) -> Result<(), NoMemory>
+    requires { HasSpelling (item_value R.value item.now) }
+    ensures spelled { OnOk result (out.new.items ≡ out.old.items ++ item_spelling (item_value R.value item.now)) }
+    ensures err { OnErr result (out.new.items ≡ out.old.items) }
+{
+    let begun = out.len();
+    match spell_item(item, out) {
+        Ok(()) => Ok(()),
+        Err(NoMemory) => {
+            out.truncate(begun);
+            Err(NoMemory)
+        }
+    }
+}
+
+// Appends the item's spelling, or without memory a part of it.
+fn spell_item<R: Row>(item: &Item<R>, out: &mut Vec<u8>) -> Result<(), NoMemory>
+    requires { HasSpelling (item_value R.value item.now) }
+    ensures spelled { OnOk result (out.new.items ≡ out.old.items ++ item_spelling (item_value R.value item.now)) }
+    ensures kept { take (vec_len out.old) out.new.items ≡ out.old.items }
+{
+    match item {
+        Item::First { print } => spell_first(print, out),
+        Item::Agree => put_byte(out, 2),
+        Item::Split { at, lower, upper } => spell_split(at, lower, upper, out),
+        Item::Entries { count } => spell_entries(*count, out),
+        Item::Rest { count } => spell_rest(*count, out),
+        Item::Row(row) => encode_row_frame(row, out),
+        Item::EndTurn => put_byte(out, 6),
+        Item::Bye => put_byte(out, 7),
+    }
+}
+
+// Appends the kind and the fingerprint, or without memory a part of them.
+fn spell_first(print: &[u8; 32], out: &mut Vec<u8>) -> Result<(), NoMemory>
+    ensures spelled { OnOk result (out.new.items ≡ out.old.items ++ 1 ∷ print.now) }
+    ensures kept { take (vec_len out.old) out.new.items ≡ out.old.items }
+{
+    put_byte(out, 1)?;
+    put_bytes(out, print)
+}
+
+// Appends the kind, the cut and the fingerprints of its parts, or without memory a part of them.
+fn spell_split(
+    at: &CutAt,
+    lower: &[u8; 32],
+    upper: &[u8; 32],
+    out: &mut Vec<u8>,
+) -> Result<(), NoMemory>
+    requires { HasPoint at.now }
+    ensures spelled { OnOk result (out.new.items ≡ out.old.items ++ 3 ∷ cut_spelling at.now ++ (lower.now ++ upper.now)) }
+    ensures kept { take (vec_len out.old) out.new.items ≡ out.old.items }
+{
+    put_byte(out, 3)?;
+    spell_cut(at, out)?;
+    put_bytes(out, lower)?;
+    put_bytes(out, upper)
+}
+
+// Appends the dimension and the point of a cut, or without memory a part of them.
+fn spell_cut(at: &CutAt, out: &mut Vec<u8>) -> Result<(), NoMemory>
+    requires { HasPoint at.now }
+    ensures spelled { OnOk result (out.new.items ≡ out.old.items ++ cut_spelling at.now) }
+    ensures kept { take (vec_len out.old) out.new.items ≡ out.old.items }
+{
+    match at {
+        CutAt::Subspace(key) => {
+            put_byte(out, 0)?;
+            put_bytes(out, &key.to_bytes())
+        }
+        CutAt::Path(path) => {
+            put_byte(out, 1)?;
+            path.encode(out)
+        }
+        CutAt::Time(_) => Ok(()),
+    }
+}
+
+// Appends the kind and the count, or without memory a part of them.
+fn spell_entries(count: u8, out: &mut Vec<u8>) -> Result<(), NoMemory>
+    ensures spelled { OnOk result (out.new.items ≡ out.old.items ++ 4 ∷ count ∷ []) }
+    ensures kept { take (vec_len out.old) out.new.items ≡ out.old.items }
+{
+    put_byte(out, 4)?;
+    put_byte(out, count)
+}
+
+// Appends the kind and the count, or without memory a part of them.
+fn spell_rest(count: u32, out: &mut Vec<u8>) -> Result<(), NoMemory>
+    ensures spelled { OnOk result (out.new.items ≡ out.old.items ++ 5 ∷ to_be_bytes w32 count) }
+    ensures kept { take (vec_len out.old) out.new.items ≡ out.old.items }
+{
+    put_byte(out, 5)?;
+    put_u32(out, count)
+}
