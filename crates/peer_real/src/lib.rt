@@ -1,5 +1,6 @@
 //! The outside as it really is, in a few lines each: the trusted edge.
-//! Each adapter is proved against the trait of the outside that it serves; it tells no content.
+//! Each adapter is proved against the trait of the outside that it serves. A stream tells the bytes that its reader or
+//! writer tells; files, connections, noise and the process's own standard streams tell none.
 #![tactic(auto)]
 
 mod faults;
