@@ -11,7 +11,7 @@ use spelling::NoMemory;
 use std::alloc::Global;
 use willow_outside::Sink;
 
-/// Writes the frames of the first `rows` rows of the generator, from row 0 on. There are at most `LOG_LIMIT`.
+/// Writes the frames of the first `rows` rows of the generator, from row 0 on. There are at most `GENERATED_ROWS`.
 pub fn generate<O: Sink>(alloc: Global, rows: u32, output: &mut O) -> Result<Done, Stop>
     requires { rows ≤ GENERATED_ROWS }
     ensures { (others : World) → Generates rows (record others { output = O.facts output.old }) (record others { output = O.facts output.new }) result }
