@@ -6,7 +6,7 @@ mod area;
 mod area_codec;
 mod box3;
 mod cut;
-mod laws;
+pub mod laws;
 mod times;
 mod times_codec;
 
@@ -14,7 +14,6 @@ pub use area::Area;
 pub use area_codec::read_area;
 pub use box3::{Box3, box_of};
 pub use cut::{CutAt, CutOutside};
-pub use laws::{boxes, cuts, inclusion, intersection, one_spelling};
 pub use times::TimeRange;
 
 #[cfg(test)]

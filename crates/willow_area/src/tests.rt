@@ -266,11 +266,12 @@ fn boxes_tell_their_ranges(rt: HostRuntime) {
 
 #[test]
 fn laws_can_be_called() {
-    boxes();
-    cuts();
-    inclusion();
-    intersection();
-    one_spelling();
+    laws::boxes();
+    laws::cuts();
+    laws::inclusion();
+    laws::intersection();
+    laws::one_spelling();
+    laws::readers();
 }
 
 // The area of one user, one component and times with an end.

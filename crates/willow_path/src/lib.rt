@@ -3,14 +3,13 @@
 #![tactic(auto)]
 
 mod key;
-mod laws;
+pub mod laws;
 mod limits;
 mod path;
 mod path_codec;
 mod successor;
 
 pub use key::{Digest, NamespaceKey, UserKey, read_digest, read_namespace_key, read_user_key};
-pub use laws::{one_spelling, order_of_bytes, order_of_paths, prefixes, successors};
 pub use limits::{MAX_PART, MAX_PARTS, MAX_TOTAL};
 pub use path::{Path, PathRefusal};
 pub use path_codec::read_path;

@@ -194,3 +194,14 @@ fn keys(rt: HostRuntime) -> Result<(), Fail> {
     );
     Ok(())
 }
+
+#[test]
+fn laws_can_be_called() {
+    laws::limits();
+    laws::one_spelling();
+    laws::order_of_bytes();
+    laws::order_of_paths();
+    laws::prefixes();
+    laws::readers();
+    laws::successors();
+}
