@@ -67,6 +67,18 @@ def covering_row(author):
     return struct.pack(">I", len(body)) + body
 
 
+def leaf_blocks(rows):
+    """What the leaves of a stream of frames hash: each is the digest of a row's entry and token, which are its body."""
+    with open(rows, "rb") as source:
+        frames = source.read()
+    blocks, at = [], 0
+    while at < len(frames):
+        (length,) = struct.unpack_from(">I", frames, at)
+        blocks.append((length + 72) // 64)
+        at += 4 + length
+    return blocks
+
+
 def run(command, given=None, made=None):
     with open(given or os.devnull, "rb") as source, open(made or os.devnull, "wb") as sink:
         begun = time.perf_counter()
@@ -133,6 +145,12 @@ def show(hash_bench, peer, folder):
     ):
         times = took[name] / took[alone]
         print(f"| {name} | {count:,} | {count * ROW:,} | {took[name]:.3f} | {took[alone]:.3f} | {times:.1f} |")
+    blocks = leaf_blocks(rows)
+    print()
+    print("| Leaves of a fingerprint | rows | hashes | hashes a leaf |")
+    print("|---|---|---|---|")
+    print(f"| rows of the generator | {len(blocks):,} | {sum(blocks):,} | {sum(blocks) / len(blocks):.2f} |")
+    print(f"| the digest of a total | | {(40 + 72) // 64} | |")
 
 
 if __name__ == "__main__":
