@@ -1,0 +1,16 @@
+//! How two stores that differ in a box go on: with all of the rows of the box where these are few, else with a cut of
+//! the box.
+//! The contract: the choice is made by the rows that the box includes alone, and each cut leaves some of them on both
+//! sides.
+#![tactic(auto)]
+
+mod choose;
+pub mod laws;
+mod least;
+
+pub use choose::{Choice, ENTRIES_MAX, choose};
+
+#[cfg(test)]
+mod tests;
+#[cfg(test)]
+mod trials;
