@@ -1,13 +1,15 @@
 -- The least subspace above another, part by part of a list, and what it is.
-use Rattle.std.proofs.Common.{◌≡◌, ◌⊎◌, ◌↔◌, inl, inr, ℕ, Bool, true, false, cond, List, [], ◌∷◌, ◌++◌, Option, Some, None, map, filter, get_or, refl, sym, ap, ◌∙◌, subst, Ordering, Less, is_lt, is_gt}
+use Rattle.std.proofs.Common.{◌≡◌, ◌⊎◌, ◌↔◌, inl, inr, ℕ, suc, ◌+◌, Bool, true, false, ◌&&◌, cond, List, [], ◌∷◌, ◌++◌, Option, Some, None, map, filter, get_or, slice_get, take, refl, sym, ap, ◌∙◌, subst, Ordering, Less, is_lt, is_gt, arith}
 use Rattle.std.specs.Prelude.{All, Contains}
 use Rattle.std.specs.Ordering.{ord_min, ordering_reverse}
+use Rattle.std.specs.Bool.{then_some}
 use Rattle.std.specs.Cmp.{IsTotalOrder}
+use Rattle.std.proofs.Math.Seq.{take-suc}
 use Rattle.std.proofs.lemmas.Bool.{false≢true, false_from_ne_true}
 use Rattle.std.proofs.lemmas.Cmp.{nat_list_cmp_total, tied_itself, upto}
 use Rattle.std.proofs.lemmas.List.{map-append}
 use Rattle.std.proofs.lemmas.List.Elements.{filter-append, All-contains, Contains-get_or}
-use Rattle.std.proofs.lemmas.Option.{same_Some, none-some}
+use Rattle.std.proofs.lemmas.Option.{same_Some, none-some, slice_get_within, get_or_from_slice_get}
 use Rattle.willow_area.specs.Boxes.{Ranges}
 use Rattle.willow_area.proofs.Orders.{lt_then_lt, less_at_most, at_least, not_below, not_greater, at_most_is}
 use Rattle.willow_entry.specs.Entry.{bytes_cmp}
@@ -56,6 +58,24 @@ least_in-append low area xs ys =
     ∙ ap (least_above low) (map-append subspace (rows_in area xs) (rows_in area ys))
     ∙ ap least (filter-append above (map subspace (rows_in area xs)) (map subspace (rows_in area ys)))
     ∙ least-append (filter above (map subspace (rows_in area xs))) (filter above (map subspace (rows_in area ys)))
+
+-- the same of one row
+pub least_in-one : (low : List ℕ) (area : Ranges) (row : RowValue) → least_above low (subspaces_of (rows_in area (row ∷ []))) ≡ then_some (is_in area row && is_gt (bytes_cmp row.entry.subspace low)) row.entry.subspace
+least_in-one low area row = by_tests (is_in area row) (is_gt (bytes_cmp row.entry.subspace low)) refl
+  where
+    by_tests : (inside above : Bool) → is_gt (bytes_cmp row.entry.subspace low) ≡ above → least_above low (subspaces_of (cond inside (row ∷ []) [])) ≡ then_some (inside && above) row.entry.subspace
+    by_tests true true e = ap (λ t. least (cond t (row.entry.subspace ∷ []) [])) e
+    by_tests true false e = ap (λ t. least (cond t (row.entry.subspace ∷ []) [])) e
+    by_tests false above e = refl
+
+-- one row more
+pub least_in-more : (low : List ℕ) (area : Ranges) (rows : List RowValue) (i : ℕ) (row : RowValue) → slice_get rows i ≡ Some row
+    → least_above low (subspaces_of (rows_in area (take (i + 1) rows))) ≡ lesser (least_above low (subspaces_of (rows_in area (take i rows)))) (least_above low (subspaces_of (rows_in area (row ∷ []))))
+least_in-more low area rows i row h =
+    let next : i + 1 ≡ suc i = omega arith in
+    let longer : take (i + 1) rows ≡ take i rows ++ row ∷ [] =
+    ap (λ n. take n rows) next ∙ take-suc rows i row (slice_get_within rows i row h) ∙ ap (λ x. take i rows ++ x ∷ []) (get_or_from_slice_get rows i row row h) in
+    ap (λ l. least_above low (subspaces_of (rows_in area l))) longer ∙ least_in-append low area (take i rows) (row ∷ [])
 
 -- ---- what it is
 

@@ -1,5 +1,5 @@
 -- The points at which rising rows are cut are between rows, and a cut there leaves rows on both sides.
-use Rattle.std.proofs.Common.{◌≡◌, ◌⊎◌, inl, inr, ℕ, zero, suc, ◌-◌, ◌/◌, ◌<◌, Bool, true, false, not, cond, List, [], ◌∷◌, length, map, filter, get_or, slice_get, Option, Some, None, refl, sym, ap, ◌∙◌, subst, Ordering, Less, Equal, Greater, is_lt, is_gt, arith}
+use Rattle.std.proofs.Common.{◌≡◌, ◌⊎◌, inl, inr, ℕ, zero, suc, ◌-◌, ◌/◌, ◌<◌, Bool, true, false, not, cond, List, [], ◌∷◌, length, map, filter, get_or, slice_get, Option, Some, None, refl, sym, ap, ◌∙◌, subst, Ordering, Less, Equal, Greater, is_lt, is_gt, nat_cmp, arith}
 use Rattle.std.specs.Prelude.{All, Any, Contains, IfSome, IsTrue}
 use Rattle.std.specs.Cmp.{IsTotalOrder}
 use Rattle.std.specs.Ordering.{ordering_then, ordering_reverse, is_le}
@@ -216,8 +216,8 @@ part_rows rows points rise h =
     record {
       rise = p.rise;
       first_below =
-      All-weaker (IsBetween rows) (λ at. IfSome (slice_get rows 0) (λ first. IsTrue (is_row_below at first))) (λ at b. subst (λ o. IfSome o (λ first. IsTrue (is_row_below at first))) (sym b.is_first) b.below) (cuts_at points)
-      p.between;
+          All-weaker (IsBetween rows) (λ at. IfSome (slice_get rows 0) (λ first. IsTrue (is_row_below at first))) (λ at b. subst (λ o. IfSome o (λ first. IsTrue (is_row_below at first))) (sym b.is_first) b.below) (cuts_at points)
+          p.between;
       rows_there = All-weaker (IsBetween rows) (λ at. Any (StandsAt at) rows) (λ at b. any_there (StandsAt at) rows b.row b.there b.stands) (cuts_at points) p.between;
     }
 

@@ -34,20 +34,20 @@ pub lower_rows : (area : Ranges) (rows : List RowValue) (at : CutAt) → IsTrue 
 lower_rows area rows at can =
     filter-both (is_in area) (is_row_below at) (is_in (lower_part area at))
     (λ row.
-        let subspace = row.entry.subspace in
-        let path = row.entry.path in
-        let time = row.entry.timestamp in
-        same_as_both (in_box (lower_part area at) subspace path time) (in_box area subspace path time) (is_below at subspace path time) (lower_part_has area at can subspace path time))
+    let subspace = row.entry.subspace in
+    let path = row.entry.path in
+    let time = row.entry.timestamp in
+    same_as_both (in_box (lower_part area at) subspace path time) (in_box area subspace path time) (is_below at subspace path time) (lower_part_has area at can subspace path time))
     rows
 
 pub upper_rows : (area : Ranges) (rows : List RowValue) (at : CutAt) → IsTrue (can_cut area at) → rows_in (upper_part area at) rows ≡ filter (λ row. not (is_row_below at row)) (rows_in area rows)
 upper_rows area rows at can =
     filter-both (is_in area) (λ row. not (is_row_below at row)) (is_in (upper_part area at))
     (λ row.
-        let subspace = row.entry.subspace in
-        let path = row.entry.path in
-        let time = row.entry.timestamp in
-        same_as_first (in_box (upper_part area at) subspace path time) (in_box area subspace path time) (is_below at subspace path time) (upper_part_has area at can subspace path time))
+    let subspace = row.entry.subspace in
+    let path = row.entry.path in
+    let time = row.entry.timestamp in
+    same_as_first (in_box (upper_part area at) subspace path time) (in_box area subspace path time) (is_below at subspace path time) (upper_part_has area at can subspace path time))
     rows
 
 pub part_counts : (area : Ranges) (rows : List RowValue) (at : CutAt) → IsTrue (can_cut area at) → length (rows_in (lower_part area at) rows) + length (rows_in (upper_part area at) rows) ≡ length (rows_in area rows)

@@ -9,9 +9,9 @@ use Rattle.block_store.specs.InBox.{is_in, rows_in}
 use Rattle.block_store.specs.Positions.{positions}
 use Rattle.range_split.specs.Points.{Points, by_subspace, by_path}
 use Rattle.range_split.specs.Least.{least_above}
-use Rattle.range_split.specs.declared.choose.Choice.{Choice}
-use Rattle.range_split.specs.declared.choose.Choice.TheVariants.{Entries, AtSubspace, AtPathOf}
-use Rattle.range_split.specs.declared.choose.TheConstants.{ENTRIES_MAX}
+use Rattle.range_split.specs.declared.choice.Choice.{Choice}
+use Rattle.range_split.specs.declared.choice.Choice.TheVariants.{Entries, AtSubspace, AtPathOf}
+use Rattle.range_split.specs.declared.choice.TheConstants.{ENTRIES_MAX}
 
 -- the subspaces of the rows
 abbrev pub subspaces_of : List RowValue → List (List ℕ)

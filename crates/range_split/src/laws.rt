@@ -14,9 +14,9 @@ ghost use Rattle.range_split.specs.Points.{Points, cuts_at};
 ghost use Rattle.range_split.specs.Least.{least_above, IsNext};
 ghost use Rattle.range_split.specs.Choice.{choice, Chooses};
 ghost use Rattle.range_split.specs.Sides.{is_row_below, PartRows, LeavesRows};
-ghost use Rattle.range_split.specs.declared.choose.Choice.{Choice};
+ghost use Rattle.range_split.specs.declared.choice.Choice.{Choice};
 
-use crate::choose::ENTRIES_MAX;
+use crate::choice::ENTRIES_MAX;
 
 /// Just so many rows, and no more, are told without a cut.
 #[tactic(auto, using(crate::proofs::Choosing::choice_none))]

@@ -4,11 +4,12 @@
 //! sides.
 #![tactic(auto)]
 
-mod choose;
+mod choice;
 pub mod laws;
 mod least;
+mod rows;
 
-pub use choose::{Choice, ENTRIES_MAX, choose};
+pub use choice::{Choice, ENTRIES_MAX, choose};
 
 #[cfg(test)]
 mod tests;

@@ -1,13 +1,12 @@
 //! The choice between the rows of a box and a cut of it.
 
-ghost use Rattle.std.specs.Prelude.{◌≡◌, ◌/◌, ◌<◌, Some, length, map, slice_get};
-ghost use Rattle.block_store.specs.InBox.{is_in, rows_in};
-ghost use Rattle.block_store.specs.Positions.{positions};
+ghost use Rattle.std.specs.Prelude.{◌≡◌, ◌/◌, ◌<◌, length, map};
+ghost use Rattle.block_store.specs.InBox.{rows_in};
 ghost use Rattle.range_split.specs.Choice.{Chooses};
 
-use crate::least::least_above;
+use crate::least::{is_above, least_above};
+use crate::rows::nth;
 use block_store::Snapshot;
-use block_store::laws::numbering;
 use willow_area::Box3;
 use willow_entry::Row;
 use willow_path::UserKey;
@@ -53,28 +52,11 @@ fn cut<R: Row>(snapshot: &Snapshot<R>, area: &Box3, half: u32) -> Choice
     let (at, middle) = nth(snapshot, area, half);
     let low = first.entry().subspace;
     let subspace = middle.entry().subspace;
-    if subspace > low {
+    if is_above(&subspace, &low) {
         return Choice::AtSubspace(subspace);
     }
     match least_above(snapshot, area, &low) {
         Some(key) => Choice::AtSubspace(key),
         None => Choice::AtPathOf(at),
-    }
-}
-
-// The position of the n-th row, counted from 0, that the box includes, and the row.
-fn nth<'a, R: Row>(snapshot: &'a Snapshot<R>, area: &Box3, n: u32) -> (u32, &'a R)
-    requires { n < length (rows_in area.now (map R.value snapshot.now)) }
-    ensures at { slice_get (positions (is_in area.now) (map R.value snapshot.now)) n ≡ Some result.0 }
-    ensures held { slice_get (map R.value snapshot.now) result.0 ≡ Some (R.value result.1.now) }
-    ensures row { slice_get (rows_in area.now (map R.value snapshot.now)) n ≡ Some (R.value result.1.now) }
-{
-    numbering();
-    match snapshot.nth_in(area, n) {
-        None => unreachable!(),
-        Some(at) => match snapshot.get(at) {
-            None => unreachable!(),
-            Some(row) => (at, row),
-        },
     }
 }
