@@ -1,6 +1,6 @@
 -- The least subspace above another, part by part of a list, and what it is.
-use Rattle.std.proofs.Common.{◌≡◌, ◌⊎◌, ◌↔◌, inl, inr, ℕ, suc, ◌+◌, Bool, true, false, ◌&&◌, cond, List, [], ◌∷◌, ◌++◌, Option, Some, None, map, filter, get_or, slice_get, take, refl, sym, ap, ◌∙◌, subst, Ordering, Less, is_lt, is_gt, arith}
-use Rattle.std.specs.Prelude.{All, Contains}
+use Rattle.std.proofs.Common.{◌≡◌, ◌↔◌, inl, inr, ℕ, suc, ◌+◌, Bool, true, false, ◌&&◌, cond, List, [], ◌∷◌, ◌++◌, Option, Some, None, map, filter, get_or, slice_get, take, refl, sym, ap, ◌∙◌, subst, Ordering, Less, is_lt, is_gt, arith}
+use Rattle.std.specs.Prelude.{All}
 use Rattle.std.specs.Ordering.{ord_min, ordering_reverse}
 use Rattle.std.specs.Bool.{then_some}
 use Rattle.std.specs.Cmp.{IsTotalOrder}

@@ -1,5 +1,5 @@
 -- The points at which rising rows are cut are between rows, and a cut there leaves rows on both sides.
-use Rattle.std.proofs.Common.{◌≡◌, ◌⊎◌, inl, inr, ℕ, zero, suc, ◌-◌, ◌/◌, ◌<◌, Bool, true, false, not, cond, List, [], ◌∷◌, length, map, filter, get_or, slice_get, Option, Some, None, refl, sym, ap, ◌∙◌, subst, Ordering, Less, Equal, Greater, is_lt, is_gt, nat_cmp, arith}
+use Rattle.std.proofs.Common.{◌≡◌, inl, inr, ℕ, zero, suc, ◌/◌, ◌<◌, Bool, true, false, not, cond, List, [], ◌∷◌, length, filter, get_or, slice_get, Option, Some, None, refl, sym, ap, ◌∙◌, subst, Ordering, Less, Equal, Greater, is_lt, is_gt, nat_cmp, arith}
 use Rattle.std.specs.Prelude.{All, Any, Contains, IfSome, IsTrue}
 use Rattle.std.specs.Cmp.{IsTotalOrder}
 use Rattle.std.specs.Ordering.{ordering_then, ordering_reverse, is_le}
@@ -28,7 +28,7 @@ use Rattle.willow_entry.proofs.Ranks.{greater_from_test}
 use Rattle.block_store.specs.InBox.{is_in, rows_in}
 use Rattle.range_split.specs.Points.{Points, by_subspace, by_path, cuts_at}
 use Rattle.range_split.specs.Least.{least_above}
-use Rattle.range_split.specs.Choice.{choice, points_of, subspaces_of}
+use Rattle.range_split.specs.Choice.{choice, subspaces_of}
 use Rattle.range_split.specs.Sides.{StandsAt, is_row_below, AreRising, PartRows, LeavesRows}
 use Rattle.range_split.proofs.LeastKeys.{least_above_is}
 use Rattle.range_split.proofs.Shares.{lower_rows, upper_rows}

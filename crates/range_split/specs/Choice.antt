@@ -17,17 +17,17 @@ use Rattle.range_split.specs.declared.choice.TheConstants.{ENTRIES_MAX}
 abbrev pub subspaces_of : List RowValue → List (List ℕ)
 subspaces_of rows = map (λ row. row.entry.subspace) rows
 
--- Where the first of many rows and the one in their middle part them. Where the middle one's subspace is above the
--- first one's, it is the point; else the least subspace of all rows that is above the first one's, where there is
--- one; else the path of the middle one.
+-- The points at which many rows are cut, told by the first and by the middle one of them. That is the middle one's
+-- subspace, where it is above the first one's; else the least subspace of all rows that is above the first one's, where
+-- there is one; else the path of the middle one.
 abbrev pub points_of : RowValue → RowValue → List RowValue → Points
 points_of first middle rows =
     if is_gt (bytes_cmp middle.entry.subspace first.entry.subspace)
     then by_subspace (middle.entry.subspace ∷ [])
     else option_map_or (λ key. by_subspace (key ∷ [])) (least_above first.entry.subspace (subspaces_of rows)) (by_path (middle.entry.path ∷ []))
 
--- Where the box of these rows is cut, or none where they are few. Of many rows, the middle one is that before which
--- half of them stand, rounded down.
+-- The points at which the rows of a box are cut, or none where the rows are few. Of many rows the middle one is that
+-- before which half of them stand, rounded down.
 unfoldable pub choice : List RowValue → Option Points
 choice [] = None
 choice (first ∷ rest) =

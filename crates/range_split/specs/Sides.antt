@@ -1,5 +1,5 @@
 -- What stands on the two sides of the points at which rows are cut.
-use Rattle.std.specs.Prelude.{◌≡◌, ℕ, ◌<◌, Bool, List, length, slice_get, All, Any, IsTrue, IfSome}
+use Rattle.std.specs.Prelude.{◌≡◌, ◌<◌, Bool, List, length, slice_get, All, Any, IsTrue, IfSome}
 use Rattle.std.specs.List.Sorted.{IsStrictlySortedBy}
 use Rattle.willow_path.specs.Path.{path_cmp}
 use Rattle.willow_area.specs.Boxes.{Ranges}

@@ -31,6 +31,7 @@ pub enum Choice {
 /// them stand, rounded down. Where its subspace is above the first one's, the cut is there; else at the least subspace
 /// of any of the rows that is above the first one's, where there is one; else at the path of the middle row, of which
 /// the position in the snapshot is answered. It takes no memory.
+#[tactic(auto, using(crate::proofs::Choosing::choice_few))]
 pub fn choose<R: Row>(snapshot: &Snapshot<R>, area: &Box3) -> Choice
     ensures { Chooses area.now (map R.value snapshot.now) result }
 {

@@ -27,7 +27,6 @@ pub fn limit()
 
 /// The least subspace above another is one of the list that is above, and no other such is below it. There is none
 /// exactly where none of the list is above.
-#[tactic(auto, using(crate::proofs::LeastKeys::least_above_is, crate::proofs::LeastKeys::least_above_none))]
 pub fn next_subspaces()
     ensures some { (low key : List ℕ) (keys : List (List ℕ)) → least_above low keys ≡ Some key → IsNext low keys key }
     ensures none { (low : List ℕ) (keys : List (List ℕ)) → (least_above low keys ≡ None) ↔ All (λ key. is_gt (bytes_cmp key low) ≡ false) keys }
@@ -50,7 +49,6 @@ pub fn parts()
 
 /// Of rows that rise by subspace and path, the points of a choice are between the first and others, and a cut of the
 /// box at each of them leaves rows of the box in both parts.
-#[tactic(auto, using(crate::proofs::Parting::part_rows, crate::proofs::Parting::all_leave_rows))]
 pub fn sides()
     ensures points { (rows : List RowValue) (points : Points) → IsStrictlySortedBy inner_place_cmp rows → choice rows ≡ Some points → PartRows rows points }
     ensures parts { (area : Ranges) (rows : List RowValue) (points : Points) → IsStrictlySortedBy inner_place_cmp rows → choice (rows_in area rows) ≡ Some points → All (LeavesRows area rows) (cuts_at points) }

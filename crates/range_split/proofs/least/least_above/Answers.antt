@@ -1,4 +1,4 @@
-use Rattle.std.proofs.Common.{◌<◌, map, sym, ap₂, ◌∙◌, length, arith}
+use Rattle.std.proofs.Common.{map, sym, ap₂, ◌∙◌}
 use Rattle.range_split.specs.Least.{lesser}
 use Rattle.range_split.proofs.LeastKeys.{least_in-more}
 use Rattle.range_split.proofs.least.least_above.Goals as goal
