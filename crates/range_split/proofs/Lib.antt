@@ -1,0 +1,4 @@
+pub mod LeastKeys
+pub mod Shares
+pub mod Choosing
+pub mod Parting

@@ -1,0 +1,4 @@
+pub mod Points
+pub mod Least
+pub mod Choice
+pub mod Sides
