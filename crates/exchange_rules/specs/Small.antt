@@ -1,7 +1,8 @@
 -- A small exchange, written out by hand: two sides with six numbers each, of which five are the same.
-use Rattle.std.specs.Prelude.{ℕ, true, false, List, [], ◌∷◌}
+use Rattle.std.specs.Prelude.{ℕ, true, false, List, [], ◌∷◌, Some}
 use Rattle.exchange_rules.specs.Items.{Turn, First, Agree, Split, Entries, Rest}
-use Rattle.exchange_rules.specs.Numbers.{Range}
+use Rattle.exchange_rules.specs.Exchange.{exchange}
+use Rattle.exchange_rules.specs.Numbers.{Range, of_numbers}
 
 abbrev pub one_to_six : List ℕ
 one_to_six = 1 ∷ 2 ∷ 3 ∷ 4 ∷ 5 ∷ 6 ∷ []
@@ -28,3 +29,6 @@ turns_of_answerer =
     ∷ record { items = Agree ∷ Entries (6 ∷ 7 ∷ []) ∷ []; ends_with_bye = false }
     ∷ record { items = []; ends_with_bye = true }
     ∷ []
+
+abbrev pub small_exchange : List (Turn ℕ ℕ)
+small_exchange = exchange of_numbers one_to_six seven_for_five (Some up_to_ten)

@@ -1,20 +1,44 @@
-//! The laws of the exchange, each the contract of a function that does nothing, at whatever rows, boxes and cuts.
+//! The laws of the exchange, each the contract of a function that does nothing, at whatever rows `R`, boxes `X` and
+//! cuts `C` there are.
 
-ghost use Rattle.std.specs.Prelude.{◌≡◌, ℕ, List, [], ◌∷◌, Some, None};
-ghost use Rattle.exchange_rules.specs.Items.{Turn, bye, to_left, to_right, counted, caller_turns, answerer_turns};
-ghost use Rattle.exchange_rules.specs.Exchange.{exchange};
+ghost use Rattle.std.specs.Prelude.{◌≡◌, ℕ, ◌+◌, ◌*◌, ◌≤◌, max, List, [], ◌∷◌, length, Option, Some, None};
+ghost use Rattle.exchange_rules.specs.Rules.{Rules, rows_in};
+ghost use Rattle.exchange_rules.specs.Items.{Turn, counted, to_left, to_right, caller_turns, answerer_turns};
+ghost use Rattle.exchange_rules.specs.Exchange.{exchange, turns, enough, first_asks, EndWithByes};
 ghost use Rattle.exchange_rules.specs.AnyPeer.{caller, answerer};
+ghost use Rattle.exchange_rules.specs.Premises.{HasDisjointParts, CanCut};
 ghost use Rattle.exchange_rules.specs.Numbers.{of_numbers};
-ghost use Rattle.exchange_rules.specs.Small.{one_to_six, seven_for_five, up_to_ten, turns_of_caller, turns_of_answerer};
+ghost use Rattle.exchange_rules.specs.Small.{one_to_six, seven_for_five, up_to_ten, turns_of_caller, turns_of_answerer, small_exchange};
 
 /// A small exchange of numbers is the one that was written out by hand, and so is what each side writes alone.
 #[tactic(auto, unfolding(crate::specs::Answer::reply, crate::specs::Exchange::turns, crate::specs::AnyPeer::opens_at, crate::specs::AnyPeer::heard, crate::specs::AnyPeer::answers))]
 pub fn a_small_exchange()
-    ensures caller { caller_turns (exchange of_numbers one_to_six seven_for_five (Some up_to_ten)) ≡ turns_of_caller }
-    ensures answerer { answerer_turns (exchange of_numbers one_to_six seven_for_five (Some up_to_ten)) ≡ turns_of_answerer }
-    ensures to_left { to_left (exchange of_numbers one_to_six seven_for_five (Some up_to_ten)) ≡ 6 ∷ 7 ∷ [] }
-    ensures to_right { to_right (exchange of_numbers one_to_six seven_for_five (Some up_to_ten)) ≡ 5 ∷ [] }
-    ensures counted { counted (exchange of_numbers one_to_six seven_for_five (Some up_to_ten)) ≡ 7 }
+    ensures caller { caller_turns small_exchange ≡ turns_of_caller }
+    ensures answerer { answerer_turns small_exchange ≡ turns_of_answerer }
+    ensures to_left { to_left small_exchange ≡ 6 ∷ 7 ∷ [] }
+    ensures to_right { to_right small_exchange ≡ 5 ∷ [] }
+    ensures counted { counted small_exchange ≡ 7 }
     ensures caller_alone { caller of_numbers one_to_six (Some up_to_ten) turns_of_answerer ≡ turns_of_caller }
     ensures answerer_alone { answerer of_numbers seven_for_five (Some up_to_ten) turns_of_caller ≡ turns_of_answerer }
+{}
+
+/// The exchange ends with a farewell of each side, and with more turns allowed it is the same.
+#[tactic(auto, using(crate::proofs::Ends::exchange_ends, crate::proofs::Ends::exchange_settled))]
+pub fn exchange_ends<R, X, C>()
+    ensures ends { (g : Rules R X C) (a b : List R) (x : Option X)
+        → HasDisjointParts g → CanCut g a → CanCut g b → EndWithByes (exchange g a b x) }
+    ensures settled { (g : Rules R X C) (a b : List R) (x : X)
+        → HasDisjointParts g → CanCut g a → CanCut g b
+        → (most : ℕ) → enough g a b x ≤ most
+        → turns g most b a (first_asks g a x) ≡ turns g (enough g a b x) b a (first_asks g a x) }
+{}
+
+/// Of a box with `a` and `b` rows of the sides the exchange has at most max(3, 3(a + b)) items; without a box it has
+/// none.
+#[tactic(auto, using(crate::proofs::Costs::counted_exchange))]
+pub fn bound<R, X, C>()
+    ensures counted { (g : Rules R X C) (a b : List R) (x : X)
+        → HasDisjointParts g → CanCut g a → CanCut g b
+        → counted (exchange g a b (Some x)) ≤ max 3 (3 * (length (rows_in g x a) + length (rows_in g x b))) }
+    ensures without_a_box { (g : Rules R X C) (a b : List R) → counted (exchange g a b None) ≡ 0 }
 {}
