@@ -42,7 +42,7 @@ module _ {R X C : Type 0} (g : Rules R X C) (disjoint : HasDisjointParts g) wher
       let same = turns_settled n k m l can' can (opened g l (ask ∷ asks)) (omega (arith, less)) (omega (arith, less)) in
       ap (λ ts. turn g l (ask ∷ asks) ∷ ts) same
 
-  enough_for_first : (a b : List R) (x : X) → sum_by (cost g b a) (first_asks g a x) < enough g a b x
+  pub enough_for_first : (a b : List R) (x : X) → sum_by (cost g b a) (first_asks g a x) < enough g a b x
   enough_for_first a b x = omega (arith, first_cost g a b x)
 
   pub exchange_ends : (a b : List R) (x : Option X) → CanCut g a → CanCut g b → EndWithByes (exchange g a b x)

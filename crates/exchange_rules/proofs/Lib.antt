@@ -1,5 +1,9 @@
 pub mod Sums
+pub mod Members
 pub mod Replies
 pub mod Potentials
 pub mod Costs
 pub mod Ends
+pub mod Sending
+pub mod Converging
+pub mod AnyPeer

@@ -33,7 +33,7 @@ cond_zero : (b : Bool) → ◌≡◌ {A = ℕ} (cond b 0 0) 0
 cond_zero true = refl
 cond_zero false = refl
 
-count_kept : {S : Type 0} (q : S → Bool) (s : S) (kept : List S) (b : Bool) → count_by q (cond b (s ∷ kept) kept) ≡ cond b (cond (q s) 1 0) 0 + count_by q kept
+pub count_kept : {S : Type 0} (q : S → Bool) (s : S) (kept : List S) (b : Bool) → count_by q (cond b (s ∷ kept) kept) ≡ cond b (cond (q s) 1 0) 0 + count_by q kept
 count_kept q s kept true = sum_by-cons (λ r. cond (q r) 1 0) s kept
 count_kept q s kept false = omega arith
 

@@ -47,32 +47,30 @@ ended_by false (Some (x ∷ xs)) = Some (x ∷ xs)
 unfoldable pub heard : {R X C : Type 0} → Rules R X C → List (Ask R X) → Turn R C → Option (List (Ask R X))
 heard g asks t = ended_by t.ends_with_bye (opened_by g asks t.items)
 
+-- a turn that answers some asks, and what follows to what it opens; nothing where what was read is refused
+abbrev pub answered : {R X C : Type 0} → Rules R X C → List R → Option (List (Ask R X)) → (List (Ask R X) → List (Turn R C)) → List (Turn R C)
+answered g l None follows = []
+answered g l (Some asks) follows = turn g l asks ∷ follows (opened g l asks)
+
 -- the turns that a side with rows l writes which has opened some asks, after reading some turns: to each that is not
 -- refused it writes one, until it has opened nothing
 unfoldable pub answers : {R X C : Type 0} → Rules R X C → List R → List (Ask R X) → List (Turn R C) → List (Turn R C)
 answers g l [] ts = []
 answers g l (ask ∷ asks) [] = []
-answers g l (ask ∷ asks) (t ∷ ts) = elim (heard g (ask ∷ asks) t) [ None ↦ [] | Some mine ↦ turn g l mine ∷ answers g l (opened g l mine) ts ]
+answers g l (ask ∷ asks) (t ∷ ts) = answered g l (heard g (ask ∷ asks) t) (λ opens. answers g l opens ts)
 
 -- the turns of a side that begins
 abbrev pub caller : {R X C : Type 0} → Rules R X C → List R → Option X → List (Turn R C) → List (Turn R C)
 caller g l None ts = bye ∷ []
 caller g l (Some x) ts = first_turn g l x ∷ answers g l (first_asks g l x) ts
 
--- the fingerprint in a first turn, if it is one
-abbrev pub first_print : {R C : Type 0} → List (Item R C) → Bool → Option (List ℕ)
-first_print (First print ∷ []) false = Some print
-first_print items ends_with_bye = None
+-- what a first turn opens: it is the fingerprint of the box and no farewell
+abbrev pub first_opens : {R X C : Type 0} → X → List (Item R C) → Bool → Option (List (Ask R X))
+first_opens x (First print ∷ []) false = Some (Print x print ∷ [])
+first_opens x items ends_with_bye = None
 
--- the turns of a side that answers: to asks that it has to answer, and then like any side
-abbrev pub answer_all : {R X C : Type 0} → Rules R X C → List R → List (Ask R X) → List (Turn R C) → List (Turn R C)
-answer_all g l mine ts = turn g l mine ∷ answers g l (opened g l mine) ts
-
-abbrev pub begun_by : {R X C : Type 0} → Rules R X C → List R → X → Option (List ℕ) → List (Turn R C) → List (Turn R C)
-begun_by g l x None ts = []
-begun_by g l x (Some print) ts = answer_all g l (Print x print ∷ []) ts
-
+-- the turns of a side that answers
 abbrev pub answerer : {R X C : Type 0} → Rules R X C → List R → Option X → List (Turn R C) → List (Turn R C)
 answerer g l x [] = []
 answerer g l None (t ∷ ts) = if is_bye t then bye ∷ [] else []
-answerer g l (Some x) (t ∷ ts) = begun_by g l x (first_print t.items t.ends_with_bye) ts
+answerer g l (Some x) (t ∷ ts) = answered g l (first_opens x t.items t.ends_with_bye) (λ opens. answers g l opens ts)

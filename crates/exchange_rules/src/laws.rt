@@ -1,12 +1,12 @@
 //! The laws of the exchange, each the contract of a function that does nothing, at whatever rows `R`, boxes `X` and
 //! cuts `C` there are.
 
-ghost use Rattle.std.specs.Prelude.{◌≡◌, ℕ, ◌+◌, ◌*◌, ◌≤◌, max, List, [], ◌∷◌, length, Option, Some, None};
+ghost use Rattle.std.specs.Prelude.{◌≡◌, ◌⊎◌, ℕ, ◌+◌, ◌*◌, ◌≤◌, max, List, [], ◌∷◌, length, Contains, Option, Some, None};
 ghost use Rattle.exchange_rules.specs.Rules.{Rules, rows_in};
 ghost use Rattle.exchange_rules.specs.Items.{Turn, counted, to_left, to_right, caller_turns, answerer_turns};
-ghost use Rattle.exchange_rules.specs.Exchange.{exchange, turns, enough, first_asks, EndWithByes};
+ghost use Rattle.exchange_rules.specs.Exchange.{exchange, turns, enough, first_asks, EndWithByes, Apart};
 ghost use Rattle.exchange_rules.specs.AnyPeer.{caller, answerer};
-ghost use Rattle.exchange_rules.specs.Premises.{HasDisjointParts, CanCut};
+ghost use Rattle.exchange_rules.specs.Premises.{IsDeciding, HasDisjointParts, CanCut};
 ghost use Rattle.exchange_rules.specs.Numbers.{of_numbers};
 ghost use Rattle.exchange_rules.specs.Small.{one_to_six, seven_for_five, up_to_ten, turns_of_caller, turns_of_answerer, small_exchange};
 
@@ -41,4 +41,21 @@ pub fn bound<R, X, C>()
         → HasDisjointParts g → CanCut g a → CanCut g b
         → counted (exchange g a b (Some x)) ≤ max 3 (3 * (length (rows_in g x a) + length (rows_in g x b))) }
     ensures without_a_box { (g : Rules R X C) (a b : List R) → counted (exchange g a b None) ≡ 0 }
+{}
+
+/// Each side is sent only rows that the other side holds in the box. Where the fingerprints of the exchange tell rows
+/// apart, it is sent each of them that it lacks.
+pub fn convergence<R, X, C>()
+    ensures left_only { (g : Rules R X C) (a b : List R) (x : X) (r : R)
+        → IsDeciding g → HasDisjointParts g
+        → Contains (to_left (exchange g a b (Some x))) r → Contains (rows_in g x b) r }
+    ensures right_only { (g : Rules R X C) (a b : List R) (x : X) (r : R)
+        → IsDeciding g → HasDisjointParts g
+        → Contains (to_right (exchange g a b (Some x))) r → Contains (rows_in g x a) r }
+    ensures left_gets { (g : Rules R X C) (a b : List R) (x : X) (r : R)
+        → IsDeciding g → HasDisjointParts g → CanCut g a → CanCut g b → Apart g a b x
+        → Contains (rows_in g x b) r → Contains (rows_in g x a) r ⊎ Contains (to_left (exchange g a b (Some x))) r }
+    ensures right_gets { (g : Rules R X C) (a b : List R) (x : X) (r : R)
+        → IsDeciding g → HasDisjointParts g → CanCut g a → CanCut g b → Apart g a b x
+        → Contains (rows_in g x a) r → Contains (rows_in g x b) r ⊎ Contains (to_right (exchange g a b (Some x))) r }
 {}
