@@ -1,6 +1,6 @@
 -- Where fingerprints tell rows apart, each side is sent what it lacks.
 use Rattle.std.proofs.Common.{◌≡◌, ◌⊎◌, ℕ, zero, suc, ◌+◌, ◌≤◌, ◌<◌, Bool, true, not, cond, List, [], ◌∷◌, ◌++◌, map, filter, sum_by, count_by, Contains, Option, Some, inl, inr, sym, refl, ap, ◌∙◌, arith}
-use Rattle.std.specs.List.{AllByRecursion, list_any}
+use Rattle.std.specs.List.{AllByRecursion, IsDistinct, list_any}
 use Rattle.std.proofs.lemmas.Bool.{cases_lt, false_from_ne_true, not_from_false}
 use Rattle.std.proofs.lemmas.List.Sums.{sum_by-cons, sum_by-append}
 use Rattle.std.proofs.lemmas.List.Elements.{filter_passes, All-contains}
@@ -11,6 +11,7 @@ use Rattle.exchange_rules.specs.Exchange.{turns, asked, enough, exchange, first_
 use Rattle.exchange_rules.specs.Premises.{IsDeciding, HasDisjointParts, IsCut, CanCut}
 use Rattle.exchange_rules.proofs.Sums.{sum_by-map, parts_cover, count_by-filter-le}
 use Rattle.exchange_rules.proofs.Members.{count_by-filter, contains_counted, counted_contains, any_counted, all-append, all_front, all_back, all-map}
+use Rattle.exchange_rules.proofs.Once.{held_rows, distinct_rows}
 use Rattle.exchange_rules.proofs.Replies.{reply_cases}
 use Rattle.exchange_rules.proofs.Potentials.{said, caller_turns-cons}
 use Rattle.exchange_rules.proofs.Costs.{cost, turn_costs}
@@ -130,13 +131,6 @@ module _ {R X C : Type 0} (g : Rules R X C) (decides : IsDeciding g) (disjoint :
 -- ---- by membership
 
 module _ {R X C : Type 0} (g : Rules R X C) (decides : IsDeciding g) (x : X) (r : R) where
-  -- a row that a side sends, counted by what it holds, is one of its rows
-  held : (l sent : List R) → count_by (g.same_row r) sent ≤ count_by (g.same_row r) (rows_in g x l) → Contains sent r → Contains (rows_in g x l) r
-  held l sent within c =
-      let q = g.same_row r in
-      let n = contains_counted q sent r ((decides.rows r r).1 refl) c in
-      counted_contains q r (λ s e. sym ((decides.rows r s).0 e)) (rows_in g x l) (omega (arith, n, within))
-
   -- a row that a side holds in the box is one of the other side, or is sent where the other side has none like it
   held_or_sent : (l m sent : List R) → (((y : X) → count_by (g.same_row r) (rows_in g y m) ≡ 0) → count_by (g.same_row r) (rows_in g x l) ≤ count_by (g.same_row r) sent)
       → Contains (rows_in g x l) r → Contains (rows_in g x m) r ⊎ Contains sent r
@@ -152,10 +146,16 @@ module _ {R X C : Type 0} (g : Rules R X C) (decides : IsDeciding g) (x : X) (r 
 
 module _ {R X C : Type 0} (g : Rules R X C) (decides : IsDeciding g) (disjoint : HasDisjointParts g) (a b : List R) (x : X) where
   pub left_only : (r : R) → Contains (to_left (exchange g a b (Some x))) r → Contains (rows_in g x b) r
-  left_only r c = held g decides x r b (to_left (exchange g a b (Some x))) (left_within g disjoint (g.same_row r) a b x) c
+  left_only = held_rows g decides b x (to_left (exchange g a b (Some x))) (λ q. left_within g disjoint q a b x)
 
   pub right_only : (r : R) → Contains (to_right (exchange g a b (Some x))) r → Contains (rows_in g x a) r
-  right_only r c = held g decides x r a (to_right (exchange g a b (Some x))) (right_within g disjoint (g.same_row r) a b x) c
+  right_only = held_rows g decides a x (to_right (exchange g a b (Some x))) (λ q. right_within g disjoint q a b x)
+
+  pub left_once : IsDistinct g.same_row b → IsDistinct g.same_row (to_left (exchange g a b (Some x)))
+  left_once = distinct_rows g decides b x (to_left (exchange g a b (Some x))) (λ q. left_within g disjoint q a b x)
+
+  pub right_once : IsDistinct g.same_row a → IsDistinct g.same_row (to_right (exchange g a b (Some x)))
+  right_once = distinct_rows g decides a x (to_right (exchange g a b (Some x))) (λ q. right_within g disjoint q a b x)
 
   module _ (can_a : CanCut g a) (can_b : CanCut g b) (apart : Apart g a b x) where
     pub left_gets : (r : R) → Contains (rows_in g x b) r → Contains (rows_in g x a) r ⊎ Contains (to_left (exchange g a b (Some x))) r

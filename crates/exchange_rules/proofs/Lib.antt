@@ -1,5 +1,6 @@
 pub mod Sums
 pub mod Members
+pub mod Once
 pub mod Replies
 pub mod Potentials
 pub mod Costs

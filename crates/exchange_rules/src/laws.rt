@@ -1,9 +1,10 @@
 //! The laws of the exchange, each the contract of a function that does nothing, at whatever rows `R`, boxes `X` and
 //! cuts `C` there are.
 
-ghost use Rattle.std.specs.Prelude.{◌≡◌, ◌⊎◌, ℕ, ◌+◌, ◌*◌, ◌≤◌, max, List, [], ◌∷◌, length, Contains, Option, Some, None};
+ghost use Rattle.std.specs.Prelude.{◌≡◌, ◌⊎◌, ℕ, ◌+◌, ◌*◌, ◌≤◌, max, Bool, count_by, List, [], ◌∷◌, length, Contains, Option, Some, None};
+ghost use Rattle.std.specs.List.{IsDistinct};
 ghost use Rattle.exchange_rules.specs.Rules.{Rules, rows_in};
-ghost use Rattle.exchange_rules.specs.Items.{Turn, counted, to_left, to_right, caller_turns, answerer_turns};
+ghost use Rattle.exchange_rules.specs.Items.{Turn, rows_of, counted, to_left, to_right, caller_turns, answerer_turns};
 ghost use Rattle.exchange_rules.specs.Exchange.{exchange, turns, enough, first_asks, EndWithByes, Apart};
 ghost use Rattle.exchange_rules.specs.AnyPeer.{caller, answerer};
 ghost use Rattle.exchange_rules.specs.Premises.{IsDeciding, HasDisjointParts, CanCut};
@@ -43,7 +44,7 @@ pub fn bound<R, X, C>()
     ensures without_a_box { (g : Rules R X C) (a b : List R) → counted (exchange g a b None) ≡ 0 }
 {}
 
-/// Each side is sent only rows that the other side holds in the box. Where the fingerprints of the exchange tell rows
+/// Each side is sent only rows that the other side holds in the box, each once. Where the fingerprints of the exchange tell rows
 /// apart, it is sent each of them that it lacks.
 pub fn convergence<R, X, C>()
     ensures left_only { (g : Rules R X C) (a b : List R) (x : X) (r : R)
@@ -52,10 +53,41 @@ pub fn convergence<R, X, C>()
     ensures right_only { (g : Rules R X C) (a b : List R) (x : X) (r : R)
         → IsDeciding g → HasDisjointParts g
         → Contains (to_right (exchange g a b (Some x))) r → Contains (rows_in g x a) r }
+    ensures left_once { (g : Rules R X C) (a b : List R) (x : X)
+        → IsDeciding g → HasDisjointParts g
+        → IsDistinct g.same_row b → IsDistinct g.same_row (to_left (exchange g a b (Some x))) }
+    ensures right_once { (g : Rules R X C) (a b : List R) (x : X)
+        → IsDeciding g → HasDisjointParts g
+        → IsDistinct g.same_row a → IsDistinct g.same_row (to_right (exchange g a b (Some x))) }
     ensures left_gets { (g : Rules R X C) (a b : List R) (x : X) (r : R)
         → IsDeciding g → HasDisjointParts g → CanCut g a → CanCut g b → Apart g a b x
         → Contains (rows_in g x b) r → Contains (rows_in g x a) r ⊎ Contains (to_left (exchange g a b (Some x))) r }
     ensures right_gets { (g : Rules R X C) (a b : List R) (x : X) (r : R)
         → IsDeciding g → HasDisjointParts g → CanCut g a → CanCut g b → Apart g a b x
         → Contains (rows_in g x a) r → Contains (rows_in g x b) r ⊎ Contains (to_right (exchange g a b (Some x))) r }
+{}
+
+/// Whatever a peer says, a side sends it only rows that it holds in the box, each once: of rows that pass a test no more
+/// than it holds there. Without a box it sends none. A side that stops earlier sends a front of these turns.
+pub fn each_row_once<R, X, C>()
+    ensures caller_held { (g : Rules R X C) (l : List R) (x : X) (read : List (Turn R C)) (r : R)
+        → IsDeciding g → HasDisjointParts g
+        → Contains (rows_of (caller g l (Some x) read)) r → Contains (rows_in g x l) r }
+    ensures answerer_held { (g : Rules R X C) (l : List R) (x : X) (read : List (Turn R C)) (r : R)
+        → IsDeciding g → HasDisjointParts g
+        → Contains (rows_of (answerer g l (Some x) read)) r → Contains (rows_in g x l) r }
+    ensures caller_once { (g : Rules R X C) (l : List R) (x : X) (read : List (Turn R C))
+        → IsDeciding g → HasDisjointParts g
+        → IsDistinct g.same_row l → IsDistinct g.same_row (rows_of (caller g l (Some x) read)) }
+    ensures answerer_once { (g : Rules R X C) (l : List R) (x : X) (read : List (Turn R C))
+        → IsDeciding g → HasDisjointParts g
+        → IsDistinct g.same_row l → IsDistinct g.same_row (rows_of (answerer g l (Some x) read)) }
+    ensures caller_counted { (g : Rules R X C) (l : List R) (x : X) (read : List (Turn R C)) (passes : R → Bool)
+        → HasDisjointParts g
+        → count_by passes (rows_of (caller g l (Some x) read)) ≤ count_by passes (rows_in g x l) }
+    ensures answerer_counted { (g : Rules R X C) (l : List R) (x : X) (read : List (Turn R C)) (passes : R → Bool)
+        → HasDisjointParts g
+        → count_by passes (rows_of (answerer g l (Some x) read)) ≤ count_by passes (rows_in g x l) }
+    ensures without_a_box { (g : Rules R X C) (l : List R) (read : List (Turn R C))
+        → (rows_of (caller g l None read) ≡ []) × (rows_of (answerer g l None read) ≡ []) }
 {}
