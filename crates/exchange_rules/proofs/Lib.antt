@@ -8,3 +8,4 @@ pub mod Ends
 pub mod Sending
 pub mod Converging
 pub mod AnyPeer
+pub mod Worlds

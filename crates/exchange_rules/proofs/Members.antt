@@ -65,3 +65,7 @@ all_back P (x ∷ xs) ys h = all_back P xs ys h.1
 pub all-map : {A B : Type 0} (P : B → Type 0) (f : A → B) → ((x : A) → P (f x)) → (xs : List A) → AllByRecursion P (map f xs)
 all-map P f h [] = tt
 all-map P f h (x ∷ xs) = (h x, all-map P f h xs)
+
+pub all_weaker : {A : Type 0} (P Q : A → Type 0) → ((x : A) → P x → Q x) → (xs : List A) → AllByRecursion P xs → AllByRecursion Q xs
+all_weaker P Q h [] k = tt
+all_weaker P Q h (x ∷ xs) k = (h x k.0, all_weaker P Q h xs k.1)
