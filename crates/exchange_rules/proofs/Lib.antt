@@ -9,3 +9,4 @@ pub mod Sending
 pub mod Converging
 pub mod AnyPeer
 pub mod Worlds
+pub mod Meeting

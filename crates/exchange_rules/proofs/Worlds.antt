@@ -212,3 +212,11 @@ module _ {R X C : Type 0} (g : Rules R X C) where
       answerer_alike (t ∷ ts) =
           answered_alike (first_opens x t.items t.ends_with_bye) (λ opens. answers g l opens ts) (λ opens. answers g l' opens ts) (first_inside t.items t.ends_with_bye)
               (λ opens i. answers_alike opens ts i)
+
+answered_bye : {R X C : Type 0} (g : Rules R X C) (l m : List R) (ts : List (Turn R C)) → answerer g l None ts ≡ answerer g m None ts
+answered_bye g l m [] = refl
+answered_bye g l m (t ∷ ts) = refl
+
+pub alike_without_a_box : {R X C : Type 0} (g : Rules R X C) (l m : List R) (ts : List (Turn R C))
+    → (caller g l None ts ≡ caller g m None ts) × (answerer g l None ts ≡ answerer g m None ts)
+alike_without_a_box g l m ts = (refl, answered_bye g l m ts)

@@ -7,7 +7,7 @@ ghost use Rattle.exchange_rules.specs.Rules.{Rules, rows_in};
 ghost use Rattle.exchange_rules.specs.Items.{Turn, rows_of, counted, to_left, to_right, caller_turns, answerer_turns};
 ghost use Rattle.exchange_rules.specs.Exchange.{exchange, turns, enough, first_asks, EndWithByes, Apart};
 ghost use Rattle.exchange_rules.specs.AnyPeer.{caller, answerer};
-ghost use Rattle.exchange_rules.specs.Premises.{IsDeciding, HasDisjointParts, CanCut};
+ghost use Rattle.exchange_rules.specs.Premises.{IsDeciding, HasDisjointParts, CanCut, CanSend};
 ghost use Rattle.exchange_rules.specs.Numbers.{of_numbers};
 ghost use Rattle.exchange_rules.specs.Small.{one_to_six, seven_for_five, up_to_ten, turns_of_caller, turns_of_answerer, small_exchange};
 
@@ -90,4 +90,33 @@ pub fn each_row_once<R, X, C>()
         → count_by passes (rows_of (answerer g l (Some x) read)) ≤ count_by passes (rows_in g x l) }
     ensures without_a_box { (g : Rules R X C) (l : List R) (read : List (Turn R C))
         → (rows_of (caller g l None read) ≡ []) × (rows_of (answerer g l None read) ≡ []) }
+{}
+
+/// What a side writes is a function of its rows in the box and of what it reads: rows elsewhere change nothing.
+pub fn two_worlds<R, X, C>()
+    ensures caller { (g : Rules R X C) (l m : List R) (x : X) (read : List (Turn R C))
+        → HasDisjointParts g → rows_in g x l ≡ rows_in g x m
+        → caller g l (Some x) read ≡ caller g m (Some x) read }
+    ensures answerer { (g : Rules R X C) (l m : List R) (x : X) (read : List (Turn R C))
+        → HasDisjointParts g → rows_in g x l ≡ rows_in g x m
+        → answerer g l (Some x) read ≡ answerer g m (Some x) read }
+    ensures without_a_box { (g : Rules R X C) (l m : List R) (read : List (Turn R C))
+        → (caller g l None read ≡ caller g m None read) × (answerer g l None read ≡ answerer g m None read) }
+{}
+
+/// Two sides that each read what the other writes write the exchange, and nothing else fits: so to the turns of the one
+/// in it the other answers with its own.
+pub fn both_write_the_exchange<R, X, C>()
+    ensures caller { (g : Rules R X C) (a b : List R) (x : Option X) (left right : List (Turn R C))
+        → HasDisjointParts g → CanCut g a → CanCut g b → CanSend g a → CanSend g b
+        → left ≡ caller g a x right → right ≡ answerer g b x left → left ≡ caller_turns (exchange g a b x) }
+    ensures answerer { (g : Rules R X C) (a b : List R) (x : Option X) (left right : List (Turn R C))
+        → HasDisjointParts g → CanCut g a → CanCut g b → CanSend g a → CanSend g b
+        → left ≡ caller g a x right → right ≡ answerer g b x left → right ≡ answerer_turns (exchange g a b x) }
+    ensures caller_goes_on { (g : Rules R X C) (a b : List R) (x : Option X)
+        → HasDisjointParts g → CanCut g a → CanCut g b → CanSend g a → CanSend g b
+        → caller g a x (answerer_turns (exchange g a b x)) ≡ caller_turns (exchange g a b x) }
+    ensures answerer_goes_on { (g : Rules R X C) (a b : List R) (x : Option X)
+        → HasDisjointParts g → CanCut g a → CanCut g b → CanSend g a → CanSend g b
+        → answerer g b x (caller_turns (exchange g a b x)) ≡ answerer_turns (exchange g a b x) }
 {}
