@@ -1,11 +1,11 @@
 -- Whatever a peer says, a side sends no more than it holds in the box.
-use Rattle.std.proofs.Common.{◌≡◌, ℕ, ◌+◌, ◌≤◌, Bool, true, false, cond, List, [], ◌∷◌, ◌++◌, map, sum_by, count_by, Contains, Option, None, Some, refl, arith}
+use Rattle.std.proofs.Common.{◌≡◌, ℕ, ◌+◌, ◌≤◌, Bool, true, false, cond, List, [], ◌∷◌, sum_by, count_by, Contains, Option, None, Some, refl, arith}
 use Rattle.std.specs.List.{IsDistinct}
 use Rattle.std.proofs.lemmas.List.Sums.{sum_by-cons, sum_by-append}
 use Rattle.exchange_rules.specs.Rules.{Rules, rows_in}
 use Rattle.exchange_rules.specs.Items.{Ask, Print, Sent, Item, First, Agree, Split, Entries, Rest, Turn, bye, is_bye, rows_of}
 use Rattle.exchange_rules.specs.Answer.{opened, turn}
-use Rattle.exchange_rules.specs.Exchange.{first_turn, first_asks}
+use Rattle.exchange_rules.specs.Exchange.{first_asks}
 use Rattle.exchange_rules.specs.Premises.{IsDeciding, HasDisjointParts}
 use Rattle.exchange_rules.specs.AnyPeer.{fits_parts, part_asks, opens_at, joined, opened_by, ended_by, heard, answered, answers, caller, first_opens, answerer}
 use Rattle.exchange_rules.proofs.Sums.{parts_within}
@@ -50,8 +50,12 @@ module _ {R X C : Type 0} (g : Rules R X C) (disjoint : HasDisjointParts g) (q :
   item_weight (Print x print) (First other) = omega arith
   item_weight (Print x print) Agree = omega arith
   item_weight (Print x print) (Split cut prints) =
-      omega (arith, weight_if (own_weight g q l) (fits_parts (g.parts x cut) prints) (part_asks (g.parts x cut) prints),
-          parts_weight (g.parts x cut) prints, parts_within g.has x (g.parts x cut) (disjoint x cut) q l)
+      omega (
+        arith,
+        weight_if (own_weight g q l) (fits_parts (g.parts x cut) prints) (part_asks (g.parts x cut) prints),
+        parts_weight (g.parts x cut) prints,
+        parts_within g.has x (g.parts x cut) (disjoint x cut) q l,
+      )
   item_weight (Print x print) (Entries rows) = omega (arith, weight_if (own_weight g q l) (g.is_legal x rows) (Sent x rows ∷ []))
   item_weight (Print x print) (Rest rows) = omega arith
   item_weight (Sent x sent) (First other) = omega arith
@@ -65,8 +69,13 @@ module _ {R X C : Type 0} (g : Rules R X C) (disjoint : HasDisjointParts g) (q :
   items_weight [] (item ∷ items) = omega arith
   items_weight (ask ∷ asks) [] = omega arith
   items_weight (ask ∷ asks) (item ∷ items) =
-      omega (arith, weight-joined (own_weight g q l) (opens_at g ask item) (opened_by g asks items), item_weight ask item, items_weight asks items,
-          sum_by-cons (other_weight g q l) ask asks)
+      omega (
+        arith,
+        weight-joined (own_weight g q l) (opens_at g ask item) (opened_by g asks items),
+        item_weight ask item,
+        items_weight asks items,
+        sum_by-cons (other_weight g q l) ask asks,
+      )
 
   heard_weight : (asks : List (Ask R X)) (t : Turn R C) → some_weight (own_weight g q l) (heard g asks t) ≤ sum_by (other_weight g q l) asks
   unfolding heard
@@ -77,8 +86,12 @@ module _ {R X C : Type 0} (g : Rules R X C) (disjoint : HasDisjointParts g) (q :
       → count_by q (rows_of (answered g l asks follows)) ≤ some_weight (own_weight g q l) asks
   answered_weight None follows later = omega arith
   answered_weight (Some asks) follows later =
-      omega (arith, count-answered g q (turn g l asks) (follows (opened g l asks)), later (opened g l asks),
-          turn_within g l (told q) (own_weight g q l) (other_weight g q l) (own_within g disjoint q l) asks)
+      omega (
+        arith,
+        count-answered g q (turn g l asks) (follows (opened g l asks)),
+        later (opened g l asks),
+        turn_within g l (told q) (own_weight g q l) (other_weight g q l) (own_within g disjoint q l) asks,
+      )
 
   answers_weight : (asks : List (Ask R X)) (ts : List (Turn R C)) → count_by q (rows_of (answers g l asks ts)) ≤ sum_by (other_weight g q l) asks
   unfolding answers
@@ -104,8 +117,11 @@ module _ {R X C : Type 0} (g : Rules R X C) (disjoint : HasDisjointParts g) (q :
   pub answerer_within : (x : X) (ts : List (Turn R C)) → count_by q (rows_of (answerer g l (Some x) ts)) ≤ count_by q (rows_in g x l)
   answerer_within x [] = omega arith
   answerer_within x (t ∷ ts) =
-      omega (arith, answered_weight (first_opens x t.items t.ends_with_bye) (λ opens. answers g l opens ts) (λ opens. answers_weight opens ts),
-          first_weight x t.items t.ends_with_bye)
+      omega (
+        arith,
+        answered_weight (first_opens x t.items t.ends_with_bye) (λ opens. answers g l opens ts) (λ opens. answers_weight opens ts),
+        first_weight x t.items t.ends_with_bye,
+      )
 
 bye_or_nothing : (R C : Type 0) (b : Bool) → rows_of {R = R} {C = C} (cond b (bye ∷ []) []) ≡ []
 bye_or_nothing R C true = refl

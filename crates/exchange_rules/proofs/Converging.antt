@@ -1,14 +1,14 @@
 -- Where fingerprints tell rows apart, each side is sent what it lacks.
-use Rattle.std.proofs.Common.{◌≡◌, ◌⊎◌, ℕ, zero, suc, ◌+◌, ◌≤◌, ◌<◌, Bool, true, not, cond, List, [], ◌∷◌, ◌++◌, map, filter, sum_by, count_by, Contains, Option, Some, inl, inr, sym, refl, ap, ◌∙◌, arith}
+use Rattle.std.proofs.Common.{◌≡◌, ◌⊎◌, ℕ, zero, suc, ◌+◌, ◌≤◌, ◌<◌, Bool, true, not, List, [], ◌∷◌, sum_by, count_by, Contains, Some, inl, inr, sym, refl, ap, ◌∙◌, arith}
 use Rattle.std.specs.List.{AllByRecursion, IsDistinct, list_any}
 use Rattle.std.proofs.lemmas.Bool.{cases_lt, false_from_ne_true, not_from_false}
 use Rattle.std.proofs.lemmas.List.Sums.{sum_by-cons, sum_by-append}
 use Rattle.std.proofs.lemmas.List.Elements.{filter_passes, All-contains}
 use Rattle.exchange_rules.specs.Rules.{Rules, rows_in, print_in}
-use Rattle.exchange_rules.specs.Items.{Ask, Print, Sent, Item, Turn, rows_of_item, caller_turns, answerer_turns, to_left, to_right}
+use Rattle.exchange_rules.specs.Items.{Ask, Print, Sent, Item, caller_turns, answerer_turns, to_left, to_right}
 use Rattle.exchange_rules.specs.Answer.{print_ask, lacking, reply, opened, turn}
 use Rattle.exchange_rules.specs.Exchange.{turns, asked, enough, exchange, first_turn, first_asks, IsApart, Apart}
-use Rattle.exchange_rules.specs.Premises.{IsDeciding, HasDisjointParts, IsCut, CanCut}
+use Rattle.exchange_rules.specs.Premises.{IsDeciding, HasDisjointParts, CanCut}
 use Rattle.exchange_rules.proofs.Sums.{sum_by-map, parts_cover, count_by-filter-le}
 use Rattle.exchange_rules.proofs.Members.{count_by-filter, contains_counted, counted_contains, any_counted, all-append, all_front, all_back, all-map}
 use Rattle.exchange_rules.proofs.Once.{held_rows, distinct_rows}
@@ -28,7 +28,7 @@ module _ {R X C : Type 0} (g : Rules R X C) where
   unfolding reply
   reply_carries l (Print x print) =
       reply_cases g l x print (λ r. AllByRecursion (Carries l) r.opens)
-          (λ same. tt) (λ few. (refl, tt)) (λ cut is. all-map (Carries l) (print_ask g l) (λ y. refl) (g.parts x cut))
+      (λ same. tt) (λ few. (refl, tt)) (λ cut is. all-map (Carries l) (print_ask g l) (λ y. refl) (g.parts x cut))
   reply_carries l (Sent x sent) = tt
 
   opened_carry : (l : List R) (asks : List (Ask R X)) → AllByRecursion (Carries l) (opened g l asks)
@@ -62,7 +62,7 @@ module _ {R X C : Type 0} (g : Rules R X C) where
         let first = turn g l (ask ∷ asks) in
         let here = turn_covers l m D v w w' own (ask ∷ asks) c (all_front D (ask ∷ asks) (asked g n m l opens) d) in
         let later = turns_cover n m l can' can D v' v w' w other own opens (opened_carry l (ask ∷ asks)) (all_back D (ask ∷ asks) (asked g n m l opens) d)
-            (omega (arith, turn_costs g disjoint l m can ask asks)) in
+        (omega (arith, turn_costs g disjoint l m can ask asks)) in
         rw (caller_turns-cons first rest) (omega (arith, sum_by-cons (λ t. sum_by v t.items) first (answerer_turns rest), here, later))
 
 -- ---- rows that the other side lacks
@@ -80,27 +80,30 @@ module _ {R X C : Type 0} (g : Rules R X C) (decides : IsDeciding g) (q : R → 
   lacking_counted : (x : X) (sent : List R) → sent ≡ rows_in g x m → count_by q (lacking g l x sent) ≡ count_by q (rows_in g x l)
   lacking_counted x sent e =
       count_by-filter q (λ r. not (list_any (g.same_row r) sent))
-          (λ r passes. not_from_false (list_any (g.same_row r) sent) (false_from_ne_true (list_any (g.same_row r) sent)
-              (λ found. absurd (omega (arith, ap (count_by q) e ∙ none x,
-                  any_counted (g.same_row r) q (λ s same. ap q (sym ((decides.rows r s).0 same)) ∙ passes) sent found)))))
-          (rows_in g x l)
+      (λ r passes. not_from_false (list_any (g.same_row r) sent) (false_from_ne_true (list_any (g.same_row r) sent)
+      (λ found. absurd (omega (
+        arith,
+        ap (count_by q) e ∙ none x,
+        any_counted (g.same_row r) q (λ s same. ap q (sym ((decides.rows r s).0 same)) ∙ passes) sent found,
+      )))))
+      (rows_in g x l)
 
   own_covers : CanCut g l → Covers g l m (IsApart g l m) (told q) (own_weight g q l) (other_weight g q l)
   unfolding reply
   own_covers can (Print x print) carries apart =
       reply_cases g l x print (λ r. count_by q (rows_in g x l) ≤ told q r.item + sum_by (other_weight g q l) r.opens)
-          (λ same. omega (arith, none_where_same x apart (sym ((decides.prints print (print_in g x l)).0 same) ∙ carries)))
-          (λ few. omega arith)
-          (λ cut is. omega (arith, sum_by-map (other_weight g q l) (print_ask g l) (g.parts x cut), parts_cover g.has x (g.parts x cut) (can x cut is).covers q l))
+      (λ same. omega (arith, none_where_same x apart (sym ((decides.prints print (print_in g x l)).0 same) ∙ carries)))
+      (λ few. omega arith)
+      (λ cut is. omega (arith, sum_by-map (other_weight g q l) (print_ask g l) (g.parts x cut), parts_cover g.has x (g.parts x cut) (can x cut is).covers q l))
   own_covers can (Sent x sent) carries apart = omega (arith, lacking_counted x sent carries)
 
   other_covers : CanCut g m → Covers g m l (IsApart g l m) nothing (other_weight g q l) (own_weight g q l)
   unfolding reply
   other_covers can (Print x print) carries apart =
       reply_cases g m x print (λ r. count_by q (rows_in g x l) ≤ 0 + sum_by (own_weight g q l) r.opens)
-          (λ same. omega (arith, none_where_same x apart (sym carries ∙ (decides.prints print (print_in g x m)).0 same)))
-          (λ few. omega arith)
-          (λ cut is. omega (arith, sum_by-map (own_weight g q l) (print_ask g m) (g.parts x cut), parts_cover g.has x (g.parts x cut) (can x cut is).covers q l))
+      (λ same. omega (arith, none_where_same x apart (sym carries ∙ (decides.prints print (print_in g x m)).0 same)))
+      (λ few. omega arith)
+      (λ cut is. omega (arith, sum_by-map (own_weight g q l) (print_ask g m) (g.parts x cut), parts_cover g.has x (g.parts x cut) (can x cut is).covers q l))
   other_covers can (Sent x sent) carries apart = omega arith
 
 -- ---- in the exchange
@@ -111,22 +114,30 @@ module _ {R X C : Type 0} (g : Rules R X C) (decides : IsDeciding g) (disjoint :
       let n = enough g a b x in
       let asks = first_asks g a x in
       let D = IsApart g a b in
-      omega (arith, count_by-rows_of q (caller_turns (turns g n b a asks)), said-nothing (answerer_turns (turns g n b a asks)),
-          turns_cover g disjoint n b a can_b can_a D (told q) nothing (own_weight g q b) (other_weight g q b)
-              (λ ask c d. own_covers g decides q b a none can_b ask c (apart_turned g a b ask d))
-              (λ ask c d. other_covers g decides q b a none can_a ask c (apart_turned g a b ask d))
-              asks (refl, tt) apart (enough_for_first g disjoint a b x))
+      omega (
+        arith,
+        count_by-rows_of q (caller_turns (turns g n b a asks)),
+        said-nothing (answerer_turns (turns g n b a asks)),
+        turns_cover g disjoint n b a can_b can_a D (told q) nothing (own_weight g q b) (other_weight g q b)
+            (λ ask c d. own_covers g decides q b a none can_b ask c (apart_turned g a b ask d))
+            (λ ask c d. other_covers g decides q b a none can_a ask c (apart_turned g a b ask d))
+            asks (refl, tt) apart (enough_for_first g disjoint a b x),
+      )
 
   right_covers : (q : R → Bool) → ((y : X) → count_by q (rows_in g y b) ≡ 0) → count_by q (rows_in g x a) ≤ count_by q (to_right (exchange g a b (Some x)))
   right_covers q none =
       let n = enough g a b x in
       let asks = first_asks g a x in
       let ts = turns g n b a asks in
-      rw (caller_turns-cons (first_turn g a x) ts) (omega (arith, count_by-rows_of q (answerer_turns ts), said-nothing (caller_turns ts),
-          turns_cover g disjoint n b a can_b can_a (IsApart g a b) nothing (told q) (other_weight g q a) (own_weight g q a)
-              (other_covers g decides q a b none can_b)
-              (own_covers g decides q a b none can_a)
-              asks (refl, tt) apart (enough_for_first g disjoint a b x)))
+      rw (caller_turns-cons (first_turn g a x) ts) (omega (
+        arith,
+        count_by-rows_of q (answerer_turns ts),
+        said-nothing (caller_turns ts),
+        turns_cover g disjoint n b a can_b can_a (IsApart g a b) nothing (told q) (other_weight g q a) (own_weight g q a)
+            (other_covers g decides q a b none can_b)
+            (own_covers g decides q a b none can_a)
+            asks (refl, tt) apart (enough_for_first g disjoint a b x),
+      ))
 
 -- ---- by membership
 

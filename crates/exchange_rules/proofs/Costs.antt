@@ -1,13 +1,13 @@
 -- What an ask costs: how many items may be said in answer to it, by both sides together.
-use Rattle.std.proofs.Common.{◌≡◌, ℕ, ◌+◌, ◌*◌, ◌-◌, ◌≤◌, ◌<◌, max, List, [], ◌∷◌, map, length, sum_by, Option, None, Some, refl, arith}
+use Rattle.std.proofs.Common.{◌≡◌, ℕ, ◌+◌, ◌*◌, ◌-◌, ◌≤◌, ◌<◌, max, List, [], ◌∷◌, length, sum_by, Some, refl, arith}
 use Rattle.std.specs.List.{AllByRecursion}
 use Rattle.std.proofs.lemmas.List.Sums.{sum_by-cons}
 use Rattle.exchange_rules.specs.Rules.{Rules, rows_in}
-use Rattle.exchange_rules.specs.Items.{Ask, Print, Sent, Item, Turn, counted, caller_turns, answerer_turns}
-use Rattle.exchange_rules.specs.Answer.{Reply, print_ask, reply, opened, turn}
+use Rattle.exchange_rules.specs.Items.{Ask, Print, Sent, Turn, counted, caller_turns, answerer_turns}
+use Rattle.exchange_rules.specs.Answer.{print_ask, reply, opened, turn}
 use Rattle.exchange_rules.specs.Exchange.{turns, enough, exchange, first_turn, first_asks}
 use Rattle.exchange_rules.specs.Premises.{HasDisjointParts, IsCut, CanCut}
-use Rattle.exchange_rules.proofs.Sums.{sum_by-map, sum_by-one, sum_by_same, length_parts_within}
+use Rattle.exchange_rules.proofs.Sums.{sum_by-map, sum_by-one, length_parts_within}
 use Rattle.exchange_rules.proofs.Replies.{reply_cases}
 use Rattle.exchange_rules.proofs.Potentials.{said, caller_turns-cons, IsWithin, turn_within, turns_within}
 
@@ -34,16 +34,16 @@ module _ {R X C : Type 0} (g : Rules R X C) where
   unfolding box_cost
   print_cost disjoint l m can x print =
       reply_cases g l x print (λ r. 1 + sum_by (cost m l) r.opens ≤ cost l m (Print x print))
-          (λ same. omega arith)
-          (λ few. omega arith)
-          (λ cut is.
-              let c : IsCut g l x cut = can x cut is in
-              let parts = g.parts x cut in
-              let opens = sum_by-map (cost m l) (print_ask g l) parts in
-              let sum = parts_cost (λ y. length (rows_in g y l)) (λ y. length (rows_in g y m)) parts c.own in
-              let of_l = length_parts_within g.has x parts (disjoint x cut) l in
-              let of_m = length_parts_within g.has x parts (disjoint x cut) m in
-              omega (arith, opens, sum, of_l, of_m, c.several))
+      (λ same. omega arith)
+      (λ few. omega arith)
+      (λ cut is.
+      let c : IsCut g l x cut = can x cut is in
+      let parts = g.parts x cut in
+      let opens = sum_by-map (cost m l) (print_ask g l) parts in
+      let sum = parts_cost (λ y. length (rows_in g y l)) (λ y. length (rows_in g y m)) parts c.own in
+      let of_l = length_parts_within g.has x parts (disjoint x cut) l in
+      let of_m = length_parts_within g.has x parts (disjoint x cut) m in
+      omega (arith, opens, sum, of_l, of_m, c.several))
 
   pub costs_within : HasDisjointParts g → (l m : List R) → CanCut g l → IsWithin g l (λ item. 1) (cost l m) (cost m l)
   unfolding reply
@@ -54,8 +54,11 @@ module _ {R X C : Type 0} (g : Rules R X C) where
   pub turn_costs : HasDisjointParts g → (l m : List R) → CanCut g l → (ask : Ask R X) (asks : List (Ask R X))
       → sum_by (cost m l) (opened g l (ask ∷ asks)) < sum_by (cost l m) (ask ∷ asks)
   turn_costs disjoint l m can ask asks =
-      omega (arith, turn_within g l (λ item. 1) (cost l m) (cost m l) (costs_within disjoint l m can) (ask ∷ asks),
-          sum_by-one (turn g l (ask ∷ asks)).items)
+      omega (
+        arith,
+        turn_within g l (λ item. 1) (cost l m) (cost m l) (costs_within disjoint l m can) (ask ∷ asks),
+        sum_by-one (turn g l (ask ∷ asks)).items,
+      )
 
   pub first_cost : (a b : List R) (x : X) → 1 + sum_by (cost b a) (first_asks g a x) ≤ max 3 (3 * (length (rows_in g x a) + length (rows_in g x b)))
   unfolding box_cost
@@ -66,8 +69,13 @@ module _ {R X C : Type 0} (g : Rules R X C) where
 counted-sides : {R C : Type 0} (ts : List (Turn R C)) → counted ts ≡ said (λ item. 1) (caller_turns ts) + said (λ item. 1) (answerer_turns ts)
 counted-sides [] = refl
 counted-sides (t ∷ ts) =
-    rw (caller_turns-cons t ts) (omega (arith, sum_by-cons (λ u. length u.items) t ts, sum_by-cons (λ u. sum_by (λ item. 1) u.items) t (answerer_turns ts),
-        sum_by-one t.items, counted-sides ts))
+    rw (caller_turns-cons t ts) (omega (
+      arith,
+      sum_by-cons (λ u. length u.items) t ts,
+      sum_by-cons (λ u. sum_by (λ item. 1) u.items) t (answerer_turns ts),
+      sum_by-one t.items,
+      counted-sides ts,
+    ))
 
 pub counted_exchange : {R X C : Type 0} (g : Rules R X C) (a b : List R) (x : X) → HasDisjointParts g → CanCut g a → CanCut g b
     → counted (exchange g a b (Some x)) ≤ max 3 (3 * (length (rows_in g x a) + length (rows_in g x b)))

@@ -1,6 +1,6 @@
 -- The exchange ends, and with more turns allowed it is the same.
-use Rattle.std.proofs.Common.{◌≡◌, ℕ, zero, suc, ◌+◌, ◌*◌, ◌≤◌, ◌<◌, Bool, true, false, List, [], ◌∷◌, length, sum_by, Option, None, Some, refl, ap, arith}
-use Rattle.exchange_rules.specs.Rules.{Rules, rows_in}
+use Rattle.std.proofs.Common.{◌≡◌, ℕ, zero, suc, ◌≤◌, ◌<◌, false, List, [], ◌∷◌, sum_by, Option, None, Some, refl, ap, arith}
+use Rattle.exchange_rules.specs.Rules.{Rules}
 use Rattle.exchange_rules.specs.Items.{Ask, Turn, bye, is_empty}
 use Rattle.exchange_rules.specs.Answer.{opened, turn}
 use Rattle.exchange_rules.specs.Exchange.{turns, enough, exchange, first_turn, first_asks, EndWithByes}
@@ -29,7 +29,7 @@ module _ {R X C : Type 0} (g : Rules R X C) (disjoint : HasDisjointParts g) wher
   turns_end (suc n) l m can can' (ask ∷ asks) h =
       let opens = opened g l (ask ∷ asks) in
       closing (turn g l (ask ∷ asks)) opens (turns g n m l opens) refl
-          (turns_end n m l can' can opens (omega (arith, turn_costs g disjoint l m can ask asks)))
+      (turns_end n m l can' can opens (omega (arith, turn_costs g disjoint l m can ask asks)))
 
   pub turns_settled : (n k : ℕ) (l m : List R) → CanCut g l → CanCut g m → (asks : List (Ask R X)) → sum_by (cost g l m) asks < n → sum_by (cost g l m) asks < k
       → turns g n l m asks ≡ turns g k l m asks
@@ -49,7 +49,7 @@ module _ {R X C : Type 0} (g : Rules R X C) (disjoint : HasDisjointParts g) wher
   exchange_ends a b None can_a can_b = (refl, refl)
   exchange_ends a b (Some x) can_a can_b =
       more_before_byes (first_turn g a x) (turns g (enough g a b x) b a (first_asks g a x)) refl
-          (turns_end (enough g a b x) b a can_b can_a (first_asks g a x) (enough_for_first a b x))
+      (turns_end (enough g a b x) b a can_b can_a (first_asks g a x) (enough_for_first a b x))
 
   pub exchange_settled : (a b : List R) (x : X) → CanCut g a → CanCut g b → (most : ℕ) → enough g a b x ≤ most
       → turns g most b a (first_asks g a x) ≡ turns g (enough g a b x) b a (first_asks g a x)

@@ -1,14 +1,14 @@
 -- Two sides that each read what the other writes: what they write is the exchange.
-use Rattle.std.proofs.Common.{◌≡◌, ℕ, zero, suc, ◌+◌, ◌≤◌, ◌<◌, Bool, true, false, not, ◌&&◌, cond, List, [], ◌∷◌, ◌++◌, map, length, filter, sum_by, zip, nat_eq, Option, None, Some, sym, refl, ap, ap₂, ◌∙◌, subst, arith}
+use Rattle.std.proofs.Common.{◌≡◌, ℕ, zero, suc, ◌≤◌, ◌<◌, Bool, true, not, cond, List, [], ◌∷◌, map, length, filter, sum_by, nat_eq, Option, None, Some, sym, refl, ap, ap₂, ◌∙◌, arith}
 use Rattle.std.specs.List.{list_any}
 use Rattle.std.proofs.lemmas.Bool.{eq-eqb, and_from}
 use Rattle.std.proofs.lemmas.List.{length-map}
 use Rattle.exchange_rules.specs.Rules.{Rules, rows_in, print_in}
-use Rattle.exchange_rules.specs.Items.{Ask, Print, Sent, Item, Split, Turn, bye, is_empty, caller_turns, answerer_turns}
+use Rattle.exchange_rules.specs.Items.{Ask, Print, Sent, Split, Turn, is_empty, caller_turns, answerer_turns}
 use Rattle.exchange_rules.specs.Answer.{print_ask, lacking, reply, opened, turn}
 use Rattle.exchange_rules.specs.Exchange.{turns, enough, exchange, first_turn, first_asks}
 use Rattle.exchange_rules.specs.AnyPeer.{fits_parts, part_asks, opens_at, joined, opened_by, ended_by, heard, answered, answers, caller, answerer}
-use Rattle.exchange_rules.specs.Premises.{HasDisjointParts, IsCut, CanCut, CanSend}
+use Rattle.exchange_rules.specs.Premises.{HasDisjointParts, CanCut, CanSend}
 use Rattle.exchange_rules.proofs.Replies.{reply_cases}
 use Rattle.exchange_rules.proofs.Potentials.{caller_turns-cons}
 use Rattle.exchange_rules.proofs.Costs.{cost, turn_costs}
@@ -50,16 +50,16 @@ module _ {R X C : Type 0} (g : Rules R X C) (l : List R) (can_cut : CanCut g l) 
       let parts = g.parts x cut in
       let prints = map (λ y. print_in g y l) parts in
       let fits = and_from (not (is_empty parts)) (nat_eq (length parts) (length prints)) (not_empty parts (can_cut x cut is).several)
-          (eq-eqb (length parts) (length prints) (sym (length-map parts (λ y. print_in g y l)))) in
+      (eq-eqb (length parts) (length prints) (sym (length-map parts (λ y. print_in g y l)))) in
       some_if (fits_parts parts prints) (part_asks parts prints) fits ∙ ap Some (part_asks-map R (λ y. print_in g y l) parts)
 
   read_answer : (ask : Ask R X) → opens_at g ask (reply g l ask).item ≡ Some (reply g l ask).opens
   unfolding reply opens_at
   read_answer (Print x print) =
       reply_cases g l x print (λ r. opens_at g (Print x print) r.item ≡ Some r.opens)
-          (λ same. refl)
-          (λ few. some_if (g.is_legal x (rows_in g x l)) (Sent x (rows_in g x l) ∷ []) (all_legal x))
-          (λ cut is. read_split x print cut is)
+      (λ same. refl)
+      (λ few. some_if (g.is_legal x (rows_in g x l)) (Sent x (rows_in g x l) ∷ []) (all_legal x))
+      (λ cut is. read_split x print cut is)
   read_answer (Sent x sent) =
       some_if (g.is_legal x (lacking g l x sent)) [] (can_send x (λ r. not (list_any (g.same_row r) sent)))
 
@@ -100,7 +100,7 @@ module _ {R X C : Type 0} (g : Rules R X C) (disjoint : HasDisjointParts g) wher
   -- each side of the exchange writes its turns to those of the other
   pub each_side : (n : ℕ) (l m : List R) → CanCut g l → CanCut g m → CanSend g l → CanSend g m → (mine : List (Ask R X)) → sum_by (cost g l m) mine < n
       → (caller_turns (turns g n l m mine) ≡ turn g l mine ∷ answers g l (opened g l mine) (answerer_turns (turns g n l m mine)))
-        × (answerer_turns (turns g n l m mine) ≡ answers g m mine (caller_turns (turns g n l m mine)))
+      × (answerer_turns (turns g n l m mine) ≡ answers g m mine (caller_turns (turns g n l m mine)))
   unfolding turns answers
   each_side zero l m can_cut can_cut' can_send can_send' mine h = absurd (omega arith)
   each_side (suc n) l m can_cut can_cut' can_send can_send' [] h = (refl, refl)
@@ -109,9 +109,10 @@ module _ {R X C : Type 0} (g : Rules R X C) (disjoint : HasDisjointParts g) wher
       let opens = opened g l mine in
       let first = turn g l mine in
       let rest = turns g n m l opens in
-      let both = each_side n m l can_cut' can_cut can_send' can_send opens (omega (arith, turn_costs g disjoint l m can_cut ask asks)) in
-      (caller_turns-cons first rest ∙ ap (λ ts. first ∷ ts) both.1,
-       both.0 ∙ sym (answers-turn g l can_cut can_send m ask asks (answerer_turns rest)) ∙ ap (answers g m mine) (sym (caller_turns-cons first rest)))
+      let both = each_side n m l can_cut' can_cut can_send' can_send opens (omega (arith, turn_costs g disjoint l m can_cut ask asks)) in (
+        caller_turns-cons first rest ∙ ap (λ ts. first ∷ ts) both.1,
+        both.0 ∙ sym (answers-turn g l can_cut can_send m ask asks (answerer_turns rest)) ∙ ap (answers g m mine) (sym (caller_turns-cons first rest)),
+      )
 
   module _ (a b : List R) (can_cut_a : CanCut g a) (can_cut_b : CanCut g b) (can_send_a : CanSend g a) (can_send_b : CanSend g b) where
     pub sides_write : (x : Option X) (p q : List (Turn R C)) → p ≡ caller g a x q → q ≡ answerer g b x p
@@ -132,6 +133,7 @@ module _ {R X C : Type 0} (g : Rules R X C) (disjoint : HasDisjointParts g) wher
         let asks = first_asks g a x in
         let first = first_turn g a x in
         let ts = turns g n b a asks in
-        let both = each_side n b a can_cut_b can_cut_a can_send_b can_send_a asks (enough_for_first g disjoint a b x) in
-        (ap (λ us. first ∷ us) (sym both.1) ∙ sym (caller_turns-cons first ts),
-         ap (answerer g b (Some x)) (caller_turns-cons first ts) ∙ sym both.0)
+        let both = each_side n b a can_cut_b can_cut_a can_send_b can_send_a asks (enough_for_first g disjoint a b x) in (
+          ap (λ us. first ∷ us) (sym both.1) ∙ sym (caller_turns-cons first ts),
+          ap (answerer g b (Some x)) (caller_turns-cons first ts) ∙ sym both.0,
+        )

@@ -1,5 +1,5 @@
 -- Rows that are counted no more often than a side holds them: they are rows of it, and each stands there once.
-use Rattle.std.proofs.Common.{◌≡◌, ℕ, ◌+◌, ◌≤◌, Bool, true, false, cond, List, [], ◌∷◌, filter, count_by, Contains, Option, Some, sym, refl, ap, subst, ◌↔◌, arith}
+use Rattle.std.proofs.Common.{◌≡◌, ℕ, ◌+◌, ◌≤◌, Bool, true, false, cond, List, [], ◌∷◌, count_by, Contains, sym, refl, ap, subst, ◌↔◌, arith}
 use Rattle.std.specs.List.{AllByRecursion, IsDistinct}
 use Rattle.std.proofs.lemmas.Bool.{false≢true}
 use Rattle.std.proofs.lemmas.List.Sums.{sum_by-cons}
@@ -55,9 +55,9 @@ module _ {R X C : Type 0} (g : Rules R X C) (decides : IsDeciding g) (l : List R
   pub held_rows : (r : R) → Contains sent r → Contains (rows_in g x l) r
   held_rows r c =
       counted_contains (g.same_row r) r (λ s e. sym ((decides.rows r s).0 e)) (rows_in g x l)
-          (omega (arith, contains_counted (g.same_row r) sent r ((decides.rows r r).1 refl) c, within (g.same_row r)))
+      (omega (arith, contains_counted (g.same_row r) sent r ((decides.rows r r).1 refl) c, within (g.same_row r)))
 
   pub distinct_rows : IsDistinct g.same_row l → IsDistinct g.same_row sent
   distinct_rows h =
       counted_distinct g.same_row decides.rows sent
-          (λ r. omega (arith, within (g.same_row r), count_by-filter-le (g.same_row r) (g.has x) l, distinct_counted g.same_row decides.rows l h r))
+      (λ r. omega (arith, within (g.same_row r), count_by-filter-le (g.same_row r) (g.has x) l, distinct_counted g.same_row decides.rows l h r))

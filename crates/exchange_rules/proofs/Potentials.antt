@@ -1,6 +1,6 @@
 -- What is said in the turns of an exchange, weighed against what is asked: where each answer and what it opens weigh no
 -- more than its ask, so do all turns, and where they weigh no less, so do all.
-use Rattle.std.proofs.Common.{◌≡◌, ℕ, zero, suc, ◌+◌, ◌≤◌, List, [], ◌∷◌, ◌++◌, map, sum_by, flat_map, refl, arith}
+use Rattle.std.proofs.Common.{◌≡◌, ℕ, zero, suc, ◌+◌, ◌≤◌, List, [], ◌∷◌, sum_by, refl, arith}
 use Rattle.std.proofs.lemmas.List.Sums.{sum_by-cons, sum_by-append}
 use Rattle.exchange_rules.specs.Rules.{Rules}
 use Rattle.exchange_rules.specs.Items.{Ask, Item, Turn, caller_turns, answerer_turns}
@@ -36,5 +36,9 @@ module _ {R X C : Type 0} (g : Rules R X C) where
   turns_within (suc n) l m v v' w w' own other (ask ∷ asks) =
       let rest = turns g n m l (opened g l (ask ∷ asks)) in
       let first = turn g l (ask ∷ asks) in
-      rw (caller_turns-cons first rest) (omega (arith, sum_by-cons (λ t. sum_by v t.items) first (answerer_turns rest),
-          turn_within l v w w' own (ask ∷ asks), turns_within n m l v' v w' w other own (opened g l (ask ∷ asks))))
+      rw (caller_turns-cons first rest) (omega (
+        arith,
+        sum_by-cons (λ t. sum_by v t.items) first (answerer_turns rest),
+        turn_within l v w w' own (ask ∷ asks),
+        turns_within n m l v' v w' w other own (opened g l (ask ∷ asks)),
+      ))

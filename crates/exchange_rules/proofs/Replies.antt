@@ -1,8 +1,8 @@
 -- The answers, case by case.
-use Rattle.std.proofs.Common.{◌≡◌, ℕ, Bool, true, false, cond, List, [], ◌∷◌, map, Option, None, Some, refl}
+use Rattle.std.proofs.Common.{◌≡◌, ℕ, Bool, true, false, cond, List, [], Option, None, Some, refl}
 use Rattle.exchange_rules.specs.Rules.{Rules, rows_in, print_in}
-use Rattle.exchange_rules.specs.Items.{Ask, Print, Sent, Agree, Split, Entries, Rest}
-use Rattle.exchange_rules.specs.Answer.{Reply, print_ask, differing, lacking, reply}
+use Rattle.exchange_rules.specs.Items.{Print, Agree}
+use Rattle.exchange_rules.specs.Answer.{Reply, differing, reply}
 
 abbrev pub agreed : {R X C : Type 0} → Reply R X C
 agreed = record { item = Agree; opens = [] }

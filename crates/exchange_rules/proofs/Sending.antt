@@ -1,7 +1,6 @@
 -- The rows that pass a test, weighed: those that a side may still be asked for, against those that it sends.
-use Rattle.std.proofs.Common.{◌≡◌, ℕ, ◌+◌, ◌≤◌, Bool, not, cond, List, [], ◌∷◌, map, sum_by, count_by, Option, Some, refl, arith}
+use Rattle.std.proofs.Common.{◌≡◌, ℕ, ◌+◌, ◌≤◌, Bool, not, cond, List, map, sum_by, count_by, Some, arith}
 use Rattle.std.specs.List.{list_any}
-use Rattle.std.proofs.lemmas.List.Sums.{sum_by-cons}
 use Rattle.exchange_rules.specs.Rules.{Rules, rows_in}
 use Rattle.exchange_rules.specs.Items.{Ask, Print, Sent, Item, Turn, rows_of_item, rows_of_turn, rows_of, caller_turns, answerer_turns, to_left, to_right}
 use Rattle.exchange_rules.specs.Answer.{print_ask, reply}
@@ -25,8 +24,11 @@ said-nothing ts = omega (arith, sum_by_same (λ t. sum_by nothing t.items) (λ t
 pub count_by-rows_of : {R C : Type 0} (q : R → Bool) (ts : List (Turn R C)) → count_by q (rows_of ts) ≡ said (told q) ts
 count_by-rows_of {R} q ts =
     let w : R → ℕ = λ r. cond (q r) 1 0 in
-    omega (arith, sum_by-flat_map w rows_of_turn ts,
-        sum_by_same (λ t. count_by q (rows_of_turn t)) (λ t. sum_by (told q) t.items) (λ t. sum_by-flat_map w rows_of_item t.items) ts)
+    omega (
+      arith,
+      sum_by-flat_map w rows_of_turn ts,
+      sum_by_same (λ t. count_by q (rows_of_turn t)) (λ t. sum_by (told q) t.items) (λ t. sum_by-flat_map w rows_of_item t.items) ts,
+    )
 
 module _ {R X C : Type 0} (g : Rules R X C) where
   -- the rows of l that pass in the box of an ask to the side with rows l, and in that of an ask to the other side; what
@@ -53,7 +55,7 @@ module _ {R X C : Type 0} (g : Rules R X C) where
     unfolding reply
     own_within l (Print x print) =
         reply_cases g l x print (λ r. told q r.item + sum_by (other_weight q l) r.opens ≤ count_by q (rows_in g x l))
-            (λ same. omega arith) (λ few. omega arith) (λ cut is. omega (arith, parts_other_within l l x cut))
+        (λ same. omega arith) (λ few. omega arith) (λ cut is. omega (arith, parts_other_within l l x cut))
     own_within l (Sent x sent) = omega (arith, count_by-filter-le q (λ r. not (list_any (g.same_row r) sent)) (rows_in g x l))
 
     -- the other side asks for no more than is left
@@ -61,7 +63,7 @@ module _ {R X C : Type 0} (g : Rules R X C) where
     unfolding reply
     other_within l m (Print x print) =
         reply_cases g m x print (λ r. 0 + sum_by (own_weight q l) r.opens ≤ count_by q (rows_in g x l))
-            (λ same. omega arith) (λ few. omega arith) (λ cut is. omega (arith, parts_own_within l m x cut))
+        (λ same. omega arith) (λ few. omega arith) (λ cut is. omega (arith, parts_own_within l m x cut))
     other_within l m (Sent x sent) = omega arith
 
     -- ---- the rows that are sent to each side in an exchange
@@ -69,11 +71,17 @@ module _ {R X C : Type 0} (g : Rules R X C) where
     pub left_within : (a b : List R) (x : X) → count_by q (to_left (exchange g a b (Some x))) ≤ count_by q (rows_in g x b)
     left_within a b x =
         let ts = turns g (enough g a b x) b a (first_asks g a x) in
-        omega (arith, count_by-rows_of q (caller_turns ts),
-            turns_within g (enough g a b x) b a (told q) nothing (own_weight q b) (other_weight q b) (own_within b) (other_within b a) (first_asks g a x))
+        omega (
+          arith,
+          count_by-rows_of q (caller_turns ts),
+          turns_within g (enough g a b x) b a (told q) nothing (own_weight q b) (other_weight q b) (own_within b) (other_within b a) (first_asks g a x),
+        )
 
     pub right_within : (a b : List R) (x : X) → count_by q (to_right (exchange g a b (Some x))) ≤ count_by q (rows_in g x a)
     right_within a b x =
         let ts = turns g (enough g a b x) b a (first_asks g a x) in
-        rw (caller_turns-cons (first_turn g a x) ts) (omega (arith, count_by-rows_of q (answerer_turns ts),
-            turns_within g (enough g a b x) b a nothing (told q) (other_weight q a) (own_weight q a) (other_within a b) (own_within a) (first_asks g a x)))
+        rw (caller_turns-cons (first_turn g a x) ts) (omega (
+          arith,
+          count_by-rows_of q (answerer_turns ts),
+          turns_within g (enough g a b x) b a nothing (told q) (other_weight q a) (own_weight q a) (other_within a b) (own_within a) (first_asks g a x),
+        ))

@@ -1,12 +1,12 @@
 -- Two sides with the same rows in the box write the same, whatever they hold elsewhere.
-use Rattle.std.proofs.Common.{◌≡◌, ℕ, ◌+◌, ◌≤◌, Bool, true, false, not, cond, List, [], ◌∷◌, ◌++◌, map, flat_map, filter, Option, None, Some, sym, refl, ap, ap₂, ◌∙◌, arith}
+use Rattle.std.proofs.Common.{◌≡◌, ℕ, ◌+◌, ◌≤◌, Bool, true, false, not, cond, List, [], ◌∷◌, ◌++◌, map, filter, Option, None, Some, sym, refl, ap, ap₂, ◌∙◌, arith}
 use Rattle.std.specs.List.{AllByRecursion, list_any}
 use Rattle.std.proofs.lemmas.Bool.{false≢true, cond-false, false_from_ne_true}
 use Rattle.std.proofs.lemmas.List.Sums.{sum_by-cons}
 use Rattle.exchange_rules.specs.Rules.{Rules, rows_in, print_in}
 use Rattle.exchange_rules.specs.Items.{Ask, Print, Sent, Item, First, Agree, Split, Entries, Rest, Turn, is_empty}
-use Rattle.exchange_rules.specs.Answer.{Reply, print_ask, differing, lacking, reply, opened, turn}
-use Rattle.exchange_rules.specs.Exchange.{first_turn, first_asks}
+use Rattle.exchange_rules.specs.Answer.{Reply, print_ask, differing, reply, opened, turn}
+use Rattle.exchange_rules.specs.Exchange.{first_asks}
 use Rattle.exchange_rules.specs.AnyPeer.{fits_parts, part_asks, opens_at, joined, opened_by, ended_by, heard, answered, answers, caller, first_opens, answerer}
 use Rattle.exchange_rules.specs.Premises.{HasDisjointParts, boxes_with}
 use Rattle.exchange_rules.proofs.Members.{all-append, all_weaker}
@@ -77,7 +77,7 @@ module _ {R X C : Type 0} (g : Rules R X C) where
     unfolding reply
     reply_inside l (Print y print) inside =
         reply_cases g l y print (λ r. AllByRecursion (IsInside x) r.opens)
-            (λ same. tt) (λ few. (inside, tt)) (λ cut is. asks_inside l (g.parts y cut) (parts_inside y inside cut))
+        (λ same. tt) (λ few. (inside, tt)) (λ cut is. asks_inside l (g.parts y cut) (parts_inside y inside cut))
     reply_inside l (Sent y sent) inside = tt
 
     opened_inside : (l : List R) (asks : List (Ask R X)) → AllByRecursion (IsInside x) asks → AllByRecursion (IsInside x) (opened g l asks)
@@ -162,8 +162,8 @@ module _ {R X C : Type 0} (g : Rules R X C) where
       differing_alike y inside None = ap (entries_of y) (rows_alike l l' x y inside same)
       differing_alike y inside (Some cut) =
           ap₂ (split_of cut)
-              (map_alike (λ z. print_in g z l) (λ z. print_in g z l') (g.parts y cut) (all_weaker (Inside x) (λ z. print_in g z l ≡ print_in g z l') print_alike (g.parts y cut) (parts_inside y inside cut)))
-              (map_alike (print_ask g l) (print_ask g l') (g.parts y cut) (all_weaker (Inside x) (λ z. print_ask g l z ≡ print_ask g l' z) (λ z i. ap (λ print. Print z print) (print_alike z i)) (g.parts y cut) (parts_inside y inside cut)))
+          (map_alike (λ z. print_in g z l) (λ z. print_in g z l') (g.parts y cut) (all_weaker (Inside x) (λ z. print_in g z l ≡ print_in g z l') print_alike (g.parts y cut) (parts_inside y inside cut)))
+          (map_alike (print_ask g l) (print_ask g l') (g.parts y cut) (all_weaker (Inside x) (λ z. print_ask g l z ≡ print_ask g l' z) (λ z i. ap (λ print. Print z print) (print_alike z i)) (g.parts y cut) (parts_inside y inside cut)))
 
       reply_alike : (ask : Ask R X) → IsInside x ask → reply g l ask ≡ reply g l' ask
       unfolding reply
@@ -183,8 +183,8 @@ module _ {R X C : Type 0} (g : Rules R X C) where
       unfolding turn_of
       turn_alike asks h =
           ap₂ turn_of
-              (map_alike (λ ask. (reply g l ask).item) (λ ask. (reply g l' ask).item) asks (all_weaker (IsInside x) (λ ask. (reply g l ask).item ≡ (reply g l' ask).item) (λ ask i. ap (λ r. r.item) (reply_alike ask i)) asks h))
-              (opened_alike asks h)
+          (map_alike (λ ask. (reply g l ask).item) (λ ask. (reply g l' ask).item) asks (all_weaker (IsInside x) (λ ask. (reply g l ask).item ≡ (reply g l' ask).item) (λ ask i. ap (λ r. r.item) (reply_alike ask i)) asks h))
+          (opened_alike asks h)
 
       answered_alike : (asks : Option (List (Ask R X))) (follows follows' : List (Ask R X) → List (Turn R C)) → SomeInside asks
           → ((opens : List (Ask R X)) → AllByRecursion (IsInside x) opens → follows opens ≡ follows' opens)
@@ -200,18 +200,18 @@ module _ {R X C : Type 0} (g : Rules R X C) where
       answers_alike (ask ∷ asks) [] h = refl
       answers_alike (ask ∷ asks) (t ∷ ts) h =
           answered_alike (heard g (ask ∷ asks) t) (λ opens. answers g l opens ts) (λ opens. answers g l' opens ts) (heard_inside (ask ∷ asks) t h)
-              (λ opens i. answers_alike opens ts i)
+          (λ opens i. answers_alike opens ts i)
 
       pub caller_alike : (ts : List (Turn R C)) → caller g l (Some x) ts ≡ caller g l' (Some x) ts
       caller_alike ts =
           ap₂ (λ t us. t ∷ us) (ap (begun_with R C) (print_alike x (λ r e. e)))
-              (answers_alike (first_asks g l x) ts ((λ r e. e), tt) ∙ ap (λ print. answers g l' (Print x print ∷ []) ts) (print_alike x (λ r e. e)))
+          (answers_alike (first_asks g l x) ts ((λ r e. e), tt) ∙ ap (λ print. answers g l' (Print x print ∷ []) ts) (print_alike x (λ r e. e)))
 
       pub answerer_alike : (ts : List (Turn R C)) → answerer g l (Some x) ts ≡ answerer g l' (Some x) ts
       answerer_alike [] = refl
       answerer_alike (t ∷ ts) =
           answered_alike (first_opens x t.items t.ends_with_bye) (λ opens. answers g l opens ts) (λ opens. answers g l' opens ts) (first_inside t.items t.ends_with_bye)
-              (λ opens i. answers_alike opens ts i)
+          (λ opens i. answers_alike opens ts i)
 
 answered_bye : {R X C : Type 0} (g : Rules R X C) (l m : List R) (ts : List (Turn R C)) → answerer g l None ts ≡ answerer g m None ts
 answered_bye g l m [] = refl

@@ -1,5 +1,5 @@
 -- The answer to each ask, and the turn that answers all asks of the turn before.
-use Rattle.std.specs.Prelude.{ℕ, Bool, not, List, [], ◌∷◌, map, Option, None, Some, filter, flat_map, if◌then◌else◌}
+use Rattle.std.specs.Prelude.{not, List, [], ◌∷◌, map, Option, None, Some, filter, flat_map, if◌then◌else◌}
 use Rattle.std.specs.List.{list_any}
 use Rattle.exchange_rules.specs.Rules.{Rules, rows_in, print_in}
 use Rattle.exchange_rules.specs.Items.{Ask, Print, Sent, Item, Agree, Split, Entries, Rest, Turn, is_empty}
@@ -19,7 +19,7 @@ abbrev pub differing : {R X C : Type 0} → Rules R X C → List R → X → Opt
 differing g l x None = record { item = Entries (rows_in g x l); opens = Sent x (rows_in g x l) ∷ [] }
 differing g l x (Some cut) = record {
   item = Split cut (map (λ y. print_in g y l) (g.parts x cut));
-  opens = map (print_ask g l) (g.parts x cut)
+  opens = map (print_ask g l) (g.parts x cut);
 }
 
 -- the own rows of a box that are not among those sent

@@ -1,5 +1,5 @@
 -- The exchange: the turns that two sides take, and what it means that fingerprints tell their rows apart.
-use Rattle.std.specs.Prelude.{◌≡◌, ℕ, zero, suc, ◌+◌, ◌*◌, Bool, true, false, List, [], ◌∷◌, ◌++◌, length, Option, None, Some}
+use Rattle.std.specs.Prelude.{◌≡◌, ℕ, zero, suc, ◌+◌, ◌*◌, true, false, List, [], ◌∷◌, ◌++◌, length, Option, None, Some}
 use Rattle.std.specs.List.{AllByRecursion}
 use Rattle.exchange_rules.specs.Rules.{Rules, rows_in, print_in}
 use Rattle.exchange_rules.specs.Items.{Ask, Print, Sent, First, Turn, bye}

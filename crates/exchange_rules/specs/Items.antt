@@ -1,5 +1,5 @@
 -- What two sides say: items in turns, and the asks that items leave to the other side.
-use Rattle.std.specs.Prelude.{◌≡◌, ℕ, Bool, true, false, ◌&&◌, List, [], ◌∷◌, length, flat_map, sum_by}
+use Rattle.std.specs.Prelude.{ℕ, Bool, true, false, ◌&&◌, List, [], ◌∷◌, length, flat_map, sum_by}
 
 -- what a side has to answer: a box with the other side's fingerprint of it, or a box with the other side's rows in it
 pub data Ask (R X : Type 0) : Type 0 where

@@ -1,5 +1,5 @@
 -- What the laws ask of the rules.
-use Rattle.std.specs.Prelude.{◌≡◌, ◌↔◌, ℕ, ◌≤◌, Bool, true, List, length, Option, Some, IsTrue, filter, count_by, if◌then◌else◌}
+use Rattle.std.specs.Prelude.{◌≡◌, ◌↔◌, ℕ, ◌≤◌, Bool, List, length, Some, IsTrue, filter, count_by, if◌then◌else◌}
 use Rattle.std.specs.List.{AllByRecursion}
 use Rattle.exchange_rules.specs.Rules.{Rules, rows_in}
 
