@@ -1,7 +1,7 @@
 -- Whatever a peer says, a side sends no more than it holds in the box.
-use Rattle.std.proofs.Common.{◌≡◌, ℕ, ◌+◌, ◌≤◌, Bool, true, false, cond, List, [], ◌∷◌, sum_by, count_by, Contains, Option, None, Some, refl, arith}
+use Rattle.std.proofs.Common.{take, ◌≡◌, ℕ, ◌+◌, ◌≤◌, Bool, true, false, cond, List, [], ◌∷◌, sum_by, count_by, Contains, Option, None, Some, refl, arith}
 use Rattle.std.specs.List.{IsDistinct}
-use Rattle.std.proofs.lemmas.List.Sums.{sum_by-cons, sum_by-append}
+use Rattle.std.proofs.lemmas.List.Sums.{sum_by-take-le, sum_by-cons, sum_by-append}
 use Rattle.exchange_rules.specs.Rules.{Rules, rows_in}
 use Rattle.exchange_rules.specs.Items.{Ask, Print, Sent, Item, First, Agree, Split, Entries, Rest, Turn, bye, is_bye, rows_of}
 use Rattle.exchange_rules.specs.Answer.{opened, turn}
@@ -122,6 +122,10 @@ module _ {R X C : Type 0} (g : Rules R X C) (disjoint : HasDisjointParts g) (q :
         answered_weight (first_opens x t.items t.ends_with_bye) (λ opens. answers g l opens ts) (λ opens. answers_weight opens ts),
         first_weight x t.items t.ends_with_bye,
       )
+
+pub count_by-front : {R C : Type 0} (q : R → Bool) (most : ℕ) (ts : List (Turn R C)) → count_by q (rows_of (take most ts)) ≤ count_by q (rows_of ts)
+count_by-front q most ts =
+    omega (arith, count_by-rows_of q (take most ts), count_by-rows_of q ts, sum_by-take-le (λ t. sum_by (told q) t.items) ts most)
 
 bye_or_nothing : (R C : Type 0) (b : Bool) → rows_of {R = R} {C = C} (cond b (bye ∷ []) []) ≡ []
 bye_or_nothing R C true = refl

@@ -9,4 +9,6 @@ pub mod Sending
 pub mod Converging
 pub mod AnyPeer
 pub mod Worlds
+pub mod TwoExchanges
 pub mod Meeting
+pub mod NumberRules

@@ -33,7 +33,7 @@ inside_from_count b true n h e = refl
 inside_from_count true false n h e = absurd (omega arith)
 inside_from_count false false n h e = absurd (false≢true e)
 
-abbrev begun_with : (R C : Type 0) → List ℕ → Turn R C
+abbrev pub begun_with : (R C : Type 0) → List ℕ → Turn R C
 begun_with R C print = record { items = First print ∷ []; ends_with_bye = false }
 
 module _ {R X C : Type 0} (g : Rules R X C) where
@@ -51,7 +51,7 @@ module _ {R X C : Type 0} (g : Rules R X C) where
       let n = λ (r : R). sum_by-cons (λ z. cond (g.has z r) 1 0) y ys in
       ((λ r e. inside_from_count (g.has y r) (g.has x r) (boxes_with g r ys) (omega (arith, h r, n r)) e), each_inside x ys (λ r. omega (arith, h r, n r)))
 
-  rows_alike : (l l' : List R) (x y : X) → Inside x y → rows_in g x l ≡ rows_in g x l' → rows_in g y l ≡ rows_in g y l'
+  pub rows_alike : (l l' : List R) (x y : X) → Inside x y → rows_in g x l ≡ rows_in g x l' → rows_in g y l ≡ rows_in g y l'
   rows_alike l l' x y inside e =
       sym (filter_again (g.has y) (g.has x) inside l) ∙ ap (λ rows. filter (g.has y) rows) e ∙ filter_again (g.has y) (g.has x) inside l'
 
@@ -80,7 +80,7 @@ module _ {R X C : Type 0} (g : Rules R X C) where
         (λ same. tt) (λ few. (inside, tt)) (λ cut is. asks_inside l (g.parts y cut) (parts_inside y inside cut))
     reply_inside l (Sent y sent) inside = tt
 
-    opened_inside : (l : List R) (asks : List (Ask R X)) → AllByRecursion (IsInside x) asks → AllByRecursion (IsInside x) (opened g l asks)
+    pub opened_inside : (l : List R) (asks : List (Ask R X)) → AllByRecursion (IsInside x) asks → AllByRecursion (IsInside x) (opened g l asks)
     opened_inside l [] h = tt
     opened_inside l (ask ∷ asks) h = all-append (IsInside x) (reply g l ask).opens (opened g l asks) (reply_inside l ask h.0) (opened_inside l asks h.1)
 
@@ -175,11 +175,11 @@ module _ {R X C : Type 0} (g : Rules R X C) where
           rest_of : List R → List R → Reply R X C
           rest_of sent rows = record { item = Rest (filter (λ r. not (list_any (g.same_row r) sent)) rows); opens = [] }
 
-      opened_alike : (asks : List (Ask R X)) → AllByRecursion (IsInside x) asks → opened g l asks ≡ opened g l' asks
+      pub opened_alike : (asks : List (Ask R X)) → AllByRecursion (IsInside x) asks → opened g l asks ≡ opened g l' asks
       opened_alike [] h = refl
       opened_alike (ask ∷ asks) h = ap₂ (λ xs ys. xs ++ ys) (ap (λ r. r.opens) (reply_alike ask h.0)) (opened_alike asks h.1)
 
-      turn_alike : (asks : List (Ask R X)) → AllByRecursion (IsInside x) asks → turn g l asks ≡ turn g l' asks
+      pub turn_alike : (asks : List (Ask R X)) → AllByRecursion (IsInside x) asks → turn g l asks ≡ turn g l' asks
       unfolding turn_of
       turn_alike asks h =
           ap₂ turn_of

@@ -12,11 +12,10 @@ pub record Range : Type 0 where
 abbrev pub range_has : Range → ℕ → Bool
 range_has x n = nat_le x.start n && nat_lt n x.end
 
--- each number is below the one behind it
+-- each number is below all behind it
 abbrev pub is_rising : List ℕ → Bool
 is_rising [] = true
-is_rising (n ∷ []) = true
-is_rising (n ∷ m ∷ ns) = nat_lt n m && is_rising (m ∷ ns)
+is_rising (n ∷ ns) = list_all (nat_lt n) ns && is_rising ns
 
 -- below the cut, and from it on
 abbrev pub halves : Range → ℕ → List Range

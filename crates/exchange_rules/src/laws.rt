@@ -1,14 +1,14 @@
 //! The laws of the exchange, each the contract of a function that does nothing, at whatever rows `R`, boxes `X` and
 //! cuts `C` there are.
 
-ghost use Rattle.std.specs.Prelude.{◌≡◌, ◌⊎◌, ℕ, ◌+◌, ◌*◌, ◌≤◌, max, Bool, count_by, List, [], ◌∷◌, length, Contains, Option, Some, None};
+ghost use Rattle.std.specs.Prelude.{◌≡◌, ◌⊎◌, ℕ, ◌+◌, ◌*◌, ◌≤◌, max, Bool, IsTrue, count_by, List, [], ◌∷◌, length, take, Contains, Option, Some, None};
 ghost use Rattle.std.specs.List.{IsDistinct};
 ghost use Rattle.exchange_rules.specs.Rules.{Rules, rows_in};
 ghost use Rattle.exchange_rules.specs.Items.{Turn, rows_of, counted, to_left, to_right, caller_turns, answerer_turns};
 ghost use Rattle.exchange_rules.specs.Exchange.{exchange, turns, enough, first_asks, EndWithByes, Apart};
 ghost use Rattle.exchange_rules.specs.AnyPeer.{caller, answerer};
 ghost use Rattle.exchange_rules.specs.Premises.{IsDeciding, HasDisjointParts, CanCut, CanSend};
-ghost use Rattle.exchange_rules.specs.Numbers.{of_numbers};
+ghost use Rattle.exchange_rules.specs.Numbers.{Range, is_rising, of_numbers};
 ghost use Rattle.exchange_rules.specs.Small.{one_to_six, seven_for_five, up_to_ten, turns_of_caller, turns_of_answerer, small_exchange};
 
 /// A small exchange of numbers is the one that was written out by hand, and so is what each side writes alone.
@@ -21,6 +21,16 @@ pub fn a_small_exchange()
     ensures counted { counted small_exchange ≡ 7 }
     ensures caller_alone { caller of_numbers one_to_six (Some up_to_ten) turns_of_answerer ≡ turns_of_caller }
     ensures answerer_alone { answerer of_numbers seven_for_five (Some up_to_ten) turns_of_caller ≡ turns_of_answerer }
+{}
+
+/// The rules of the small exchange meet all that the laws ask, for every two lists of rising numbers.
+#[tactic(auto, using(crate::proofs::NumberRules::numbers_decide, crate::proofs::NumberRules::numbers_disjoint, crate::proofs::NumberRules::numbers_can_cut, crate::proofs::NumberRules::numbers_can_send, crate::proofs::NumberRules::numbers_apart))]
+pub fn numbers()
+    ensures decide { IsDeciding of_numbers }
+    ensures disjoint { HasDisjointParts of_numbers }
+    ensures can_cut { (l : List ℕ) → IsTrue (is_rising l) → CanCut of_numbers l }
+    ensures can_send { (l : List ℕ) → IsTrue (is_rising l) → CanSend of_numbers l }
+    ensures apart { (a b : List ℕ) (x : Range) → Apart of_numbers a b x }
 {}
 
 /// The exchange ends with a farewell of each side, and with more turns allowed it is the same.
@@ -68,7 +78,7 @@ pub fn convergence<R, X, C>()
 {}
 
 /// Whatever a peer says, a side sends it only rows that it holds in the box, each once: of rows that pass a test no more
-/// than it holds there. Without a box it sends none. A side that stops earlier sends a front of these turns.
+/// than it holds there. A side that stops earlier, after a front of these turns, sends no more. Without a box none is sent.
 pub fn each_row_once<R, X, C>()
     ensures caller_held { (g : Rules R X C) (l : List R) (x : X) (read : List (Turn R C)) (r : R)
         → IsDeciding g → HasDisjointParts g
@@ -88,6 +98,8 @@ pub fn each_row_once<R, X, C>()
     ensures answerer_counted { (g : Rules R X C) (l : List R) (x : X) (read : List (Turn R C)) (passes : R → Bool)
         → HasDisjointParts g
         → count_by passes (rows_of (answerer g l (Some x) read)) ≤ count_by passes (rows_in g x l) }
+    ensures fronts { (written : List (Turn R C)) (most : ℕ) (passes : R → Bool)
+        → count_by passes (rows_of (take most written)) ≤ count_by passes (rows_of written) }
     ensures without_a_box { (g : Rules R X C) (l : List R) (read : List (Turn R C))
         → (rows_of (caller g l None read) ≡ []) × (rows_of (answerer g l None read) ≡ []) }
 {}
@@ -102,6 +114,16 @@ pub fn two_worlds<R, X, C>()
         → answerer g l (Some x) read ≡ answerer g m (Some x) read }
     ensures without_a_box { (g : Rules R X C) (l m : List R) (read : List (Turn R C))
         → (caller g l None read ≡ caller g m None read) × (answerer g l None read ≡ answerer g m None read) }
+{}
+
+/// Rows elsewhere change nothing of an exchange either, nor of whether its fingerprints tell rows apart.
+pub fn two_exchanges<R, X, C>()
+    ensures same { (g : Rules R X C) (a b c d : List R) (x : X)
+        → HasDisjointParts g → rows_in g x a ≡ rows_in g x c → rows_in g x b ≡ rows_in g x d
+        → exchange g a b (Some x) ≡ exchange g c d (Some x) }
+    ensures apart { (g : Rules R X C) (a b c d : List R) (x : X)
+        → HasDisjointParts g → rows_in g x a ≡ rows_in g x c → rows_in g x b ≡ rows_in g x d
+        → Apart g a b x → Apart g c d x }
 {}
 
 /// Two sides that each read what the other writes write the exchange, and nothing else fits: so to the turns of the one

@@ -1,4 +1,4 @@
-use Rattle.exchange_rules.proofs.AnyPeer.{caller_held, caller_once, caller_within, answerer_held, answerer_once, answerer_within, none_without_a_box}
+use Rattle.exchange_rules.proofs.AnyPeer.{caller_held, caller_once, caller_within, answerer_held, answerer_once, answerer_within, count_by-front, none_without_a_box}
 use Rattle.exchange_rules.proofs.laws.each_row_once.Goals as goal
 
 pub returns-clause-caller_held : goal.returns-clause-caller_held
@@ -21,3 +21,6 @@ returns-clause-answerer_counted g c = λ rules l x read passes disjoint. answere
 
 pub returns-clause-without_a_box : goal.returns-clause-without_a_box
 returns-clause-without_a_box g c = none_without_a_box
+
+pub returns-clause-fronts : goal.returns-clause-fronts
+returns-clause-fronts g c = λ written most passes. count_by-front passes most written
