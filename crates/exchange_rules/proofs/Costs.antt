@@ -1,13 +1,13 @@
 -- What an ask costs: how many items may be said in answer to it, by both sides together.
-use Rattle.std.proofs.Common.{◌≡◌, ℕ, ◌+◌, ◌*◌, ◌-◌, ◌≤◌, ◌<◌, max, List, [], ◌∷◌, length, sum_by, Some, refl, arith}
+use Rattle.std.proofs.Common.{◌≡◌, ℕ, ◌+◌, ◌*◌, ◌-◌, ◌≤◌, ◌<◌, max, List, [], ◌∷◌, length, sum_by, Some, sym, refl, arith}
 use Rattle.std.specs.List.{AllByRecursion}
 use Rattle.std.proofs.lemmas.List.Sums.{sum_by-cons}
-use Rattle.exchange_rules.specs.Rules.{Rules, rows_in}
+use Rattle.exchange_rules.specs.Rules.{Rules, box_rows}
 use Rattle.exchange_rules.specs.Items.{Ask, Print, Sent, Turn, counted, caller_turns, answerer_turns}
 use Rattle.exchange_rules.specs.Answer.{print_ask, reply, opened, turn}
 use Rattle.exchange_rules.specs.Exchange.{turns, enough, exchange, first_turn, first_asks}
-use Rattle.exchange_rules.specs.Premises.{HasDisjointParts, IsCut, CanCut}
-use Rattle.exchange_rules.proofs.Sums.{sum_by-map, sum_by-one, length_parts_within}
+use Rattle.exchange_rules.specs.Premises.{HasDisjointParts, DividesRows, CanCut}
+use Rattle.exchange_rules.proofs.Sums.{sum_by_same, sum_by-map, sum_by-one, length_parts_within}
 use Rattle.exchange_rules.proofs.Replies.{reply_cases}
 use Rattle.exchange_rules.proofs.Potentials.{said, caller_turns-cons, IsWithin, turn_within, turns_within}
 
@@ -25,7 +25,7 @@ parts_cost a b (y ∷ ys) own =
 
 module _ {R X C : Type 0} (g : Rules R X C) where
   abbrev pub cost : List R → List R → Ask R X → ℕ
-  cost l m (Print x print) = box_cost (length (rows_in g x l)) (length (rows_in g x m))
+  cost l m (Print x print) = box_cost (length (box_rows g x l)) (length (box_rows g x m))
   cost l m (Sent x sent) = 1
 
   -- one item for an answer to a fingerprint, and what it opens, cost no more than the ask
@@ -37,10 +37,10 @@ module _ {R X C : Type 0} (g : Rules R X C) where
       (λ same. omega arith)
       (λ few. omega arith)
       (λ cut is.
-      let c : IsCut g l x cut = can x cut is in
+      let c : DividesRows g l x cut = can x cut is in
       let parts = g.parts x cut in
       let opens = sum_by-map (cost m l) (print_ask g l) parts in
-      let sum = parts_cost (λ y. length (rows_in g y l)) (λ y. length (rows_in g y m)) parts c.own in
+      let sum = parts_cost (λ y. length (box_rows g y l)) (λ y. length (box_rows g y m)) parts c.own in
       let of_l = length_parts_within g.has x parts (disjoint x cut) l in
       let of_m = length_parts_within g.has x parts (disjoint x cut) m in
       omega (arith, opens, sum, of_l, of_m, c.several))
@@ -60,28 +60,33 @@ module _ {R X C : Type 0} (g : Rules R X C) where
         sum_by-one (turn g l (ask ∷ asks)).items,
       )
 
-  pub first_cost : (a b : List R) (x : X) → 1 + sum_by (cost b a) (first_asks g a x) ≤ max 3 (3 * (length (rows_in g x a) + length (rows_in g x b)))
+  pub first_cost : (a b : List R) (x : X) → 1 + sum_by (cost b a) (first_asks g a x) ≤ max 3 (3 * (length (box_rows g x a) + length (box_rows g x b)))
   unfolding box_cost
   first_cost a b x = omega arith
 
 -- ---- the bound
 
-counted-sides : {R C : Type 0} (ts : List (Turn R C)) → counted ts ≡ said (λ item. 1) (caller_turns ts) + said (λ item. 1) (answerer_turns ts)
-counted-sides [] = refl
-counted-sides (t ∷ ts) =
-    rw (caller_turns-cons t ts) (omega (
-      arith,
-      sum_by-cons (λ u. length u.items) t ts,
-      sum_by-cons (λ u. sum_by (λ item. 1) u.items) t (answerer_turns ts),
-      sum_by-one t.items,
-      counted-sides ts,
-    ))
+pub counted_sides : {R C : Type 0} (ts : List (Turn R C)) → counted ts ≡ counted (caller_turns ts) + counted (answerer_turns ts)
+counted_sides [] = refl
+counted_sides {R} {C} (t ∷ ts) =
+    let lengths = λ (u : Turn R C). length u.items in
+    rw (caller_turns-cons t ts) (omega (arith, sum_by-cons lengths t ts, sum_by-cons lengths t (answerer_turns ts), counted_sides ts))
+
+counted_said : {R C : Type 0} (ts : List (Turn R C)) → counted ts ≡ said (λ item. 1) ts
+counted_said ts = sum_by_same (λ t. length t.items) (λ t. sum_by (λ item. 1) t.items) (λ t. sym (sum_by-one t.items)) ts
 
 pub counted_exchange : {R X C : Type 0} (g : Rules R X C) (a b : List R) (x : X) → HasDisjointParts g → CanCut g a → CanCut g b
-    → counted (exchange g a b (Some x)) ≤ max 3 (3 * (length (rows_in g x a) + length (rows_in g x b)))
+    → counted (exchange g a b (Some x)) ≤ max 3 (3 * (length (box_rows g x a) + length (box_rows g x b)))
 counted_exchange g a b x disjoint can_a can_b =
-    let n = enough g a b x in
     let asks = first_asks g a x in
-    let rest = turns g n b a asks in
-    let within = turns_within g n b a (λ item. 1) (λ item. 1) (cost g b a) (cost g a b) (costs_within g disjoint b a can_b) (costs_within g disjoint a b can_a) asks in
-    omega (arith, sum_by-cons (λ u. length u.items) (first_turn g a x) rest, counted-sides rest, within, first_cost g a b x)
+    let rest = turns g (enough g a b x) b a asks in
+    let within = turns_within g (enough g a b x) b a (λ item. 1) (λ item. 1) (cost g b a) (cost g a b) (costs_within g disjoint b a can_b) (costs_within g disjoint a b can_a) asks in
+    omega (
+      arith,
+      sum_by-cons (λ u. length u.items) (first_turn g a x) rest,
+      counted_sides rest,
+      counted_said (caller_turns rest),
+      counted_said (answerer_turns rest),
+      within,
+      first_cost g a b x,
+    )

@@ -3,7 +3,7 @@ use Rattle.std.proofs.Common.{◌≡◌, ℕ, zero, suc, ◌≤◌, ◌<◌, Boo
 use Rattle.std.specs.List.{list_any}
 use Rattle.std.proofs.lemmas.Bool.{eq-eqb, and_from}
 use Rattle.std.proofs.lemmas.List.{length-map}
-use Rattle.exchange_rules.specs.Rules.{Rules, rows_in, print_in}
+use Rattle.exchange_rules.specs.Rules.{Rules, box_rows, box_print}
 use Rattle.exchange_rules.specs.Items.{Ask, Print, Sent, Split, Turn, is_empty, caller_turns, answerer_turns}
 use Rattle.exchange_rules.specs.Answer.{print_ask, lacking, reply, opened, turn}
 use Rattle.exchange_rules.specs.Exchange.{turns, enough, exchange, first_turn, first_asks}
@@ -40,25 +40,25 @@ ended_as_opened (ask ∷ asks) = refl
 -- ---- what a side writes is never refused, and is read as opening what it opens
 
 module _ {R X C : Type 0} (g : Rules R X C) (l : List R) (can_cut : CanCut g l) (can_send : CanSend g l) where
-  all_legal : (x : X) → g.is_legal x (rows_in g x l) ≡ true
-  all_legal x = sym (ap (g.is_legal x) (filter_all (rows_in g x l))) ∙ can_send x (λ r. true)
+  all_legal : (x : X) → g.is_legal x (box_rows g x l) ≡ true
+  all_legal x = sym (ap (g.is_legal x) (filter_all (box_rows g x l))) ∙ can_send x (λ r. true)
 
-  read_split : (x : X) (print : List ℕ) (cut : C) → g.choice (rows_in g x l) ≡ Some cut
-      → opens_at g (Print x print) (Split cut (map (λ y. print_in g y l) (g.parts x cut))) ≡ Some (map (print_ask g l) (g.parts x cut))
+  read_split : (x : X) (print : List ℕ) (cut : C) → g.choice (box_rows g x l) ≡ Some cut
+      → opens_at g (Print x print) (Split cut (map (λ y. box_print g y l) (g.parts x cut))) ≡ Some (map (print_ask g l) (g.parts x cut))
   unfolding opens_at
   read_split x print cut is =
       let parts = g.parts x cut in
-      let prints = map (λ y. print_in g y l) parts in
+      let prints = map (λ y. box_print g y l) parts in
       let fits = and_from (not (is_empty parts)) (nat_eq (length parts) (length prints)) (not_empty parts (can_cut x cut is).several)
-      (eq-eqb (length parts) (length prints) (sym (length-map parts (λ y. print_in g y l)))) in
-      some_if (fits_parts parts prints) (part_asks parts prints) fits ∙ ap Some (part_asks-map R (λ y. print_in g y l) parts)
+      (eq-eqb (length parts) (length prints) (sym (length-map parts (λ y. box_print g y l)))) in
+      some_if (fits_parts parts prints) (part_asks parts prints) fits ∙ ap Some (part_asks-map R (λ y. box_print g y l) parts)
 
   read_answer : (ask : Ask R X) → opens_at g ask (reply g l ask).item ≡ Some (reply g l ask).opens
   unfolding reply opens_at
   read_answer (Print x print) =
       reply_cases g l x print (λ r. opens_at g (Print x print) r.item ≡ Some r.opens)
       (λ same. refl)
-      (λ few. some_if (g.is_legal x (rows_in g x l)) (Sent x (rows_in g x l) ∷ []) (all_legal x))
+      (λ few. some_if (g.is_legal x (box_rows g x l)) (Sent x (box_rows g x l) ∷ []) (all_legal x))
       (λ cut is. read_split x print cut is)
   read_answer (Sent x sent) =
       some_if (g.is_legal x (lacking g l x sent)) [] (can_send x (λ r. not (list_any (g.same_row r) sent)))

@@ -6,10 +6,10 @@ use Rattle.std.proofs.lemmas.Bool.{and_parts, and_from, cond-true, eqb-true, eq-
 use Rattle.std.proofs.lemmas.Bool.Decides.{nat_tests}
 use Rattle.std.proofs.lemmas.List.Sums.{length-filter, AllPass-from_list_all, list_all-from_AllPass}
 use Rattle.std.proofs.lemmas.List.Elements.{All-filter, All-get_or, All-contains_itself, filter_passes}
-use Rattle.exchange_rules.specs.Rules.{rows_in}
+use Rattle.exchange_rules.specs.Rules.{box_rows}
 use Rattle.exchange_rules.specs.Items.{Ask, Print, Sent}
 use Rattle.exchange_rules.specs.Exchange.{asked, enough, first_asks, IsApart, Apart}
-use Rattle.exchange_rules.specs.Premises.{boxes_with, IsDeciding, HasDisjointParts, IsCut, CanCut, CanSend}
+use Rattle.exchange_rules.specs.Premises.{boxes_with, IsDeciding, HasDisjointParts, DividesRows, CanCut, CanSend}
 use Rattle.exchange_rules.specs.Numbers.{Range, range_has, is_rising, halves, of_numbers}
 use Rattle.exchange_rules.proofs.Members.{contains_counted}
 
@@ -83,7 +83,7 @@ module _ (l : List ℕ) (rises : is_rising l ≡ true) where
       (and_from (ltb x.start n) (ltb n x.end) (lt-ltb x.start n h) (lt-ltb n x.end k))
 
   -- the first number of a range is below the cut, and the cut is a number of it
-  cut_at : (x : Range) (k : ℕ) → 0 < k → k < length (filter (range_has x) l) → IsCut of_numbers l x (get_or (filter (range_has x) l) k 0)
+  cut_at : (x : Range) (k : ℕ) → 0 < k → k < length (filter (range_has x) l) → DividesRows of_numbers l x (get_or (filter (range_has x) l) k 0)
   cut_at x k pos below =
       let ns = filter (range_has x) l in
       let n = get_or ns k 0 in
@@ -98,7 +98,7 @@ module _ (l : List ℕ) (rises : is_rising l ≡ true) where
       let e = two_halves x n (omega (arith, first.0, less)) here.1 in
       record {
         several = subst (λ ys. 2 ≤ length ys) (sym e) (omega arith);
-        own = subst (AllByRecursion (λ y. 1 ≤ length (rows_in of_numbers y l))) (sym e) (has_own x lower 0 low in_lower, (has_own x upper k below in_upper, tt));
+        own = subst (AllByRecursion (λ y. 1 ≤ length (box_rows of_numbers y l))) (sym e) (has_own x lower 0 low in_lower, (has_own x upper k below in_upper, tt));
         covers = λ r. subst (λ ys. cond (range_has x r) 1 0 ≤ boxes_with of_numbers r ys) (sym e) (each_once x.start x.end n r (omega (arith, first.0, less)) here.1);
       }
 
@@ -107,7 +107,7 @@ module _ (l : List ℕ) (rises : is_rising l ≡ true) where
       let ns = filter (range_has x) l in
       let c = chosen (leb (length ns) 2) (get_or ns (length ns / 2) 0) cut is in
       let many = leb-false (length ns) 2 c.0 in
-      subst (IsCut of_numbers l x) c.1 (cut_at x (length ns / 2) (omega arith) (omega arith))
+      subst (DividesRows of_numbers l x) c.1 (cut_at x (length ns / 2) (omega arith) (omega arith))
 
 -- the fingerprints of numbers tell all apart
 pub numbers_apart : (a b : List ℕ) (x : Range) → Apart of_numbers a b x

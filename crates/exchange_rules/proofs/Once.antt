@@ -3,7 +3,7 @@ use Rattle.std.proofs.Common.{◌≡◌, ℕ, ◌+◌, ◌≤◌, Bool, true, fa
 use Rattle.std.specs.List.{AllByRecursion, IsDistinct}
 use Rattle.std.proofs.lemmas.Bool.{false≢true}
 use Rattle.std.proofs.lemmas.List.Sums.{sum_by-cons}
-use Rattle.exchange_rules.specs.Rules.{Rules, rows_in}
+use Rattle.exchange_rules.specs.Rules.{Rules, box_rows}
 use Rattle.exchange_rules.specs.Premises.{IsDeciding}
 use Rattle.exchange_rules.proofs.Sums.{count_by-filter-le}
 use Rattle.exchange_rules.proofs.Members.{contains_counted, counted_contains}
@@ -51,10 +51,10 @@ module _ {S : Type 0} (same : S → S → Bool) (decides : (r s : S) → (same r
 
 -- rows that are counted no more often than the side holds them in the box are rows of it there, and each is sent once
 module _ {R X C : Type 0} (g : Rules R X C) (decides : IsDeciding g) (l : List R) (x : X) (sent : List R)
-    (within : (q : R → Bool) → count_by q sent ≤ count_by q (rows_in g x l)) where
-  pub held_rows : (r : R) → Contains sent r → Contains (rows_in g x l) r
+    (within : (q : R → Bool) → count_by q sent ≤ count_by q (box_rows g x l)) where
+  pub held_rows : (r : R) → Contains sent r → Contains (box_rows g x l) r
   held_rows r c =
-      counted_contains (g.same_row r) r (λ s e. sym ((decides.rows r s).0 e)) (rows_in g x l)
+      counted_contains (g.same_row r) r (λ s e. sym ((decides.rows r s).0 e)) (box_rows g x l)
       (omega (arith, contains_counted (g.same_row r) sent r ((decides.rows r r).1 refl) c, within (g.same_row r)))
 
   pub distinct_rows : IsDistinct g.same_row l → IsDistinct g.same_row sent

@@ -1,7 +1,7 @@
 -- The exchange of two sides, each with the same rows in the box as another, is that of the others.
 use Rattle.std.proofs.Common.{◌≡◌, ℕ, zero, suc, ◌+◌, ◌*◌, List, [], ◌∷◌, ◌++◌, length, Some, sym, refl, ap, ap₂, ◌∙◌, subst}
 use Rattle.std.specs.List.{AllByRecursion}
-use Rattle.exchange_rules.specs.Rules.{Rules, rows_in, print_in}
+use Rattle.exchange_rules.specs.Rules.{Rules, box_rows, box_print}
 use Rattle.exchange_rules.specs.Items.{Ask, Print, Sent}
 use Rattle.exchange_rules.specs.Answer.{opened}
 use Rattle.exchange_rules.specs.Exchange.{turns, asked, enough, exchange, first_asks, IsApart, Apart}
@@ -10,7 +10,7 @@ use Rattle.exchange_rules.proofs.Members.{all-append}
 use Rattle.exchange_rules.proofs.Worlds.{Inside, IsInside, rows_alike, opened_inside, opened_alike, turn_alike, begun_with}
 
 module _ {R X C : Type 0} (g : Rules R X C) (disjoint : HasDisjointParts g) (x : X) where
-  turns_alike : (n : ℕ) (l l' m m' : List R) → rows_in g x l ≡ rows_in g x l' → rows_in g x m ≡ rows_in g x m'
+  turns_alike : (n : ℕ) (l l' m m' : List R) → box_rows g x l ≡ box_rows g x l' → box_rows g x m ≡ box_rows g x m'
       → (asks : List (Ask R X)) → AllByRecursion (IsInside g x) asks → turns g n l m asks ≡ turns g n l' m' asks
   unfolding turns
   turns_alike zero l l' m m' e f asks h = refl
@@ -20,7 +20,7 @@ module _ {R X C : Type 0} (g : Rules R X C) (disjoint : HasDisjointParts g) (x :
       (turns_alike n m m' l l' f e (opened g l (ask ∷ asks)) (opened_inside g disjoint x l (ask ∷ asks) h)
       ∙ ap (turns g n m' l') (opened_alike g disjoint x l l' e (ask ∷ asks) h))
 
-  asked_alike : (n : ℕ) (l l' m m' : List R) → rows_in g x l ≡ rows_in g x l' → rows_in g x m ≡ rows_in g x m'
+  asked_alike : (n : ℕ) (l l' m m' : List R) → box_rows g x l ≡ box_rows g x l' → box_rows g x m ≡ box_rows g x m'
       → (asks : List (Ask R X)) → AllByRecursion (IsInside g x) asks → asked g n l m asks ≡ asked g n l' m' asks
   unfolding asked
   asked_alike zero l l' m m' e f asks h = refl
@@ -38,14 +38,14 @@ module _ {R X C : Type 0} (g : Rules R X C) (disjoint : HasDisjointParts g) (x :
       all-append (IsInside g x) (ask ∷ asks) (asked g n m l (opened g l (ask ∷ asks))) h
       (asked_inside n m l (opened g l (ask ∷ asks)) (opened_inside g disjoint x l (ask ∷ asks) h))
 
-  module _ (a a' b b' : List R) (e : rows_in g x a ≡ rows_in g x a') (f : rows_in g x b ≡ rows_in g x b') where
+  module _ (a a' b b' : List R) (e : box_rows g x a ≡ box_rows g x a') (f : box_rows g x b ≡ box_rows g x b') where
     whole : Inside g x x
     whole r h = h
 
     same_enough : enough g a b x ≡ enough g a' b' x
     same_enough = ap₂ (λ rows others. 3 + 3 * (length rows + length others)) e f
 
-    same_first : print_in g x a ≡ print_in g x a'
+    same_first : box_print g x a ≡ box_print g x a'
     same_first = ap g.print e
 
     pub exchange_alike : exchange g a b (Some x) ≡ exchange g a' b' (Some x)

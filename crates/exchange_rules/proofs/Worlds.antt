@@ -3,7 +3,7 @@ use Rattle.std.proofs.Common.{◌≡◌, ℕ, ◌+◌, ◌≤◌, Bool, true, fa
 use Rattle.std.specs.List.{AllByRecursion, list_any}
 use Rattle.std.proofs.lemmas.Bool.{false≢true, cond-false, false_from_ne_true}
 use Rattle.std.proofs.lemmas.List.Sums.{sum_by-cons}
-use Rattle.exchange_rules.specs.Rules.{Rules, rows_in, print_in}
+use Rattle.exchange_rules.specs.Rules.{Rules, box_rows, box_print}
 use Rattle.exchange_rules.specs.Items.{Ask, Print, Sent, Item, First, Agree, Split, Entries, Rest, Turn, is_empty}
 use Rattle.exchange_rules.specs.Answer.{Reply, print_ask, differing, reply, opened, turn}
 use Rattle.exchange_rules.specs.Exchange.{first_asks}
@@ -51,7 +51,7 @@ module _ {R X C : Type 0} (g : Rules R X C) where
       let n = λ (r : R). sum_by-cons (λ z. cond (g.has z r) 1 0) y ys in
       ((λ r e. inside_from_count (g.has y r) (g.has x r) (boxes_with g r ys) (omega (arith, h r, n r)) e), each_inside x ys (λ r. omega (arith, h r, n r)))
 
-  pub rows_alike : (l l' : List R) (x y : X) → Inside x y → rows_in g x l ≡ rows_in g x l' → rows_in g y l ≡ rows_in g y l'
+  pub rows_alike : (l l' : List R) (x y : X) → Inside x y → box_rows g x l ≡ box_rows g x l' → box_rows g y l ≡ box_rows g y l'
   rows_alike l l' x y inside e =
       sym (filter_again (g.has y) (g.has x) inside l) ∙ ap (λ rows. filter (g.has y) rows) e ∙ filter_again (g.has y) (g.has x) inside l'
 
@@ -153,8 +153,8 @@ module _ {R X C : Type 0} (g : Rules R X C) where
 
     -- ---- the same rows in the box
 
-    module _ (l l' : List R) (same : rows_in g x l ≡ rows_in g x l') where
-      print_alike : (y : X) → Inside x y → print_in g y l ≡ print_in g y l'
+    module _ (l l' : List R) (same : box_rows g x l ≡ box_rows g x l') where
+      print_alike : (y : X) → Inside x y → box_print g y l ≡ box_print g y l'
       print_alike y inside = ap g.print (rows_alike l l' x y inside same)
 
       differing_alike : (y : X) → Inside x y → (choice : Option C) → differing g l y choice ≡ differing g l' y choice
@@ -162,14 +162,14 @@ module _ {R X C : Type 0} (g : Rules R X C) where
       differing_alike y inside None = ap (entries_of y) (rows_alike l l' x y inside same)
       differing_alike y inside (Some cut) =
           ap₂ (split_of cut)
-          (map_alike (λ z. print_in g z l) (λ z. print_in g z l') (g.parts y cut) (all_weaker (Inside x) (λ z. print_in g z l ≡ print_in g z l') print_alike (g.parts y cut) (parts_inside y inside cut)))
+          (map_alike (λ z. box_print g z l) (λ z. box_print g z l') (g.parts y cut) (all_weaker (Inside x) (λ z. box_print g z l ≡ box_print g z l') print_alike (g.parts y cut) (parts_inside y inside cut)))
           (map_alike (print_ask g l) (print_ask g l') (g.parts y cut) (all_weaker (Inside x) (λ z. print_ask g l z ≡ print_ask g l' z) (λ z i. ap (λ print. Print z print) (print_alike z i)) (g.parts y cut) (parts_inside y inside cut)))
 
       reply_alike : (ask : Ask R X) → IsInside x ask → reply g l ask ≡ reply g l' ask
       unfolding reply
       reply_alike (Print y print) inside =
           ap (λ rows. cond (g.same_print print (g.print rows)) agreed (differing g l y (g.choice rows))) (rows_alike l l' x y inside same)
-          ∙ ap (λ d. cond (g.same_print print (print_in g y l')) agreed d) (differing_alike y inside (g.choice (rows_in g y l')))
+          ∙ ap (λ d. cond (g.same_print print (box_print g y l')) agreed d) (differing_alike y inside (g.choice (box_rows g y l')))
       reply_alike (Sent y sent) inside = ap (rest_of sent) (rows_alike l l' x y inside same)
         where
           rest_of : List R → List R → Reply R X C

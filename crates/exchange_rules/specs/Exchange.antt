@@ -1,7 +1,7 @@
 -- The exchange: the turns that two sides take, and what it means that fingerprints tell their rows apart.
 use Rattle.std.specs.Prelude.{◌≡◌, ℕ, zero, suc, ◌+◌, ◌*◌, true, false, List, [], ◌∷◌, ◌++◌, length, Option, None, Some}
 use Rattle.std.specs.List.{AllByRecursion}
-use Rattle.exchange_rules.specs.Rules.{Rules, rows_in, print_in}
+use Rattle.exchange_rules.specs.Rules.{Rules, box_rows, box_print}
 use Rattle.exchange_rules.specs.Items.{Ask, Print, Sent, First, Turn, bye}
 use Rattle.exchange_rules.specs.Answer.{print_ask, opened, turn}
 
@@ -20,11 +20,11 @@ asked g (suc most) l m (ask ∷ asks) = (ask ∷ asks) ++ asked g most m l (open
 
 -- how many turns are enough behind the first
 abbrev pub enough : {R X C : Type 0} → Rules R X C → List R → List R → X → ℕ
-enough g a b x = 3 + 3 * (length (rows_in g x a) + length (rows_in g x b))
+enough g a b x = 3 + 3 * (length (box_rows g x a) + length (box_rows g x b))
 
 -- the first turn, and what it opens
 abbrev pub first_turn : {R X C : Type 0} → Rules R X C → List R → X → Turn R C
-first_turn g a x = record { items = First (print_in g x a) ∷ []; ends_with_bye = false }
+first_turn g a x = record { items = First (box_print g x a) ∷ []; ends_with_bye = false }
 
 abbrev pub first_asks : {R X C : Type 0} → Rules R X C → List R → X → List (Ask R X)
 first_asks g a x = print_ask g a x ∷ []
@@ -36,7 +36,7 @@ exchange g a b (Some x) = first_turn g a x ∷ turns g (enough g a b x) b a (fir
 
 -- where the two sides' fingerprints of the asked box are equal, their rows in it are
 abbrev pub IsApart : {R X C : Type 0} → Rules R X C → List R → List R → Ask R X → Type 0
-IsApart g a b (Print x print) = print_in g x a ≡ print_in g x b → rows_in g x a ≡ rows_in g x b
+IsApart g a b (Print x print) = box_print g x a ≡ box_print g x b → box_rows g x a ≡ box_rows g x b
 IsApart g a b (Sent x sent) = Unit {0}
 
 -- so it is at each ask of the exchange

@@ -43,8 +43,8 @@ rows_of_item (Rest rows) = rows
 abbrev pub rows_of_turn : {R C : Type 0} → Turn R C → List R
 rows_of_turn t = flat_map rows_of_item t.items
 
-abbrev pub rows_of : {R C : Type 0} → List (Turn R C) → List R
-rows_of ts = flat_map rows_of_turn ts
+abbrev pub rows_of_turns : {R C : Type 0} → List (Turn R C) → List R
+rows_of_turns ts = flat_map rows_of_turn ts
 
 -- how many items are said in some turns
 abbrev pub counted : {R C : Type 0} → List (Turn R C) → ℕ
@@ -62,7 +62,7 @@ answerer_turns (t ∷ ts) = caller_turns ts
 
 -- the rows that are sent to the side that answers, and to the side that begins
 abbrev pub to_right : {R C : Type 0} → List (Turn R C) → List R
-to_right ts = rows_of (caller_turns ts)
+to_right ts = rows_of_turns (caller_turns ts)
 
 abbrev pub to_left : {R C : Type 0} → List (Turn R C) → List R
-to_left ts = rows_of (answerer_turns ts)
+to_left ts = rows_of_turns (answerer_turns ts)

@@ -18,9 +18,9 @@ pub record Rules (R X C : Type 0) : Type 0 where
   pub is_legal : X → List R → Bool
 
 -- the rows of a side that a box has, in order
-abbrev pub rows_in : {R X C : Type 0} → Rules R X C → X → List R → List R
-rows_in g x l = filter (g.has x) l
+abbrev pub box_rows : {R X C : Type 0} → Rules R X C → X → List R → List R
+box_rows g x l = filter (g.has x) l
 
 -- the fingerprint of the rows of a side that a box has
-abbrev pub print_in : {R X C : Type 0} → Rules R X C → X → List R → List ℕ
-print_in g x l = g.print (rows_in g x l)
+abbrev pub box_print : {R X C : Type 0} → Rules R X C → X → List R → List ℕ
+box_print g x l = g.print (box_rows g x l)

@@ -14,10 +14,10 @@ pub returns-clause-answerer_once : goal.returns-clause-answerer_once
 returns-clause-answerer_once g c = λ rules l x read decides disjoint. answerer_once rules decides disjoint l x read
 
 pub returns-clause-caller_counted : goal.returns-clause-caller_counted
-returns-clause-caller_counted g c = λ rules l x read passes disjoint. caller_within rules disjoint passes l x read
+returns-clause-caller_counted g c = λ rules l x read disjoint passes. caller_within rules disjoint passes l x read
 
 pub returns-clause-answerer_counted : goal.returns-clause-answerer_counted
-returns-clause-answerer_counted g c = λ rules l x read passes disjoint. answerer_within rules disjoint passes l x read
+returns-clause-answerer_counted g c = λ rules l x read disjoint passes. answerer_within rules disjoint passes l x read
 
 pub returns-clause-without_a_box : goal.returns-clause-without_a_box
 returns-clause-without_a_box g c = none_without_a_box
