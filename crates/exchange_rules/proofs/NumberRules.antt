@@ -13,8 +13,8 @@ use Rattle.exchange_rules.specs.Premises.{boxes_with, IsDeciding, HasDisjointPar
 use Rattle.exchange_rules.specs.Numbers.{Range, range_has, is_rising, halves, of_numbers}
 use Rattle.exchange_rules.proofs.Members.{contains_counted}
 
-pub numbers_decide : IsDeciding of_numbers
-numbers_decide = record { rows = λ n m. (eqb-true n m, eq-eqb n m); prints = bytes_decides }
+pub numbers_decide : (few : ℕ) → IsDeciding (of_numbers few)
+numbers_decide few = record { rows = λ n m. (eqb-true n m, eq-eqb n m); prints = bytes_decides }
 
 -- below a number and from it on, each number of the range stands once, and no other
 once_within : (start end n r : ℕ) → cond (ltb start n && ltb n end)
@@ -25,8 +25,8 @@ count_if : {A : Type 0} (p : A → Bool) (b : Bool) (xs : List A) → count_by p
 count_if p true xs = refl
 count_if p false xs = refl
 
-pub numbers_disjoint : HasDisjointParts of_numbers
-numbers_disjoint x n r =
+pub numbers_disjoint : (few : ℕ) → HasDisjointParts (of_numbers few)
+numbers_disjoint few x n r =
     let both : List Range = record { start = x.start; end = n } ∷ record { start = n; end = x.end } ∷ [] in
     omega (arith, count_if (λ y. range_has y r) (ltb x.start n && ltb n x.end) both, once_within x.start x.end n r)
 
@@ -58,8 +58,8 @@ chosen : (b : Bool) (n cut : ℕ) → cond b None (Some n) ≡ Some cut → (b �
 chosen true n cut e = absurd cc
 chosen false n cut e = (refl, cc)
 
-module _ (l : List ℕ) (rises : is_rising l ≡ true) where
-  pub numbers_can_send : CanSend of_numbers l
+module _ (few : ℕ) (l : List ℕ) (rises : is_rising l ≡ true) where
+  pub numbers_can_send : CanSend (of_numbers few) l
   numbers_can_send x kept =
       let rows = filter kept (filter (range_has x) l) in
       and_from (list_all (range_has x) rows) (is_rising rows)
@@ -83,7 +83,7 @@ module _ (l : List ℕ) (rises : is_rising l ≡ true) where
       (and_from (ltb x.start n) (ltb n x.end) (lt-ltb x.start n h) (lt-ltb n x.end k))
 
   -- the first number of a range is below the cut, and the cut is a number of it
-  cut_at : (x : Range) (k : ℕ) → 0 < k → k < length (filter (range_has x) l) → DividesRows of_numbers l x (get_or (filter (range_has x) l) k 0)
+  cut_at : (x : Range) (k : ℕ) → 0 < k → k < length (filter (range_has x) l) → DividesRows (of_numbers few) l x (get_or (filter (range_has x) l) k 0)
   cut_at x k pos below =
       let ns = filter (range_has x) l in
       let n = get_or ns k 0 in
@@ -98,22 +98,22 @@ module _ (l : List ℕ) (rises : is_rising l ≡ true) where
       let e = two_halves x n (omega (arith, first.0, less)) here.1 in
       record {
         several = subst (λ ys. 2 ≤ length ys) (sym e) (omega arith);
-        own = subst (AllByRecursion (λ y. 1 ≤ length (box_rows of_numbers y l))) (sym e) (has_own x lower 0 low in_lower, (has_own x upper k below in_upper, tt));
-        covers = λ r. subst (λ ys. cond (range_has x r) 1 0 ≤ boxes_with of_numbers r ys) (sym e) (each_once x.start x.end n r (omega (arith, first.0, less)) here.1);
+        own = subst (AllByRecursion (λ y. 1 ≤ length (box_rows (of_numbers few) y l))) (sym e) (has_own x lower 0 low in_lower, (has_own x upper k below in_upper, tt));
+        covers = λ r. subst (λ ys. cond (range_has x r) 1 0 ≤ boxes_with (of_numbers few) r ys) (sym e) (each_once x.start x.end n r (omega (arith, first.0, less)) here.1);
       }
 
-  pub numbers_can_cut : CanCut of_numbers l
-  numbers_can_cut x cut is =
+  pub numbers_can_cut : 0 < few → CanCut (of_numbers few) l
+  numbers_can_cut some x cut is =
       let ns = filter (range_has x) l in
-      let c = chosen (leb (length ns) 2) (get_or ns (length ns / 2) 0) cut is in
-      let many = leb-false (length ns) 2 c.0 in
-      subst (DividesRows of_numbers l x) c.1 (cut_at x (length ns / 2) (omega arith) (omega arith))
+      let c = chosen (leb (length ns) few) (get_or ns (length ns / 2) 0) cut is in
+      let many = leb-false (length ns) few c.0 in
+      subst (DividesRows (of_numbers few) l x) c.1 (cut_at x (length ns / 2) (omega arith) (omega arith))
 
 -- the fingerprints of numbers tell all apart
-pub numbers_apart : (a b : List ℕ) (x : Range) → Apart of_numbers a b x
-numbers_apart a b x = each_apart (asked of_numbers (enough of_numbers a b x) b a (first_asks of_numbers a x))
+pub numbers_apart : (few : ℕ) (a b : List ℕ) (x : Range) → Apart (of_numbers few) a b x
+numbers_apart few a b x = each_apart (asked (of_numbers few) (enough (of_numbers few) a b x) b a (first_asks (of_numbers few) a x))
   where
-    each_apart : (asks : List (Ask ℕ Range)) → AllByRecursion (IsApart of_numbers a b) asks
+    each_apart : (asks : List (Ask ℕ Range)) → AllByRecursion (IsApart (of_numbers few) a b) asks
     each_apart [] = tt
     each_apart (Print y print ∷ asks) = ((λ e. e), each_apart asks)
     each_apart (Sent y sent ∷ asks) = (tt, each_apart asks)

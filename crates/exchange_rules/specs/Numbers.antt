@@ -22,18 +22,18 @@ abbrev pub halves : Range → ℕ → List Range
 halves x n =
     if nat_lt x.start n && nat_lt n x.end then record { start = x.start; end = n } ∷ record { start = n; end = x.end } ∷ [] else []
 
--- two numbers are few enough to be sent; else the one in the middle is where to cut
-abbrev pub middle : List ℕ → Option ℕ
-middle ns = if nat_le (length ns) 2 then None else Some (slice_index ns (length ns / 2))
+-- up to so many numbers are few enough to be sent; else the one in the middle is where to cut
+abbrev pub middle : ℕ → List ℕ → Option ℕ
+middle few ns = if nat_le (length ns) few then None else Some (slice_index ns (length ns / 2))
 
 -- the fingerprint of numbers is the numbers themselves
-abbrev pub of_numbers : Rules ℕ Range ℕ
-of_numbers = record {
+abbrev pub of_numbers : ℕ → Rules ℕ Range ℕ
+of_numbers few = record {
   same_row = nat_eq;
   same_print = pointwise nat_eq;
   has = range_has;
   print = λ ns. ns;
-  choice = middle;
+  choice = middle few;
   parts = halves;
   is_legal = λ x ns. list_all (range_has x) ns && is_rising ns;
 }

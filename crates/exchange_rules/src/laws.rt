@@ -1,7 +1,7 @@
 //! The laws of the exchange, each the contract of a function that does nothing, at whatever rows `R`, boxes `X` and
 //! cuts `C` there are.
 
-ghost use Rattle.std.specs.Prelude.{◌≡◌, ◌⊎◌, ℕ, ◌+◌, ◌*◌, ◌≤◌, max, Bool, IsTrue, count_by, List, [], ◌∷◌, length, take, Contains, Option, Some, None};
+ghost use Rattle.std.specs.Prelude.{◌≡◌, ◌⊎◌, ℕ, ◌+◌, ◌*◌, ◌<◌, ◌≤◌, max, Bool, IsTrue, count_by, List, [], ◌∷◌, length, take, Contains, Option, Some, None};
 ghost use Rattle.std.specs.List.{IsDistinct};
 ghost use Rattle.exchange_rules.specs.Rules.{Rules, box_rows};
 ghost use Rattle.exchange_rules.specs.Items.{Turn, rows_of_turns, counted, to_left, to_right, caller_turns, answerer_turns};
@@ -9,7 +9,7 @@ ghost use Rattle.exchange_rules.specs.Exchange.{exchange, turns, enough, first_a
 ghost use Rattle.exchange_rules.specs.AnyPeer.{caller, answerer};
 ghost use Rattle.exchange_rules.specs.Premises.{IsDeciding, HasDisjointParts, CanCut, CanSend};
 ghost use Rattle.exchange_rules.specs.Numbers.{Range, is_rising, of_numbers};
-ghost use Rattle.exchange_rules.specs.Small.{one_to_six, seven_for_five, up_to_ten, turns_of_caller, turns_of_answerer, small_exchange};
+ghost use Rattle.exchange_rules.specs.Small.{doubles, doubles_but_one, up_to_eighty, sixteen_few, items_by_turn, one_to_six, seven_for_five, up_to_ten, turns_of_caller, turns_of_answerer, small_exchange};
 
 /// A small exchange of numbers is the one that was written out by hand, and so is what each side writes alone.
 #[tactic(auto, unfolding(crate::specs::Answer::reply, crate::specs::Exchange::turns, crate::specs::AnyPeer::opens_at, crate::specs::AnyPeer::heard, crate::specs::AnyPeer::answers))]
@@ -19,18 +19,31 @@ pub fn a_small_exchange()
     ensures to_left { to_left small_exchange ≡ 6 ∷ 7 ∷ [] }
     ensures to_right { to_right small_exchange ≡ 5 ∷ [] }
     ensures counted { counted small_exchange ≡ 7 }
-    ensures caller_alone { caller of_numbers one_to_six (Some up_to_ten) turns_of_answerer ≡ turns_of_caller }
-    ensures answerer_alone { answerer of_numbers seven_for_five (Some up_to_ten) turns_of_caller ≡ turns_of_answerer }
+    ensures caller_alone { caller (of_numbers 2) one_to_six (Some up_to_ten) turns_of_answerer ≡ turns_of_caller }
+    ensures answerer_alone { answerer (of_numbers 2) seven_for_five (Some up_to_ten) turns_of_caller ≡ turns_of_answerer }
 {}
 
-/// The rules of the small exchange meet all that the laws ask, for every two lists of rising numbers.
-#[tactic(auto, using(crate::proofs::NumberRules::numbers_decide, crate::proofs::NumberRules::numbers_disjoint, crate::proofs::NumberRules::numbers_can_cut, crate::proofs::NumberRules::numbers_can_send, crate::proofs::NumberRules::numbers_apart))]
+/// Where sixteen rows are few: forty rows a side of which one differs are told in seven items, seventeen rows to a side
+/// that has none in six, and nothing to nobody in two. Without a box there are just the farewells.
+#[tactic(auto, unfolding(crate::specs::Answer::reply, crate::specs::Exchange::turns))]
+pub fn exchanges_of_many()
+    ensures one_differs { items_by_turn (sixteen_few (doubles 40) doubles_but_one (Some up_to_eighty))
+        ≡ 1 ∷ 1 ∷ 2 ∷ 2 ∷ 1 ∷ 0 ∷ [] }
+    ensures left_has_it { to_left (sixteen_few (doubles 40) doubles_but_one (Some up_to_eighty))
+        ≡ 40 ∷ 42 ∷ 44 ∷ 46 ∷ 48 ∷ 51 ∷ 52 ∷ 54 ∷ 56 ∷ 58 ∷ [] }
+    ensures right_has_it { to_right (sixteen_few (doubles 40) doubles_but_one (Some up_to_eighty)) ≡ 50 ∷ [] }
+    ensures none_here { items_by_turn (sixteen_few [] (doubles 17) (Some up_to_eighty)) ≡ 1 ∷ 1 ∷ 2 ∷ 2 ∷ 0 ∷ [] }
+    ensures none_at_all { items_by_turn (sixteen_few [] [] (Some up_to_eighty)) ≡ 1 ∷ 1 ∷ 0 ∷ [] }
+    ensures no_box { items_by_turn (sixteen_few (doubles 40) doubles_but_one None) ≡ 0 ∷ 0 ∷ [] }
+{}
+
+/// The rules of these exchanges meet all that the laws ask, for every two lists of rising numbers.
 pub fn numbers()
-    ensures decide { IsDeciding of_numbers }
-    ensures disjoint { HasDisjointParts of_numbers }
-    ensures can_cut { (l : List ℕ) → IsTrue (is_rising l) → CanCut of_numbers l }
-    ensures can_send { (l : List ℕ) → IsTrue (is_rising l) → CanSend of_numbers l }
-    ensures apart { (a b : List ℕ) (x : Range) → Apart of_numbers a b x }
+    ensures decide { (few : ℕ) → IsDeciding (of_numbers few) }
+    ensures disjoint { (few : ℕ) → HasDisjointParts (of_numbers few) }
+    ensures can_cut { (few : ℕ) (l : List ℕ) → 0 < few → IsTrue (is_rising l) → CanCut (of_numbers few) l }
+    ensures can_send { (few : ℕ) (l : List ℕ) → IsTrue (is_rising l) → CanSend (of_numbers few) l }
+    ensures apart { (few : ℕ) (a b : List ℕ) (x : Range) → Apart (of_numbers few) a b x }
 {}
 
 /// The exchange ends with a farewell of each side, and with more turns allowed it is the same.

@@ -1,6 +1,7 @@
 #[test]
 fn the_laws_can_be_called() {
     crate::laws::a_small_exchange();
+    crate::laws::exchanges_of_many();
     crate::laws::numbers();
     crate::laws::exchange_ends::<u8, u16, u32>();
     crate::laws::bound::<u8, u16, u32>();
