@@ -1,0 +1,14 @@
+pub mod Sums
+pub mod Members
+pub mod Once
+pub mod Replies
+pub mod Potentials
+pub mod Costs
+pub mod Ends
+pub mod Sending
+pub mod Converging
+pub mod AnyPeer
+pub mod Worlds
+pub mod TwoExchanges
+pub mod Meeting
+pub mod NumberRules
