@@ -1,10 +1,9 @@
 -- What a hello that passes asks for, its capability grants.
-use Rattle.std.proofs.Common.{◌≡◌, ℕ, ◌-◌, List, [], ◌∷◌, length, zero, suc, Option, Some, None, slice_get, refl, sym, ap, subst, arith}
+use Rattle.std.proofs.Common.{ℕ, ◌-◌, List, [], ◌∷◌, length, zero, suc, Option, Some, None, slice_get, arith}
 use Rattle.std.specs.Prelude.{IfSome}
 use Rattle.std.specs.List.{AllByRecursion}
 use Rattle.willow_path.specs.Key.{IsKey}
 use Rattle.willow_area.specs.Area.{IsArea}
-use Rattle.willow_area.specs.AreaMeaning.{Includes}
 use Rattle.willow_area.specs.declared.area.Area.{Area}
 use Rattle.willow_area.proofs.Including.{includes_area-means}
 use Rattle.willow_area.proofs.Meeting.{meet_area-some}
@@ -12,9 +11,7 @@ use Rattle.mc_cap.specs.Forms.{IsCapability, IsDelegation}
 use Rattle.mc_cap.specs.Grant.{area_or, first_grant, first_subspace, granted, last_of}
 use Rattle.mc_cap.specs.declared.capability.Capability.{Capability}
 use Rattle.mc_cap.specs.declared.chain.Delegation.{Delegation}
-use Rattle.sync_hello.specs.declared.hello.Hello.{Hello}
-use Rattle.sync_hello.specs.HelloForm.{IsHello}
-use Rattle.sync_hello.specs.Common.{common_area, Grants, AsksWithinGrant, BothGrantCommon}
+use Rattle.sync_hello.specs.Common.{common_area, AsksWithinGrant, BothGrantCommon}
 use Rattle.sync_hello.proofs.Meaning.{passes}
 
 -- ---- what is granted is an area
@@ -48,6 +45,6 @@ asks_within rules n h fits none =
 pub common_within : BothGrantCommon
 unfolding common_area
 common_within rules n one other area one_fits other_fits one_none other_none is = (
-    λ subspace path time triple inside. asks_within rules n one one_fits one_none subspace path time triple ((meet_area-some one.ask other.ask area is subspace path time).0 inside).0,
-    λ subspace path time triple inside. asks_within rules n other other_fits other_none subspace path time triple ((meet_area-some one.ask other.ask area is subspace path time).0 inside).1,
+  λ subspace path time triple inside. asks_within rules n one one_fits one_none subspace path time triple ((meet_area-some one.ask other.ask area is subspace path time).0 inside).0,
+  λ subspace path time triple inside. asks_within rules n other other_fits other_none subspace path time triple ((meet_area-some one.ask other.ask area is subspace path time).0 inside).1,
 )

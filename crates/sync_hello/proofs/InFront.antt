@@ -1,5 +1,5 @@
 -- What was read at the front of bytes, told by the spellings.
-use Rattle.std.proofs.Common.{◌≡◌, ℕ, ◌-◌, List, ◌++◌, length, take, drop, Result, Err, sym, ap, subst, ◌∙◌, arith, inl, inr}
+use Rattle.std.proofs.Common.{◌≡◌, ℕ, ◌-◌, List, [], ◌++◌, length, take, drop, Result, Err, sym, ap, subst, ◌∙◌, arith, inl, inr}
 use Rattle.std.specs.Result.{IsErrAnd}
 use Rattle.std.proofs.lemmas.Result.{err_from_is_err_and}
 use Rattle.std.proofs.lemmas.List.{length-take, take-append-drop}
@@ -11,9 +11,9 @@ use Rattle.spelling.proofs.Joining.{alone, part_until, whole_value, whole_not_pa
 use Rattle.spelling.proofs.Lists.{take_front}
 use Rattle.mc_cap.specs.Forms.{IsCapability}
 use Rattle.sync_hello.specs.declared.hello.Hello.{Hello}
-use Rattle.sync_hello.specs.HelloForm.{Draft, draft_of, hello_spelling, IsHello}
+use Rattle.sync_hello.specs.HelloForm.{Draft, draft_of, hello_spelling}
 use Rattle.sync_hello.specs.HelloReading.{draft_at, GivesHello}
-use Rattle.sync_hello.specs.HelloSteps.{BeginsHello, TakesHello, HasNoHello, IsInFront, HaveOneHello, AreNeverBoth}
+use Rattle.sync_hello.specs.HelloSteps.{TakesHello, IsInFront, HaveOneHello, AreNeverBoth}
 use Rattle.sync_hello.proofs.HelloReads.{draft-reads, draft_reader, hello_again, same_hello}
 
 part_not_wrong : {A : Type 0} (r : Front A) → r ≡ Part → r ≡ Wrong → ⊥

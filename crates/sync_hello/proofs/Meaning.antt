@@ -1,8 +1,8 @@
 -- Nothing refuses a hello exactly where it passes.
-use Rattle.std.proofs.Common.{◌≡◌, ◌≢◌, ◌↔◌, ℕ, ◌==◌, false, List, Option, Some, None, refl, sym, ap, ◌∙◌}
+use Rattle.std.proofs.Common.{◌≡◌, ◌↔◌, ℕ, ◌==◌, List, Option, Some, None, refl, ap}
 use Rattle.std.specs.Prelude.{option_map}
 use Rattle.std.specs.Cmp.Lexicographic.{bytes_decides}
-use Rattle.std.proofs.lemmas.Bool.{eq-eqb, ne_eqb, eqb-false}
+use Rattle.std.proofs.lemmas.Bool.{ne_eqb, eqb-false}
 use Rattle.spelling.specs.Answers.{or_else}
 use Rattle.spelling.proofs.Causes.{or_else_both}
 use Rattle.scheme_core.specs.Rules.{Rules}
@@ -49,7 +49,7 @@ module _ (rules : Rules) (n : List ℕ) (h : Hello) where
       let version : version_refusal h.version ≡ None = (if_false (h.version == 0) VersionUnknown).1 (ne_eqb h.version 0 p.speaks) in
       let namespace : namespace_refusal n h.capability ≡ None = (unless_true (same_bytes h.capability.namespace n) WrongNamespace).1 ((bytes_decides h.capability.namespace n).1 p.of_namespace) in
       let claim = neither (version_refusal h.version) (or_else (namespace_refusal n h.capability) (mode_refusal h.capability.mode)) version
-          (neither (namespace_refusal n h.capability) (mode_refusal h.capability.mode) namespace (ap mode_refusal p.reads)) in
+      (neither (namespace_refusal n h.capability) (mode_refusal h.capability.mode) namespace (ap mode_refusal p.reads)) in
       let chain : capability_refusal rules h.capability ≡ None = ap (λ (o : Option ChainRefusal). option_map Chain o) ((valid_means rules h.capability).1 p.valid) in
       let ask = (unless_true (includes_area (granted h.capability) h.ask) AskOutsideGrant).1 p.within in
       neither (or_else (version_refusal h.version) (or_else (namespace_refusal n h.capability) (mode_refusal h.capability.mode))) (or_else (capability_refusal rules h.capability) (ask_refusal h)) claim

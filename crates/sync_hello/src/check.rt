@@ -49,10 +49,7 @@ fn claim_refusal(namespace: &NamespaceKey, hello: &Hello) -> Option<HelloRefusal
 }
 
 // Whether the capability is valid.
-fn check_capability<S: Verify>(
-    scheme: &S,
-    capability: &Capability,
-) -> Result<(), End<HelloRefusal>>
+fn check_capability<S: Verify>(scheme: &S, capability: &Capability) -> Result<(), End<HelloRefusal>>
     ensures { Judges result (capability_refusal S.rules capability.now) }
 {
     match capability.check(scheme) {

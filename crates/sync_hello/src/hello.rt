@@ -1,15 +1,13 @@
 //! Hellos, and how they are spelled as bytes.
 
-ghost use Rattle.std.specs.Prelude.{◌≡◌, ◌++◌, IfOk, OnErr, OnOk};
+ghost use Rattle.std.specs.Prelude.{◌≡◌, ◌<◌, ◌^◌, ◌++◌, IfOk, OnErr, OnOk};
+ghost use Rattle.spelling.specs.Spelling.{AreSoManyBytes};
 ghost use Rattle.sync_hello.specs.HelloForm.{hello_spelling, HasSpelling, IsHello};
 
 use mc_cap::Capability;
 use spelling::{NoMemory, put_byte, put_bytes, put_u32};
 use std::alloc::Global;
 use willow_area::Area;
-
-/// The letters that a hello begins with.
-pub(crate) const MAGIC: &[u8; 3] = b"WSY";
 
 /// What a side of an exchange says first. Contracts see the fields; whether it is refused, `check_hello` answers.
 #[derive(Debug, Drop)]
@@ -46,7 +44,7 @@ impl Hello {
         let mut capability = Vec::new(alloc);
         self.capability.encode(&mut capability)?;
         let mut text = Vec::new(alloc);
-        put_bytes(&mut text, MAGIC)?;
+        put_bytes(&mut text, b"WSY")?;
         put_byte(&mut text, self.version)?;
         put_bytes(&mut text, &self.nonce)?;
         self.ask.encode(&mut text)?;
@@ -60,9 +58,23 @@ impl Hello {
         requires { HasSpelling self.now }
         ensures { IsHello self.now }
     {
-        let _version = self.version;
-        let _nonce = self.nonce;
+        see_version(self.version);
+        see_nonce(&self.nonce);
         self.ask.known();
         self.capability.known();
     }
+}
+
+// A version is one byte.
+fn see_version(version: u8)
+    ensures { version < 2 ^ 8 }
+{
+    let _ = version;
+}
+
+// A nonce has 16 bytes.
+fn see_nonce(nonce: &[u8; 16])
+    ensures { AreSoManyBytes 16 nonce.now }
+{
+    let _bytes = nonce.as_slice();
 }

@@ -35,7 +35,6 @@ pub fn one_spelling()
 
 /// To bytes there is one answer: at most one hello stands in front of them, and where one does, they are no proper
 /// beginning of one.
-#[tactic(auto, using(crate::proofs::InFront::one_hello, crate::proofs::InFront::never_both))]
 pub fn one_answer()
     ensures one { HaveOneHello }
     ensures never_both { AreNeverBoth }
@@ -49,7 +48,6 @@ pub fn passed_exactly()
 
 /// A hello that is not refused asks for nothing that its capability does not grant. So of two that are not refused,
 /// both capabilities grant the common area.
-#[tactic(auto, using(crate::proofs::Granting::asks_within, crate::proofs::Granting::common_within))]
 pub fn granted()
     ensures ask { AsksWithinGrant }
     ensures common { BothGrantCommon }

@@ -6,7 +6,7 @@ ghost use Rattle.sync_msg.specs.ItemReading.{body_at};
 ghost use Rattle.sync_hello.specs.HelloReading.{draft_at, GivesHello, ReadsText};
 ghost use Rattle.sync_hello.specs.HelloSteps.{IsInFront, ReadsHello};
 
-use crate::hello::{Hello, MAGIC};
+use crate::hello::Hello;
 use cap_codec::decode_capability;
 use mc_cap::Capability;
 use spelling::{End, Input, NoMemory, NotHere, Unread};
@@ -81,7 +81,7 @@ struct Draft<'a> {
 fn read_draft<'a>(alloc: Global, input: &mut Input<'a>) -> Result<Draft<'a>, Unread>
     ensures { Gives (λ d. record { version = d.version; nonce = d.nonce; ask = d.ask; text = d.text.now }) result input.new (draft_at input.old) }
 {
-    input.exactly(MAGIC)?;
+    input.exactly(b"WSY")?;
     let version = input.byte()?;
     let nonce: [u8; 16] = input.array()?;
     let ask = read_area(alloc, input)?;
@@ -109,8 +109,14 @@ fn whole_capability(alloc: Global, text: &[u8]) -> Result<Option<Capability>, No
     ensures { ReadsText text.now result }
 {
     match decode_capability(alloc, text) {
-        Ok((capability, taken)) if taken == text.len() => Ok(Some(capability)),
-        Ok(_) | Err(End::Refused(NotHere)) => Ok(None),
+        Ok((capability, taken)) => {
+            if taken == text.len() {
+                Ok(Some(capability))
+            } else {
+                Ok(None)
+            }
+        }
+        Err(End::Refused(NotHere)) => Ok(None),
         Err(End::NoMemory) => Err(NoMemory),
     }
 }

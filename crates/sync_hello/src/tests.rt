@@ -135,16 +135,25 @@ fn refusals(rt: HostRuntime) {
     assert_eq!(rt; refusal(rt.alloc(), 1, 0x4e, Mode::Read, own), Some(Ok(())));
     let own = from_time(rt.alloc(), 0);
     let unknown = Err(End::Refused(HelloRefusal::VersionUnknown));
-    assert_eq!(rt; refusal(rt.alloc(), 0, 0x4f, Mode::Write, own), Some(unknown));
+    assert_eq!(rt;
+        refusal(rt.alloc(), 0, 0x4f, Mode::Write, own),
+        Some(unknown)
+    );
     let own = from_time(rt.alloc(), 0);
     let other = Err(End::Refused(HelloRefusal::WrongNamespace));
     assert_eq!(rt; refusal(rt.alloc(), 1, 0x50, Mode::Write, own), Some(other));
     let own = from_time(rt.alloc(), 0);
     let written = Err(End::Refused(HelloRefusal::NotRead));
-    assert_eq!(rt; refusal(rt.alloc(), 1, 0x4e, Mode::Write, own), Some(written));
+    assert_eq!(rt;
+        refusal(rt.alloc(), 1, 0x4e, Mode::Write, own),
+        Some(written)
+    );
     let all = Some(Area::full(rt.alloc()));
     let outside = Err(End::Refused(HelloRefusal::AskOutsideGrant));
-    assert_eq!(rt; refusal(rt.alloc(), 1, 0x4e, Mode::Read, all), Some(outside));
+    assert_eq!(rt;
+        refusal(rt.alloc(), 1, 0x4e, Mode::Read, all),
+        Some(outside)
+    );
 }
 
 // What is answered to the caller's proof, signed by the open key of this byte, as that of a side.
@@ -152,14 +161,7 @@ fn proof(alloc: Global, side: Role, signer: u8) -> Option<Result<(), End<HelloRe
     let (caller, answerer) = (good(alloc, 5)?, good(alloc, 7)?);
     let message = proof_message(alloc, Role::Caller, &caller, &answerer).ok()?;
     let signature = sign(alloc, signer, &message)?;
-    Some(check_proof(
-        alloc,
-        &OpenScheme,
-        side,
-        &caller,
-        &answerer,
-        &signature,
-    ))
+    Some(check_proof(alloc, &OpenScheme, side, &caller, &answerer, &signature))
 }
 
 // The signature of the open key of this byte.
