@@ -12,9 +12,10 @@ pub(crate) fn step_word(
 ) -> Result<String, AllocError> {
     match answer {
         Ok(HelloStep::Whole { hello, taken }) => {
+            let (version, nonce) = (hello.version, hello.nonce[0]);
             let start = hello.ask.times.start();
             let count = hello.capability.chain.len();
-            format!(in alloc; "{}.{}.{start}.{count}:{taken}", hello.version, hello.nonce[0])
+            format!(in alloc; "{version}.{nonce}.{start}.{count}:{taken}")
         }
         Ok(HelloStep::More) => String::from_str(alloc, "more"),
         Ok(HelloStep::Bad) => String::from_str(alloc, "bad"),
