@@ -1,0 +1,5 @@
+pub mod HelloReads
+pub mod WholeText
+pub mod InFront
+pub mod Meaning
+pub mod Granting

@@ -1,0 +1,6 @@
+pub mod HelloForm
+pub mod HelloReading
+pub mod HelloSteps
+pub mod Checked
+pub mod Proof
+pub mod Common
