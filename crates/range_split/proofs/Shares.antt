@@ -2,8 +2,8 @@
 use Rattle.std.proofs.Common.{◌≡◌, ◌↔◌, ◌+◌, Bool, true, false, not, ◌&&◌, cond, List, [], ◌∷◌, length, filter, refl, sym, ap, ap₂, ◌∙◌, IsTrue}
 use Rattle.std.proofs.lemmas.Bool.{false≢true, false_from_ne_true, and_parts, and_from, not-true, not_from_false}
 use Rattle.std.proofs.lemmas.List.Filters.{length-filter_both}
-use Rattle.willow_area.specs.Boxes.{Ranges, in_box}
-use Rattle.willow_area.specs.Cuts.{can_cut, lower_part, upper_part, is_below}
+use Rattle.willow_area.specs.Boxes.{Ranges}
+use Rattle.willow_area.specs.Cuts.{can_cut, lower_part, upper_part}
 use Rattle.willow_area.specs.declared.cut.CutAt.{CutAt}
 use Rattle.willow_area.proofs.Cutting.{lower_part_has, upper_part_has}
 use Rattle.willow_entry.specs.Row.{RowValue}
@@ -32,23 +32,15 @@ same_as_first false b c h = sym (false_from_ne_true (b && not c) (λ t. let p = 
 
 pub lower_rows : (area : Ranges) (rows : List RowValue) (at : CutAt) → IsTrue (can_cut area at) → rows_in (lower_part area at) rows ≡ filter (is_row_below at) (rows_in area rows)
 lower_rows area rows at can =
-    filter-both (is_in area) (is_row_below at) (is_in (lower_part area at))
-    (λ row.
-    let subspace = row.entry.subspace in
-    let path = row.entry.path in
-    let time = row.entry.timestamp in
-    same_as_both (in_box (lower_part area at) subspace path time) (in_box area subspace path time) (is_below at subspace path time) (lower_part_has area at can subspace path time))
-    rows
+    let has = lower_part_has area at can in
+    let same = λ (row : RowValue). same_as_both (is_in (lower_part area at) row) (is_in area row) (is_row_below at row) (has row.entry.subspace row.entry.path row.entry.timestamp) in
+    filter-both (is_in area) (is_row_below at) (is_in (lower_part area at)) same rows
 
 pub upper_rows : (area : Ranges) (rows : List RowValue) (at : CutAt) → IsTrue (can_cut area at) → rows_in (upper_part area at) rows ≡ filter (λ row. not (is_row_below at row)) (rows_in area rows)
 upper_rows area rows at can =
-    filter-both (is_in area) (λ row. not (is_row_below at row)) (is_in (upper_part area at))
-    (λ row.
-    let subspace = row.entry.subspace in
-    let path = row.entry.path in
-    let time = row.entry.timestamp in
-    same_as_first (in_box (upper_part area at) subspace path time) (in_box area subspace path time) (is_below at subspace path time) (upper_part_has area at can subspace path time))
-    rows
+    let has = upper_part_has area at can in
+    let same = λ (row : RowValue). same_as_first (is_in (upper_part area at) row) (is_in area row) (is_row_below at row) (has row.entry.subspace row.entry.path row.entry.timestamp) in
+    filter-both (is_in area) (λ row. not (is_row_below at row)) (is_in (upper_part area at)) same rows
 
 pub part_counts : (area : Ranges) (rows : List RowValue) (at : CutAt) → IsTrue (can_cut area at) → length (rows_in (lower_part area at) rows) + length (rows_in (upper_part area at) rows) ≡ length (rows_in area rows)
 part_counts area rows at can =
