@@ -18,15 +18,15 @@ ghost use Rattle.range_split.specs.declared.choice.Choice.{Choice};
 
 use crate::choice::ENTRIES_MAX;
 
-/// Just so many rows, and no more, are told without a cut.
+/// Rows are told without a cut exactly where they are no more than this number.
 #[tactic(auto, using(crate::proofs::Choosing::choice_none))]
 pub fn limit()
     ensures number { ENTRIES_MAX ≡ 16 }
     ensures entries { (rows : List RowValue) → (choice rows ≡ None) ↔ (length rows ≤ ENTRIES_MAX) }
 {}
 
-/// The least subspace above another is one of the list that is above, and no other such is below it. There is none
-/// exactly where none of the list is above.
+/// The least subspace above another is one of the list, is above it, and none of the list that is above it is less.
+/// There is none exactly where none of the list is above it.
 pub fn next_subspaces()
     ensures some { (low key : List ℕ) (keys : List (List ℕ)) → least_above low keys ≡ Some key → IsNext low keys key }
     ensures none { (low : List ℕ) (keys : List (List ℕ)) → (least_above low keys ≡ None) ↔ All (λ key. is_gt (bytes_cmp key low) ≡ false) keys }
@@ -47,8 +47,8 @@ pub fn parts()
     ensures counts { (area : Ranges) (rows : List RowValue) (at : CutAt) → IsTrue (can_cut area at) → length (rows_in (lower_part area at) rows) + length (rows_in (upper_part area at) rows) ≡ length (rows_in area rows) }
 {}
 
-/// Of rows that rise by subspace and path, the points of a choice are between the first and others, and a cut of the
-/// box at each of them leaves rows of the box in both parts.
+/// Where rows rise by subspace and path, as those of one namespace do in a store, the points of a choice rise above the
+/// first row, with a row at each of them, and a cut of the box at any of them leaves rows of the box in both parts.
 pub fn sides()
     ensures points { (rows : List RowValue) (points : Points) → IsStrictlySortedBy inner_place_cmp rows → choice rows ≡ Some points → PartRows rows points }
     ensures parts { (area : Ranges) (rows : List RowValue) (points : Points) → IsStrictlySortedBy inner_place_cmp rows → choice (rows_in area rows) ≡ Some points → All (LeavesRows area rows) (cuts_at points) }

@@ -1,7 +1,7 @@
 //! How two stores that differ in a box go on: with all of the rows of the box where these are few, else with a cut of
 //! the box.
-//! The contract: the choice is made by the rows that the box includes alone, and each cut leaves some of them on both
-//! sides.
+//! The contract: the choice is made by the rows that the box includes alone, and where these rise by subspace and path,
+//! each cut leaves some of them on both sides.
 #![tactic(auto)]
 
 mod choice;
