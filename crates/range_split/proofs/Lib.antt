@@ -1,4 +1,5 @@
 pub mod LeastKeys
 pub mod Shares
+mod Spans
 pub mod Choosing
 pub mod Parting

@@ -1,6 +1,6 @@
 //! The choice between the rows of a box and a cut of it.
 
-ghost use Rattle.std.specs.Prelude.{◌≡◌, ◌/◌, ◌<◌, length, map};
+ghost use Rattle.std.specs.Prelude.{◌≡◌, ◌<◌, length, map};
 ghost use Rattle.block_store.specs.InBox.{rows_in};
 ghost use Rattle.range_split.specs.Choice.{Chooses};
 
@@ -39,24 +39,25 @@ pub fn choose<R: Row>(snapshot: &Snapshot<R>, area: &Box3) -> Choice
     if count <= ENTRIES_MAX {
         Choice::Entries
     } else {
-        cut(snapshot, area, count / 2)
+        cut(snapshot, area, count)
     }
 }
 
-// Where the box of many rows is cut, by the number of rows before the middle one.
-fn cut<R: Row>(snapshot: &Snapshot<R>, area: &Box3, half: u32) -> Choice
-    requires many { ENTRIES_MAX < length (rows_in area.now (map R.value snapshot.now)) }
-    requires half { half ≡ length (rows_in area.now (map R.value snapshot.now)) / 2 }
+// Where the box of so many rows is cut. No row outside the first and the last of them is looked at.
+fn cut<R: Row>(snapshot: &Snapshot<R>, area: &Box3, count: u32) -> Choice
+    requires many { ENTRIES_MAX < count }
+    requires count { count ≡ length (rows_in area.now (map R.value snapshot.now)) }
     ensures { Chooses area.now (map R.value snapshot.now) result }
 {
-    let (_, first) = nth(snapshot, area, 0);
-    let (at, middle) = nth(snapshot, area, half);
+    let (start, first) = nth(snapshot, area, 0);
+    let (at, middle) = nth(snapshot, area, count / 2);
     let low = first.entry().subspace;
     let subspace = middle.entry().subspace;
     if is_above(&subspace, &low) {
         return Choice::AtSubspace(subspace);
     }
-    match least_above(snapshot, area, &low) {
+    let (last, _) = nth(snapshot, area, count - 1);
+    match least_above(snapshot, area, &low, start, last) {
         Some(key) => Choice::AtSubspace(key),
         None => Choice::AtPathOf(at),
     }

@@ -1,6 +1,6 @@
 //! The least subspace above another.
 
-ghost use Rattle.std.specs.Prelude.{◌≡◌, [], ◌∷◌, map};
+ghost use Rattle.std.specs.Prelude.{◌≡◌, ◌+◌, ◌<◌, ◌≤◌, [], ◌∷◌, length, map, take};
 ghost use Rattle.std.specs.Ordering.{is_gt};
 ghost use Rattle.willow_entry.specs.Entry.{bytes_cmp};
 ghost use Rattle.block_store.specs.InBox.{rows_in};
@@ -20,16 +20,23 @@ pub(crate) fn is_above(key: &UserKey, low: &UserKey) -> bool
     key.cmp(low).is_gt()
 }
 
-// The least subspace of the rows that the box includes, of those that are above this one.
+// The least subspace of the rows that the box includes, of those that are above this one. These rows stand from the
+// position `start` to the position `last`.
 pub(crate) fn least_above<R: Row>(
     snapshot: &Snapshot<R>,
     area: &Box3,
     low: &UserKey,
+    start: u32,
+    last: u32,
 ) -> Option<UserKey>
+    requires before { rows_in area.now (take start (map R.value snapshot.now)) ≡ [] }
+    requires upto { rows_in area.now (take (last + 1) (map R.value snapshot.now)) ≡ rows_in area.now (map R.value snapshot.now) }
+    requires order { start ≤ last }
+    requires within { last < length snapshot.now }
     ensures { result ≡ least_above low.now (subspaces_of (rows_in area.now (map R.value snapshot.now))) }
 {
     let mut least = None;
-    for at in 0..snapshot.len() {
+    for at in start..=last {
         least = lesser(least, subspace_above(row_at(snapshot, at), area, low));
     }
     least
