@@ -27,7 +27,7 @@ use Rattle.peer_stage.specs.declared.outcome.Stop.{Stop}
 use Rattle.peer_stage.specs.declared.outcome.Stop.TheVariants as stop
 use Rattle.peer_stage.proofs.Ends.{IsCondition}
 use Rattle.peer_stage.proofs.Inputs.{not_too_far, is_all}
-use Rattle.peer_stage.proofs.Owing.{Owes, IsLasting, then_owes, writes_owe, inside_counts, input_counts, shelf_counts, noise_counts, rose_behind, lawful}
+use Rattle.peer_stage.proofs.Owing.{Owes, IsLasting, then_owes, writes_owe, inside_counts, input_counts, shelf_counts, noise_counts, inside_unfailed, input_unfailed, shelf_unfailed, noise_unfailed, rose_behind, lawful}
 use Rattle.peer_words.specs.declared.command.SignerWord.{SignerWord}
 use Rattle.peer_words.specs.declared.command.SignerWord.TheVariants.{OpenKey, LmsFile}
 use Rattle.peer_words.specs.declared.command.AreaWords.{AreaWords}
@@ -80,6 +80,7 @@ finding_owes : (name : String Global) → Owes MakerReads MakerWrote (λ old. Is
 finding_owes name =
     record {
       counts = shelf_counts (FindsFree name);
+      unfailed = shelf_unfailed (FindsFree name);
       read_fault = λ old new s. inl s.does.0;
       write_fault = λ old new s. absurd s.does;
       usage = λ old new s. s.does;
@@ -91,6 +92,7 @@ drawing_owes : (height : Height) → Owes MakerReads MakerWrote (λ old. Unit {0
 drawing_owes height =
     record {
       counts = noise_counts (DrawsKey height);
+      unfailed = noise_unfailed (DrawsKey height);
       read_fault = λ old new s. inr s.does.1;
       write_fault = λ old new s. absurd s.does;
       usage = λ old new s. s.does;
@@ -102,6 +104,7 @@ putting_owes : (name : List ℕ) (k : Key) → Owes MakerReads MakerWrote (λ ol
 putting_owes name k =
     record {
       counts = shelf_counts (PutsFile name k);
+      unfailed = shelf_unfailed (PutsFile name k);
       read_fault = λ old new s. absurd s.does;
       write_fault = λ old new s. inl s.does.0;
       usage = λ old new s. s.does;
@@ -134,6 +137,7 @@ module _ (reads writes : World → World → Type 0) (reads_last : IsLasting rea
   checking_owes c =
       record {
         counts = inside_counts (Checks c);
+        unfailed = inside_unfailed (Checks c);
         read_fault = λ old new s. absurd s.0;
         write_fault = λ old new s. absurd s.0;
         usage = λ old new s. s.0;
@@ -149,6 +153,7 @@ module _ (reads writes : World → World → Type 0) (reads_last : IsLasting rea
   authorising_owes r =
       record {
         counts = inside_counts (Authorises r);
+        unfailed = inside_unfailed (Authorises r);
         read_fault = λ old new s. absurd s.0;
         write_fault = λ old new s. absurd s.0;
         usage = λ old new s. s.0;
@@ -203,6 +208,7 @@ beginning_owes : (key : Option SignerWord) (message : List ℕ) → Owes (Beginn
 beginning_owes key message =
     record {
       counts = shelf_counts (BeginsBy key message);
+      unfailed = shelf_unfailed (BeginsBy key message);
       read_fault = λ old new s. begin_read key message old.shelf new.shelf s.does;
       write_fault = λ old new s. inl (begin_wrote key message old.shelf new.shelf s.does);
       usage = λ old new s. begin_usage key message old.shelf new.shelf s.does;
@@ -255,6 +261,7 @@ signing_owes : (key : SignerWord) (message : List ℕ) → Owes (SignedReads key
 signing_owes key message =
     record {
       counts = shelf_counts (Signs key message);
+      unfailed = shelf_unfailed (Signs key message);
       read_fault = λ old new s. inl (signer_rose key old.shelf new.shelf s.does);
       write_fault = λ old new s. inl (signer_wrote key old.shelf new.shelf s.does);
       usage = λ old new s. no_usage key old.shelf new.shelf s.does;
@@ -272,6 +279,7 @@ delegate_reading_owes : (key : SignerWord) (words : AreaWords) → Owes (SignedR
 delegate_reading_owes key words =
     record {
       counts = input_counts ReadsOne;
+      unfailed = input_unfailed ReadsOne;
       read_fault = λ old new s. inr s.does.1.fault;
       write_fault = λ old new s. absurd s.does;
       usage = λ old new s. s.does;
@@ -294,6 +302,7 @@ asking_owes : (key : SignerWord) (words : AreaWords) (c : Capability) → Owes (
 asking_owes key words c =
     record {
       counts = inside_counts (Asks words c);
+      unfailed = inside_unfailed (Asks words c);
       read_fault = λ old new s. absurd s.0;
       write_fault = λ old new s. absurd s.0;
       usage = λ old new s. s.0;
@@ -315,6 +324,7 @@ write_reading_owes : (key : SignerWord) → Owes (SignedReads key) (SignedWrote 
 write_reading_owes key =
     record {
       counts = input_counts ReadsOne;
+      unfailed = input_unfailed ReadsOne;
       read_fault = λ old new s. inr s.does.1.fault;
       write_fault = λ old new s. absurd s.does;
       usage = λ old new s. s.does;

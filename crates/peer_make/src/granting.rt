@@ -2,6 +2,7 @@
 
 ghost use Rattle.std.specs.Prelude.{◌≡◌, ◌≤◌, ◌↔◌, length, IsSome, IfSome, false};
 ghost use Rattle.peer_stage.specs.World.{World};
+ghost use Rattle.peer_stage.specs.Faults.{CountsStep};
 ghost use Rattle.peer_words.specs.Signers.{IsSigner};
 ghost use Rattle.scheme_core.specs.Open.{is_communal};
 ghost use Rattle.peer_make.specs.Granting.{Grants, BeginsBy, Checks, Tells};
@@ -56,8 +57,8 @@ fn begin<H: Shelf>(
 ) -> Result<Option<Signature>, Stop>
     requires { IfSome key IsSigner }
     ensures begins { BeginsBy key message.now (H.facts shelf.old) (H.facts shelf.new) result }
-    ensures read_faults { (H.facts shelf.old).read_faults ≤ (H.facts shelf.new).read_faults }
-    ensures write_faults { (H.facts shelf.old).write_faults ≤ (H.facts shelf.new).write_faults }
+    ensures read_faults { CountsStep (H.facts shelf.old).read_faults (H.facts shelf.new).read_faults result }
+    ensures write_faults { CountsStep (H.facts shelf.old).write_faults (H.facts shelf.new).write_faults result }
 {
     match key {
         Some(key) => {

@@ -1,7 +1,8 @@
 //! `key`: a new key under a name, and its user key.
 
-ghost use Rattle.std.specs.Prelude.{◌≡◌, ◌≤◌, IfOk};
+ghost use Rattle.std.specs.Prelude.{◌≡◌, IfOk};
 ghost use Rattle.peer_stage.specs.World.{World};
+ghost use Rattle.peer_stage.specs.Faults.{CountsStep};
 ghost use Rattle.willow_outside.specs.Draws.{IsDraw};
 ghost use Rattle.peer_listing.specs.Listing.{key_line};
 ghost use Rattle.peer_make.specs.Making.{MakesKey, FindsFree, DrawsKey, DrawsOne, PutsFile, own_user_key};
@@ -41,7 +42,7 @@ pub fn make_key<H: Shelf, N: Noise, O: Sink>(
 // The name, where the shelf does not have it.
 fn find_free<H: Shelf>(shelf: &mut H, name: String) -> Result<String, Stop>
     ensures finds { FindsFree name (H.facts shelf.old) (H.facts shelf.new) result }
-    ensures read_faults { (H.facts shelf.old).read_faults ≤ (H.facts shelf.new).read_faults }
+    ensures read_faults { CountsStep (H.facts shelf.old).read_faults (H.facts shelf.new).read_faults result }
     ensures write_faults { (H.facts shelf.new).write_faults ≡ (H.facts shelf.old).write_faults }
 {
     match shelf.get(name.as_str()) {
@@ -55,7 +56,7 @@ fn find_free<H: Shelf>(shelf: &mut H, name: String) -> Result<String, Stop>
 // The key of the next two draws.
 fn draw_key<N: Noise>(height: Height, noise: &mut N) -> Result<LmsKey, Stop>
     ensures draws { DrawsKey height (N.facts noise.old) (N.facts noise.new) result }
-    ensures faults { (N.facts noise.old).faults ≤ (N.facts noise.new).faults }
+    ensures faults { CountsStep (N.facts noise.old).faults (N.facts noise.new).faults result }
 {
     let first = draw(noise)?;
     let seed = draw(noise)?;
@@ -67,7 +68,7 @@ fn draw_key<N: Noise>(height: Height, noise: &mut N) -> Result<LmsKey, Stop>
 // The next draw.
 fn draw<N: Noise>(noise: &mut N) -> Result<[u8; 32], Stop>
     ensures draws { DrawsOne (N.facts noise.old) (N.facts noise.new) result }
-    ensures faults { (N.facts noise.old).faults ≤ (N.facts noise.new).faults }
+    ensures faults { CountsStep (N.facts noise.old).faults (N.facts noise.new).faults result }
 {
     match noise.words() {
         Ok(words) => {
@@ -99,7 +100,7 @@ fn user_key_line(alloc: Global, key: &LmsKey) -> Result<Vec<u8>, NoMemory>
 fn put_file<H: Shelf>(alloc: Global, shelf: &mut H, name: &str, key: &LmsKey) -> Result<(), Stop>
     ensures puts { PutsFile name.now key.now (H.facts shelf.old) (H.facts shelf.new) result }
     ensures read_faults { (H.facts shelf.new).read_faults ≡ (H.facts shelf.old).read_faults }
-    ensures write_faults { (H.facts shelf.old).write_faults ≤ (H.facts shelf.new).write_faults }
+    ensures write_faults { CountsStep (H.facts shelf.old).write_faults (H.facts shelf.new).write_faults result }
 {
     let mut file = Vec::new(alloc);
     key.encode(&mut file)?;

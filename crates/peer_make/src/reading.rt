@@ -1,6 +1,7 @@
 //! The input of a command that is to be one capability.
 
 ghost use Rattle.std.specs.Prelude.{◌≤◌};
+ghost use Rattle.peer_stage.specs.Faults.{CountsStep};
 ghost use Rattle.peer_make.specs.Reading.{Parses, ReadsOne};
 
 use cap_codec::decode_capability;
@@ -13,7 +14,7 @@ use willow_outside::Source;
 /// The capability that all of the input is.
 pub(crate) fn read_one<I: Source>(alloc: Global, input: &mut I) -> Result<Capability, Stop>
     ensures reads { ReadsOne (I.facts input.old) (I.facts input.new) result }
-    ensures input_faults { (I.facts input.old).faults ≤ (I.facts input.new).faults }
+    ensures input_faults { CountsStep (I.facts input.old).faults (I.facts input.new).faults result }
     ensures input_ends { (I.facts input.old).ends ≤ (I.facts input.new).ends }
 {
     let bytes = read_input(alloc, input, INPUT_LIMIT)?;

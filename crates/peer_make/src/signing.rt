@@ -2,6 +2,7 @@
 
 ghost use Rattle.std.specs.Prelude.{◌≡◌, ◌≤◌, length, slice_index};
 ghost use Rattle.peer_words.specs.Signers.{IsSigner};
+ghost use Rattle.peer_stage.specs.Faults.{CountsStep};
 ghost use Rattle.peer_make.specs.Signing.{Signs, SignsOpen, SignsNext, SignsOnce, HandsNext, stop_of};
 
 use lms_core::{KeyRefusal, OneUse, reserve_keys};
@@ -24,8 +25,8 @@ pub(crate) fn sign_with<H: Shelf>(
 ) -> Result<Signature, Stop>
     requires { IsSigner key }
     ensures signs { Signs key message.now (H.facts shelf.old) (H.facts shelf.new) result }
-    ensures read_faults { (H.facts shelf.old).read_faults ≤ (H.facts shelf.new).read_faults }
-    ensures write_faults { (H.facts shelf.old).write_faults ≤ (H.facts shelf.new).write_faults }
+    ensures read_faults { CountsStep (H.facts shelf.old).read_faults (H.facts shelf.new).read_faults result }
+    ensures write_faults { CountsStep (H.facts shelf.old).write_faults (H.facts shelf.new).write_faults result }
 {
     match key {
         SignerWord::OpenKey(key) => sign_open(alloc, key, message),
@@ -53,8 +54,8 @@ fn sign_next<H: Shelf>(
     message: &[u8],
 ) -> Result<Signature, Stop>
     ensures signs { SignsNext name (H.facts shelf.old) (H.facts shelf.new) message.now result }
-    ensures read_faults { (H.facts shelf.old).read_faults ≤ (H.facts shelf.new).read_faults }
-    ensures write_faults { (H.facts shelf.old).write_faults ≤ (H.facts shelf.new).write_faults }
+    ensures read_faults { CountsStep (H.facts shelf.old).read_faults (H.facts shelf.new).read_faults result }
+    ensures write_faults { CountsStep (H.facts shelf.old).write_faults (H.facts shelf.new).write_faults result }
 {
     let signer = take_next(alloc, shelf, name)?;
     sign_once(alloc, signer, message)
@@ -63,8 +64,8 @@ fn sign_next<H: Shelf>(
 // The signer of the next index of a key file, which is used up.
 fn take_next<H: Shelf>(alloc: Global, shelf: &mut H, name: String) -> Result<OneUse, Stop>
     ensures hands { HandsNext name (H.facts shelf.old) (H.facts shelf.new) result }
-    ensures read_faults { (H.facts shelf.old).read_faults ≤ (H.facts shelf.new).read_faults }
-    ensures write_faults { (H.facts shelf.old).write_faults ≤ (H.facts shelf.new).write_faults }
+    ensures read_faults { CountsStep (H.facts shelf.old).read_faults (H.facts shelf.new).read_faults result }
+    ensures write_faults { CountsStep (H.facts shelf.old).write_faults (H.facts shelf.new).write_faults result }
 {
     match reserve_keys(alloc, shelf, name.as_str(), 1) {
         Ok(mut signers) => match signers.pop() {

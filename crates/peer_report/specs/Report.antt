@@ -92,10 +92,11 @@ after_report_fault status = if nat_le status 1 then 4 else status
 
 -- ---- both
 
--- the report took the lines whole
+-- the report took the lines whole, and no write of it failed
 pub record IsReported (old new : SinkFacts) (end : Result Done Stop) (status : ℕ) : Type 0 where
   pub status_is : status ≡ status_of end
   pub written : IsWritten old new (report_of end)
+  pub unfailed : new.faults ≡ old.faults
 
 -- the report failed, after a front of the lines that is not all of them
 pub record IsReportFault (old new : SinkFacts) (end : Result Done Stop) (status : ℕ) : Type 0 where

@@ -21,7 +21,7 @@ use Rattle.peer_stage.specs.declared.outcome.Stop.{Stop}
 use Rattle.peer_stage.specs.declared.outcome.Stop.TheVariants as stop
 use Rattle.peer_stage.proofs.Ends.{IsCondition}
 use Rattle.peer_stage.proofs.Inputs.{few_taken, not_too_far, is_all}
-use Rattle.peer_stage.proofs.Owing.{Owes, then_owes, writes_owe, input_counts, input_lasts, output_lasts, lawful, not_built_is_lawful}
+use Rattle.peer_stage.proofs.Owing.{Owes, then_owes, writes_owe, input_counts, input_unfailed, input_lasts, output_lasts, lawful, not_built_is_lawful}
 use Rattle.peer_rows.specs.Logged.{PassesLog}
 use Rattle.peer_rows.specs.Join.{JoinsInput, IsBadStream, IsFullStream}
 use Rattle.peer_rows.specs.Show.{ShowsInput, IsBadImage, IsReadMisordered}
@@ -60,6 +60,7 @@ joining_owes : (n : List ℕ) → Owes Reads Wrote (λ old. CanJoin n old.input)
 joining_owes n =
     record {
       counts = input_counts (JoinsInput n);
+      unfailed = input_unfailed (JoinsInput n);
       read_fault = λ old new s. s.does.1.fault;
       write_fault = λ old new s. absurd s.does;
       usage = λ old new s. s.does;
@@ -99,6 +100,7 @@ showing_owes : Owes Reads Wrote (λ old. CanShow old.input) (λ x new. Unit {0})
 showing_owes =
     record {
       counts = input_counts ShowsInput;
+      unfailed = input_unfailed ShowsInput;
       read_fault = λ old new s. s.does.1.fault;
       write_fault = λ old new s. absurd s.does;
       usage = λ old new s. s.does;

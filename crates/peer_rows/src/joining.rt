@@ -2,6 +2,7 @@
 
 ghost use Rattle.std.specs.Prelude.{◌≡◌, ◌+◌, ◌^◌, ◌<◌, ◌≤◌, length};
 ghost use Rattle.peer_stage.specs.World.{World};
+ghost use Rattle.peer_stage.specs.Faults.{CountsStep};
 ghost use Rattle.peer_rows.specs.Join.{Joins, JoinsInput, JoinsBytes};
 ghost use Rattle.peer_rows.specs.Stored.{LogsBytes, StopsFull};
 
@@ -38,7 +39,7 @@ fn join_input<I: Source>(
     input: &mut I,
 ) -> Result<(Vec<u8>, JoinCounts), Stop>
     ensures joins { JoinsInput namespace.now (I.facts input.old) (I.facts input.new) result }
-    ensures faults { (I.facts input.old).faults ≤ (I.facts input.new).faults }
+    ensures faults { CountsStep (I.facts input.old).faults (I.facts input.new).faults result }
     ensures ends { (I.facts input.old).ends ≤ (I.facts input.new).ends }
 {
     let bytes = read_input(alloc, input, INPUT_LIMIT)?;

@@ -5,6 +5,7 @@ ghost use Rattle.lms_core.specs.Use.{peer_rules};
 ghost use Rattle.cap_codec.specs.Rows.{RawValue};
 ghost use Rattle.auth_entry.specs.Authorised.{row_refusal};
 ghost use Rattle.peer_stage.specs.World.{World};
+ghost use Rattle.peer_stage.specs.Faults.{CountsStep};
 ghost use Rattle.peer_rows.specs.Show.{Shows, ShowsInput, ShowsBytes};
 ghost use Rattle.peer_rows.specs.Listed.{IsListed, IsListing, with_listed, with_left_out};
 
@@ -41,7 +42,7 @@ fn show_input<I: Source>(
     input: &mut I,
 ) -> Result<(Vec<u8>, Vec<u8>, ShowCounts), Stop>
     ensures shows { ShowsInput (I.facts input.old) (I.facts input.new) result }
-    ensures faults { (I.facts input.old).faults ≤ (I.facts input.new).faults }
+    ensures faults { CountsStep (I.facts input.old).faults (I.facts input.new).faults result }
     ensures ends { (I.facts input.old).ends ≤ (I.facts input.new).ends }
 {
     let bytes = read_input(alloc, input, INPUT_LIMIT)?;

@@ -5,7 +5,7 @@ use Rattle.peer_run.specs.Promises.{KeepsPromises}
 use Rattle.peer_run.proofs.Causes.{ended, usage, is_command, read_fault, write_fault, bad_input, log_full, key_spent, statuses}
 use Rattle.peer_run.proofs.Complete.{complete}
 use Rattle.peer_run.proofs.WholeJoin.{whole_join}
-use Rattle.peer_run.proofs.Reported.{counts_stand}
+use Rattle.peer_run.proofs.Reported.{counts_stand, none_passed_over, report_stood}
 
 pub keeps : (run : Run) → RunsWords run → run.old.report.faults ≤ run.new.report.faults → KeepsPromises run
 keeps run runs faults =
@@ -21,6 +21,8 @@ keeps run runs faults =
       bad_input = bad_input run runs;
       log_full = log_full run runs;
       key_spent = key_spent run runs;
+      unfailed = none_passed_over run runs;
+      report_unfailed = report_stood run runs;
       statuses = statuses run runs;
       counts = counts_stand run runs faults;
       complete = complete run runs;

@@ -1,9 +1,19 @@
--- No count falls in a run.
-use Rattle.std.proofs.Common.{◌≡◌, ◌≤◌, inl, inr, sym, subst}
-use Rattle.peer_stage.specs.World.{World, NeverFall}
-use Rattle.peer_stage.proofs.Owing.{stands}
+-- No count falls in a run, and no fault is passed over.
+use Rattle.std.proofs.Common.{◌≡◌, ◌≢◌, ℕ, ◌≤◌, inl, inr, sym, ◌∙◌, subst, arith}
+use Rattle.std.specs.Prelude.{Result, Err}
+use Rattle.willow_outside.specs.Facts.{SinkFacts}
+use Rattle.peer_stage.specs.World.{World, NeverFall, Unfailed}
+use Rattle.peer_stage.specs.Status.{status_of}
+use Rattle.peer_stage.specs.declared.outcome.Done.{Done}
+use Rattle.peer_stage.specs.declared.outcome.Stop.{Stop}
+use Rattle.peer_stage.specs.declared.outcome.Stop.TheVariants as stop
+use Rattle.peer_stage.proofs.Owing.{stands, unfailed_same}
+use Rattle.peer_report.specs.Report.{Reports}
 use Rattle.peer_run.specs.Run.{Run, RunsWords, before_report}
+use Rattle.peer_run.proofs.Ends.{after_is, own_status}
 use Rattle.peer_run.proofs.Laws.{laws_of}
+
+-- ---- no count falls
 
 -- what is reported behind a command lowers none
 behind : (run : Run) → NeverFall run.old (before_report run) → run.old.report.faults ≤ run.new.report.faults → NeverFall run.old run.new
@@ -26,3 +36,26 @@ pub counts_stand : (run : Run) → RunsWords run → run.old.report.faults ≤ r
 counts_stand run (inl runs) faults = behind run ((laws_of runs.command).counts run.old (before_report run) runs.end runs.meets) faults
 counts_stand run (inr (inl misused)) faults = behind run (untouched run misused.same) faults
 counts_stand run (inr (inr unread)) faults = behind run (untouched run unread.same) faults
+
+-- ---- no fault is passed over
+
+same_unfailed : (run : Run) → before_report run ≡ run.old → Unfailed run.old (before_report run)
+same_unfailed run same = subst (λ (w : World). Unfailed run.old w) (sym same) (unfailed_same run.old)
+
+pub none_passed_over : (run : Run) → RunsWords run → run.status ≢ 3 → run.status ≢ 4 → run.status ≢ 7 → Unfailed run.old (before_report run)
+none_passed_over run (inl runs) three four seven =
+    let own = own_status _ _ runs.end run.status runs.reports four seven in
+    (laws_of runs.command).unfailed run.old (before_report run) runs.end runs.meets (λ e. three (own ∙ e)) (λ e. four (own ∙ e)) (λ e. seven (own ∙ e))
+none_passed_over run (inr (inl misused)) three four seven = same_unfailed run misused.same
+none_passed_over run (inr (inr unread)) three four seven = same_unfailed run unread.same
+
+-- with 0 or 1 the report was written without a fault
+written_small : (r r' : SinkFacts) (end : Result Done Stop) (s : ℕ) → Reports r r' end s → s ≤ 1 → r'.faults ≡ r.faults
+written_small r r' end s (inl told) small = told.unfailed
+written_small r r' end s (inr (inl fault)) small = elim (after_is s (status_of end) fault.status_is) [ inl four ↦ absurd (omega (arith, four, small)) | inr large ↦ absurd (omega (arith, large.0, large.1, small)) ]
+written_small r r' end s (inr (inr none)) small = absurd (omega (arith, none.status_is, small))
+
+pub report_stood : (run : Run) → RunsWords run → run.status ≤ 1 → run.new.report.faults ≡ run.old.report.faults
+report_stood run (inl runs) small = written_small _ _ runs.end run.status runs.reports small
+report_stood run (inr (inl misused)) small = written_small _ _ (Err stop.Usage) run.status misused.reports small
+report_stood run (inr (inr unread)) small = written_small _ _ (Err stop.NoMemory) run.status unread.reports small

@@ -1,7 +1,7 @@
 -- What every run keeps: the headline, why each status comes, and that a command that is ready comes to its end.
 use Rattle.std.specs.Prelude.{◌≡◌, ◌≢◌, ℕ, ◌≤◌, ◌⊎◌, List, Result, Ok, Err}
 use Rattle.willow_outside.specs.Counts.{Rose}
-use Rattle.peer_stage.specs.World.{World, NeverFall}
+use Rattle.peer_stage.specs.World.{World, NeverFall, Unfailed}
 use Rattle.peer_stage.specs.Status.{status_of}
 use Rattle.peer_stage.specs.Stages.{IsWritten, IsPartlyWritten}
 use Rattle.willow_outside.specs.Facts.{SinkFacts}
@@ -130,6 +130,10 @@ pub record KeepsPromises (run : Run) : Type 0 where
   pub log_full : run.status ≡ 8 → HasStopped IsFullEnd run
   -- 9: a key file has no index left, and the report tells it
   pub key_spent : run.status ≡ 9 → HasStopped IsSpentEnd run
+  -- at 0, 1, 2, 5, 8 and 9 no fault was passed over: before the report no count of faults rose of any object
+  pub unfailed : run.status ≢ 3 → run.status ≢ 4 → run.status ≢ 7 → Unfailed run.old (before_report run)
+  -- and at 0 and 1 that of the report did not rise either
+  pub report_unfailed : run.status ≤ 1 → run.new.report.faults ≡ run.old.report.faults
   -- no other status comes but 7, for want of memory
   pub statuses : (run.status ≤ 5) ⊎ ((7 ≤ run.status) × (run.status ≤ 9))
   -- no count falls, that of the report's faults included

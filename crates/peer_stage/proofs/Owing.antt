@@ -1,9 +1,9 @@
 -- What a step owes passes to steps one behind the other, and makes a command lawful.
-use Rattle.std.proofs.Common.{◌≡◌, ◌≢◌, ℕ, ◌≤◌, inl, inr, List, refl, sym, subst, arith}
+use Rattle.std.proofs.Common.{◌≡◌, ◌≢◌, ◌∙◌, ℕ, ◌≤◌, inl, inr, List, refl, sym, subst, arith}
 use Rattle.std.specs.Prelude.{Result, Ok, Err}
 use Rattle.willow_outside.specs.Counts.{Rose}
 use Rattle.willow_outside.specs.Facts.{ShelfFacts, SourceFacts, SinkFacts, NoiseFacts}
-use Rattle.peer_stage.specs.World.{World, NeverFall}
+use Rattle.peer_stage.specs.World.{World, NeverFall, Unfailed}
 use Rattle.peer_stage.specs.Deed.{Deed, IsLawful, IsUnbuilt, not_built}
 use Rattle.peer_stage.specs.Stages.{Writes}
 use Rattle.peer_stage.specs.Status.{status_of}
@@ -12,6 +12,7 @@ use Rattle.peer_stage.specs.declared.outcome.Done.{Done}
 use Rattle.peer_stage.specs.declared.outcome.Stop.{Stop}
 use Rattle.peer_stage.specs.declared.outcome.Stop.TheVariants as stop
 use Rattle.peer_stage.proofs.Ends.{IsCondition, done_small}
+use Rattle.peer_stage.proofs.Faults.{EndsUnfailed, no_fault, never_falls, stood}
 
 -- ---- counts
 
@@ -41,16 +42,32 @@ onward old between new a b =
       noise_faults = omega (arith, a.noise_faults, b.noise_faults);
     }
 
+pub unfailed_same : (w : World) → Unfailed w w
+unfailed_same w = record { shelf_reads = refl; shelf_writes = refl; input = refl; output = refl; report = refl; door = refl; noise = refl }
+
+unfailed_on : (old between new : World) → Unfailed old between → Unfailed between new → Unfailed old new
+unfailed_on old between new a b =
+    record {
+      shelf_reads = b.shelf_reads ∙ a.shelf_reads;
+      shelf_writes = b.shelf_writes ∙ a.shelf_writes;
+      input = b.input ∙ a.input;
+      output = b.output ∙ a.output;
+      report = b.report ∙ a.report;
+      door = b.door ∙ a.door;
+      noise = b.noise ∙ a.noise;
+    }
+
 -- a count that did not fall and then rose has risen
 pub rose_behind : (before mid now : ℕ) → before ≤ mid → Rose mid now → Rose before now
 rose_behind before mid now up rose = omega (arith, up, rose)
 
 -- ---- steps
 
--- No count falls in a step. It stops for a fault only where a count rose of what is read or written, and never as no
+-- No count falls in a step, and no fault is passed over. It stops for a fault only where a count rose of what is read or written, and never as no
 -- command. Where what it needs holds, no condition stops it, and what it leaves holds behind it.
 pub record Owes {A : Type 0} (reads writes : World → World → Type 0) (needs : World → Type 0) (leaves : A → World → Type 0) (step : Step A) : Type 0 where
   pub counts : (old new : World) (end : Result A Stop) → step old new end → NeverFall old new
+  pub unfailed : (old new : World) (end : Result A Stop) → EndsUnfailed end → step old new end → Unfailed old new
   pub read_fault : (old new : World) → step old new (Err stop.ReadFault) → reads old new
   pub write_fault : (old new : World) → step old new (Err stop.WriteFault) → writes old new
   pub usage : (old new : World) → step old new (Err stop.Usage) → ⊥
@@ -77,10 +94,16 @@ module _ {A B : Type 0} (reads writes : World → World → Type 0) (needs : Wor
   then_counts old new (Err e) (inl s) = one.counts old new (Err e) s
   then_counts old new (Err e) (inr p) = onward old p.between new (one.counts old p.between (Ok p.value) p.given) ((two p.value).counts p.between new (Err e) p.rest)
 
+  then_unfailed : (old new : World) (end : Result B Stop) → EndsUnfailed end → Then first next old new end → Unfailed old new
+  then_unfailed old new (Ok b) none p = unfailed_on old p.between new (one.unfailed old p.between (Ok p.value) tt p.given) ((two p.value).unfailed p.between new (Ok b) none p.rest)
+  then_unfailed old new (Err e) none (inl s) = one.unfailed old new (Err e) none s
+  then_unfailed old new (Err e) none (inr p) = unfailed_on old p.between new (one.unfailed old p.between (Ok p.value) tt p.given) ((two p.value).unfailed p.between new (Err e) none p.rest)
+
   pub then_owes : Owes reads writes needs leaves (Then first next)
   then_owes =
       record {
         counts = then_counts;
+        unfailed = then_unfailed;
         read_fault = λ old new meets. elim meets [
           | inl s ↦ one.read_fault old new s
           | inr p ↦ reads_last old p.between new (one.counts old p.between (Ok p.value) p.given) ((two p.value).read_fault p.between new p.rest)
@@ -106,16 +129,33 @@ pub inside_counts : {A : Type 0} (P : Result A Stop → Type 0) (old new : World
 inside_counts P old new end s = subst (λ (w : World). NeverFall old w) (sym s.1) (stands old)
 
 pub input_counts : {A : Type 0} (P : SourceFacts → SourceFacts → Result A Stop → Type 0) (old new : World) (end : Result A Stop) → OnInput P old new end → NeverFall old new
-input_counts P old new end s = subst (λ (w : World). NeverFall old w) (sym s.others) (record { shelf_reads = omega arith; shelf_writes = omega arith; input_faults = s.faults; input_ends = s.ends; output_faults = omega arith; report_faults = omega arith; door_faults = omega arith; noise_faults = omega arith })
+input_counts P old new end s = subst (λ (w : World). NeverFall old w) (sym s.others) (record { shelf_reads = omega arith; shelf_writes = omega arith; input_faults = never_falls _ _ end s.faults; input_ends = s.ends; output_faults = omega arith; report_faults = omega arith; door_faults = omega arith; noise_faults = omega arith })
 
 pub output_counts : {A : Type 0} (P : SinkFacts → SinkFacts → Result A Stop → Type 0) (old new : World) (end : Result A Stop) → OnOutput P old new end → NeverFall old new
-output_counts P old new end s = subst (λ (w : World). NeverFall old w) (sym s.others) (record { shelf_reads = omega arith; shelf_writes = omega arith; input_faults = omega arith; input_ends = omega arith; output_faults = s.faults; report_faults = omega arith; door_faults = omega arith; noise_faults = omega arith })
+output_counts P old new end s = subst (λ (w : World). NeverFall old w) (sym s.others) (record { shelf_reads = omega arith; shelf_writes = omega arith; input_faults = omega arith; input_ends = omega arith; output_faults = never_falls _ _ end s.faults; report_faults = omega arith; door_faults = omega arith; noise_faults = omega arith })
 
 pub shelf_counts : {A : Type 0} (P : ShelfFacts → ShelfFacts → Result A Stop → Type 0) (old new : World) (end : Result A Stop) → OnShelf P old new end → NeverFall old new
-shelf_counts P old new end s = subst (λ (w : World). NeverFall old w) (sym s.others) (record { shelf_reads = s.read_faults; shelf_writes = s.write_faults; input_faults = omega arith; input_ends = omega arith; output_faults = omega arith; report_faults = omega arith; door_faults = omega arith; noise_faults = omega arith })
+shelf_counts P old new end s = subst (λ (w : World). NeverFall old w) (sym s.others) (record { shelf_reads = never_falls _ _ end s.read_faults; shelf_writes = never_falls _ _ end s.write_faults; input_faults = omega arith; input_ends = omega arith; output_faults = omega arith; report_faults = omega arith; door_faults = omega arith; noise_faults = omega arith })
 
 pub noise_counts : {A : Type 0} (P : NoiseFacts → NoiseFacts → Result A Stop → Type 0) (old new : World) (end : Result A Stop) → OnNoise P old new end → NeverFall old new
-noise_counts P old new end s = subst (λ (w : World). NeverFall old w) (sym s.others) (record { shelf_reads = omega arith; shelf_writes = omega arith; input_faults = omega arith; input_ends = omega arith; output_faults = omega arith; report_faults = omega arith; door_faults = omega arith; noise_faults = s.faults })
+noise_counts P old new end s = subst (λ (w : World). NeverFall old w) (sym s.others) (record { shelf_reads = omega arith; shelf_writes = omega arith; input_faults = omega arith; input_ends = omega arith; output_faults = omega arith; report_faults = omega arith; door_faults = omega arith; noise_faults = never_falls _ _ end s.faults })
+
+-- ---- no fault of one object is passed over
+
+pub inside_unfailed : {A : Type 0} (P : Result A Stop → Type 0) (old new : World) (end : Result A Stop) → EndsUnfailed end → Inside P old new end → Unfailed old new
+inside_unfailed P old new end none s = subst (λ (w : World). Unfailed old w) (sym s.1) (unfailed_same old)
+
+pub input_unfailed : {A : Type 0} (P : SourceFacts → SourceFacts → Result A Stop → Type 0) (old new : World) (end : Result A Stop) → EndsUnfailed end → OnInput P old new end → Unfailed old new
+input_unfailed P old new end none s = subst (λ (w : World). Unfailed old w) (sym s.others) (record { shelf_reads = refl; shelf_writes = refl; input = stood _ _ end none s.faults; output = refl; report = refl; door = refl; noise = refl })
+
+pub output_unfailed : {A : Type 0} (P : SinkFacts → SinkFacts → Result A Stop → Type 0) (old new : World) (end : Result A Stop) → EndsUnfailed end → OnOutput P old new end → Unfailed old new
+output_unfailed P old new end none s = subst (λ (w : World). Unfailed old w) (sym s.others) (record { shelf_reads = refl; shelf_writes = refl; input = refl; output = stood _ _ end none s.faults; report = refl; door = refl; noise = refl })
+
+pub shelf_unfailed : {A : Type 0} (P : ShelfFacts → ShelfFacts → Result A Stop → Type 0) (old new : World) (end : Result A Stop) → EndsUnfailed end → OnShelf P old new end → Unfailed old new
+shelf_unfailed P old new end none s = subst (λ (w : World). Unfailed old w) (sym s.others) (record { shelf_reads = stood _ _ end none s.read_faults; shelf_writes = stood _ _ end none s.write_faults; input = refl; output = refl; report = refl; door = refl; noise = refl })
+
+pub noise_unfailed : {A : Type 0} (P : NoiseFacts → NoiseFacts → Result A Stop → Type 0) (old new : World) (end : Result A Stop) → EndsUnfailed end → OnNoise P old new end → Unfailed old new
+noise_unfailed P old new end none s = subst (λ (w : World). Unfailed old w) (sym s.others) (record { shelf_reads = refl; shelf_writes = refl; input = refl; output = refl; report = refl; door = refl; noise = stood _ _ end none s.faults })
 
 -- ---- the last stage
 
@@ -129,6 +169,7 @@ pub writes_owe : (reads writes : World → World → Type 0) (needs : World → 
 writes_owe reads writes needs bytes done rose =
     record {
       counts = output_counts (Writes bytes done);
+      unfailed = output_unfailed (Writes bytes done);
       read_fault = λ old new s. absurd s.does;
       write_fault = λ old new s. rose old new s.does.1;
       usage = λ old new s. s.does;
@@ -167,6 +208,7 @@ module _ (deed : Deed) (needs : World → Type 0) (leaves : Done → World → T
   lawful =
       record {
         counts = owes.counts;
+        unfailed = λ old new end meets three four seven. owes.unfailed old new end (no_fault end three four seven) meets;
         usage = λ old new end meets is. absurd (no_usage old new end meets is);
         no_run = λ old new end meets unbuilt. absurd (built unbuilt);
         read_fault = read;
@@ -188,6 +230,7 @@ pub not_built_is_lawful : IsLawful not_built
 not_built_is_lawful =
     record {
       counts = λ old new end meets. subst (λ (w : World). NeverFall old w) (sym (unbuilt_same old new end meets)) (stands old);
+      unfailed = λ old new end meets three four seven. subst (λ (w : World). Unfailed old w) (sym (unbuilt_same old new end meets)) (unfailed_same old);
       usage = λ old new end meets is. (tt, unbuilt_same old new end meets);
       no_run = λ old new end meets unbuilt. unbuilt_status old new end meets;
       read_fault = λ old new end meets is. omega (arith, is, unbuilt_status old new end meets);

@@ -3,6 +3,7 @@ use Rattle.std.proofs.Common.{◌≡◌, ℕ, ◌≤◌, inl, inr, List, refl, s
 use Rattle.std.specs.Prelude.{Result, Ok, Err}
 use Rattle.willow_outside.specs.Facts.{ShelfFacts, SourceFacts, SinkFacts, NoiseFacts}
 use Rattle.peer_stage.specs.World.{World}
+use Rattle.peer_stage.specs.Faults.{CountsStop, CountsStep}
 use Rattle.peer_stage.specs.Steps.{Step, Then, Inside, OnInput, OnOutput, OnShelf, OnNoise}
 use Rattle.peer_stage.specs.Stages.{IsWritten, Writes, WritesOutput}
 use Rattle.peer_stage.specs.declared.outcome.Done.{Done}
@@ -26,19 +27,19 @@ inside_on P next old new value end does rest = passes (Inside P) next old old ne
 
 -- a step on the input gave a value
 pub input_on : {A B : Type 0} (P : SourceFacts → SourceFacts → Result A Stop → Type 0) (next : A → Step B) (others : World) (i i' : SourceFacts) (new : World) (value : A) (end : Result B Stop)
-    → P i i' (Ok value) → i.faults ≤ i'.faults → i.ends ≤ i'.ends → next value (record others { input = i' }) new end → Then (OnInput P) next (record others { input = i }) new end
+    → P i i' (Ok value) → i'.faults ≡ i.faults → i.ends ≤ i'.ends → next value (record others { input = i' }) new end → Then (OnInput P) next (record others { input = i }) new end
 input_on P next others i i' new value end does faults ends rest =
     passes (OnInput P) next (record others { input = i }) (record others { input = i' }) new value end (record { does = does; faults = faults; ends = ends; others = refl }) rest
 
 -- a step on the shelf gave a value
 pub shelf_on : {A B : Type 0} (P : ShelfFacts → ShelfFacts → Result A Stop → Type 0) (next : A → Step B) (others : World) (h h' : ShelfFacts) (new : World) (value : A) (end : Result B Stop)
-    → P h h' (Ok value) → h.read_faults ≤ h'.read_faults → h.write_faults ≤ h'.write_faults → next value (record others { shelf = h' }) new end → Then (OnShelf P) next (record others { shelf = h }) new end
+    → P h h' (Ok value) → h'.read_faults ≡ h.read_faults → h'.write_faults ≡ h.write_faults → next value (record others { shelf = h' }) new end → Then (OnShelf P) next (record others { shelf = h }) new end
 shelf_on P next others h h' new value end does read_faults write_faults rest =
     passes (OnShelf P) next (record others { shelf = h }) (record others { shelf = h' }) new value end (record { does = does; read_faults = read_faults; write_faults = write_faults; others = refl }) rest
 
 -- a step on the noise gave a value
 pub noise_on : {A B : Type 0} (P : NoiseFacts → NoiseFacts → Result A Stop → Type 0) (next : A → Step B) (others : World) (n n' : NoiseFacts) (new : World) (value : A) (end : Result B Stop)
-    → P n n' (Ok value) → n.faults ≤ n'.faults → next value (record others { noise = n' }) new end → Then (OnNoise P) next (record others { noise = n }) new end
+    → P n n' (Ok value) → n'.faults ≡ n.faults → next value (record others { noise = n' }) new end → Then (OnNoise P) next (record others { noise = n }) new end
 noise_on P next others n n' new value end does faults rest =
     passes (OnNoise P) next (record others { noise = n }) (record others { noise = n' }) new value end (record { does = does; faults = faults; others = refl }) rest
 
@@ -57,13 +58,13 @@ module _ {A : Type 0} (reads : SourceFacts → SourceFacts → Result A Stop →
   abbrev objects : SourceFacts → SinkFacts → World
   objects i o = record others { input = i; output = o }
 
-  pub stops_reading : (i i' : SourceFacts) (o : SinkFacts) (e : Stop) → reads i i' (Err e) → i.faults ≤ i'.faults → i.ends ≤ i'.ends
+  pub stops_reading : (i i' : SourceFacts) (o : SinkFacts) (e : Stop) → reads i i' (Err e) → CountsStop i.faults i'.faults e → i.ends ≤ i'.ends
       → Then (OnInput reads) (λ a. OnOutput (Writes (bytes a) (done a))) (objects i o) (objects i' o) (Err e)
   stops_reading i i' o e does faults ends = inl (record { does = does; faults = faults; ends = ends; others = refl })
 
-  pub reads_and_writes : (i i' : SourceFacts) (o o' : SinkFacts) (a : A) (end : Result Done Stop) → reads i i' (Ok a) → i.faults ≤ i'.faults → i.ends ≤ i'.ends
-      → Writes (bytes a) (done a) o o' end → o.faults ≤ o'.faults
+  pub reads_and_writes : (i i' : SourceFacts) (o o' : SinkFacts) (a : A) (end : Result Done Stop) → reads i i' (Ok a) → i'.faults ≡ i.faults → i.ends ≤ i'.ends
+      → Writes (bytes a) (done a) o o' end → CountsStep o.faults o'.faults end
       → Then (OnInput reads) (λ a. OnOutput (Writes (bytes a) (done a))) (objects i o) (objects i' o') end
-  reads_and_writes i i' o o' a end does faults ends writes rose =
+  reads_and_writes i i' o o' a end does faults ends writes moved =
       passes (OnInput reads) (λ a. OnOutput (Writes (bytes a) (done a))) (objects i o) (objects i' o) (objects i' o') a end
-      (record { does = does; faults = faults; ends = ends; others = refl }) (record { does = writes; faults = rose; others = refl })
+      (record { does = does; faults = faults; ends = ends; others = refl }) (record { does = writes; faults = moved; others = refl })

@@ -1,6 +1,6 @@
 -- A command as a value: what it does, what it needs, and which counts tell its faults.
 use Rattle.std.specs.Prelude.{◌≡◌, ◌≢◌, ◌≤◌, Result, Err}
-use Rattle.peer_stage.specs.World.{World, NeverFall}
+use Rattle.peer_stage.specs.World.{World, NeverFall, Unfailed}
 use Rattle.peer_stage.specs.Status.{status_of}
 use Rattle.peer_stage.specs.declared.outcome.Done.{Done}
 use Rattle.peer_stage.specs.declared.outcome.Stop.{Stop}
@@ -23,6 +23,9 @@ pub record Deed : Type 1 where
 pub record IsLawful (deed : Deed) : Type 0 where
   -- no count falls
   pub counts : (old new : World) (end : Result Done Stop) → deed.meets old new end → NeverFall old new
+  -- no fault is passed over: but with 3, 4 and 7 every count of faults is as before
+  pub unfailed : (old new : World) (end : Result Done Stop) → deed.meets old new end
+      → status_of end ≢ 3 → status_of end ≢ 4 → status_of end ≢ 7 → Unfailed old new
   -- it ends with 2 exactly where it is not built, and then touches nothing
   pub usage : (old new : World) (end : Result Done Stop) → deed.meets old new end → status_of end ≡ 2 → deed.unbuilt × (new ≡ old)
   pub no_run : (old new : World) (end : Result Done Stop) → deed.meets old new end → deed.unbuilt → status_of end ≡ 2

@@ -1,5 +1,6 @@
 pub mod World
 pub mod Status
+pub mod Faults
 pub mod Deed
 pub mod Stages
 pub mod Inputs

@@ -31,7 +31,7 @@ pub record IsReadToFault (limit : ℕ) (old new : SourceFacts) (bytes : List ℕ
   pub not_ended : new.ends ≡ old.ends
   pub fault : Rose old.faults new.faults
 
--- some bytes were taken
+-- bytes were taken, it may be none
 abbrev pub IsReadSomewhat : SourceFacts → SourceFacts → Type 0
 IsReadSomewhat old new = (bytes : List ℕ) × Consumes old.left new.left bytes
 

@@ -1,5 +1,5 @@
 -- The objects outside, as a run finds and leaves them.
-use Rattle.std.specs.Prelude.{◌≤◌}
+use Rattle.std.specs.Prelude.{◌≡◌, ◌≤◌}
 use Rattle.willow_outside.specs.Facts.{ShelfFacts, SourceFacts, SinkFacts, NoiseFacts, DoorFacts}
 
 pub record World : Type 0 where
@@ -20,3 +20,13 @@ pub record NeverFall (old new : World) : Type 0 where
   pub report_faults : old.report.faults ≤ new.report.faults
   pub door_faults : old.door.faults ≤ new.door.faults
   pub noise_faults : old.noise.faults ≤ new.noise.faults
+
+-- every object's counts of faults are as before
+pub record Unfailed (old new : World) : Type 0 where
+  pub shelf_reads : new.shelf.read_faults ≡ old.shelf.read_faults
+  pub shelf_writes : new.shelf.write_faults ≡ old.shelf.write_faults
+  pub input : new.input.faults ≡ old.input.faults
+  pub output : new.output.faults ≡ old.output.faults
+  pub report : new.report.faults ≡ old.report.faults
+  pub door : new.door.faults ≡ old.door.faults
+  pub noise : new.noise.faults ≡ old.noise.faults

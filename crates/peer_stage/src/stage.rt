@@ -1,6 +1,7 @@
 //! The stages that commands share: reading the input and writing the output.
 
 ghost use Rattle.std.specs.Prelude.{◌≤◌, ◌++◌};
+ghost use Rattle.peer_stage.specs.Faults.{CountsStep};
 ghost use Rattle.peer_stage.specs.Stages.{ReadsInput, WritesOutput};
 
 use crate::outcome::Stop;
@@ -11,10 +12,10 @@ use willow_outside::{Fault, ReadEnd, Sink, Source, read_all, write_whole};
 /// The greatest number of bytes that a command takes from the input.
 pub const INPUT_LIMIT: u64 = 4_294_967_295;
 
-/// All of the input, which has at most `limit` bytes.
+/// All of the input, which has at most `limit` bytes. Where it has, or has more, no read failed.
 pub fn read_input<I: Source>(alloc: Global, input: &mut I, limit: u64) -> Result<Vec<u8>, Stop>
     ensures reads { ReadsInput limit (I.facts input.old) (I.facts input.new) result }
-    ensures faults { (I.facts input.old).faults ≤ (I.facts input.new).faults }
+    ensures faults { CountsStep (I.facts input.old).faults (I.facts input.new).faults result }
     ensures ends { (I.facts input.old).ends ≤ (I.facts input.new).ends }
 {
     match read_all(alloc, input, limit) {
@@ -25,10 +26,10 @@ pub fn read_input<I: Source>(alloc: Global, input: &mut I, limit: u64) -> Result
     }
 }
 
-/// Writes all of the bytes. Where there are none the output is not called.
+/// Writes all of the bytes. Where it did, no write failed; where there are none the output is not called.
 pub fn write_output<O: Sink>(output: &mut O, bytes: &[u8]) -> Result<(), Stop>
     ensures writes { WritesOutput (O.facts output.old) (O.facts output.new) bytes.now result }
-    ensures faults { (O.facts output.old).faults ≤ (O.facts output.new).faults }
+    ensures faults { CountsStep (O.facts output.old).faults (O.facts output.new).faults result }
 {
     if bytes.is_empty() {
         return Ok(());
@@ -43,7 +44,7 @@ pub fn write_output<O: Sink>(output: &mut O, bytes: &[u8]) -> Result<(), Stop>
 /// Writes all of both pieces, one behind the other, as if they were one: so that none is copied to join them.
 pub fn write_both<O: Sink>(output: &mut O, first: &[u8], behind: &[u8]) -> Result<(), Stop>
     ensures writes { WritesOutput (O.facts output.old) (O.facts output.new) (first.now ++ behind.now) result }
-    ensures faults { (O.facts output.old).faults ≤ (O.facts output.new).faults }
+    ensures faults { CountsStep (O.facts output.old).faults (O.facts output.new).faults result }
 {
     write_output(output, first)?;
     write_output(output, behind)

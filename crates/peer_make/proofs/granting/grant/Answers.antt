@@ -12,4 +12,4 @@ returns g c =
     let o1 = g.O.Sink.facts c.tell.new.output in
     let begins = subst (λ (m : List ℕ). BeginsBy c.args.key m h h1 (Ok c.in_ok-initial.initial)) c.initial_message-message.ensures c.in_ok-initial.ensures.begins in
     λ others. shelf_on (BeginsBy c.args.key (initial_message c.args.mode c.args.user)) _ (record others { output = o }) h h1 (record others { shelf = h1; output = o1 }) c.in_ok-initial.initial c.tell.result
-    begins c.begin.ensures.read_faults c.begin.ensures.write_faults (rw c.empty.ensures at (c.tell.ensures (record others { shelf = h1 })))
+    begins c.in_ok-initial.ensures.read_faults c.in_ok-initial.ensures.write_faults (rw c.empty.ensures at (c.tell.ensures (record others { shelf = h1 })))

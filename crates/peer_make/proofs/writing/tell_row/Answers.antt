@@ -21,7 +21,7 @@ returns-in_err-write_output g c =
     let fine = rw c.token.ensures.token at c.in-Ok.ensures.answer in
     let same : c.deref.result.now ≡ frame c.args.row = c.deref.ensures.value ∙ (rw c.new-text.ensures.items at c.in_ok-encode_row_frame.ensures.spelled) ∙ ap (λ r. row_frame (row_of r)) (c.row.ensures.row ∙ c.in-Ok.ensures.row) ∙ frame_is c.args.row in
     rw (p.1, p.2) (λ others. inside_on (Authorises c.args.row) _ (record others { output = o }) (record others { output = o1 }) tt (Err e) (fits, fine)
-    (record { does = stops_writing (frame c.args.row) c.deref.result.now done.Made o o1 e same c.in_err-write_output.ensures.writes; faults = c.write_output.ensures.faults; others = refl }))
+    (record { does = stops_writing (frame c.args.row) c.deref.result.now done.Made o o1 e same c.in_err-write_output.ensures.writes; faults = c.in_err-write_output.ensures.faults; others = refl }))
 
 pub returns : goal.returns
 returns g c =
@@ -31,4 +31,4 @@ returns g c =
     let fine = rw c.token.ensures.token at c.in-Ok.ensures.answer in
     let same : c.deref.result.now ≡ frame c.args.row = c.deref.ensures.value ∙ (rw c.new-text.ensures.items at c.in_ok-encode_row_frame.ensures.spelled) ∙ ap (λ r. row_frame (row_of r)) (c.row.ensures.row ∙ c.in-Ok.ensures.row) ∙ frame_is c.args.row in
     λ others. inside_on (Authorises c.args.row) _ (record others { output = o }) (record others { output = o1 }) tt (Ok done.Made) (fits, fine)
-    (record { does = has_written (frame c.args.row) c.deref.result.now done.Made o o1 same c.in_ok-write_output.ensures.writes; faults = c.write_output.ensures.faults; others = refl })
+    (record { does = has_written (frame c.args.row) c.deref.result.now done.Made o o1 same c.in_ok-write_output.ensures.writes; faults = c.in_ok-write_output.ensures.faults; others = refl })

@@ -21,8 +21,8 @@ returns-in_err-signature g c =
     let o = g.O.Sink.facts c.args.output.now in
     let e = c.in_err-signature.field-0.0 in
     rw (p.1, p.2) (λ others. input_on ReadsOne _ (record others { shelf = h; output = o }) i i1 (record others { shelf = h1; input = i1; output = o }) c.in_ok-capability.capability (Err e)
-    c.in_ok-capability.ensures.reads c.read_one.ensures.input_faults c.read_one.ensures.input_ends
-    (inl (record { does = c.in_err-signature.ensures.signs; read_faults = c.sign_with.ensures.read_faults; write_faults = c.sign_with.ensures.write_faults; others = refl })))
+    c.in_ok-capability.ensures.reads c.in_ok-capability.ensures.input_faults c.read_one.ensures.input_ends
+    (inl (record { does = c.in_err-signature.ensures.signs; read_faults = c.in_err-signature.ensures.read_faults; write_faults = c.in_err-signature.ensures.write_faults; others = refl })))
 
 pub returns-in_err-row : goal.returns-in_err-row
 returns-in_err-row g c =
@@ -37,9 +37,9 @@ returns-in_err-row g c =
     let is_message : c.deref.result.now ≡ message = c.deref.ensures.value ∙ c.in_ok-message.ensures ∙ ap entry_message (search rules) in
     let signs = subst (λ (m : List ℕ). Signs c.args.key m h h1 (Ok c.in_ok-signature.signature)) is_message c.in_ok-signature.ensures.signs in
     rw (p.1, p.2) (λ others. input_on ReadsOne _ (record others { shelf = h; output = o }) i i1 (record others { shelf = h1; input = i1; output = o }) c.in_ok-capability.capability (Err stop.NoMemory)
-    c.in_ok-capability.ensures.reads c.read_one.ensures.input_faults c.read_one.ensures.input_ends
+    c.in_ok-capability.ensures.reads c.in_ok-capability.ensures.input_faults c.read_one.ensures.input_ends
     (shelf_on (Signs c.args.key message) _ (record others { input = i1; output = o }) h h1 (record others { shelf = h1; input = i1; output = o }) c.in_ok-signature.signature (Err stop.NoMemory)
-    signs c.sign_with.ensures.read_faults c.sign_with.ensures.write_faults (inl (tt, refl))))
+    signs c.in_ok-signature.ensures.read_faults c.in_ok-signature.ensures.write_faults (inl (tt, refl))))
 
 pub returns : goal.returns
 returns g c =
@@ -62,7 +62,7 @@ returns g c =
     let before : World = record others { shelf = h1; input = i1; output = o } in
     let new : World = record others { shelf = h1; input = i1; output = o1 } in
     input_on ReadsOne _ (record others { shelf = h; output = o }) i i1 new capability end
-    c.in_ok-capability.ensures.reads c.read_one.ensures.input_faults c.read_one.ensures.input_ends
+    c.in_ok-capability.ensures.reads c.in_ok-capability.ensures.input_faults c.read_one.ensures.input_ends
     (shelf_on (Signs c.args.key message) _ (record others { input = i1; output = o }) h h1 new signature end
-    signs c.sign_with.ensures.read_faults c.sign_with.ensures.write_faults
+    signs c.in_ok-signature.ensures.read_faults c.in_ok-signature.ensures.write_faults
     (subst (λ (r : RawValue). TellsRow r before new end) is_row (c.tell_row.ensures (record others { shelf = h1; input = i1 }))))

@@ -12,8 +12,8 @@ returns-in_err-write_output g c =
     let o' = g.O.Sink.facts c.write_output.new.output in
     let e = c.in_err-write_output.field-0.0 in
     rw (p.1, p.2) (λ others. reads_and_writes (JoinsInput c.args.namespace.now) (λ x. x.0.items) (λ x. done.Joined x.1) others (g.I.Source.facts c.args.input.now) (g.I.Source.facts c.join_input.new.input) o o'
-    (c.in_ok-image.image, c.in_ok-image.counts) (Err e) c.in_ok-image.ensures.joins c.join_input.ensures.faults c.join_input.ensures.ends
-    (stops_writing c.in_ok-image.image.items c.deref.result.now (done.Joined c.in_ok-image.counts) o o' e c.deref.ensures.value c.in_err-write_output.ensures.writes) c.write_output.ensures.faults)
+    (c.in_ok-image.image, c.in_ok-image.counts) (Err e) c.in_ok-image.ensures.joins c.in_ok-image.ensures.faults c.join_input.ensures.ends
+    (stops_writing c.in_ok-image.image.items c.deref.result.now (done.Joined c.in_ok-image.counts) o o' e c.deref.ensures.value c.in_err-write_output.ensures.writes) c.in_err-write_output.ensures.faults)
 
 pub returns : goal.returns
 returns g c =
@@ -21,5 +21,5 @@ returns g c =
     let o' = g.O.Sink.facts c.write_output.new.output in
     let is_done = done.Joined c.in_ok-image.counts in
     λ others. reads_and_writes (JoinsInput c.args.namespace.now) (λ x. x.0.items) (λ x. done.Joined x.1) others (g.I.Source.facts c.args.input.now) (g.I.Source.facts c.join_input.new.input) o o'
-    (c.in_ok-image.image, c.in_ok-image.counts) (Ok is_done) c.in_ok-image.ensures.joins c.join_input.ensures.faults c.join_input.ensures.ends
-    (has_written c.in_ok-image.image.items c.deref.result.now is_done o o' c.deref.ensures.value c.in_ok-write_output.ensures.writes) c.write_output.ensures.faults
+    (c.in_ok-image.image, c.in_ok-image.counts) (Ok is_done) c.in_ok-image.ensures.joins c.in_ok-image.ensures.faults c.join_input.ensures.ends
+    (has_written c.in_ok-image.image.items c.deref.result.now is_done o o' c.deref.ensures.value c.in_ok-write_output.ensures.writes) c.in_ok-write_output.ensures.faults
