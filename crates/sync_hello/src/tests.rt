@@ -1,6 +1,6 @@
 //! Hellos that are spelled, read and not read, refused, proved, and compared.
 
-ghost use Rattle.std.specs.Prelude.{◌≡◌, ◌≤◌, length, IfSome, IsTrue};
+ghost use Rattle.std.specs.Prelude.{◌≡◌, ◌≤◌, length, slice_index, IfSome, IsTrue};
 ghost use Rattle.mc_cap.specs.Forms.{capability_spelling};
 ghost use Rattle.sync_hello.specs.HelloForm.{HasSpelling};
 
@@ -34,7 +34,9 @@ fn answers(rt: HostRuntime) {
 }
 
 // An open key with this byte throughout its body.
-fn key(byte: u8) -> [u8; 33] {
+fn key(byte: u8) -> [u8; 33]
+    ensures { slice_index result 0 ≡ 0 }
+{
     let mut bytes = [byte; 33];
     bytes[0] = 0;
     bytes
