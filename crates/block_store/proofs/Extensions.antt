@@ -1,11 +1,10 @@
 -- The rows that a row dominates stand in one run from its place on.
-use Rattle.std.proofs.Common.{◌≡◌, ℕ, zero, suc, ◌+◌, ◌≤◌, false, not, List, [], ◌∷◌, ◌++◌, length, take, drop, map, get_or, slice_get, Some, refl, sym, ap, ◌∙◌, Less, is_lt, is_gt, arith, ap₂, insert, count_by}
+use Rattle.std.proofs.Common.{◌≡◌, ℕ, zero, suc, ◌+◌, false, not, List, [], ◌∷◌, ◌++◌, length, take, drop, map, get_or, slice_get, Some, refl, sym, ap, ◌∙◌, Less, is_lt, is_gt, arith, count_by}
 use Rattle.std.specs.List.{AllByRecursion}
 use Rattle.std.specs.List.Sorted.{IsStrictlySortedBy, IsPartitionedBy}
 use Rattle.std.specs.Ordering.{ordering_reverse}
 use Rattle.std.proofs.lemmas.Bool.{false≢true, both_ways, false_from_ne_true}
-use Rattle.std.proofs.Math.Seq.{take-append_seam, drop-append_seam}
-use Rattle.std.proofs.lemmas.List.{take-append-drop, length-take-le}
+use Rattle.std.proofs.lemmas.List.{take-append-drop, length-append}
 use Rattle.std.proofs.lemmas.List.Elements.{filter-append}
 use Rattle.std.proofs.lemmas.List.Sums.{length-filter}
 use Rattle.std.proofs.lemmas.List.Filters.{length-filter_both}
@@ -64,14 +63,20 @@ module _ (rows : List RowValue) (r : RowValue) (at : ℕ) (place : IsPlace place
   pub pruned_count : length (take at rows ++ left_of r (drop at rows)) + count_by (is_dominating r) rows ≡ length rows
   pruned_count = omega (arith, ap length left_parts, length-filter (is_dominating r) rows, length-filter_both (is_dominating r) (λ s. not (is_dominating r s)) (λ s. refl) rows)
 
-  -- an uncovered row goes to its place among what it leaves
-  pub live-with_room : live rows ≡ rows → (HasCovering rows r → ⊥) → at ≤ length rows → insert (take at rows ++ left_of r (drop at rows)) at r ≡ live (rows ++ r ∷ [])
-  live-with_room is_live uncovered within =
-      let long : length (take at rows) ≡ at = length-take-le at rows within in
+  -- an uncovered row goes to its place, between the rows below it and what it leaves of the others
+  pub live-parted : live rows ≡ rows → (HasCovering rows r → ⊥) → take at rows ++ r ∷ left_of r (drop at rows) ≡ live (rows ++ r ∷ [])
+  live-parted is_live uncovered =
       let after = left_of r (drop at rows) in
       let beyond : AllByRecursion (λ s. is_lt (place_cmp s r) ≡ false) after = all_from_members place_cmp (λ s. is_lt (place_cmp s r) ≡ false) after (λ s m.
       all_member place_cmp (λ t. is_lt (place_cmp t r) ≡ false) (drop at rows) place.beyond s (filter_member (λ t. not (is_dominating r t)) (drop at rows) s m).0) in
-      ap₂ (λ a b. a ++ r ∷ b)
-      (ap (λ n. take n (take at rows ++ after)) (sym long) ∙ take-append_seam (take at rows) after)
-      (ap (λ n. drop n (take at rows ++ after)) (sym long) ∙ drop-append_seam (take at rows) after)
-      ∙ live-between rows r is_live uncovered (take at rows) after left_parts place.below beyond
+      live-between rows r is_live uncovered (take at rows) after left_parts place.below beyond
+
+  -- with the row there is one more, but for those that went
+  pub live_count : live rows ≡ rows → (HasCovering rows r → ⊥) → length (live (rows ++ r ∷ [])) + count_by (is_dominating r) rows ≡ length rows + 1
+  live_count is_live uncovered = omega (
+    arith,
+    ap length (live-parted is_live uncovered),
+    length-append (take at rows) (r ∷ left_of r (drop at rows)),
+    length-append (take at rows) (left_of r (drop at rows)),
+    pruned_count,
+  )

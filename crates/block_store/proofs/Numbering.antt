@@ -40,7 +40,7 @@ module _ {X : Type 0} (test : X → Bool) where
       (ap (option_map (slice_get xs)) (sym h) ∙ sym (slice_get-map (slice_get xs) (positions test xs) n)
       ∙ ap (λ l. slice_get l n) (rows_there xs) ∙ slice_get-map (λ x. Some x) (filter test xs) n)
 
-  so_many : (xs : List X) → length (positions test xs) ≡ length (filter test xs)
+  pub so_many : (xs : List X) → length (positions test xs) ≡ length (filter test xs)
   so_many xs = omega (
     arith,
     length-map (positions test xs) (slice_get xs),

@@ -8,7 +8,7 @@ use Rattle.std.proofs.lemmas.List.Elements.{filter_passes, recursion_from_All}
 use Rattle.block_store.specs.Positions.{positions_from, positions}
 
 module _ {X : Type 0} (test : X → Bool) where
-  positions_from-append : (at : ℕ) (xs ys : List X) → positions_from test at (xs ++ ys) ≡ positions_from test at xs ++ positions_from test (at + length xs) ys
+  pub positions_from-append : (at : ℕ) (xs ys : List X) → positions_from test at (xs ++ ys) ≡ positions_from test at xs ++ positions_from test (at + length xs) ys
   positions_from-append at [] ys = ap (λ n. positions_from test n ys) (omega arith)
   positions_from-append at (x ∷ xs) ys =
       let rest : positions_from test (at + 1) (xs ++ ys) ≡ positions_from test (at + 1) xs ++ positions_from test (at + suc (length xs)) ys =

@@ -1,5 +1,14 @@
 pub mod Front
 pub mod Held
+pub mod Times
+pub mod Blocks
+pub mod Packing
 pub mod Positions
+pub mod Counting
 pub mod InBox
 pub mod Fingerprint
+pub mod Ends
+pub mod BoxKinds
+pub mod BoxRuns
+pub mod Starts
+pub mod Totals

@@ -2,13 +2,28 @@
 //! Its one contract: after an ingest the rows are what is live of the old rows with the new one added.
 #![tactic(auto)]
 
+mod append;
+mod block;
 mod boxes;
+mod ends;
+mod enter;
 mod fingerprint;
+mod index;
 pub mod laws;
+mod listing;
+mod offer;
+mod place;
+mod put;
+mod renew;
+mod rows;
+mod runs;
 mod search;
-mod shared;
 mod snapshot;
+mod spot;
 mod store;
+mod summary;
+mod thin;
 
+pub use rows::Rows;
 pub use snapshot::Snapshot;
 pub use store::BlockStore;

@@ -1,17 +1,20 @@
 //! What a store held at one moment.
 
-ghost use Rattle.std.specs.Prelude.{◌≡◌, ℕ, ◌+◌, ◌^◌, ◌<◌, ◌≤◌, length, map, Some, slice_get, IfOk, MatchOption, vec_len};
+ghost use Rattle.std.specs.Prelude.{◌≡◌, ℕ, ◌+◌, ◌^◌, ◌<◌, ◌≤◌, length, map, Some, slice_get, IfOk, MatchOption};
 ghost use Rattle.willow_entry.specs.Row.{AreLive};
+ghost use Rattle.block_store.specs.Blocks.{block_rows, block_values};
+ghost use Rattle.block_store.specs.BoxKinds.{IsOfOneNamespace, IsOneRun};
 ghost use Rattle.block_store.specs.Fingerprint.{fingerprint_of};
-ghost use Rattle.block_store.specs.Held.{rows_of};
 ghost use Rattle.block_store.specs.Positions.{positions};
 ghost use Rattle.block_store.specs.InBox.{is_in, rows_in};
 
+use crate::block::Piece;
 use crate::boxes::{count_in, nth_in};
 use crate::fingerprint::total_in;
-use crate::shared::{row_at, share};
+use crate::listing::{Listing, listing_of};
+use crate::rows::{Rows, rows_of};
+use std::alloc::Global;
 use std::marker::Model;
-use std::sync::Arc;
 use std::sync::ledger::Ledger;
 use step_count::Steps;
 use willow_area::Box3;
@@ -22,29 +25,29 @@ use willow_path::NoMemory;
 /// A contract sees the list of the rows, by rising place.
 #[derive(Drop)]
 pub struct Snapshot<R: Row> {
-    rows: Vec<Arc<R>>,
+    listing: Listing<R>,
 }
 
 impl<R: Row> Model for Snapshot<R> {
-    ghost use Rattle.std.specs.Prelude.{◌<◌, ◌^◌, List, map, vec_len};
-    ghost use Rattle.block_store.specs.Held.{rows_of};
+    ghost use Rattle.std.specs.Prelude.{List};
+    ghost use Rattle.block_store.specs.Blocks.{block_rows};
 
     ghost Value = { List R };
 
-    ghost view = { λ s. rows_of s.rows.items };
-
-    ghost use Rattle.willow_entry.specs.Row.{AreLive};
-
-    ghost invariant = { λ s. AreLive (map R.value (rows_of s.rows.items)) × (vec_len s.rows < 2 ^ 32) };
+    ghost view = { λ s. block_rows s.listing.pieces.items };
 }
 
 // The snapshot of live rows.
-pub(crate) fn snapshot_of<R: Row>(rows: &Vec<Arc<R>>) -> Result<Snapshot<R>, NoMemory>
-    requires is_live { AreLive (map R.value (rows_of rows.now.items)) }
-    requires few { vec_len rows.now < 2 ^ 32 }
-    ensures { IfOk result (λ snapshot. snapshot ≡ rows_of rows.now.items) }
+pub(crate) fn snapshot_of<R: Row>(
+    alloc: Global,
+    pieces: &[Piece<R>],
+) -> Result<Snapshot<R>, NoMemory>
+    requires is_live { AreLive (map R.value (block_rows pieces.now)) }
+    requires few { length (block_rows pieces.now) < 2 ^ 32 }
+    ensures { IfOk result (λ snapshot. snapshot ≡ block_rows pieces.now) }
 {
-    Ok(Snapshot { rows: share(rows)? })
+    let listing = listing_of(alloc, pieces)?;
+    Ok(Snapshot { listing })
 }
 
 impl<R: Row> Snapshot<R> {
@@ -52,7 +55,7 @@ impl<R: Row> Snapshot<R> {
     pub fn len(&self) -> u32
         ensures { result ≡ length self.now }
     {
-        self.rows.len() as u32
+        self.listing.len()
     }
 
     /// The row at this position, counted from 0; None exactly from the length on.
@@ -60,14 +63,14 @@ impl<R: Row> Snapshot<R> {
         ensures row { MatchOption result (length self.now ≤ at) (λ row. slice_get self.now at ≡ Some row.now) }
         ensures live { AreLive (map R.value self.now) }
     {
-        row_at(&self.rows, at)
+        self.listing.get(at)
     }
 
     /// The number of rows that the box includes.
     pub fn count_in(&self, area: &Box3) -> u32
         ensures { result ≡ length (rows_in area.now (map R.value self.now)) }
     {
-        count_in(&self.rows, area)
+        count_in(&self.listing, area)
     }
 
     /// The position of the n-th row, counted from 0, that the box includes; None exactly where there are
@@ -75,17 +78,27 @@ impl<R: Row> Snapshot<R> {
     pub fn nth_in(&self, area: &Box3, n: u32) -> Option<u32>
         ensures { result ≡ slice_get (positions (is_in area.now) (map R.value self.now)) n }
     {
-        nth_in(&self.rows, area, n)
+        nth_in(&self.listing, area, n)
     }
 
     /// The fingerprint of the rows that the box includes: the SHA-256 digest of their number and of the four sums
     /// of their leaves' words, each modulo 2^64 and in eight bytes, high byte first. A row's leaf is the SHA-256
-    /// digest of its entry's spelling and its token. To read a row for this is a step.
+    /// digest of its entry's spelling and its token. To read a row for this is a step. For a box of all times that has
+    /// one subspace or all paths, and rows of one namespace, at most 128 are taken.
     pub fn fingerprint<L: Ledger>(&self, area: &Box3, steps: &mut Steps<L>) -> [u8; 32]
         ensures fingerprint { result ≡ fingerprint_of (rows_in area.now (map R.value self.now)) }
         ensures steps { steps.new ≤ steps.old + length self.now }
+        ensures few { IsOneRun area.now → IsOfOneNamespace (map R.value self.now) → steps.new ≤ steps.old + 128 }
     {
-        total_in(&self.rows, area, steps).finish()
+        total_in(&self.listing, area, steps).finish()
+    }
+
+    /// The rows, one after the other. No row is copied, and none is added up.
+    pub fn rows(&self) -> Rows<'_, R>
+        ensures rows { result ≡ self.now }
+        ensures live { AreLive (map R.value self.now) }
+    {
+        rows_of(&self.listing.pieces)
     }
 
     /// An equal snapshot. No row is copied.
@@ -93,6 +106,6 @@ impl<R: Row> Snapshot<R> {
         ensures equal { IfOk result (λ snapshot. snapshot ≡ self.now) }
         ensures live { AreLive (map R.value self.now) }
     {
-        snapshot_of(&self.rows)
+        snapshot_of(*self.listing.pieces.allocator(), &self.listing.pieces)
     }
 }

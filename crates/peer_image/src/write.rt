@@ -1,11 +1,11 @@
 //! Images as they are written.
 
 ghost use Rattle.std.specs.Prelude.{◌≡◌, ◌<◌, ◌^◌, ◌++◌, length, map, IfOk, OnOk};
-ghost use Rattle.std.specs.List.{AllByRecursion};
+ghost use Rattle.std.specs.List.{AllByRecursion, flat_map};
 ghost use Rattle.willow_entry.specs.Frame.{row_frame, HasFrame};
 ghost use Rattle.peer_image.specs.Image.{image, magic, trailer};
 
-use block_store::Snapshot;
+use block_store::{BlockStore, Rows, Snapshot};
 use spelling::{NoMemory, put_bytes, put_u32};
 use std::alloc::Global;
 use willow_entry::{Row, encode_row_frame};
@@ -32,7 +32,6 @@ pub fn write_rows<R: Row>(
 }
 
 /// The image of a snapshot's rows, as `write_rows` makes it.
-#[tactic(auto, unfolding(crate::specs::Image::image))]
 pub fn write_image<R: Row>(
     alloc: Global,
     namespace: &NamespaceKey,
@@ -41,15 +40,49 @@ pub fn write_image<R: Row>(
     requires { AllByRecursion HasFrame (map R.value snapshot.now) }
     ensures { IfOk result (λ v. v.items ≡ image namespace.now (map R.value snapshot.now)) }
 {
+    image_of(alloc, namespace, snapshot.rows(), snapshot.len())
+}
+
+/// The image of a store's rows, as `write_rows` makes it. No snapshot is taken, so no row is hashed.
+pub fn write_store_image<R: Row>(
+    alloc: Global,
+    namespace: &NamespaceKey,
+    store: &BlockStore<R>,
+) -> Result<Vec<u8>, NoMemory>
+    requires { AllByRecursion HasFrame (map R.value store.now) }
+    ensures { IfOk result (λ v. v.items ≡ image namespace.now (map R.value store.now)) }
+{
+    image_of(alloc, namespace, store.rows(), store.len())
+}
+
+// The image of so many rows.
+#[tactic(auto, unfolding(crate::specs::Image::image))]
+fn image_of<R: Row>(
+    alloc: Global,
+    namespace: &NamespaceKey,
+    rows: Rows<'_, R>,
+    count: u32,
+) -> Result<Vec<u8>, NoMemory>
+    requires frames { AllByRecursion HasFrame (map R.value rows) }
+    requires all { count ≡ length rows }
+    ensures { IfOk result (λ v. v.items ≡ image namespace.now (map R.value rows.entry)) }
+{
     let mut out = begun(alloc, namespace)?;
-    for at in 0..snapshot.len() {
-        match snapshot.get(at) {
-            Some(row) => encode_row_frame(row, &mut out)?,
-            None => {}
-        }
-    }
-    put_trailer(&mut out, snapshot.len())?;
+    put_frames(&mut out, rows)?;
+    put_trailer(&mut out, count)?;
     Ok(out)
+}
+
+// Appends the frames of the rows.
+fn put_frames<R: Row>(out: &mut Vec<u8>, rows: Rows<'_, R>) -> Result<(), NoMemory>
+    requires { AllByRecursion HasFrame (map R.value rows) }
+    ensures { OnOk result (out.new.items ≡ out.old.items ++ flat_map row_frame (map R.value rows.entry)) }
+{
+    let mut left = rows;
+    while let Some(row) = left.next() {
+        encode_row_frame(row, out)?;
+    }
+    Ok(())
 }
 
 // The text WIM1 and the namespace key.

@@ -8,7 +8,7 @@ ghost use Rattle.peer_rows.specs.Stored.{LogsBytes, StopsFull};
 
 use crate::log::{Log, LogFull};
 use cap_codec::{BadFrames, behind, decode_frame, read_frames};
-use peer_image::write_image;
+use peer_image::write_store_image;
 use peer_stage::{Done, INPUT_LIMIT, JoinCounts, Stop, read_input, write_output};
 use spelling::{End, NotHere};
 use std::alloc::Global;
@@ -55,7 +55,7 @@ fn join_bytes(
     ensures { JoinsBytes namespace.now bytes.now result }
 {
     let log = log_of(alloc, namespace, bytes)?;
-    let image = write_image(alloc, namespace, &log.store.snapshot()?)?;
+    let image = write_store_image(alloc, namespace, &log.store)?;
     Ok((image, log.counts))
 }
 

@@ -42,7 +42,7 @@ fn snapshot(alloc: Global) -> Option<Snapshot<BareRow>> {
 }
 
 // The box of any subspace, or the one of this byte, of the extensions of a path, and of a range of times.
-fn area_box(
+pub(crate) fn area_box(
     alloc: Global,
     subspace: Option<u8>,
     parts: &[u8],

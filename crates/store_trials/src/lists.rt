@@ -1,16 +1,20 @@
 //! Lists of rows that look random, and what both stores make of them.
 
-use crate::rows::{Rank, path_of, row_of};
+use crate::rows::{Rank, path_of, path_of_bytes, row_of};
 use block_store::BlockStore;
 use flat_store::FlatStore;
 use std::alloc::Global;
 use willow_entry::{BareRow, Placed, same};
 use willow_path::Path;
 
-// How many rows a list has.
+// How many rows a list has, and a wide one.
 const LENGTH: usize = 40;
 
+const WIDE: usize = 400;
+
 const PARTS: [&[u8]; 4] = [b"a", b"b", b"ab", b""];
+
+const FIRSTS: [u8; 3] = [97, 98, 99];
 
 // The next number of a list.
 fn next(number: u64) -> u64 {
@@ -44,13 +48,56 @@ fn row_at(alloc: Global, number: u64) -> Option<BareRow> {
     row_of(alloc, subspace, path_at(alloc, high / 128)?, rank, token)
 }
 
+// The row of a wide list that a number tells by its higher half: few paths have one component, and many two, so that
+// these rows stand in several blocks and go by the run.
+fn wide_row_at(alloc: Global, number: u64) -> Option<BareRow> {
+    let high = number / 4_294_967_296;
+    let subspace = if high % 2 == 0 { 1 } else { 2 };
+    let first = FIRSTS[(high / 2 % 3) as usize];
+    let second = (high / 8 % 128) as u8;
+    let rank = Rank {
+        time: high / 1024 % 8,
+        length: 1,
+        digest: 0x11,
+    };
+    let path = if high / 8192 % 64 == 0 {
+        path_of_bytes(alloc, &[first])?
+    } else {
+        path_of_bytes(alloc, &[first, second])?
+    };
+    row_of(alloc, subspace, path, rank, 0)
+}
+
+// A list of rows that look random: its first number, and whether it is wide.
+#[derive(Clone, Copy)]
+pub(crate) struct List {
+    pub(crate) number: u64,
+    pub(crate) wide: bool,
+}
+
+impl List {
+    // How many rows it has.
+    fn len(&self) -> usize {
+        if self.wide { WIDE } else { LENGTH }
+    }
+
+    // The row that a number tells.
+    fn row(&self, alloc: Global, number: u64) -> Option<BareRow> {
+        if self.wide {
+            wide_row_at(alloc, number)
+        } else {
+            row_at(alloc, number)
+        }
+    }
+}
+
 // Offers a list's rows to the plain store, and answers what became of each row.
-fn offer_flat(alloc: Global, store: &mut FlatStore<BareRow>, list: u64) -> Option<Vec<Placed>> {
+fn offer_flat(alloc: Global, store: &mut FlatStore<BareRow>, list: List) -> Option<Vec<Placed>> {
     let mut answers = Vec::new(alloc);
-    let mut number = list;
-    for _ in 0..LENGTH {
+    let mut number = list.number;
+    for _ in 0..list.len() {
         number = next(number);
-        let row = row_at(alloc, number)?;
+        let row = list.row(alloc, number)?;
         if store.is_full() {
             return None;
         }
@@ -60,12 +107,12 @@ fn offer_flat(alloc: Global, store: &mut FlatStore<BareRow>, list: u64) -> Optio
 }
 
 // Offers a list's rows to the store of shared rows, and answers what became of each row.
-fn offer_shared(alloc: Global, store: &mut BlockStore<BareRow>, list: u64) -> Option<Vec<Placed>> {
+fn offer_shared(alloc: Global, store: &mut BlockStore<BareRow>, list: List) -> Option<Vec<Placed>> {
     let mut answers = Vec::new(alloc);
-    let mut number = list;
-    for _ in 0..LENGTH {
+    let mut number = list.number;
+    for _ in 0..list.len() {
         number = next(number);
-        let row = row_at(alloc, number)?;
+        let row = list.row(alloc, number)?;
         if store.is_full() {
             return None;
         }
@@ -117,7 +164,7 @@ fn outcome_of(answers: &[Placed], left: u32) -> Outcome {
 }
 
 // The outcome of a list where both stores agree on it.
-pub(crate) fn outcome_in_both(alloc: Global, list: u64) -> Option<Outcome> {
+pub(crate) fn outcome_in_both(alloc: Global, list: List) -> Option<Outcome> {
     let mut flat = FlatStore::new(alloc);
     let mut shared = BlockStore::new(alloc);
     let answers = offer_flat(alloc, &mut flat, list)?;

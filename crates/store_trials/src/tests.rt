@@ -1,16 +1,20 @@
 //! Tables of what the stores answer.
 
+use crate::blocks::{calls_of_thousand, pruned_below};
 use crate::boxes::{Place, fingerprint, found, shared};
-use crate::lists::{Outcome, outcome_in_both};
+use crate::lists::{List, Outcome, outcome_in_both};
 use crate::pairs::{Made, offer_both};
 use block_store::laws::numbering;
 use hex::FromHex;
+use std::alloc::Global;
 use std::marker::Brand;
 use std::sync::ledger::Blank;
 use std::test::Fail;
 use willow_entry::Placed;
 
 const STORED: Placed = Placed::Stored { pruned: 0 };
+
+const PRUNES_ALL: Placed = Placed::Stored { pruned: 130 };
 
 const PRUNES: Placed = Placed::Stored { pruned: 1 };
 
@@ -109,19 +113,59 @@ const LISTS: [(u32, u32, u32, u32); 24] = [
     (16, 50, 10, 14),
 ];
 
+// The same of the wide lists 1 to 4.
+const WIDE_LISTS: [(u32, u32, u32, u32); 4] = [
+    (128, 11174, 66, 206),
+    (112, 7930, 37, 251),
+    (122, 13182, 42, 236),
+    (167, 11639, 38, 195),
+];
+
+// Whether both stores make of the list of that number what the row of the table tells.
+fn come_out(alloc: Global, list: List, row: (u32, u32, u32, u32)) -> bool {
+    let (kept, by, pruned, left) = row;
+    let wanted = Outcome {
+        kept,
+        by,
+        pruned,
+        left,
+    };
+    outcome_in_both(alloc, list) == Some(wanted)
+}
+
 #[test]
 fn lists_of_rows(rt: HostRuntime) {
-    let mut list = 0u64;
-    for (kept, by, pruned, left) in LISTS {
-        list = list.saturating_add(1);
-        let wanted = Outcome {
-            kept,
-            by,
-            pruned,
-            left,
-        };
-        assert_eq!(rt; outcome_in_both(rt.alloc(), list), Some(wanted));
+    let mut number = 0u64;
+    for row in LISTS {
+        number = number.saturating_add(1);
+        let wide = false;
+        assert!(rt; come_out(rt.alloc(), List { number, wide }, row));
     }
+}
+
+#[test]
+fn wide_lists_of_rows(rt: HostRuntime) {
+    let mut number = 0u64;
+    for row in WIDE_LISTS {
+        number = number.saturating_add(1);
+        let wide = true;
+        assert!(rt; come_out(rt.alloc(), List { number, wide }, row));
+    }
+}
+
+#[test]
+fn a_row_prunes_over_blocks(rt: HostRuntime) {
+    assert_eq!(rt; pruned_below(rt.alloc()), Some((PRUNES_ALL, 1, 130)));
+}
+
+#[test]
+fn rows_are_shared_and_read_by_block(rt: HostRuntime) {
+    let Some(calls) = calls_of_thousand(rt.alloc()) else {
+        return assert!(rt; false);
+    };
+    assert_eq!(rt; calls.copies_to_share, 0);
+    assert!(rt; calls.copies_to_ingest <= 128);
+    assert!(rt; calls.reads <= 192);
 }
 
 // An area, how many of the four rows are in its box, and their positions.

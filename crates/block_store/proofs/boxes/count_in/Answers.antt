@@ -1,24 +1,13 @@
-use Rattle.std.proofs.Common.{◌≡◌, ◌+◌, ◌<◌, length, map, cond, get_or, sym, ap, ap₂, ◌∙◌, Global, arith}
-use Rattle.std.specs.declared.sync.Arc.{Arc}
-use Rattle.std.proofs.lemmas.List.{length-map, get_or-map}
-use Rattle.std.proofs.lemmas.List.Filters.{length-filter_more}
-use Rattle.willow_entry.specs.Row.{RowValue}
+use Rattle.std.proofs.Common.{◌-◌, sym, ap₂, ◌∙◌}
+use Rattle.block_store.specs.Blocks.{block_values, index_of}
 use Rattle.block_store.specs.InBox.{is_in}
+use Rattle.block_store.proofs.Spans.{exact_count}
 use Rattle.block_store.proofs.boxes.count_in.Goals as goal
 
-pub loop-at-preserved : goal.loop-at-preserved
-loop-at-preserved g c =
-    let value : Arc g.row.R.Denot Global → RowValue = λ a. g.R.Row.value a.value in
-    let test = is_in c.args.area.now in
-    let rows = map value c.args.rows.now in
-    let at = c.loop-at.at in
-    let held = c.index-rows-at.result in
-    let inside : at < length rows = omega (arith, length-map c.args.rows.now value) in
-    let here : get_or rows at (value held) ≡ value held = get_or-map value c.args.rows.now at held (value held) (omega arith) ∙ ap value (sym c.index-rows-at.is) in
-    let passes : c.is_in.result ≡ test (get_or rows at (value held)) =
-    c.is_in.ensures ∙ ap (λ x. test (g.R.Row.value x)) c.deref.ensures ∙ ap test (sym here) in
-    let one = c.one_if-count.ensures.value ∙ ap (λ b. cond b 1 0) passes in
-    record {
-      counted = ap₂ (λ m n. m + n) c.loop-at.invariant.counted one ∙ sym (length-filter_more test rows at (value held) inside);
-      fits = omega (arith, c.one_if-count.ensures.small);
-    }
+pub returns-then-run : goal.returns-then-run
+returns-then-run g c =
+    let pieces = c.args.listing.now.pieces.items in
+    let run = c.run_of-run.result in
+    let is = c.run_of-run.ensures.run in
+    ap₂ (λ m n. m - n) c.position.ensures.position c.position-then-run.ensures.position
+    ∙ sym (exact_count (is_in c.args.area.now) (block_values g.R.Row.value pieces) (index_of pieces run.from) (index_of pieces run.to) is.between.order is.between.before (is.all_in c.if-run.true) is.between.behind is.between.within)

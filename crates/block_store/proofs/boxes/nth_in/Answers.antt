@@ -1,47 +1,27 @@
-use Rattle.std.proofs.Common.{◌≡◌, ◌<◌, length, map, take, take_all, cond, get_or, sym, ap, ◌∙◌, Global, arith}
-use Rattle.std.specs.declared.sync.Arc.{Arc}
-use Rattle.std.proofs.lemmas.List.{length-map, get_or-map}
-use Rattle.std.proofs.lemmas.Option.{slice_get_past}
-use Rattle.willow_entry.specs.Row.{RowValue}
+use Rattle.std.proofs.Common.{◌≡◌, ℕ, Option, Some, None, MatchOption, sym, ap, ◌∙◌, arith}
+use Rattle.block_store.specs.Blocks.{block_values, index_of}
 use Rattle.block_store.specs.InBox.{is_in}
-use Rattle.block_store.specs.Positions.{positions}
-use Rattle.block_store.proofs.Positions.{positions-at, positions-count, passes_from_one}
+use Rattle.block_store.proofs.Numbering.{none_there}
+use Rattle.block_store.proofs.Spans.{exact_count, exact_nth}
 use Rattle.block_store.proofs.boxes.nth_in.Goals as goal
 
-pub returns-then-one-left : goal.returns-then-one-left
-returns-then-one-left g c =
-    let value : Arc g.row.R.Denot Global → RowValue = λ a. g.R.Row.value a.value in
+pub returns-then-run : goal.returns-then-run
+returns-then-run g c =
+    let pieces = c.args.listing.now.pieces.items in
+    let run = c.run_of-run.result in
+    let is = c.run_of-run.ensures.run in
     let test = is_in c.args.area.now in
-    let rows = map value c.args.rows.now in
-    let at = c.loop-at.at in
-    let held = c.index-rows-at.result in
-    let inside : at < length rows = omega (arith, length-map c.args.rows.now value) in
-    let here : get_or rows at (value held) ≡ value held = get_or-map value c.args.rows.now at held (value held) (omega arith) ∙ ap value (sym c.index-rows-at.is) in
-    let passes : c.is_in.result ≡ test (get_or rows at (value held)) =
-    c.is_in.ensures ∙ ap (λ x. test (g.R.Row.value x)) c.deref.ensures ∙ ap test (sym here) in
-    let one = c.one_if-one.ensures.value ∙ ap (λ b. cond b 1 0) passes in
-    let left = c.loop-at.left in
-    let found = passes_from_one (test (get_or rows at (value held))) left (omega arith) in
-    sym (positions-at test rows at c.args.n (value held) inside (omega (arith, c.loop-at.invariant.passed, found.1)) found.0)
-
-pub loop-at-preserved : goal.loop-at-preserved
-loop-at-preserved g c =
-    let value : Arc g.row.R.Denot Global → RowValue = λ a. g.R.Row.value a.value in
-    let test = is_in c.args.area.now in
-    let rows = map value c.args.rows.now in
-    let at = c.loop-at.at in
-    let held = c.index-rows-at.result in
-    let inside : at < length rows = omega (arith, length-map c.args.rows.now value) in
-    let here : get_or rows at (value held) ≡ value held = get_or-map value c.args.rows.now at held (value held) (omega arith) ∙ ap value (sym c.index-rows-at.is) in
-    let passes : c.is_in.result ≡ test (get_or rows at (value held)) =
-    c.is_in.ensures ∙ ap (λ x. test (g.R.Row.value x)) c.deref.ensures ∙ ap test (sym here) in
-    let one = c.one_if-one.ensures.value ∙ ap (λ b. cond b 1 0) passes in
-    record { passed = omega (arith, positions-count test rows at (value held) inside, one, c.loop-at.invariant.passed) }
-
-pub returns : goal.returns
-returns g c =
-    let value : Arc g.row.R.Denot Global → RowValue = λ a. g.R.Row.value a.value in
-    let test = is_in c.args.area.now in
-    let rows = map value c.args.rows.now in
-    let all : take c.loop-at.at rows ≡ rows = take_all c.loop-at.at rows (omega (arith, length-map c.args.rows.now value)) in
-    sym (slice_get_past (positions test rows) c.args.n (omega (arith, c.loop-at.invariant.passed, ap (λ l. length (positions test l)) all)))
+    let rows = block_values g.R.Row.value pieces in
+    let low = index_of pieces run.from in
+    let high = index_of pieces run.to in
+    let p = c.position.ensures.position in
+    let q = c.position-then-run.ensures.position in
+    told c.nth_between.result
+    (λ h. (none_there test rows c.args.n).1 (omega (arith, h, p, q, exact_count test rows low high is.between.order is.between.before (is.all_in c.if-run.true) is.between.behind is.between.within)))
+    (λ at h. exact_nth test rows low high is.between.order is.between.before (is.all_in c.if-run.true) is.between.behind is.between.within c.args.n (omega (arith, h.0, h.1, p, q))
+    ∙ ap (λ n. Some n) (omega (arith, h.0, p, q)))
+    c.nth_between.ensures
+  where
+    told : {P : Type 0} {Q : ℕ → Type 0} {o : Option ℕ} (found : Option ℕ) → (P → o ≡ None) → ((at : ℕ) → Q at → o ≡ Some at) → MatchOption found P Q → found ≡ o
+    told None f k m = sym (f m)
+    told (Some at) f k m = sym (k at m)

@@ -1,13 +1,10 @@
-use Rattle.std.proofs.Common.{map, slice_get, sym, ap, ◌∙◌, Global}
-use Rattle.std.specs.declared.sync.Arc.{Arc}
-use Rattle.willow_entry.specs.Row.{RowValue}
+use Rattle.std.proofs.Common.{map, slice_get, sym, ap, ◌∙◌}
 use Rattle.block_store.specs.InBox.{is_in}
 use Rattle.block_store.specs.Positions.{positions}
-use Rattle.block_store.proofs.Copies.{seen}
+use Rattle.block_store.proofs.Pieces.{values_seen}
 use Rattle.block_store.proofs.snapshot.Snapshot.nth_in.Goals as goal
 
 pub returns : goal.returns
 returns g c =
-    let value : Arc g.row.R.Denot Global → RowValue = λ a. g.R.Row.value a.value in
-    let rows = ap (map value) c.deref.ensures.value ∙ sym (seen g.R.Row.value (λ (a : Arc g.row.R.Denot Global). a.value) c.self.inside.rows.items c.args.self.now c.self.view_is) in
-    c.nth_in.ensures ∙ ap (λ l. slice_get (positions (is_in c.args.area.now) l) c.args.n) rows
+    let seen = ap (map g.R.Row.value) (sym c.self.view_is) ∙ values_seen g.R.Row.value c.self.inside.listing.pieces.items in
+    c.nth_in.ensures ∙ ap (λ l. slice_get (positions (is_in c.args.area.now) l) c.args.n) (sym seen)

@@ -1,33 +1,32 @@
-use Rattle.std.proofs.Common.{◌≡◌, ◌++◌, ◌∷◌, [], map, length, sym, ap, subst, Global, OnOk, IfOk, arith}
-use Rattle.std.specs.declared.sync.Arc.{Arc}
-use Rattle.std.proofs.lemmas.List.{length-map}
-use Rattle.std.proofs.lemmas.Simd.{map-map}
-use Rattle.willow_entry.specs.Row.{live}
+use Rattle.std.proofs.Common.{◌≡◌, ◌++◌, ◌∷◌, [], map, length, sym, ap, ◌∙◌, subst, arith}
+use Rattle.willow_entry.specs.Row.{AreLive, live}
 use Rattle.willow_entry.specs.Placed.{IsPlaced}
-use Rattle.block_store.proofs.Copies.{seen}
+use Rattle.block_store.specs.Blocks.{block_rows, block_values}
+use Rattle.block_store.specs.Counting.{rows_after}
+use Rattle.willow_entry.proofs.Between.{live-again}
+use Rattle.block_store.proofs.Pieces.{values_seen}
 use Rattle.block_store.proofs.store.BlockStore.ingest.Goals as goal
 
 pub offer-requires-clause-is_live : goal.offer-requires-clause-is_live
-offer-requires-clause-is_live g c = subst (λ l. live l ≡ l) (map-map g.R.Row.value (λ a. a.value) c.self.inside.rows.items) c.self.invariant.0
+offer-requires-clause-is_live g c = subst (λ l. AreLive l) (values_seen g.R.Row.value c.self.inside.pieces.items) c.self.invariant.0
 
-pub invariant_of-self : goal.invariant_of-self
-invariant_of-self g c = (
-  subst (λ l. live l ≡ l) (sym (map-map g.R.Row.value (λ a. a.value) c.offer.new.rows.items)) c.offer.ensures.is_live,
-  omega (arith, ap length c.self.view_is, length-map {A = Arc g.row.R.Denot Global} c.self.inside.rows.items (λ a. a.value)),
-)
+pub invariant_of-self-2 : goal.invariant_of-self-2
+invariant_of-self-2 g c =
+    let value = g.R.Row.value in
+    let alive = live-again (block_values value c.offer.new.pieces.items) (block_values value c.self.inside.pieces.items ++ value c.args.row ∷ []) c.in_ok-placed.ensures.rows in
+    let count : c.rows_after-self-inside.result ≡ length (block_rows c.offer.new.pieces.items) = c.rows_after-self-inside.ensures ∙ ap (λ n. rows_after n c.in_ok-placed.placed) c.self.invariant.1 ∙ sym c.in_ok-placed.ensures.count in
+    (subst (λ l. AreLive l) (sym (values_seen value c.offer.new.pieces.items)) alive, count, omega (arith, count, c.rows_after-self-inside.type_inv), c.offer.ensures.packed c.self.invariant.3)
 
 pub returns-clause-rows : goal.returns-clause-rows
 returns-clause-rows g c =
-    let r = g.R.Row.value c.args.row in
-    let old = seen g.R.Row.value (λ (a : Arc g.row.R.Denot Global). a.value) c.self.inside.rows.items c.args.self.now c.self.view_is in
-    subst (λ l. OnOk c.offer.result (map g.R.Row.value (map (λ a. a.value) c.offer.new.rows.items) ≡ live (l ++ r ∷ []))) (sym old)
-    (subst (λ l. OnOk c.offer.result (l ≡ live (map (λ a. g.R.Row.value a.value) c.self.inside.rows.items ++ r ∷ [])))
-    (sym (map-map g.R.Row.value (λ a. a.value) c.offer.new.rows.items)) c.offer.ensures.rows)
+    let value = g.R.Row.value in
+    values_seen value c.offer.new.pieces.items ∙ c.in_ok-placed.ensures.rows
+    ∙ ap (λ l. live (l ++ value c.args.row ∷ [])) (sym (values_seen value c.self.inside.pieces.items) ∙ ap (map value) c.self.view_is)
 
 pub returns-clause-placed : goal.returns-clause-placed
 returns-clause-placed g c =
-    let old = seen g.R.Row.value (λ (a : Arc g.row.R.Denot Global). a.value) c.self.inside.rows.items c.args.self.now c.self.view_is in
-    subst (λ l. IfOk c.offer.result (λ p. IsPlaced l (g.R.Row.value c.args.row) p)) (sym old) c.offer.ensures.placed
+    let value = g.R.Row.value in
+    subst (λ l. IsPlaced l (value c.args.row) c.in_ok-placed.placed) (sym (values_seen value c.self.inside.pieces.items) ∙ ap (map value) c.self.view_is) c.in_ok-placed.ensures.placed
 
 pub returns-clause-live : goal.returns-clause-live
-returns-clause-live g c = (invariant_of-self g c).0
+returns-clause-live g c = (invariant_of-self-2 g c).0

@@ -1,0 +1,93 @@
+//! A row is offered to live rows in blocks.
+
+ghost use Rattle.std.specs.Prelude.{◌≡◌, ℕ, ◌+◌, ◌-◌, ◌^◌, ◌<◌, ◌≤◌, [], ◌∷◌, ◌++◌, length, map, take, drop, count_by, position, slice_get, Some, OnOk, OnErr, IfOk, if◌then◌else◌, vec_len};
+ghost use Rattle.willow_entry.specs.Row.{RowValue, AreLive, IsRising, HasCovering, is_dominating, live};
+ghost use Rattle.willow_entry.specs.Placed.{IsPlaced, OnKept};
+ghost use Rattle.block_store.specs.Blocks.{block_rows, block_values, index_of, IsSpot};
+ghost use Rattle.block_store.specs.Packing.{IsPacked};
+ghost use Rattle.block_store.specs.Counting.{rows_after};
+ghost use Rattle.block_store.specs.Positions.{positions};
+
+use crate::block::Piece;
+use crate::index::{index_of, next, row_at};
+use crate::place::{own_place, place_or_cover, run_end};
+use crate::put::put;
+use crate::spot::Spot;
+use crate::thin::prunes;
+use std::alloc::Global;
+use willow_entry::{Placed, Row};
+use willow_path::NoMemory;
+
+// The number of rows after one was offered.
+pub(crate) fn rows_after(rows: u32, placed: Placed) -> u32
+    requires { rows < 2 ^ 32 - 1 }
+    ensures { result ≡ rows_after rows placed }
+{
+    match placed {
+        Placed::Stored { pruned } => (rows + 1).saturating_sub(pruned),
+        Placed::Kept { by: _ } => rows,
+    }
+}
+
+// Keeps the rows where one of them covers the new row, and else puts it in its place.
+pub(crate) fn offer<R: Row>(pieces: &mut Vec<Piece<R>>, row: R) -> Result<Placed, NoMemory>
+    requires is_live { AreLive (block_values R.value pieces.old.items) }
+    requires room { length (block_rows pieces.old.items) < 2 ^ 32 - 1 }
+    ensures rows { OnOk result (block_values R.value pieces.new.items ≡ live (block_values R.value pieces.old.items ++ R.value row ∷ [])) }
+    ensures placed { IfOk result (λ placed. IsPlaced (block_values R.value pieces.old.items) (R.value row) placed) }
+    ensures kept { OnKept result (pieces.new.items ≡ pieces.old.items) }
+    ensures count { IfOk result (λ placed. length (block_rows pieces.new.items) ≡ rows_after (length (block_rows pieces.old.items)) placed) }
+    ensures packed { IsPacked pieces.old.items → IsPacked pieces.new.items }
+    ensures err { OnErr result (block_rows pieces.new.items ≡ block_rows pieces.old.items) }
+{
+    match place_or_cover(pieces, &row) {
+        Err(by) => Ok(Placed::Kept { by }),
+        Ok(at) => {
+            let pruned = put(pieces, row, at)?;
+            Ok(Placed::Stored {
+                pruned: pruned as u32,
+            })
+        }
+    }
+}
+
+// Adds a position where its row passes.
+fn note(found: &mut Vec<u32>, at: u32, passes: bool) -> Result<(), NoMemory>
+    ensures { OnOk result (found.new.items ≡ found.old.items ++ (if passes then at ∷ [] else [])) }
+{
+    if passes {
+        found.push(at)?;
+    }
+    Ok(())
+}
+
+// Whether a row stands at the spot that goes where the row is stored.
+fn prunes_at<R: Row>(pieces: &[Piece<R>], row: &R, at: Spot) -> bool
+    requires { IsSpot pieces.now at }
+    ensures { (s : RowValue) → slice_get (block_values R.value pieces.now) (index_of pieces.now at) ≡ Some s → result ≡ is_dominating (R.value row.now) s }
+{
+    match row_at(pieces, at) {
+        Some(held) => prunes(row, held),
+        None => false,
+    }
+}
+
+// The positions, rising, of the rows that the row dominates.
+pub(crate) fn dominated<R: Row>(
+    alloc: Global,
+    pieces: &[Piece<R>],
+    row: &R,
+) -> Result<Vec<u32>, NoMemory>
+    requires rising { IsRising (block_values R.value pieces.now) }
+    requires few { length (block_rows pieces.now) < 2 ^ 32 }
+    ensures { IfOk result (λ found. found.items ≡ positions (is_dominating (R.value row.now)) (block_values R.value pieces.now)) }
+{
+    let mut spot = own_place(pieces, row);
+    let end = run_end(pieces, row, spot);
+    let mut found = Vec::new(alloc);
+    for at in index_of(pieces, spot)..index_of(pieces, end) {
+        note(&mut found, at as u32, prunes_at(pieces, row, spot))?;
+        spot = next(pieces, spot);
+    }
+    Ok(found)
+}

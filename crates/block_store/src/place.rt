@@ -1,0 +1,180 @@
+//! Where a row stands among rows that rise by place: its own place, those of the fronts of its path, and the run of
+//! its extensions.
+
+ghost use Rattle.std.specs.Prelude.{◌≡◌, ℕ, ◌+◌, ◌-◌, ◌^◌, ◌<◌, ◌≤◌, ◌||◌, length, take, drop, position, slice_index_or, false, IsTrue, IfOk, IfErr, IfSome, IfNone, None, Some};
+ghost use Rattle.std.specs.Ordering.{is_lt};
+ghost use Rattle.willow_path.specs.Path.{path_cmp};
+ghost use Rattle.willow_entry.specs.Pruning.{IsPlace};
+ghost use Rattle.willow_entry.specs.Row.{RowValue, AreLive, IsRising, HasCovering, IsCoveringAt, is_at_prefix, is_covering, left_of, place_cmp};
+ghost use Rattle.block_store.specs.Blocks.{block_rows, block_values, index_of, IsSpot};
+ghost use Rattle.block_store.specs.Front.{front, ReachFrom};
+
+use crate::block::Piece;
+use crate::index::{index_of, row_at};
+use crate::search::{Test, partition_point};
+use crate::spot::Spot;
+use std::cmp::Ordering;
+use willow_entry::{Row, covers};
+use willow_path::Path;
+
+// How a path is ordered against the first components of another, so many as `count` says, or all if it has fewer.
+fn path_by_front(path: &Path, longer: &Path, count: usize) -> Ordering
+    ensures { result ≡ path_cmp path.now (take count longer.now) }
+{
+    let front = count.min(longer.count());
+    let shared = front.min(path.count());
+    for i in 0..shared {
+        let order = path.part(i).cmp(longer.part(i));
+        if order != Ordering::Equal {
+            return order;
+        }
+    }
+    path.count().cmp(&front)
+}
+
+// How the place of a row is ordered against that of another's front of so many components.
+fn by_front<R: Row>(held: &R, row: &R, count: usize) -> Ordering
+    ensures { result ≡ place_cmp (R.value held.now) (front (R.value row.now) count) }
+{
+    let (e, f) = (held.entry(), row.entry());
+    if e.namespace != f.namespace {
+        return e.namespace.cmp(&f.namespace);
+    }
+    if e.subspace != f.subspace {
+        return e.subspace.cmp(&f.subspace);
+    }
+    path_by_front(&e.path, &f.path, count)
+}
+
+// Standing below the place of the row's front of so many components.
+#[derive(Drop)]
+struct BelowFront<'a, R: Row> {
+    row: &'a R,
+    count: usize,
+}
+
+impl<'a, R: Row> Test<R> for BelowFront<'a, R> {
+    ghost test = { λ t held. is_lt (place_cmp held (front (R.value t.row.now) t.count)) };
+
+    fn passes(&self, held: &R) -> bool {
+        by_front(held, self.row, self.count) == Ordering::Less
+    }
+}
+
+// Standing below the row's place, or at an extension of its path.
+#[derive(Drop)]
+struct UpToExtensions<'a, R: Row> {
+    row: &'a R,
+}
+
+impl<'a, R: Row> Test<R> for UpToExtensions<'a, R> {
+    ghost test = { λ t held. is_lt (place_cmp held (R.value t.row.now)) || is_at_prefix (R.value t.row.now) held };
+
+    fn passes(&self, held: &R) -> bool {
+        by_front(held, self.row, self.row.entry().path.count()) == Ordering::Less
+            || extends(held, self.row)
+    }
+}
+
+// Where the row's front of so many components stands.
+fn place<R: Row>(pieces: &[Piece<R>], row: &R, count: usize) -> Spot
+    requires { IsRising (block_values R.value pieces.now) }
+    ensures spot { IsSpot pieces.now result }
+    ensures place { IsPlace place_cmp (front (R.value row.now) count) (block_values R.value pieces.now) (index_of pieces.now result) }
+{
+    partition_point(pieces, &BelowFront { row, count })
+}
+
+// Where the row stands.
+pub(crate) fn own_place<R: Row>(pieces: &[Piece<R>], row: &R) -> Spot
+    requires { IsRising (block_values R.value pieces.now) }
+    ensures spot { IsSpot pieces.now result }
+    ensures place { IsPlace place_cmp (R.value row.now) (block_values R.value pieces.now) (index_of pieces.now result) }
+{
+    place(pieces, row, row.entry().path.count())
+}
+
+// Whether the held row stands in the row's namespace and subspace, at an extension of its path or at the path itself.
+#[tactic(auto, unfolding(willow_entry::specs::Row::is_at_prefix))]
+fn extends<R: Row>(held: &R, row: &R) -> bool
+    ensures { result ≡ is_at_prefix (R.value row.now) (R.value held.now) }
+{
+    let (e, f) = (row.entry(), held.entry());
+    e.namespace == f.namespace && e.subspace == f.subspace && e.path.is_prefix_of(&f.path)
+}
+
+// Where the run of rows ends that the row may dominate: it begins at the row's place.
+pub(crate) fn run_end<R: Row>(pieces: &[Piece<R>], row: &R, at: Spot) -> Spot
+    requires rising { IsRising (block_values R.value pieces.now) }
+    requires spot { IsSpot pieces.now at }
+    requires place { IsPlace place_cmp (R.value row.now) (block_values R.value pieces.now) (index_of pieces.now at) }
+    ensures spot { IsSpot pieces.now result }
+    ensures from { index_of pieces.now at ≤ index_of pieces.now result }
+    ensures stays { left_of (R.value row.now) (drop (index_of pieces.now result) (block_values R.value pieces.now)) ≡ drop (index_of pieces.now result) (block_values R.value pieces.now) }
+{
+    // Most rows have no extension: then the first row behind tells it, without a search.
+    match row_at(pieces, at) {
+        Some(first) if extends(first, row) => partition_point(pieces, &UpToExtensions { row }),
+        _ => at,
+    }
+}
+
+// Whether a row stands at the spot that is the row or dominates it.
+fn is_covered_at<R: Row>(pieces: &[Piece<R>], row: &R, at: Spot) -> bool
+    requires { IsSpot pieces.now at }
+    ensures found { IsTrue result → (index_of pieces.now at < length (block_values R.value pieces.now)) × IsTrue (is_covering (slice_index_or (block_values R.value pieces.now) (index_of pieces.now at) (R.value row.now)) (R.value row.now)) }
+    ensures not_found { result ≡ false → index_of pieces.now at < length (block_values R.value pieces.now) → is_covering (slice_index_or (block_values R.value pieces.now) (index_of pieces.now at) (R.value row.now)) (R.value row.now) ≡ false }
+{
+    match row_at(pieces, at) {
+        Some(held) => covers(held, row),
+        None => false,
+    }
+}
+
+// The first position whose row is the row or dominates it, at a front of its path that is not the path itself.
+// Where there is none, such a row has all components of the path.
+fn covered_in_front<R: Row>(pieces: &[Piece<R>], row: &R) -> Option<u32>
+    requires rising { IsRising (block_values R.value pieces.now) }
+    requires few { length (block_rows pieces.now) < 2 ^ 32 }
+    ensures found { IfSome result (λ i. position (λ s. is_covering s (R.value row.now)) (block_values R.value pieces.now) ≡ Some i) }
+    ensures none { IfNone result (ReachFrom (block_values R.value pieces.now) (R.value row.now) (length (R.value row.now).entry.path)) }
+{
+    for count in 0..row.entry().path.count() {
+        let at = place(pieces, row, count);
+        if is_covered_at(pieces, row, at) {
+            return Some(index_of(pieces, at) as u32);
+        }
+    }
+    None
+}
+
+// The place of a row that no row equals or dominates, or else the first position whose row does. Such rows stand at
+// the fronts of its path.
+pub(crate) fn place_or_cover<R: Row>(pieces: &[Piece<R>], row: &R) -> Result<Spot, u32>
+    requires few { length (block_rows pieces.now) < 2 ^ 32 }
+    requires is_live { AreLive (block_values R.value pieces.now) }
+    ensures spot { IfOk result (λ at. IsSpot pieces.now at) }
+    ensures place { IfOk result (λ at. IsPlace place_cmp (R.value row.now) (block_values R.value pieces.now) (index_of pieces.now at)) }
+    ensures free { IfOk result (λ at. position (λ s. is_covering s (R.value row.now)) (block_values R.value pieces.now) ≡ None) }
+    ensures covered { IfErr result (λ by. position (λ s. is_covering s (R.value row.now)) (block_values R.value pieces.now) ≡ Some by) }
+{
+    if let Some(by) = covered_in_front(pieces, row) {
+        return Err(by);
+    }
+    let at = own_place(pieces, row);
+    if is_covered_at(pieces, row, at) {
+        return Err(index_of(pieces, at) as u32);
+    }
+    Ok(at)
+}
+
+// The first position whose row is the row or dominates it, among live rows, with what it means.
+pub(crate) fn cover<R: Row>(pieces: &[Piece<R>], row: &R) -> Option<u32>
+    requires few { length (block_rows pieces.now) < 2 ^ 32 }
+    requires is_live { AreLive (block_values R.value pieces.now) }
+    ensures first { result ≡ position (λ s. is_covering s (R.value row.now)) (block_values R.value pieces.now) }
+    ensures found { IfSome result (λ i. IsCoveringAt (block_values R.value pieces.now) i (R.value row.now)) }
+    ensures none { IfNone result (HasCovering (block_values R.value pieces.now) (R.value row.now) → ⊥) }
+{
+    place_or_cover(pieces, row).err()
+}
