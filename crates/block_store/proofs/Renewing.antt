@@ -4,6 +4,7 @@ use Rattle.std.proofs.lemmas.List.{length-append, take-append-le, drop-append-le
 use Rattle.std.proofs.lemmas.List.Elements.{filter-append}
 use Rattle.willow_entry.specs.Pruning.{IsPlace}
 use Rattle.willow_entry.specs.Row.{RowValue, AreLive, HasCovering, is_dominating, left_of, live, place_cmp}
+use Rattle.block_store.specs.Entered.{entered}
 use Rattle.block_store.proofs.Extensions.{live-parted}
 use Rattle.block_store.proofs.Finding.{start}
 
@@ -52,20 +53,21 @@ module _ {Y X : Type 0} (f : Y → List X) where
 
 -- lists that are put together step by step
 pub put_together : {X : Type 0} (before begun upto front left thinned behind entered thin ended rest : List X) (r : X) → before ++ begun ≡ upto → entered ≡ begun ++ (front ++ r ∷ left) → thin ≡ entered ++ thinned → ended ++ rest ≡ thin ++ behind
-    → before ++ (ended ++ rest) ≡ (upto ++ front) ++ r ∷ ((left ++ thinned) ++ behind)
+    → before ++ (ended ++ rest) ≡ ((upto ++ front) ++ r ∷ (left ++ thinned)) ++ behind
 put_together before begun upto front left thinned behind entered thin ended rest r e0 e1 e2 e3 =
     ap (λ l. before ++ l) (e3 ∙ ap (λ l. l ++ behind) (e2 ∙ ap (λ l. l ++ thinned) e1))
     ∙ regroup
-    ∙ ap (λ l. (l ++ front) ++ r ∷ ((left ++ thinned) ++ behind)) e0
+    ∙ ap (λ l. ((l ++ front) ++ r ∷ (left ++ thinned)) ++ behind) e0
   where
-    regroup : before ++ (((begun ++ (front ++ r ∷ left)) ++ thinned) ++ behind) ≡ ((before ++ begun) ++ front) ++ r ∷ ((left ++ thinned) ++ behind)
+    regroup : before ++ (((begun ++ (front ++ r ∷ left)) ++ thinned) ++ behind) ≡ (((before ++ begun) ++ front) ++ r ∷ (left ++ thinned)) ++ behind
     regroup = simp append_assoc
 
 -- what is put together so is live
 pub live_renewed : (r : RowValue) (before behind : List RowValue) (n : ℕ) → n ≤ length before → IsPlace place_cmp r (before ++ behind) n → left_of r behind ≡ behind → AreLive (before ++ behind) → (HasCovering (before ++ behind) r → ⊥)
-    → take n (before ++ behind) ++ r ∷ (left_of r (drop n before) ++ behind) ≡ live ((before ++ behind) ++ r ∷ [])
+    → entered r n before ++ behind ≡ live ((before ++ behind) ++ r ∷ [])
 live_renewed r before behind n h place stays is_live uncovered =
     let rows = before ++ behind in
     let parted : left_of r (drop n rows) ≡ left_of r (drop n before) ++ behind =
     ap (left_of r) (drop-append-le n before behind h) ∙ filter-append (λ s. not (is_dominating r s)) (drop n before) behind ∙ ap (λ l. left_of r (drop n before) ++ l) stays in
-    ap (λ l. take n rows ++ r ∷ l) (sym parted) ∙ live-parted rows r n place is_live uncovered
+    append_assoc (take n before) (r ∷ left_of r (drop n before)) behind
+    ∙ ap₂ (λ l m. l ++ r ∷ m) (sym (take-append-le n before behind h)) (sym parted) ∙ live-parted rows r n place is_live uncovered

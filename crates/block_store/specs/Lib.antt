@@ -3,6 +3,7 @@ pub mod Held
 pub mod Times
 pub mod Blocks
 pub mod Packing
+pub mod Entered
 pub mod Positions
 pub mod Counting
 pub mod InBox

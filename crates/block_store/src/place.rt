@@ -7,7 +7,7 @@ ghost use Rattle.willow_path.specs.Path.{path_cmp};
 ghost use Rattle.willow_entry.specs.Pruning.{IsPlace};
 ghost use Rattle.willow_entry.specs.Row.{RowValue, AreLive, IsRising, HasCovering, IsCoveringAt, is_at_prefix, is_covering, left_of, place_cmp};
 ghost use Rattle.block_store.specs.Blocks.{block_rows, block_values, index_of, IsSpot};
-ghost use Rattle.block_store.specs.Front.{front, ReachFrom};
+ghost use Rattle.block_store.specs.Front.{front, covers_at, ReachFrom};
 
 use crate::block::Piece;
 use crate::index::{index_of, row_at};
@@ -122,8 +122,8 @@ pub(crate) fn run_end<R: Row>(pieces: &[Piece<R>], row: &R, at: Spot) -> Spot
 // Whether a row stands at the spot that is the row or dominates it.
 fn is_covered_at<R: Row>(pieces: &[Piece<R>], row: &R, at: Spot) -> bool
     requires { IsSpot pieces.now at }
-    ensures found { IsTrue result → (index_of pieces.now at < length (block_values R.value pieces.now)) × IsTrue (is_covering (slice_index_or (block_values R.value pieces.now) (index_of pieces.now at) (R.value row.now)) (R.value row.now)) }
-    ensures not_found { result ≡ false → index_of pieces.now at < length (block_values R.value pieces.now) → is_covering (slice_index_or (block_values R.value pieces.now) (index_of pieces.now at) (R.value row.now)) (R.value row.now) ≡ false }
+    ensures found { IsTrue result → (index_of pieces.now at < length (block_values R.value pieces.now)) × IsTrue (covers_at (block_values R.value pieces.now) (index_of pieces.now at) (R.value row.now)) }
+    ensures not_found { result ≡ false → index_of pieces.now at < length (block_values R.value pieces.now) → covers_at (block_values R.value pieces.now) (index_of pieces.now at) (R.value row.now) ≡ false }
 {
     match row_at(pieces, at) {
         Some(held) => covers(held, row),

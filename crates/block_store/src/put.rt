@@ -2,7 +2,7 @@
 
 ghost use Rattle.std.specs.Prelude.{◌≡◌, ℕ, ◌+◌, ◌^◌, ◌<◌, ◌≤◌, [], ◌∷◌, ◌++◌, length, take, drop, count_by, OnOk, OnErr, IfOk, vec_len};
 ghost use Rattle.willow_entry.specs.Pruning.{IsPlace};
-ghost use Rattle.willow_entry.specs.Row.{RowValue, AreLive, HasCovering, is_dominating, left_of, place_cmp, live};
+ghost use Rattle.willow_entry.specs.Row.{RowValue, AreLive, IsRising, HasCovering, is_dominating, left_of, place_cmp, live};
 ghost use Rattle.block_store.specs.Blocks.{block_rows, block_values, index_of, size_at, IsSpot};
 ghost use Rattle.block_store.specs.Packing.{IsPacked};
 
@@ -40,6 +40,21 @@ fn blocks_to<R: Row>(pieces: &[Piece<R>], at: Spot, end: Spot) -> usize
     ensures upto { index_of pieces.now end ≤ length (block_rows (take result pieces.now)) }
 {
     at.block.max(blocks_before(pieces, end))
+}
+
+// The number of blocks up to the end of the run of rows that the row may dominate, and how many of them it dominates.
+fn run_of<R: Row>(pieces: &[Piece<R>], row: &R, at: Spot) -> (usize, usize)
+    requires few { length (block_rows pieces.now) < 2 ^ 32 }
+    requires rising { IsRising (block_values R.value pieces.now) }
+    requires spot { IsSpot pieces.now at }
+    requires place { IsPlace place_cmp (R.value row.now) (block_values R.value pieces.now) (index_of pieces.now at) }
+    ensures from { at.block ≤ result.0 }
+    ensures within { result.0 ≤ length pieces.now }
+    ensures stays { left_of (R.value row.now) (block_values R.value (drop result.0 pieces.now)) ≡ block_values R.value (drop result.0 pieces.now) }
+    ensures pruned { result.1 ≡ count_by (is_dominating (R.value row.now)) (block_values R.value pieces.now) }
+{
+    let to = blocks_to(pieces, at, run_end(pieces, row, at));
+    (to, pruned_in(&pieces[at.block..to], row))
 }
 
 // Where a row goes in that stands at a spot: behind all rows into the last block.
@@ -137,9 +152,7 @@ pub(crate) fn put<R: Row>(pieces: &mut Vec<Piece<R>>, row: R, at: Spot) -> Resul
     ensures packed { IsPacked pieces.old.items → IsPacked pieces.new.items }
     ensures err { OnErr result (block_rows pieces.new.items ≡ block_rows pieces.old.items) }
 {
-    let end = run_end(pieces, &row, at);
-    let to = blocks_to(pieces, at, end);
-    let pruned = pruned_in(&pieces[at.block..to], &row);
+    let (to, pruned) = run_of(pieces, &row, at);
     let held = Arc::new(*pieces.allocator(), row)?;
     settle(pieces, held, at, to, pruned)?;
     Ok(pruned)

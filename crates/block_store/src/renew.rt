@@ -5,6 +5,7 @@ ghost use Rattle.std.specs.Prelude.{◌≡◌, ℕ, ◌+◌, ◌-◌, ◌<◌, �
 ghost use Rattle.willow_entry.specs.Row.{RowValue, left_of};
 ghost use Rattle.block_store.specs.Blocks.{block_rows, block_values, index_of, size_at};
 ghost use Rattle.block_store.specs.Packing.{IsPacked, IsGrown, first_size, last_size};
+ghost use Rattle.block_store.specs.Entered.{entered, entered_upto};
 ghost use Rattle.block_store.specs.Held.{values_of};
 
 use crate::append::{add_row, add_rows, append, append_shared, piece_of, share};
@@ -55,7 +56,7 @@ fn add_entered<R: Row>(
 ) -> Result<(), NoMemory>
     requires { at ≤ length piece.now.block.value.rows.items }
     ensures grown { OnOk result (IsGrown fresh.old.items fresh.new.items) }
-    ensures values { OnOk result (block_values R.value fresh.new.items ≡ block_values R.value fresh.old.items ++ (take at (values_of R.value piece.now.block.value.rows.items) ++ R.value held.now.value ∷ left_of (R.value held.now.value) (drop at (values_of R.value piece.now.block.value.rows.items)))) }
+    ensures values { OnOk result (block_values R.value fresh.new.items ≡ block_values R.value fresh.old.items ++ entered (R.value held.now.value) at (values_of R.value piece.now.block.value.rows.items)) }
 {
     let mut rows = Vec::with_capacity(*fresh.allocator(), BLOCK_ROWS)?;
     let (front, behind) = piece.block.rows.split_at(at);
@@ -95,7 +96,7 @@ pub(crate) fn renewed<R: Row>(
     ensures packed { IfOk result (λ fresh. IsPacked fresh.items) }
     ensures first { IfOk result (λ fresh. 0 < at.block → size_at pieces.now (at.block - 1) ≤ first_size fresh.items) }
     ensures last { IfOk result (λ fresh. to < length pieces.now → size_at pieces.now to ≤ last_size fresh.items) }
-    ensures values { IfOk result (λ fresh. block_values R.value (take (at.block - 1) pieces.now) ++ (block_values R.value fresh.items ++ block_values R.value (drop (to + 1) pieces.now)) ≡ take (index_of pieces.now at) (block_values R.value pieces.now) ++ R.value held.now.value ∷ (left_of (R.value held.now.value) (drop (index_of pieces.now at) (block_values R.value (take to pieces.now))) ++ block_values R.value (drop to pieces.now))) }
+    ensures values { IfOk result (λ fresh. block_values R.value (take (at.block - 1) pieces.now ++ (fresh.items ++ drop (to + 1) pieces.now)) ≡ entered_upto R.value pieces.now at to (R.value held.now.value)) }
 {
     let mut fresh = begun(pieces, at.block)?;
     add_entered(&mut fresh, &pieces[at.block], at.row, held)?;

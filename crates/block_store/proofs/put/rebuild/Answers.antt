@@ -1,13 +1,11 @@
 use Rattle.std.proofs.Common.{◌≡◌, ◌+◌, ◌-◌, ◌≤◌, ◌<◌, ◌++◌, ◌∷◌, [], Result, Ok, Err, OnOk, OnErr, length, take, drop, min, sym, ap, ap₂, ◌∙◌, subst, arith}
 use Rattle.std.proofs.lemmas.List.{drop_min}
-use Rattle.std.proofs.lemmas.List.Concat.{flat_map-append}
 use Rattle.std.proofs.lemmas.Result.{on_ok_weaker, on_err_weaker}
 use Rattle.willow_entry.specs.Pruning.{IsPlace}
-use Rattle.willow_entry.specs.Row.{AreLive, HasCovering, left_of, live, place_cmp}
+use Rattle.willow_entry.specs.Row.{AreLive, HasCovering, live, place_cmp}
 use Rattle.block_store.specs.Blocks.{block_values, index_of, size_at}
 use Rattle.block_store.specs.Packing.{IsPacked, first_size, last_size}
-use Rattle.block_store.specs.Held.{values_of}
-use Rattle.block_store.specs.declared.block.Piece.{Piece}
+use Rattle.block_store.specs.Entered.{entered, entered_upto}
 use Rattle.block_store.proofs.Pieces.{values_cut, values_long, index_within}
 use Rattle.block_store.proofs.Growing.{packed_replaced}
 use Rattle.block_store.proofs.Renewing.{live_renewed}
@@ -40,14 +38,12 @@ returns-clause-rows g c =
     let whole : f pieces ≡ f (take to pieces) ++ f (drop to pieces) = values_cut g.R.Row.value pieces to in
     let ends : drop c.min-upto.result pieces ≡ drop (to + 1) pieces =
     ap (λ k. drop k pieces) (c.min-upto.ensures ∙ ap (min (to + 1)) (c.len.ensures ∙ c.args.pieces.now.ok.0)) ∙ drop_min (to + 1) pieces in
-    let parts : f (take c.saturating_sub.result pieces ++ (fresh ++ drop c.min-upto.result pieces)) ≡ f (take (c.args.at.block - 1) pieces) ++ (f fresh ++ f (drop (to + 1) pieces)) =
-    flat_map-append (λ (p : Piece g.row.R.Denot g.R.Row). values_of g.R.Row.value p.block.value.rows.items) (take c.saturating_sub.result pieces) (fresh ++ drop c.min-upto.result pieces)
-    ∙ ap₂ (λ l m. l ++ m) (ap (λ k. f (take k pieces)) c.saturating_sub.ensures)
-    (flat_map-append (λ (p : Piece g.row.R.Denot g.R.Row). values_of g.R.Row.value p.block.value.rows.items) fresh (drop c.min-upto.result pieces) ∙ ap (λ l. f fresh ++ f l) ends) in
+    let parts : f (take c.saturating_sub.result pieces ++ (fresh ++ drop c.min-upto.result pieces)) ≡ f (take (c.args.at.block - 1) pieces ++ (fresh ++ drop (to + 1) pieces)) =
+    ap₂ (λ k l. f (take k pieces ++ (fresh ++ l))) c.saturating_sub.ensures ends in
     let inside : n ≤ length (f (take to pieces)) = omega (arith, index_within pieces c.args.at to c.requires.from c.requires.row, values_long g.R.Row.value (take to pieces)) in
-    let alive : take n (f pieces) ++ r ∷ (left_of r (drop n (f (take to pieces))) ++ f (drop to pieces)) ≡ live (f pieces ++ r ∷ []) =
-    subst (λ l. take n l ++ r ∷ (left_of r (drop n (f (take to pieces))) ++ f (drop to pieces)) ≡ live (l ++ r ∷ [])) (sym whole)
+    let alive : entered_upto g.R.Row.value pieces c.args.at to r ≡ live (f pieces ++ r ∷ []) =
+    subst (λ l. entered r n (f (take to pieces)) ++ f (drop to pieces) ≡ live (l ++ r ∷ [])) (sym whole)
     (live_renewed r (f (take to pieces)) (f (drop to pieces)) n inside (subst (λ l. IsPlace place_cmp r l n) whole c.requires.place) c.requires.stays (subst (λ l. AreLive l) whole c.requires.is_live) (subst (λ l. HasCovering l r → ⊥) whole c.requires.uncovered)) in
-    let made : f (take (c.args.at.block - 1) pieces) ++ (f fresh ++ f (drop (to + 1) pieces)) ≡ take n (f pieces) ++ r ∷ (left_of r (drop n (f (take to pieces))) ++ f (drop to pieces)) =
-    subst (λ l. f (take (c.args.at.block - 1) l) ++ (f fresh ++ f (drop (to + 1) l)) ≡ take (index_of l c.args.at) (f l) ++ r ∷ (left_of r (drop (index_of l c.args.at) (f (take to l))) ++ f (drop to l))) c.deref.ensures.value c.in_ok-fresh.ensures.values in
+    let made : f (take (c.args.at.block - 1) pieces ++ (fresh ++ drop (to + 1) pieces)) ≡ entered_upto g.R.Row.value pieces c.args.at to r =
+    subst (λ l. f (take (c.args.at.block - 1) l ++ (fresh ++ drop (to + 1) l)) ≡ entered_upto g.R.Row.value l c.args.at to r) c.deref.ensures.value c.in_ok-fresh.ensures.values in
     on_ok_weaker c.replace.result (λ e. ap f e ∙ parts ∙ made ∙ alive) c.replace.ensures.blocks
