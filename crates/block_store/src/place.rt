@@ -5,7 +5,7 @@ ghost use Rattle.std.specs.Prelude.{◌≡◌, ℕ, ◌+◌, ◌-◌, ◌^◌, �
 ghost use Rattle.std.specs.Ordering.{is_lt};
 ghost use Rattle.willow_path.specs.Path.{path_cmp};
 ghost use Rattle.willow_entry.specs.Pruning.{IsPlace};
-ghost use Rattle.willow_entry.specs.Row.{RowValue, AreLive, IsRising, HasCovering, IsCoveringAt, is_at_prefix, is_covering, left_of, place_cmp};
+ghost use Rattle.willow_entry.specs.Row.{RowValue, AreLive, IsRising, HasCovering, IsCoveringAt, is_at_prefix, is_covering, left_of, inner_place_cmp, place_cmp};
 ghost use Rattle.block_store.specs.Blocks.{block_rows, block_values, index_of, IsSpot};
 ghost use Rattle.block_store.specs.Front.{front, covers_at, ReachFrom};
 
@@ -32,18 +32,26 @@ fn path_by_front(path: &Path, longer: &Path, count: usize) -> Ordering
     path.count().cmp(&front)
 }
 
+// How the subspace and the path of a row are ordered against those of another's front of so many components.
+fn inner_by_front<R: Row>(held: &R, row: &R, count: usize) -> Ordering
+    ensures { result ≡ inner_place_cmp (R.value held.now) (front (R.value row.now) count) }
+{
+    let (e, f) = (held.entry(), row.entry());
+    match e.subspace.cmp(&f.subspace) {
+        Ordering::Equal => path_by_front(&e.path, &f.path, count),
+        order => order,
+    }
+}
+
 // How the place of a row is ordered against that of another's front of so many components.
+#[tactic(auto, unfolding(willow_entry::specs::Row::place_cmp))]
 fn by_front<R: Row>(held: &R, row: &R, count: usize) -> Ordering
     ensures { result ≡ place_cmp (R.value held.now) (front (R.value row.now) count) }
 {
-    let (e, f) = (held.entry(), row.entry());
-    if e.namespace != f.namespace {
-        return e.namespace.cmp(&f.namespace);
+    match held.entry().namespace.cmp(&row.entry().namespace) {
+        Ordering::Equal => inner_by_front(held, row, count),
+        order => order,
     }
-    if e.subspace != f.subspace {
-        return e.subspace.cmp(&f.subspace);
-    }
-    path_by_front(&e.path, &f.path, count)
 }
 
 // Standing below the place of the row's front of so many components.
