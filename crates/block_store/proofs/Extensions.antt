@@ -63,6 +63,10 @@ module _ (rows : List RowValue) (r : RowValue) (at : ℕ) (place : IsPlace place
   pub pruned_count : length (take at rows ++ left_of r (drop at rows)) + count_by (is_dominating r) rows ≡ length rows
   pruned_count = omega (arith, ap length left_parts, length-filter (is_dominating r) rows, length-filter_both (is_dominating r) (λ s. not (is_dominating r s)) (λ s. refl) rows)
 
+  -- where nothing goes from the place on, nothing goes
+  pub none_counted : left_of r (drop at rows) ≡ drop at rows → 0 ≡ count_by (is_dominating r) rows
+  none_counted stays = omega (arith, pruned_count, ap length (ap (λ l. take at rows ++ l) stays), ap length (take-append-drop at rows))
+
   -- an uncovered row goes to its place, between the rows below it and what it leaves of the others
   pub live-parted : live rows ≡ rows → (HasCovering rows r → ⊥) → take at rows ++ r ∷ left_of r (drop at rows) ≡ live (rows ++ r ∷ [])
   live-parted is_live uncovered =

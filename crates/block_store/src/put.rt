@@ -53,7 +53,12 @@ fn run_of<R: Row>(pieces: &[Piece<R>], row: &R, at: Spot) -> (usize, usize)
     ensures stays { left_of (R.value row.now) (block_values R.value (drop result.0 pieces.now)) ≡ block_values R.value (drop result.0 pieces.now) }
     ensures pruned { result.1 ≡ count_by (is_dominating (R.value row.now)) (block_values R.value pieces.now) }
 {
-    let to = blocks_to(pieces, at, run_end(pieces, row, at));
+    let end = run_end(pieces, row, at);
+    let to = blocks_to(pieces, at, end);
+    // Most rows have no extension: then none goes, and no row of the block is looked at.
+    if end.block == at.block && end.row == at.row {
+        return (to, 0);
+    }
     (to, pruned_in(&pieces[at.block..to], row))
 }
 
