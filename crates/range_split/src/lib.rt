@@ -10,6 +10,7 @@ mod least;
 mod rows;
 
 pub use choice::{Choice, ENTRIES_MAX, choose};
+pub use rows::nth;
 
 #[cfg(test)]
 mod tests;

@@ -20,8 +20,8 @@ pub(crate) fn row_at<R: Row>(snapshot: &Snapshot<R>, at: u32) -> &R
     }
 }
 
-// The position of the n-th row, counted from 0, that the box includes, and the row.
-pub(crate) fn nth<'a, R: Row>(snapshot: &'a Snapshot<R>, area: &Box3, n: u32) -> (u32, &'a R)
+/// The position of the n-th row, counted from 0, that the box includes, and the row. There are more than n such rows.
+pub fn nth<'a, R: Row>(snapshot: &'a Snapshot<R>, area: &Box3, n: u32) -> (u32, &'a R)
     requires { n < length (rows_in area.now (map R.value snapshot.now)) }
     ensures at { slice_get (positions (is_in area.now) (map R.value snapshot.now)) n ≡ Some result.0 }
     ensures held { slice_get (map R.value snapshot.now) result.0 ≡ Some (R.value result.1.now) }

@@ -1,0 +1,13 @@
+pub mod Lists
+pub mod Naming
+pub mod Order
+pub mod Owing
+pub mod Lawful
+pub mod Spoken
+pub mod Heard
+pub mod Hearing
+pub mod Due
+pub mod Replying
+pub mod Telling
+pub mod Steady
+pub mod Running

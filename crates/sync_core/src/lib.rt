@@ -1,0 +1,28 @@
+//! One side of an exchange between two stores, item by item, over its rows as they were when it began.
+//! The contract: what a side says, what it makes of each item that it reads, and when it refuses one, are those of the
+//! rules of the exchange.
+#![tactic(auto)]
+
+mod answer;
+mod ask;
+mod head;
+mod hear;
+pub mod laws;
+mod out_item;
+mod print;
+mod rows;
+mod say;
+mod side;
+mod stage;
+mod start;
+mod work;
+
+pub use out_item::OutItem;
+pub use side::SyncCore;
+pub use stage::{SNAPSHOT_MAX, Stage};
+pub use sync_msg::{CoreRefusal, Item, Role};
+
+#[cfg(test)]
+mod tests;
+#[cfg(test)]
+mod trials;

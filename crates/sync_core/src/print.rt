@@ -1,0 +1,30 @@
+//! Fingerprints of the own rows of a box.
+
+ghost use Rattle.std.specs.Prelude.{◌≡◌, map};
+ghost use Rattle.block_store.specs.Fingerprint.{fingerprint_of};
+ghost use Rattle.block_store.specs.InBox.{rows_in};
+
+use block_store::Snapshot;
+use std::marker::Brand;
+use std::sync::ledger::{Blank, Ledger};
+use step_count::Steps;
+use willow_area::Box3;
+use willow_entry::Row;
+
+// The fingerprint of the rows of a box.
+pub(crate) fn print_of<R: Row>(snapshot: &Snapshot<R>, area: &Box3) -> [u8; 32]
+    ensures { result ≡ fingerprint_of (rows_in area.now (map R.value snapshot.now)) }
+{
+    counted_print::<R, Brand>(snapshot, area, Blank::new(1))
+}
+
+// The same, with a new counter of steps.
+fn counted_print<R: Row, L: Ledger>(snapshot: &Snapshot<R>, area: &Box3, blank: Blank) -> [u8; 32]
+    requires name { blank.name ≡ L.name }
+    requires parts { blank.parts ≡ L.parts }
+    requires one { blank.parts ≡ 1 }
+    ensures { result ≡ fingerprint_of (rows_in area.now (map R.value snapshot.now)) }
+{
+    let mut steps = Steps::<L>::new(blank);
+    snapshot.fingerprint(area, &mut steps)
+}
