@@ -29,10 +29,9 @@ returns-in-Ok-clause-hears g c =
 pub returns-in-Err-Refused-clause-hears : goal.returns-in-Err-Refused-clause-hears
 returns-in-Err-Refused-clause-hears g c =
     let value = item_value g.Q.Row.value c.args.item in
-    let count : c.from-counted.result ≡ count_one value = byte_counts g.Q.Row.value c.args.item c.is_counted.result c.from-counted.result c.from-counted.ensures c.is_counted.ensures in
-    (
+    let count : c.from-counted.result ≡ count_one value = byte_counts g.Q.Row.value c.args.item c.is_counted.result c.from-counted.result c.from-counted.ensures c.is_counted.ensures in (
       ap (λ p. heard p value) (sym c.self.view_is)
-      ∙ heard_refused _ _ _ c.self.invariant value c.hear-outcome.new.work c.hear-outcome.result c.hear-outcome.ensures.does c.from-counted.result count c.in-Err-Refused.cause (sym c.within.ensures ∙ c.in-Err-Refused.is ∙ ap (λ e. Err e) c.in-Err-Refused.field-0-is),
+          ∙ heard_refused _ _ _ c.self.invariant value c.hear-outcome.new.work c.hear-outcome.result c.hear-outcome.ensures.does c.from-counted.result count c.in-Err-Refused.cause (sym c.within.ensures ∙ c.in-Err-Refused.is ∙ ap (λ e. Err e) c.in-Err-Refused.field-0-is),
       ap (λ p. refused p c.in-Err-Refused.cause) c.self.view_is,
     )
 
