@@ -1,0 +1,4 @@
+pub mod LiveParts
+pub mod Rising
+pub mod SelfContained
+pub mod Meetings
