@@ -1,4 +1,4 @@
 pub mod LiveParts
-pub mod Rising
+pub mod Stores
 pub mod SelfContained
-pub mod Meetings
+pub mod Agreeing

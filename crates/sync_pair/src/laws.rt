@@ -3,26 +3,16 @@
 
 ghost use Rattle.std.specs.Prelude.{◌≡◌, ℕ, ◌+◌, ◌*◌, ◌≤◌, max, List, [], length, Option, None, Some, IsTrue, All, Contains};
 ghost use Rattle.std.specs.List.{IsDistinct};
-ghost use Rattle.std.specs.List.Sorted.{IsStrictlySortedBy};
 ghost use Rattle.willow_area.specs.AreaBox.{area_box};
 ghost use Rattle.willow_area.specs.Boxes.{Ranges};
 ghost use Rattle.willow_area.specs.declared.area.Area.{Area};
-ghost use Rattle.willow_entry.specs.Row.{RowValue, Dominates, HasCovering, inner_place_cmp, join, live, same_row};
+ghost use Rattle.willow_entry.specs.Row.{RowValue, Dominates, HasCovering, join, live, same_row};
 ghost use Rattle.block_store.specs.InBox.{is_in, rows_in};
 ghost use Rattle.exchange_rules.specs.Items.{counted, to_left, to_right};
 ghost use Rattle.exchange_rules.specs.Exchange.{Apart, exchange};
 ghost use Rattle.sync_core.specs.SyncRules.{sync_rules};
-ghost use Rattle.sync_pair.specs.Stores.{AreStores, IsStoreOf};
+ghost use Rattle.sync_pair.specs.Stores.{AreStores};
 ghost use Rattle.sync_pair.specs.Agreement.{IsSelfContained, left_after, right_after};
-
-/// The rows of a store rise by subspace and path, and each stands there once: so the rules of stores meet what the laws
-/// of an exchange ask.
-pub fn stores()
-    ensures rise { (namespace : List ℕ) (rows : List RowValue)
-        → IsStoreOf namespace rows → IsStrictlySortedBy inner_place_cmp rows }
-    ensures distinct { (namespace : List ℕ) (rows : List RowValue)
-        → IsStoreOf namespace rows → IsDistinct same_row rows }
-{}
 
 /// Where the fingerprints of the exchange tell rows apart, each side comes to hold what it would if it joined its rows
 /// with all that the other has in the box.

@@ -1,6 +1,5 @@
 #[test]
 fn the_laws_can_be_called() {
-    crate::laws::stores();
     crate::laws::convergence();
     crate::laws::covering();
     crate::laws::agreement();

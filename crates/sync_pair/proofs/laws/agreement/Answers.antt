@@ -1,6 +1,6 @@
 use Rattle.std.proofs.Common.{sym, ◌∙◌}
 use Rattle.willow_area.specs.AreaBox.{area_box}
-use Rattle.sync_pair.proofs.Meetings.{agrees_left, agrees_right}
+use Rattle.sync_pair.proofs.Agreeing.{agrees_left, agrees_right}
 use Rattle.sync_pair.proofs.laws.agreement.Goals as goal
 
 pub returns-clause-left : goal.returns-clause-left

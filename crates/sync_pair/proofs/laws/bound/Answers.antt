@@ -1,4 +1,4 @@
-use Rattle.sync_pair.proofs.Meetings.{few_counted}
+use Rattle.sync_pair.proofs.Agreeing.{few_counted}
 use Rattle.sync_pair.proofs.laws.bound.Goals as goal
 
 pub returns : goal.returns

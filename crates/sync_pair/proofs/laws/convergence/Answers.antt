@@ -1,4 +1,4 @@
-use Rattle.sync_pair.proofs.Meetings.{converges_left, converges_right}
+use Rattle.sync_pair.proofs.Agreeing.{converges_left, converges_right}
 use Rattle.sync_pair.proofs.laws.convergence.Goals as goal
 
 pub returns-clause-left : goal.returns-clause-left

@@ -1,4 +1,4 @@
-use Rattle.sync_pair.proofs.Meetings.{keeps_left, keeps_right, gets_left, gets_right}
+use Rattle.sync_pair.proofs.Agreeing.{keeps_left, keeps_right, gets_left, gets_right}
 use Rattle.sync_pair.proofs.laws.covering.Goals as goal
 
 pub returns-clause-left_keeps : goal.returns-clause-left_keeps

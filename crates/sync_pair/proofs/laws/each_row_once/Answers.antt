@@ -1,4 +1,4 @@
-use Rattle.sync_pair.proofs.Meetings.{only_left, only_right, once_left, once_right}
+use Rattle.sync_pair.proofs.Agreeing.{only_left, only_right, once_left, once_right}
 use Rattle.sync_pair.proofs.laws.each_row_once.Goals as goal
 
 pub returns-clause-left_only : goal.returns-clause-left_only

@@ -8,19 +8,15 @@ use Rattle.willow_entry.proofs.Live.{join_comm, live_same_members}
 use Rattle.block_store.specs.InBox.{is_in, rows_in}
 use Rattle.exchange_rules.specs.Items.{counted, to_left, to_right}
 use Rattle.exchange_rules.specs.Exchange.{Apart, exchange}
-use Rattle.exchange_rules.specs.Premises.{CanCut}
 use Rattle.exchange_rules.proofs.Converging.{left_only, right_only, left_once, right_once, left_gets, right_gets}
 use Rattle.exchange_rules.proofs.Costs.{counted_exchange}
 use Rattle.sync_core.specs.SyncRules.{sync_rules}
-use Rattle.sync_core.proofs.Lawful.{deciding, disjoint, can_cut_rows}
-use Rattle.sync_pair.specs.Stores.{AreStores, IsStoreOf}
+use Rattle.sync_core.proofs.Lawful.{deciding, disjoint}
+use Rattle.sync_pair.specs.Stores.{AreStores}
 use Rattle.sync_pair.specs.Agreement.{IsSelfContained, left_after, right_after}
 use Rattle.sync_pair.proofs.LiveParts.{kept, kept_from, all_from_contains, join_same, join_covers_left, join_covers_right}
-use Rattle.sync_pair.proofs.Rising.{store_rises_within, store_distinct}
+use Rattle.sync_pair.proofs.Stores.{store_cuts, store_distinct}
 use Rattle.sync_pair.proofs.SelfContained.{live_inside}
-
-store_cuts : (namespace : List ℕ) (rows : List RowValue) → IsStoreOf namespace rows → CanCut sync_rules rows
-store_cuts namespace rows store = can_cut_rows rows (store_rises_within namespace rows store)
 
 -- ---- what is sent
 
