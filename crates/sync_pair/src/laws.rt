@@ -53,7 +53,8 @@ pub fn agreement()
         ≡ rows_in (area_box area) (right_after a b (Some (area_box area))) }
 {}
 
-/// No row outside such a box dominates one inside, so what is live in it rests on the rows in it alone.
+/// No row outside a box with the paths from the shortest on and times without end dominates one inside, so what is live
+/// in it rests on the rows in it alone.
 pub fn self_contained_boxes()
     ensures inside { (x : Ranges) (r s : RowValue)
         → IsSelfContained x → Dominates r s → IsTrue (is_in x s) → IsTrue (is_in x r) }
