@@ -1,5 +1,5 @@
 -- Nothing refuses a row exactly where it is authorised.
-use Rattle.std.proofs.Common.{◌≡◌, ◌↔◌, ℕ, Bool, ◌&&◌, List, Option, Some, None, refl, ap}
+use Rattle.std.proofs.Common.{◌≡◌, ◌↔◌, ℕ, Bool, ◌&&◌, List, Option, Some, None, refl, sym, ap, subst, ◌∙◌}
 use Rattle.std.specs.Prelude.{option_map}
 use Rattle.std.specs.Cmp.Lexicographic.{bytes_decides}
 use Rattle.std.proofs.lemmas.Bool.{and_parts, and_from}
@@ -69,3 +69,13 @@ module _ (rules : Rules) (n : List ℕ) (r : RawValue) where
 
   pub authorised_means : (row_refusal rules n r ≡ None) ↔ IsAuthorised rules n r
   authorised_means = (authorised, not_refused)
+
+-- an authorised row is of the namespace
+pub own_namespace : (rules : Rules) (n : List ℕ) (r s : RawValue) → s ≡ r → row_refusal rules n r ≡ None → s.entry.namespace ≡ n
+own_namespace rules n r s same none = ap (λ (x : RawValue). x.entry.namespace) same ∙ ((authorised_means rules n r).0 none).of_namespace.0
+
+-- so it is authorised in that of its entry
+pub authorised_in_own : (rules : Rules) (n : List ℕ) (r s : RawValue) → s ≡ r → row_refusal rules n r ≡ None → row_refusal rules s.entry.namespace s ≡ None
+authorised_in_own rules n r s same none =
+    let here : row_refusal rules n s ≡ None = subst (λ (x : RawValue). row_refusal rules n x ≡ None) (sym same) none in
+    subst (λ (m : List ℕ). row_refusal rules m s ≡ None) (sym (own_namespace rules n r s same none)) here

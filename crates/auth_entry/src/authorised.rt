@@ -7,7 +7,7 @@ ghost use Rattle.cap_codec.specs.Rows.{FitsFrame, row_of};
 ghost use Rattle.auth_entry.specs.Authorised.{AuthorisedValue, early_refusal, row_refusal};
 
 use crate::refusal::check_row;
-use cap_codec::RawRow;
+use cap_codec::{RawRow, SpelledRow};
 use mc_cap::RowRefusal;
 use scheme_core::{Scheme, Verify};
 use spelling::End;
@@ -16,12 +16,11 @@ use std::marker::{Model, PhantomData};
 use willow_entry::{Entry, Row, SharedRow};
 use willow_path::{NamespaceKey, NoMemory};
 
-/// A row that is authorised in a namespace by the rules of S. A contract sees the namespace and the row;
-/// the type keeps that it is authorised.
+/// A row that is authorised in a namespace by the rules of S. A contract sees the namespace and the row; the type keeps
+/// that it is authorised. Its token is kept as bytes alone, and its namespace stands in its entry.
 #[derive(Drop)]
 pub struct AuthorisedEntry<S: Verify> {
-    namespace: NamespaceKey,
-    row: RawRow,
+    row: SpelledRow,
     scheme: PhantomData<S>,
 }
 
@@ -31,9 +30,9 @@ impl<S: Verify> Model for AuthorisedEntry<S> {
 
     ghost Value = { AuthorisedValue };
 
-    ghost view = { λ a. record { namespace = a.namespace; row = a.row } };
+    ghost view = { λ a. record { namespace = a.row.entry.namespace; row = a.row } };
 
-    ghost invariant = { λ a. row_refusal S.rules a.namespace a.row ≡ None };
+    ghost invariant = { λ a. row_refusal S.rules a.row.entry.namespace a.row ≡ None };
 }
 
 /// The row, where it is authorised in the namespace by the rules of the scheme. It is refused exactly with
@@ -61,8 +60,7 @@ impl<S: Verify> AuthorisedEntry<S> {
         ensures row { result.row ≡ row }
     {
         AuthorisedEntry {
-            namespace,
-            row,
+            row: row.into_spelled(),
             scheme: PhantomData,
         }
     }
@@ -71,12 +69,12 @@ impl<S: Verify> AuthorisedEntry<S> {
     pub fn namespace(&self) -> NamespaceKey
         ensures { result ≡ self.now.namespace }
     {
-        self.namespace
+        self.row.entry().namespace
     }
 
     /// The row. Nothing refuses it, and a frame can carry it, however long its capability is.
     #[tactic(auto, using(crate::proofs::Lengths::fits_frame))]
-    pub fn row(&self) -> &RawRow
+    pub fn row(&self) -> &SpelledRow
         ensures row { result.now ≡ self.now.row }
         ensures authorised { row_refusal S.rules self.now.namespace self.now.row ≡ None }
         ensures fits { FitsFrame self.now.row }
@@ -90,7 +88,6 @@ impl<S: Verify> AuthorisedEntry<S> {
         ensures { IfOk result (λ entry. entry ≡ self.now) }
     {
         Ok(AuthorisedEntry {
-            namespace: self.namespace,
             row: self.row.copy()?,
             scheme: PhantomData,
         })

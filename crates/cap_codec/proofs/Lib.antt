@@ -3,3 +3,4 @@ pub mod FormReads
 pub mod CapReads
 pub mod RowReads
 pub mod Frames
+pub mod Spelled

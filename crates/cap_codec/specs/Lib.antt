@@ -1,3 +1,4 @@
 pub mod Rows
 pub mod Streams
 pub mod Reading
+pub mod Spelled

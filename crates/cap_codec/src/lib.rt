@@ -10,7 +10,7 @@ mod token;
 
 pub use capability::{decode_capability, read_capability, read_signature};
 pub use frame::{BadFrames, behind, decode_frame, frames_in_front, read_frames};
-pub use row::{RawRow, RawRows};
+pub use row::{RawRow, RawRows, SpelledRow};
 pub use token::{WriteToken, read_token};
 pub use willow_entry::{MAX_FRAME, encode_row_frame as encode_frame};
 

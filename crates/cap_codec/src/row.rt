@@ -1,4 +1,5 @@
-//! Rows whose tokens are read out: an entry, by whose leave it was written, and the bytes of both.
+//! Rows: an entry, by whose leave it was written, and the bytes of both. Their tokens are read out, or kept as bytes
+//! alone.
 
 ghost use Rattle.std.specs.Prelude.{◌≡◌, IfOk};
 ghost use Rattle.mc_cap.specs.Forms.{capability_spelling};
@@ -103,6 +104,24 @@ impl RawRow {
         let _token = &self.token;
     }
 
+    /// The same row, in less memory: its token is kept as bytes alone.
+    pub fn into_spelled(self) -> SpelledRow
+        ensures { result ≡ self }
+    {
+        let RawRow {
+            entry,
+            token: _,
+            body,
+            entry_len,
+            capability_len: _,
+        } = self;
+        SpelledRow {
+            entry,
+            body,
+            entry_len,
+        }
+    }
+
     /// An equal row.
     pub fn copy(&self) -> Result<RawRow, NoMemory>
         ensures { IfOk result (λ row. row ≡ self.now) }
@@ -138,6 +157,72 @@ impl Row for RawRow {
 }
 
 impl SharedRow for RawRow {}
+
+/// A row whose token is kept as bytes alone: the entry, and the bytes of both, once. A contract sees the entry and the
+/// token that the bytes spell, as it does of a `RawRow`.
+#[derive(Debug, Drop)]
+pub struct SpelledRow {
+    entry: Entry,
+    body: Vec<u8>,
+    entry_len: usize,
+}
+
+impl Model for SpelledRow {
+    ghost use Rattle.std.specs.Prelude.{◌≡◌, length};
+    ghost use Rattle.willow_entry.specs.EntryForm.{entry_spelling};
+    ghost use Rattle.cap_codec.specs.Rows.{RawValue, IsRaw, raw_spelling};
+    ghost use Rattle.cap_codec.specs.Spelled.{spelled_row};
+
+    ghost Value = { RawValue };
+
+    ghost view = { λ r. spelled_row r.entry r.body.items r.entry_len };
+
+    ghost invariant = { λ r. IsRaw (spelled_row r.entry r.body.items r.entry_len)
+        × (r.body.items ≡ raw_spelling (spelled_row r.entry r.body.items r.entry_len))
+        × (r.entry_len ≡ length (entry_spelling r.entry)) };
+}
+
+impl SpelledRow {
+    /// Does nothing: it is called for its clause, that the entry and the token are within their limits.
+    pub fn known(&self)
+        ensures { IsRaw self.now }
+    {
+        let _body = &self.body;
+    }
+
+    /// An equal row.
+    pub fn copy(&self) -> Result<SpelledRow, NoMemory>
+        ensures { IfOk result (λ row. row ≡ self.now) }
+    {
+        Ok(SpelledRow {
+            entry: self.entry.copy()?,
+            body: Vec::from_slice(*self.body.allocator(), &self.body)?,
+            entry_len: self.entry_len,
+        })
+    }
+}
+
+impl Row for SpelledRow {
+    ghost value = { row_of };
+
+    fn entry(&self) -> &Entry {
+        &self.entry
+    }
+
+    fn entry_bytes(&self) -> &[u8] {
+        &self.body[..self.entry_len]
+    }
+
+    fn token_bytes(&self) -> &[u8] {
+        &self.body[self.entry_len..]
+    }
+
+    fn copy(&self) -> Result<SpelledRow, NoMemory> {
+        self.copy()
+    }
+}
+
+impl SharedRow for SpelledRow {}
 
 /// The bodies of rows: an entry within its limits, a write token, and nothing else.
 pub struct RawRows;

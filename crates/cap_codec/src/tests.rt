@@ -107,13 +107,29 @@ fn has_bytes<R: SharedRow>(row: &R, bytes: &[u8]) -> bool {
     bytes.get(..117) == Some(row.entry_bytes()) && bytes.get(117..) == Some(row.token_bytes())
 }
 
-// Whether both copies of the row of these bytes are spelled so.
+// Whether both copies of the row of these bytes are spelled so, and those of the row that keeps its token as bytes.
 fn copies_have_bytes(alloc: Global, text: &str) -> Option<bool> {
     let bytes = hex::decode(alloc, text).ok()?;
     let row = RawRow::decode(alloc, &bytes).ok()?;
     let copy = row.copy().ok()?;
     let as_row = Row::copy(&row).ok()?;
-    Some(has_bytes(&copy, &bytes) && has_bytes(&as_row, &bytes))
+    let spelled = spelled_has_bytes(row, &bytes)?;
+    Some(has_bytes(&copy, &bytes) && has_bytes(&as_row, &bytes) && spelled)
+}
+
+// Whether the row that keeps its token as bytes, and its copies, are spelled so and have the entry.
+fn spelled_has_bytes(row: RawRow, bytes: &[u8]) -> Option<bool> {
+    let time = row.entry().timestamp;
+    let spelled = row.into_spelled();
+    spelled.known();
+    let copy = spelled.copy().ok()?;
+    let as_row = Row::copy(&spelled).ok()?;
+    Some(
+        has_bytes(&spelled, bytes)
+            && has_bytes(&copy, bytes)
+            && has_bytes(&as_row, bytes)
+            && copy.entry().timestamp == time,
+    )
 }
 
 // The spelling of a copy of the token in the row of these bytes.
