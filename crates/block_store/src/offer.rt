@@ -1,7 +1,8 @@
 //! A row is offered to live rows in blocks.
 
 ghost use Rattle.std.specs.Prelude.{◌≡◌, ℕ, ◌+◌, ◌-◌, ◌^◌, ◌<◌, ◌≤◌, [], ◌∷◌, ◌++◌, length, map, take, drop, count_by, position, slice_get, Some, OnOk, OnErr, IfOk, if◌then◌else◌, vec_len};
-ghost use Rattle.willow_entry.specs.Row.{RowValue, AreLive, IsRising, HasCovering, is_dominating, live};
+ghost use Rattle.willow_entry.specs.Pruning.{IsPlace};
+ghost use Rattle.willow_entry.specs.Row.{RowValue, AreLive, IsRising, HasCovering, is_dominating, live, place_cmp};
 ghost use Rattle.willow_entry.specs.Placed.{IsPlaced, OnKept};
 ghost use Rattle.block_store.specs.Blocks.{block_rows, block_values, index_of, IsSpot};
 ghost use Rattle.block_store.specs.Packing.{IsPacked};
@@ -15,6 +16,7 @@ use crate::put::put;
 use crate::spot::Spot;
 use crate::thin::prunes;
 use std::alloc::Global;
+use std::sync::Arc;
 use willow_entry::{Placed, Row};
 use willow_path::NoMemory;
 
@@ -27,6 +29,30 @@ pub(crate) fn rows_after(rows: u32, placed: Placed) -> u32
         Placed::Stored { pruned } => (rows + 1).saturating_sub(pruned),
         Placed::Kept { by: _ } => rows,
     }
+}
+
+// Stores a row that no row covers.
+fn store<R: Row>(
+    pieces: &mut Vec<Piece<R>>,
+    held: Arc<R>,
+    at: Spot,
+) -> Result<Placed, NoMemory>
+    requires few { length (block_rows pieces.old.items) < 2 ^ 32 }
+    requires is_live { AreLive (block_values R.value pieces.old.items) }
+    requires uncovered { HasCovering (block_values R.value pieces.old.items) (R.value held.value) → ⊥ }
+    requires spot { IsSpot pieces.old.items at }
+    requires place { IsPlace place_cmp (R.value held.value) (block_values R.value pieces.old.items) (index_of pieces.old.items at) }
+    ensures rows { OnOk result (block_values R.value pieces.new.items ≡ live (block_values R.value pieces.old.items ++ R.value held.value ∷ [])) }
+    ensures placed { IfOk result (λ placed. IsPlaced (block_values R.value pieces.old.items) (R.value held.value) placed) }
+    ensures stored { OnKept result ⊥ }
+    ensures count { IfOk result (λ placed. length (block_rows pieces.new.items) ≡ rows_after (length (block_rows pieces.old.items)) placed) }
+    ensures packed { IsPacked pieces.old.items → IsPacked pieces.new.items }
+    ensures err { OnErr result (block_rows pieces.new.items ≡ block_rows pieces.old.items) }
+{
+    let pruned = put(pieces, held, at)?;
+    Ok(Placed::Stored {
+        pruned: pruned as u32,
+    })
 }
 
 // Keeps the rows where one of them covers the new row, and else puts it in its place.
@@ -43,11 +69,29 @@ pub(crate) fn offer<R: Row>(pieces: &mut Vec<Piece<R>>, row: R) -> Result<Placed
     match place_or_cover(pieces, &row) {
         Err(by) => Ok(Placed::Kept { by }),
         Ok(at) => {
-            let pruned = put(pieces, row, at)?;
-            Ok(Placed::Stored {
-                pruned: pruned as u32,
-            })
+            let held = Arc::new(*pieces.allocator(), row)?;
+            store(pieces, held, at)
         }
+    }
+}
+
+// The same of a row that others share.
+pub(crate) fn offer_shared<R: Row>(
+    pieces: &mut Vec<Piece<R>>,
+    held: Arc<R>,
+) -> Result<Placed, NoMemory>
+    requires is_live { AreLive (block_values R.value pieces.old.items) }
+    requires room { length (block_rows pieces.old.items) < 2 ^ 32 - 1 }
+    ensures rows { OnOk result (block_values R.value pieces.new.items ≡ live (block_values R.value pieces.old.items ++ R.value held.value ∷ [])) }
+    ensures placed { IfOk result (λ placed. IsPlaced (block_values R.value pieces.old.items) (R.value held.value) placed) }
+    ensures kept { OnKept result (pieces.new.items ≡ pieces.old.items) }
+    ensures count { IfOk result (λ placed. length (block_rows pieces.new.items) ≡ rows_after (length (block_rows pieces.old.items)) placed) }
+    ensures packed { IsPacked pieces.old.items → IsPacked pieces.new.items }
+    ensures err { OnErr result (block_rows pieces.new.items ≡ block_rows pieces.old.items) }
+{
+    match place_or_cover(pieces, &*held) {
+        Err(by) => Ok(Placed::Kept { by }),
+        Ok(at) => store(pieces, held, at),
     }
 }
 

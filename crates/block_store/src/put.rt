@@ -146,19 +146,22 @@ fn settle<R: Row>(
 }
 
 // Puts an uncovered row in its place among the live rows that it does not dominate, and counts the others.
-pub(crate) fn put<R: Row>(pieces: &mut Vec<Piece<R>>, row: R, at: Spot) -> Result<usize, NoMemory>
+pub(crate) fn put<R: Row>(
+    pieces: &mut Vec<Piece<R>>,
+    held: Arc<R>,
+    at: Spot,
+) -> Result<usize, NoMemory>
     requires few { length (block_rows pieces.old.items) < 2 ^ 32 }
     requires is_live { AreLive (block_values R.value pieces.old.items) }
-    requires uncovered { HasCovering (block_values R.value pieces.old.items) (R.value row) → ⊥ }
+    requires uncovered { HasCovering (block_values R.value pieces.old.items) (R.value held.value) → ⊥ }
     requires spot { IsSpot pieces.old.items at }
-    requires place { IsPlace place_cmp (R.value row) (block_values R.value pieces.old.items) (index_of pieces.old.items at) }
-    ensures rows { OnOk result (block_values R.value pieces.new.items ≡ live (block_values R.value pieces.old.items ++ R.value row ∷ [])) }
-    ensures pruned { IfOk result (λ pruned. pruned ≡ count_by (is_dominating (R.value row)) (block_values R.value pieces.old.items)) }
+    requires place { IsPlace place_cmp (R.value held.value) (block_values R.value pieces.old.items) (index_of pieces.old.items at) }
+    ensures rows { OnOk result (block_values R.value pieces.new.items ≡ live (block_values R.value pieces.old.items ++ R.value held.value ∷ [])) }
+    ensures pruned { IfOk result (λ pruned. pruned ≡ count_by (is_dominating (R.value held.value)) (block_values R.value pieces.old.items)) }
     ensures packed { IsPacked pieces.old.items → IsPacked pieces.new.items }
     ensures err { OnErr result (block_rows pieces.new.items ≡ block_rows pieces.old.items) }
 {
-    let (to, pruned) = run_of(pieces, &row, at);
-    let held = Arc::new(*pieces.allocator(), row)?;
+    let (to, pruned) = run_of(pieces, &*held, at);
     settle(pieces, held, at, to, pruned)?;
     Ok(pruned)
 }

@@ -7,12 +7,13 @@ ghost use Rattle.block_store.specs.Positions.{positions};
 
 use crate::block::Piece;
 use crate::index::{row_at, spot_of};
-use crate::offer::{dominated, offer, rows_after};
+use crate::offer::{dominated, offer, offer_shared, rows_after};
 use crate::place::cover;
 use crate::rows::{Rows, rows_of};
 use crate::snapshot::{Snapshot, snapshot_of};
 use std::alloc::Global;
 use std::marker::Model;
+use std::sync::Arc;
 use willow_entry::{MAX_ROWS, Placed, Row};
 use willow_path::NoMemory;
 
@@ -73,6 +74,22 @@ impl<R: Row> BlockStore<R> {
         Ok(placed)
     }
 
+    /// The same for a row that others share: it stays in memory once.
+    pub fn ingest_shared(&mut self, row: Arc<R>) -> Result<Placed, NoMemory>
+        requires { length self.old < 2 ^ 32 - 1 }
+        ensures rows { OnOk result (map R.value self.new ≡ live (map R.value self.old ++ R.value row.value ∷ [])) }
+        ensures placed { IfOk result (λ placed. IsPlaced (map R.value self.old) (R.value row.value) placed) }
+        ensures kept { OnKept result (self.new ≡ self.old) }
+        ensures few { length self.new ≤ length self.old + 1 }
+        ensures live { AreLive (map R.value self.new) }
+        ensures was_live { AreLive (map R.value self.old) }
+        ensures err { OnErr result (self.new ≡ self.old) }
+    {
+        let placed = offer_shared(&mut self.pieces, row)?;
+        self.rows = rows_after(self.rows, placed);
+        Ok(placed)
+    }
+
     /// The number of rows.
     pub fn len(&self) -> u32
         ensures { result ≡ length self.now }
@@ -103,6 +120,7 @@ impl<R: Row> BlockStore<R> {
     {
         dominated(*self.pieces.allocator(), &self.pieces, row)
     }
+
     /// The rows, one after the other, as they are now. No row is copied, and none is added up.
     pub fn rows(&self) -> Rows<'_, R>
         ensures rows { result ≡ self.now }

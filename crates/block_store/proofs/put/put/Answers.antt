@@ -12,12 +12,12 @@ pub settle-requires-clause-stays : goal.settle-requires-clause-stays
 settle-requires-clause-stays g c =
     let value = g.R.Row.value in
     let to = c.run_of-to.result.0 in
-    let stays = subst (λ l. left_of (value c.args.row) (block_values value (drop to l)) ≡ block_values value (drop to l)) c.deref.ensures.value c.run_of-to.ensures.stays in
-    subst (λ t. left_of t (block_values value (drop to c.args.pieces.now.items)) ≡ block_values value (drop to c.args.pieces.now.items)) (sym (ap value c.in_ok-held.ensures.ok)) stays
+    let stays = subst (λ l. left_of (value c.deref-2.result.now) (block_values value (drop to l)) ≡ block_values value (drop to l)) c.deref.ensures.value c.run_of-to.ensures.stays in
+    subst (λ t. left_of t (block_values value (drop to c.args.pieces.now.items)) ≡ block_values value (drop to c.args.pieces.now.items)) (ap value c.deref-2.ensures) stays
 
 pub settle-requires-clause-none : goal.settle-requires-clause-none
 settle-requires-clause-none g c = λ none.
     let value = g.R.Row.value in
     let rows = block_values value c.args.pieces.now.items in
-    let counted = c.run_of-to.ensures.pruned ∙ ap (λ l. count_by (is_dominating (value c.args.row)) (block_values value l)) c.deref.ensures.value in
-    subst (λ t. left_of t rows ≡ rows) (sym (ap value c.in_ok-held.ensures.ok)) (none_pruned (value c.args.row) rows (sym counted ∙ none))
+    let counted = c.run_of-to.ensures.pruned ∙ ap (λ l. count_by (is_dominating (value c.deref-2.result.now)) (block_values value l)) c.deref.ensures.value in
+    subst (λ t. left_of t rows ≡ rows) (ap value c.deref-2.ensures) (none_pruned (value c.deref-2.result.now) rows (sym counted ∙ none))
