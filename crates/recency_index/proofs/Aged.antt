@@ -19,8 +19,9 @@ use Rattle.willow_entry.specs.Pruning.{placed, IsPlace}
 use Rattle.willow_entry.proofs.Members.{Member, contains_from_member, member_from_contains, member_append_left, member_append_right, member_append_cases, any_false, false_of_any}
 use Rattle.willow_entry.proofs.Rising.{all_member, all_from_members, member_from_placed, member_placed_old, member_placed_new, placed-rises, not_below_itself, Less≢Equal}
 use Rattle.willow_entry.proofs.Between.{placed-between, all_below_turned}
+use Rattle.willow_entry.proofs.Ranks.{subspace_path_total}
 use Rattle.recency_index.specs.declared.ranked.Ranked.{Ranked}
-use Rattle.recency_index.specs.Recency.{recency_cmp, newest, AreNewestFirst, is_among, without}
+use Rattle.recency_index.specs.Recency.{recency_cmp, newest, AreNewestFirst, is_at, has_at, is_among, without}
 use Rattle.recency_index.specs.Aged.{age_cmp, AreOldestFirst}
 use Rattle.recency_index.proofs.Order.{recency_total, recency_tie}
 use Rattle.recency_index.proofs.Newest.{newest_of}
@@ -183,6 +184,12 @@ without_more gone x ys = filter_twice (λ item. not (is_among (x ∷ []) item)) 
 pub oldest_first_without : (gone ys : List Ranked) → AreOldestFirst ys → AreOldestFirst (without gone ys)
 oldest_first_without gone ys up = IsStrictlySortedBy-filter age_cmp (λ item. not (is_among gone item)) ys up
 
+-- no item stands at the place of x, so none is x
+pub apart_free : (ys : List Ranked) (x : Ranked) → has_at x.subspace x.path ys ≡ false → is_among ys x ≡ false
+apart_free ys x free = any_false (λ g. is_eq (recency_cmp g x)) ys (λ y m. false_from_ne_true (is_eq (recency_cmp y x)) (λ t.
+    let is : y ≡ x = recency_tie y x ((Equal-is (recency_cmp y x)).0 t) in
+    false≢true (sym (false_of_any (is_at x.subspace x.path) ys free y m) ∙ ap (is_at x.subspace x.path) is ∙ ap is_eq (tied_itself subspace_path_total (x.subspace, x.path)))))
+
 -- ---- counted from the end
 
 pub nth_turned : (ys : List Ranked) (n : ℕ) (z : Ranked) → n < length ys → z ≡ get_or ys (length ys - 1 - n) z → slice_get (reverse ys) n ≡ Some z
@@ -198,3 +205,6 @@ none_out x ys free = sym (filter_keeps (λ item. not (is_among (x ∷ []) item))
 
 pub without_none : (ys : List Ranked) → ys ≡ without [] ys
 without_none ys = sym (filter_keeps (λ item. true) ys (λ y m. refl))
+
+pub left_turned : (gone ys turned : List Ranked) → reverse ys ≡ turned → reverse (without gone ys) ≡ without gone turned
+left_turned gone ys turned is = filter_reversed (λ item. not (is_among gone item)) ys ∙ ap (without gone) is
