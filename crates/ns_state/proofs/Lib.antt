@@ -1,1 +1,6 @@
+mod NewRows
 mod Core
+mod Logs
+mod Walks
+mod Recent
+mod Offers
