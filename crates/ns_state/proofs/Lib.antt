@@ -3,4 +3,6 @@ mod Core
 mod Logs
 mod Walks
 mod Recent
+mod AtPositions
+mod Appending
 mod Offers

@@ -55,11 +55,11 @@ placed_short cmp x (y ∷ ys) =
     let each : (o : Ordering) → P o = elim [ Less ↦ omega arith | Equal ↦ omega arith | Greater ↦ omega arith ] in
     each (cmp x y)
 
-rising_short : {X : Type 0} (cmp : X → X → Ordering) (xs : List X) → length (rising cmp xs) ≤ length xs
+pub rising_short : {X : Type 0} (cmp : X → X → Ordering) (xs : List X) → length (rising cmp xs) ≤ length xs
 rising_short cmp [] = omega arith
 rising_short cmp (x ∷ xs) = omega (arith, rising_short cmp xs, placed_short cmp x (rising cmp xs))
 
-live_short : (rows : List RowValue) → length (live rows) ≤ length rows
+pub live_short : (rows : List RowValue) → length (live rows) ≤ length rows
 unfolding pruned
 live_short rows =
     let kept = is_undominated is_dominating rows in
