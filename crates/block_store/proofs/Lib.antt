@@ -1,5 +1,5 @@
 mod Copies
-mod Numbering
+pub mod Numbering
 mod Positions
 mod Finding
 mod Written

@@ -1,0 +1,8 @@
+mod NewRows
+mod Core
+mod Logs
+mod Walks
+mod Recent
+mod AtPositions
+mod Appending
+mod Offers

@@ -1,0 +1,57 @@
+-- What a state answers to an offer.
+use Rattle.std.specs.Prelude.{◌≡◌, ℕ, ◌<◌, List, [], ◌∷◌, ◌++◌, length, Result, Ok, Err}
+use Rattle.spelling.specs.declared.ending.End.{End}
+use Rattle.spelling.specs.declared.ending.End.TheVariants.{Refused, NoMemory}
+use Rattle.willow_entry.specs.declared.row.LogRow.{LogRow}
+use Rattle.willow_entry.specs.LogRow.{LogValue}
+use Rattle.willow_entry.specs.Row.{RowValue, HasCovering, IsCoveringAt}
+use Rattle.ns_state.specs.declared.state.LogFull.{LogFull}
+use Rattle.ns_state.specs.declared.state.Told.{Told}
+use Rattle.ns_state.specs.declared.state.Told.TheVariants.{Stored, Kept}
+use Rattle.ns_state.specs.declared.state.TheConstants.{LOG_LIMIT}
+use Rattle.ns_state.specs.Log.{values}
+use Rattle.ns_state.specs.Machine.{Reply, StoredAt, Covered, Full, Event, Offer, next, reply}
+
+module _ {R : Type 0} (value : R → RowValue) where
+  -- no row of the log covers the new one, the log has room, and the new one is its last now, at the position told
+  pub record IsStored (log : List (LogRow R)) (offered : LogRow R) (at : ℕ) (log' : List (LogRow R)) : Type 0 where
+    pub uncovered : HasCovering (values value log) (value offered.row) → ⊥
+    pub room : length log < LOG_LIMIT
+    pub at_is : at ≡ length log
+    pub log_is : log' ≡ log ++ offered ∷ []
+
+  -- the row of the log at the position told is the new one or dominates it, and the log is the same
+  pub record IsKept (log : List (LogRow R)) (offered : LogRow R) (at : ℕ) (log' : List (LogRow R)) : Type 0 where
+    pub covers : IsCoveringAt (values value log) at (value offered.row)
+    pub log_is : log' ≡ log
+
+  -- no row of the log covers the new one, and the log is full: as long as is told, which is the limit
+  pub record IsFull (log : List (LogRow R)) (row : R) (front : ℕ) : Type 0 where
+    pub uncovered : HasCovering (values value log) (value row) → ⊥
+    pub length_is : length log ≡ LOG_LIMIT
+    pub front_is : front ≡ LOG_LIMIT
+
+  -- What is answered to the offer of a row, and which log there is then. Without memory the log is the same.
+  abbrev pub IsAnswer : List (LogRow R) → LogRow R → List (LogRow R) → Result Told (End LogFull) → Type 0
+  IsAnswer log offered log' (Ok (Stored at)) = IsStored log offered at log'
+  IsAnswer log offered log' (Ok (Kept at)) = IsKept log offered at log'
+  IsAnswer log offered log' (Err (Refused full)) = IsFull log offered.row full.front × (log' ≡ log)
+  IsAnswer log offered log' (Err NoMemory) = log' ≡ log
+
+-- the answer tells what the machine of a log replies, but for want of memory
+abbrev pub Tells : Result Told (End LogFull) → Reply → Type 0
+Tells (Ok (Stored at)) r = r ≡ StoredAt at
+Tells (Ok (Kept at)) r = r ≡ Covered
+Tells (Err (Refused full)) r = r ≡ Full
+Tells (Err NoMemory) r = Unit {0}
+
+-- what holds where there was memory
+abbrev pub OnAnswer : Result Told (End LogFull) → Type 0 → Type 0
+OnAnswer (Ok told) P = P
+OnAnswer (Err (Refused full)) P = P
+OnAnswer (Err NoMemory) P = Unit {0}
+
+-- the offer of a row by a pass is the machine's step: what is told is its reply, and the log its next one
+pub record IsOffer (log : List LogValue) (offered : LogValue) (log' : List LogValue) (result : Result Told (End LogFull)) : Type 0 where
+  pub told : Tells result (reply log (Offer offered))
+  pub log_is : OnAnswer result (log' ≡ next log (Offer offered))

@@ -1,0 +1,4 @@
+pub mod Log
+pub mod Recent
+pub mod Machine
+pub mod Answer

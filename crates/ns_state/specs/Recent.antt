@@ -1,0 +1,15 @@
+-- Rows by recency.
+use Rattle.std.specs.Prelude.{List, map}
+use Rattle.recency_index.specs.Recency.{ranked_of, newest}
+use Rattle.recency_index.specs.declared.ranked.Ranked.{Ranked}
+use Rattle.willow_entry.specs.declared.row.LogRow.{LogRow}
+use Rattle.willow_entry.specs.Row.{RowValue, live}
+use Rattle.ns_state.specs.Log.{values}
+
+-- the items of the entries of rows
+abbrev pub items_of : List RowValue → List Ranked
+items_of rows = map (λ r. ranked_of r.entry) rows
+
+-- the items of what is live of a log, the most recent first
+abbrev pub recent : {R : Type 0} → (R → RowValue) → List (LogRow R) → List Ranked
+recent value log = newest (items_of (live (values value log)))
