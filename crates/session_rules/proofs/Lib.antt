@@ -1,0 +1,4 @@
+pub mod Runs
+pub mod Growing
+pub mod Meeting
+pub mod Spelled

@@ -1,0 +1,4 @@
+pub mod Machine
+pub mod Reading
+pub mod Rounds
+pub mod Messages

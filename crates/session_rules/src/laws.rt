@@ -1,0 +1,71 @@
+//! The laws of sessions, each the contract of a function that does nothing.
+
+ghost use Rattle.std.specs.Prelude.{◌≡◌, ℕ, suc, List, [], ◌∷◌, ◌++◌, flat_map};
+ghost use Rattle.std.specs.List.{concat};
+ghost use Rattle.session_rules.specs.Machine.{Machine};
+ghost use Rattle.session_rules.specs.Reading.{Stand, Waits, More, start, run, read, then, out, got, ending_of, ending};
+ghost use Rattle.session_rules.specs.Rounds.{IsFront, IsOver, rounds, Meet};
+ghost use Rattle.session_rules.specs.Messages.{ArePart, taken, CanReadAll, hear, dialogue, CanTalk, IsDialogue};
+
+/// In whatever pieces bytes come, the same comes of them.
+#[tactic(auto, using(crate::proofs::Runs::run_append, crate::proofs::Runs::run_pieces))]
+pub fn pieces<S, M, O, R, E>()
+    ensures two { (a : Machine S M O R E) (q : Stand S E) (bytes more : List ℕ)
+        → read a q (bytes ++ more) ≡ then (read a q bytes) (read a (read a q bytes).stand more) }
+    ensures many { (a : Machine S M O R E) (q : Stand S E) (pieces : List (List ℕ))
+        → run (read a) q pieces ≡ read a q (concat pieces) }
+{}
+
+/// More bytes take back nothing that was written or taken before, and once a machine has ended or refused they add
+/// nothing.
+pub fn grows<S, M, O, R, E>()
+    ensures out { (a : Machine S M O R E) (bytes more : List ℕ) → IsFront (out a bytes) (out a (bytes ++ more)) }
+    ensures got { (a : Machine S M O R E) (bytes more : List ℕ) → IsFront (got a bytes) (got a (bytes ++ more)) }
+    ensures over { (a : Machine S M O R E) (bytes more : List ℕ) → IsOver (ending a bytes)
+        → (out a (bytes ++ more) ≡ out a bytes) × (got a (bytes ++ more) ≡ got a bytes) × (ending a (bytes ++ more) ≡ ending a bytes) }
+{}
+
+/// What is written before a message is whole does not depend on it: while its bytes are a part of one nothing is
+/// written or taken, and more is due.
+pub fn nothing_early<S, M, O, R, E>()
+    ensures { (a : Machine S M O R E) (bytes part : List ℕ) (s : S) (at : ℕ) (held : List ℕ)
+        → (read a (start a) bytes).stand ≡ Waits s at held → ArePart (a.sees s) held part
+        → (out a (bytes ++ part) ≡ out a bytes) × (got a (bytes ++ part) ≡ got a bytes) × (ending a (bytes ++ part) ≡ More) }
+{}
+
+/// Two machines that each read what the other writes: after each round both have written a front of that, and where one
+/// of them has ended in a round it is what the next one gives, which is such a pair.
+pub fn meet<S, M, O, R, E, S2, M2, O2, R2, E2>()
+    ensures fronts { (a : Machine S M O R E) (b : Machine S2 M2 O2 R2 E2) (by_a by_b : List ℕ) (n : ℕ)
+        → Meet (out a) (out b) by_a by_b
+        → IsFront (rounds (out a) (out b) n).0 by_a × IsFront (rounds (out a) (out b) n).1 by_b }
+    ensures first_over { (a : Machine S M O R E) (b : Machine S2 M2 O2 R2 E2) (by_a by_b : List ℕ) (n : ℕ)
+        → Meet (out a) (out b) by_a by_b → IsOver (ending a (rounds (out a) (out b) n).1)
+        → (by_a, by_b) ≡ rounds (out a) (out b) (suc n) }
+    ensures second_over { (a : Machine S M O R E) (b : Machine S2 M2 O2 R2 E2) (by_a by_b : List ℕ) (n : ℕ)
+        → Meet (out a) (out b) by_a by_b → IsOver (ending b (rounds (out a) (out b) n).0)
+        → (by_a, by_b) ≡ rounds (out a) (out b) (suc n) }
+    ensures they_meet { (a : Machine S M O R E) (b : Machine S2 M2 O2 R2 E2) (n : ℕ)
+        → IsOver (ending a (rounds (out a) (out b) n).1)
+        → Meet (out a) (out b) (rounds (out a) (out b) (suc n)).0 (rounds (out a) (out b) (suc n)).1 }
+{}
+
+/// The bytes of messages that are read as these messages are read as these messages.
+pub fn reads_messages<S, M, O, R, E>()
+    ensures { (a : Machine S M O R E) (spelling : M → List ℕ) (s : S) (at : ℕ) (ms : List M)
+        → CanReadAll a spelling (Waits s at []) ms
+        → read a (Waits s at []) (flat_map spelling ms) ≡ run (taken a spelling) (Waits s at []) ms }
+{}
+
+/// Two machines that read each other's messages: what they write in bytes is what they say in messages, round by round;
+/// and where the first has ended, whatever bytes they write that each read what the other writes are these.
+pub fn messages_meet<S, M, O, R, E, S2, R2, E2>()
+    ensures rounds { (a : Machine S M O R E) (b : Machine S2 O M R2 E2) (n : ℕ) → CanTalk a b n
+        → rounds (out a) (out b) (suc n) ≡ (flat_map a.spelling (dialogue a b (suc n)).0, flat_map b.spelling (dialogue a b (suc n)).1) }
+    ensures over { (a : Machine S M O R E) (b : Machine S2 O M R2 E2) (n : ℕ) (by_a by_b : List ℕ) → CanTalk a b n
+        → IsOver (ending_of (hear a b.spelling (dialogue a b n).1).stand) → Meet (out a) (out b) by_a by_b
+        → IsDialogue a b n by_a by_b }
+    ensures meets { (a : Machine S M O R E) (b : Machine S2 O M R2 E2) (n : ℕ) → CanTalk a b n
+        → IsOver (ending_of (hear a b.spelling (dialogue a b n).1).stand)
+        → Meet (out a) (out b) (flat_map a.spelling (dialogue a b (suc n)).0) (flat_map b.spelling (dialogue a b (suc n)).1) }
+{}
