@@ -5,7 +5,7 @@ use Rattle.session_rules.specs.Machine.{Machine}
 use Rattle.session_rules.specs.Reading.{Stand, Waits, Over, Broken, Refused, Move, stay, then, move, run, read, ending_of}
 use Rattle.session_rules.specs.Rounds.{IsOver}
 
-abbrev move_of : {S O R E : Type 0} → Stand S E → List O → List R → Move S O R E
+abbrev pub move_of : {S O R E : Type 0} → Stand S E → List O → List R → Move S O R E
 move_of q says rows = record { stand = q; says = says; rows = rows }
 
 then_assoc : {S O R E : Type 0} (l m n : Move S O R E) → then (then l m) n ≡ then l (then m n)

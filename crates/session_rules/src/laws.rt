@@ -1,11 +1,14 @@
 //! The laws of sessions, each the contract of a function that does nothing.
 
-ghost use Rattle.std.specs.Prelude.{◌≡◌, ℕ, suc, List, [], ◌∷◌, ◌++◌, flat_map};
+ghost use Rattle.std.specs.Prelude.{◌≡◌, ℕ, suc, List, [], ◌∷◌, ◌++◌, length, flat_map, Contains};
 ghost use Rattle.std.specs.List.{concat};
 ghost use Rattle.session_rules.specs.Machine.{Machine};
-ghost use Rattle.session_rules.specs.Reading.{Stand, Waits, More, start, run, read, then, out, got, ending_of, ending};
+ghost use Rattle.session_rules.specs.Reading.{Stand, Waits, More, start, run, read, then, said, out, got, ending_of, ending};
 ghost use Rattle.session_rules.specs.Rounds.{IsFront, IsOver, rounds, Meet};
 ghost use Rattle.session_rules.specs.Messages.{ArePart, taken, CanReadAll, hear, dialogue, CanTalk, IsDialogue};
+ghost use Rattle.session_rules.specs.Talk.{Talk};
+ghost use Rattle.session_rules.specs.Greeting.{Greeting, Own, HasHello, IsGreeted, Greets, greeting_bytes};
+ghost use Rattle.session_rules.specs.Session.{Item, Proof, exchange_with, session, SameInCommon, ends_as};
 
 /// In whatever pieces bytes come, the same comes of them.
 #[tactic(auto, using(crate::proofs::Runs::run_append, crate::proofs::Runs::run_pieces))]
@@ -68,4 +71,45 @@ pub fn messages_meet<S, M, O, R, E, S2, R2, E2>()
     ensures meets { (a : Machine S M O R E) (b : Machine S2 O M R2 E2) (n : ℕ) → CanTalk a b n
         → IsOver (ending_of (hear a b.spelling (dialogue a b n).1).stand)
         → Meet (out a) (out b) (flat_map a.spelling (dialogue a b (suc n)).0) (flat_map b.spelling (dialogue a b (suc n)).1) }
+{}
+
+/// What a side says of the exchange, and any row that it takes, stands behind a hello that passes and a proof that is
+/// accepted, and so does a proof of its own behind a hello that passes.
+pub fn grants<H, P, X, F, R, T, I, G>()
+    ensures items { (g : Greeting H P X F) (k : Talk R X T I G) (own : Own H P) (rows : List R) (bytes : List ℕ) (item : I)
+        → Contains (said (session g k own rows) bytes) (Item item) → IsGreeted g own bytes }
+    ensures rows { (g : Greeting H P X F) (k : Talk R X T I G) (own : Own H P) (rows : List R) (bytes : List ℕ) (row : R)
+        → Contains (got (session g k own rows) bytes) row → IsGreeted g own bytes }
+    ensures proofs { (g : Greeting H P X F) (k : Talk R X T I G) (own : Own H P) (rows : List R) (bytes : List ℕ) (proof : P)
+        → Contains (said (session g k own rows) bytes) (Proof proof) → (hello : H) × HasHello g bytes hello }
+{}
+
+/// What is written, taken and answered is a function of the rows in the area that both may read, of what the side is,
+/// and of the bytes that it reads: rows elsewhere change nothing.
+pub fn worlds<H, P, X, F, R, T, I, G>()
+    ensures out { (g : Greeting H P X F) (k : Talk R X T I G) (own : Own H P) (rows others : List R) (bytes : List ℕ)
+        → SameInCommon g k own bytes rows others
+        → out (session g k own rows) bytes ≡ out (session g k own others) bytes }
+    ensures got { (g : Greeting H P X F) (k : Talk R X T I G) (own : Own H P) (rows others : List R) (bytes : List ℕ)
+        → SameInCommon g k own bytes rows others
+        → got (session g k own rows) bytes ≡ got (session g k own others) bytes }
+    ensures ending { (g : Greeting H P X F) (k : Talk R X T I G) (own : Own H P) (rows others : List R) (bytes : List ℕ)
+        → SameInCommon g k own bytes rows others
+        → ending (session g k own rows) bytes ≡ ending (session g k own others) bytes }
+{}
+
+/// Behind a hello that passes and a proof that is accepted a session is the exchange, over the rows in the area that both
+/// may read.
+pub fn goes_on_as_exchange<H, P, X, F, R, T, I, G>()
+    ensures out { (g : Greeting H P X F) (k : Talk R X T I G) (own : Own H P) (rows : List R) (hello : H) (proof : P) (bytes : List ℕ)
+        → Greets g own hello proof
+        → out (session g k own rows) (greeting_bytes g hello proof ++ bytes)
+        ≡ greeting_bytes g own.hello own.proof ++ out (exchange_with g k own rows hello) bytes }
+    ensures got { (g : Greeting H P X F) (k : Talk R X T I G) (own : Own H P) (rows : List R) (hello : H) (proof : P) (bytes : List ℕ)
+        → Greets g own hello proof
+        → got (session g k own rows) (greeting_bytes g hello proof ++ bytes) ≡ got (exchange_with g k own rows hello) bytes }
+    ensures ending { (g : Greeting H P X F) (k : Talk R X T I G) (own : Own H P) (rows : List R) (hello : H) (proof : P) (bytes : List ℕ)
+        → Greets g own hello proof
+        → ending (session g k own rows) (greeting_bytes g hello proof ++ bytes)
+        ≡ ends_as (length (greeting_bytes g hello proof)) (ending (exchange_with g k own rows hello) bytes) }
 {}
