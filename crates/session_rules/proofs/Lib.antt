@@ -5,3 +5,5 @@ pub mod Spelled
 pub mod Firsts
 pub mod Talking
 pub mod Sessions
+pub mod Worlds
+pub mod Greeted

@@ -48,10 +48,10 @@ module _ {H P X F R T I G : Type 0} (g : Greeting H P X F) (k : Talk R X T I G) 
   abbrev here : Machine (Stage H T) (Message H P I) (Message H P I) R (Cause F G)
   here = session g k own rows
 
-  read_opening : (bytes : List ℕ) → read here (start here) bytes ≡ by_first here Opening 0 (first_as Hello (first_of g.sees_hello [] bytes))
+  pub read_opening : (bytes : List ℕ) → read here (start here) bytes ≡ by_first here Opening 0 (first_as Hello (first_of g.sees_hello [] bytes))
   read_opening bytes = read_first here Opening 0 [] bytes ∙ ap (by_first here Opening 0) (first_of-as Hello g.sees_hello [] bytes)
 
-  read_proving : (hello : H) (at : ℕ) (bytes : List ℕ) → read here (Waits (Proving hello) at []) bytes ≡ by_first here (Proving hello) at (first_as Proof (first_of g.sees_proof [] bytes))
+  pub read_proving : (hello : H) (at : ℕ) (bytes : List ℕ) → read here (Waits (Proving hello) at []) bytes ≡ by_first here (Proving hello) at (first_as Proof (first_of g.sees_proof [] bytes))
   read_proving hello at bytes = read_first here (Proving hello) at [] bytes ∙ ap (by_first here (Proving hello) at) (first_of-as Proof g.sees_proof [] bytes)
 
   -- nothing comes of bytes behind a refusal

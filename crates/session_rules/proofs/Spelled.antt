@@ -26,7 +26,7 @@ module _ {S M O R E : Type 0} (a : Machine S M O R E) where
   judged_whole s at held seen m e = ap (judged a s at held) e
 
   -- the bytes that are due of a message
-  read_due : (s : S) (at : ℕ) (m : M) (bytes : List ℕ) → IsReadAs (a.sees s) bytes m → (held due : List ℕ) → bytes ≡ held ++ due → 0 < length due
+  pub read_due : (s : S) (at : ℕ) (m : M) (bytes : List ℕ) → IsReadAs (a.sees s) bytes m → (held due : List ℕ) → bytes ≡ held ++ due → 0 < length due
       → read a (Waits s at held) due ≡ stepped (at + length bytes) (a.step s m)
   unfolding run
   read_due s at m bytes is held [] e some = absurd (omega arith)
