@@ -86,7 +86,7 @@ module _ {H P X F R T I G : Type 0} (g : Greeting H P X F) (k : Talk R X T I G) 
     abbrev to_second : ℕ → Move (Stage H T) (Message H P I) R (Cause F G)
     to_second n = move_of (Waits (Talking with_other.first) n []) (to_proof own.role own ++ map Item with_other.opening) []
 
-    hello_whole : read here (start here) (g.hello_spelling hello) ≡ to_first
+    pub hello_whole : read here (start here) (g.hello_spelling hello) ≡ to_first
     hello_whole =
         read_due here Opening 0 (Hello hello) (g.hello_spelling hello) (read_as Hello g.sees_hello (g.hello_spelling hello) hello greets.hello_read) [] (g.hello_spelling hello) refl greets.hello_read.some_bytes
         ∙ ap (λ n. stepped n (here.step Opening (Hello hello))) (zero-add (length (g.hello_spelling hello)))

@@ -7,3 +7,4 @@ pub mod Talking
 pub mod Sessions
 pub mod Worlds
 pub mod Greeted
+pub mod Settling

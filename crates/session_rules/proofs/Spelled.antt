@@ -144,13 +144,13 @@ module _ {S M O R E S' R' E' : Type 0} (a : Machine S M O R E) (b : Machine S' O
   rounds_spelled zero can = one_more zero [] can refl
   rounds_spelled (suc n) can = one_more (suc n) (rounds (out a) (out b) (suc n)).1 can (ap (λ both. both.1) (rounds_spelled n (earlier n can)))
 
-  read_spelled : (n : ℕ) → CanTalk a b n → (rounds (out a) (out b) n).1 ≡ flat_map b.spelling (dialogue a b n).1
+  pub read_spelled : (n : ℕ) → CanTalk a b n → (rounds (out a) (out b) n).1 ≡ flat_map b.spelling (dialogue a b n).1
   unfolding rounds
   read_spelled zero can = refl
   read_spelled (suc n) can = ap (λ both. both.1) (rounds_spelled n (earlier n can))
 
   module _ (n : ℕ) (can : CanTalk a b n) (over : IsOver (ending_of (hear a b.spelling (dialogue a b n).1).stand)) where
-    over_in_bytes : IsOver (ending a (rounds (out a) (out b) n).1)
+    pub over_in_bytes : IsOver (ending a (rounds (out a) (out b) n).1)
     over_in_bytes more =
         over (sym (ap (ending a) (read_spelled n can) ∙ ending_is a b.spelling (dialogue a b n).1 can.first_reads) ∙ more)
 

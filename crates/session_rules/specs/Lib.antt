@@ -5,3 +5,4 @@ pub mod Messages
 pub mod Talk
 pub mod Greeting
 pub mod Session
+pub mod Pairs

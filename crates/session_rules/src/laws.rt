@@ -8,6 +8,7 @@ ghost use Rattle.session_rules.specs.Rounds.{IsFront, IsOver, rounds, Meet};
 ghost use Rattle.session_rules.specs.Messages.{ArePart, taken, CanReadAll, hear, dialogue, CanTalk, IsDialogue};
 ghost use Rattle.session_rules.specs.Talk.{Talk};
 ghost use Rattle.session_rules.specs.Greeting.{Greeting, Own, HasHello, IsGreeted, Greets, greeting_bytes};
+ghost use Rattle.session_rules.specs.Pairs.{Pair, calling, answering, caller_side, answerer_side, by_caller, by_answerer, GreetEachOther, exchanged, AreSettled};
 ghost use Rattle.session_rules.specs.Session.{Item, Proof, exchange_with, session, SameInCommon, ends_as};
 
 /// In whatever pieces bytes come, the same comes of them.
@@ -112,4 +113,17 @@ pub fn goes_on_as_exchange<H, P, X, F, R, T, I, G>()
         → Greets g own hello proof
         → ending (session g k own rows) (greeting_bytes g hello proof ++ bytes)
         ≡ ends_as (length (greeting_bytes g hello proof)) (ending (exchange_with g k own rows hello) bytes) }
+{}
+
+/// Two sessions whose greetings pass, each of which reads what the other writes: they write their greetings and what the
+/// two exchanges write; and where the caller has ended in a round of these, whatever bytes they write are these.
+pub fn sessions_meet<H, P, X, F, R, T, I, G>()
+    ensures rounds { (p : Pair H P X F R T I G) (n : ℕ) → GreetEachOther p
+        → rounds (out (calling p)) (out (answering p)) (suc (suc n)) ≡ (by_caller p ++ (rounds (out (caller_side p)) (out (answerer_side p)) (suc n)).0, by_answerer p ++ (rounds (out (caller_side p)) (out (answerer_side p)) (suc n)).1) }
+    ensures settled { (p : Pair H P X F R T I G) (n : ℕ) (left right : List ℕ) → GreetEachOther p
+        → CanTalk (caller_side p) (answerer_side p) n → IsOver (ending_of (hear (caller_side p) p.talk.spelling (exchanged p n).1).stand)
+        → Meet (out (calling p)) (out (answering p)) left right → AreSettled p n left right }
+    ensures they_meet { (p : Pair H P X F R T I G) (n : ℕ) → GreetEachOther p
+        → CanTalk (caller_side p) (answerer_side p) n → IsOver (ending_of (hear (caller_side p) p.talk.spelling (exchanged p n).1).stand)
+        → Meet (out (calling p)) (out (answering p)) (by_caller p ++ flat_map p.talk.spelling (exchanged p (suc n)).0) (by_answerer p ++ flat_map p.talk.spelling (exchanged p (suc n)).1) }
 {}
