@@ -6,3 +6,5 @@ pub mod Talk
 pub mod Greeting
 pub mod Session
 pub mod Pairs
+pub mod Adding
+pub mod Telling

@@ -3,13 +3,39 @@
 ghost use Rattle.std.specs.Prelude.{◌≡◌, ℕ, suc, List, [], ◌∷◌, ◌++◌, length, flat_map, Contains};
 ghost use Rattle.std.specs.List.{concat};
 ghost use Rattle.session_rules.specs.Machine.{Machine};
-ghost use Rattle.session_rules.specs.Reading.{Stand, Waits, More, start, run, read, then, said, out, got, ending_of, ending};
+ghost use Rattle.session_rules.specs.Reading.{Stand, Waits, Done, More, BadMessage, Refusal, start, run, read, then, said, out, got, ending_of, ending};
 ghost use Rattle.session_rules.specs.Rounds.{IsFront, IsOver, rounds, Meet};
 ghost use Rattle.session_rules.specs.Messages.{ArePart, taken, CanReadAll, hear, dialogue, CanTalk, IsDialogue};
 ghost use Rattle.session_rules.specs.Talk.{Talk};
 ghost use Rattle.session_rules.specs.Greeting.{Greeting, Own, HasHello, IsGreeted, Greets, greeting_bytes};
 ghost use Rattle.session_rules.specs.Pairs.{Pair, calling, answering, caller_side, answerer_side, by_caller, by_answerer, GreetEachOther, exchanged, AreSettled};
-ghost use Rattle.session_rules.specs.Session.{Item, Proof, exchange_with, session, SameInCommon, ends_as};
+ghost use Rattle.session_rules.specs.Adding.{adding};
+ghost use Rattle.session_rules.specs.Telling.{tellers, caller_told, answerer_told};
+ghost use Rattle.session_rules.specs.Session.{Item, Proof, InGreeting, exchange_with, session, SameInCommon, ends_as};
+
+/// A small machine on messages that are whole, on half of one, on one that ends it and one that it refuses, and on bytes
+/// that are none.
+#[tactic(auto, unfolding(crate::specs::Reading::run))]
+pub fn a_small_machine()
+    ensures nothing { (out adding [] ≡ 0 ∷ []) × (ending adding [] ≡ More) }
+    ensures two { (out adding (2 ∷ 1 ∷ 2 ∷ 1 ∷ 5 ∷ []) ≡ 0 ∷ 3 ∷ 8 ∷ []) × (got adding (2 ∷ 1 ∷ 2 ∷ 1 ∷ 5 ∷ []) ≡ 1 ∷ 2 ∷ 5 ∷ []) }
+    ensures part { (out adding (2 ∷ 1 ∷ 2 ∷ 2 ∷ 5 ∷ []) ≡ 0 ∷ 3 ∷ []) × (ending adding (2 ∷ 1 ∷ 2 ∷ 2 ∷ 5 ∷ []) ≡ More) }
+    ensures done { (out adding (1 ∷ 1 ∷ 0 ∷ 1 ∷ 5 ∷ []) ≡ 0 ∷ 1 ∷ []) × (ending adding (1 ∷ 1 ∷ 0 ∷ 1 ∷ 5 ∷ []) ≡ Done) }
+    ensures refused { (got adding (1 ∷ 1 ∷ 2 ∷ 2 ∷ 9 ∷ []) ≡ 1 ∷ []) × (ending adding (1 ∷ 1 ∷ 2 ∷ 2 ∷ 9 ∷ []) ≡ Refusal 9) }
+    ensures bad { (out adding (1 ∷ 1 ∷ 5 ∷ 1 ∷ []) ≡ 0 ∷ 1 ∷ []) × (ending adding (1 ∷ 1 ∷ 5 ∷ 1 ∷ []) ≡ BadMessage 2) }
+{}
+
+/// Two small sessions write what was written out by hand, and end. A side that refuses a hello or a proof writes nothing
+/// further.
+#[tactic(auto, unfolding(crate::specs::Reading::run, crate::specs::Talk::speaks, crate::specs::Rounds::rounds))]
+pub fn a_small_session()
+    ensures caller { (out (calling tellers) answerer_told ≡ caller_told) × (got (calling tellers) answerer_told ≡ 2 ∷ []) × (ending (calling tellers) answerer_told ≡ Done) }
+    ensures answerer { (out (answering tellers) caller_told ≡ answerer_told) × (got (answering tellers) caller_told ≡ 1 ∷ 3 ∷ 5 ∷ []) × (ending (answering tellers) caller_told ≡ Done) }
+    ensures rounds { rounds (out (calling tellers)) (out (answering tellers)) 3 ≡ (caller_told, answerer_told) }
+    ensures bad_hello { (out (answering tellers) (0 ∷ 15 ∷ 0 ∷ []) ≡ []) × (ending (answering tellers) (0 ∷ 15 ∷ 0 ∷ []) ≡ Refusal (InGreeting 0)) }
+    ensures bad_proof { (out (calling tellers) (6 ∷ 15 ∷ 3 ∷ 0 ∷ []) ≡ 9 ∷ []) × (ending (calling tellers) (6 ∷ 15 ∷ 3 ∷ 0 ∷ []) ≡ Refusal (InGreeting 1)) }
+    ensures nothing_in_common { out (calling tellers) (1 ∷ 11 ∷ 0 ∷ []) ≡ 9 ∷ 15 ∷ 0 ∷ [] }
+{}
 
 /// In whatever pieces bytes come, the same comes of them.
 #[tactic(auto, using(crate::proofs::Runs::run_append, crate::proofs::Runs::run_pieces))]
