@@ -4,6 +4,7 @@ pub mod Meeting
 pub mod Spelled
 pub mod Firsts
 pub mod Talking
+pub mod Shifting
 pub mod Sessions
 pub mod Worlds
 pub mod Greeted

@@ -100,13 +100,16 @@ pub fn messages_meet<S, M, O, R, E, S2, R2, E2>()
         → Meet (out a) (out b) (flat_map a.spelling (dialogue a b (suc n)).0) (flat_map b.spelling (dialogue a b (suc n)).1) }
 {}
 
-/// What a side says of the exchange, and any row that it takes, stands behind a hello that passes and a proof that is
-/// accepted, and so does a proof of its own behind a hello that passes.
+/// Where a side said an item or took a row, what it read begins with a hello that passes and a proof that is accepted, and
+/// the exchange over the rows in the area that both may read said or took it. It says its own proof only where what it
+/// read begins with a hello that passes.
 pub fn grants<H, P, X, F, R, T, I, G>()
     ensures items { (g : Greeting H P X F) (k : Talk R X T I G) (own : Own H P) (rows : List R) (bytes : List ℕ) (item : I)
-        → Contains (said (session g k own rows) bytes) (Item item) → IsGreeted g own bytes }
+        → Contains (said (session g k own rows) bytes) (Item item)
+        → (greeted : IsGreeted g own bytes) × Contains (said (exchange_with g k own rows greeted.hello) greeted.behind) item }
     ensures rows { (g : Greeting H P X F) (k : Talk R X T I G) (own : Own H P) (rows : List R) (bytes : List ℕ) (row : R)
-        → Contains (got (session g k own rows) bytes) row → IsGreeted g own bytes }
+        → Contains (got (session g k own rows) bytes) row
+        → (greeted : IsGreeted g own bytes) × Contains (got (exchange_with g k own rows greeted.hello) greeted.behind) row }
     ensures proofs { (g : Greeting H P X F) (k : Talk R X T I G) (own : Own H P) (rows : List R) (bytes : List ℕ) (proof : P)
         → Contains (said (session g k own rows) bytes) (Proof proof) → (hello : H) × HasHello g bytes hello }
 {}
