@@ -9,3 +9,6 @@ pub mod Sessions
 pub mod Worlds
 pub mod Greeted
 pub mod Settling
+pub mod Turning
+pub mod Exchanging
+pub mod Settled

@@ -6,5 +6,6 @@ pub mod Talk
 pub mod Greeting
 pub mod Session
 pub mod Pairs
+pub mod Turns
 pub mod Adding
 pub mod Telling

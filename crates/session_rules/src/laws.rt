@@ -1,7 +1,11 @@
 //! The laws of sessions, each the contract of a function that does nothing.
 
-ghost use Rattle.std.specs.Prelude.{◌≡◌, ℕ, suc, List, [], ◌∷◌, ◌++◌, length, flat_map, Contains};
+ghost use Rattle.std.specs.Prelude.{◌≡◌, ℕ, suc, ◌≤◌, List, [], ◌∷◌, ◌++◌, length, flat_map, Contains, Option};
 ghost use Rattle.std.specs.List.{concat};
+ghost use Rattle.exchange_rules.specs.Rules.{Rules};
+ghost use Rattle.exchange_rules.specs.Items.{caller_turns, answerer_turns, to_left, to_right};
+ghost use Rattle.exchange_rules.specs.Exchange.{exchange};
+ghost use Rattle.exchange_rules.specs.Premises.{HasDisjointParts, CanCut};
 ghost use Rattle.session_rules.specs.Machine.{Machine};
 ghost use Rattle.session_rules.specs.Reading.{Stand, Waits, Done, More, BadMessage, Refusal, start, run, read, then, said, out, got, ending_of, ending};
 ghost use Rattle.session_rules.specs.Rounds.{IsFront, IsOver, rounds, Meet};
@@ -9,6 +13,7 @@ ghost use Rattle.session_rules.specs.Messages.{ArePart, taken, CanReadAll, hear,
 ghost use Rattle.session_rules.specs.Talk.{Talk};
 ghost use Rattle.session_rules.specs.Greeting.{Greeting, Own, HasHello, IsGreeted, Greets, greeting_bytes};
 ghost use Rattle.session_rules.specs.Pairs.{Pair, calling, answering, caller_side, answerer_side, by_caller, by_answerer, GreetEachOther, exchanged, AreSettled};
+ghost use Rattle.session_rules.specs.Turns.{View, TakeTurns, CanReadTurns, AreExchanged, HearsAll};
 ghost use Rattle.session_rules.specs.Adding.{adding};
 ghost use Rattle.session_rules.specs.Telling.{tellers, caller_told, answerer_told};
 ghost use Rattle.session_rules.specs.Session.{Item, Proof, InGreeting, exchange_with, session, SameInCommon, ends_as};
@@ -155,4 +160,34 @@ pub fn sessions_meet<H, P, X, F, R, T, I, G>()
     ensures they_meet { (p : Pair H P X F R T I G) (n : ℕ) → GreetEachOther p
         → CanTalk (caller_side p) (answerer_side p) n → IsOver (ending_of (hear (caller_side p) p.talk.spelling (exchanged p n).1).stand)
         → Meet (out (calling p)) (out (answering p)) (by_caller p ++ flat_map p.talk.spelling (exchanged p (suc n)).0) (by_answerer p ++ flat_map p.talk.spelling (exchanged p (suc n)).1) }
+{}
+
+/// Two sides that take the turns of an exchange by its rules say these turns in items, and each is over with the rows
+/// that it is sent.
+pub fn items_tell_turns<R, X, C, T, I, G>()
+    ensures said { (v : View R X C T I) (rules : Rules R X C) (caller answerer : Machine T I I R G) (rows others : List R) (box : Option X) (n : ℕ)
+        → HasDisjointParts rules → CanCut rules rows → CanCut rules others
+        → TakeTurns v rules caller answerer rows others box → length (exchange rules rows others box) ≤ n
+        → dialogue caller answerer n
+        ≡ (flat_map v.items_of (caller_turns (exchange rules rows others box)), flat_map v.items_of (answerer_turns (exchange rules rows others box))) }
+    ensures caller { (v : View R X C T I) (rules : Rules R X C) (caller answerer : Machine T I I R G) (rows others : List R) (box : Option X)
+        → HasDisjointParts rules → CanCut rules rows → CanCut rules others
+        → TakeTurns v rules caller answerer rows others box
+        → HearsAll caller answerer.spelling (flat_map v.items_of (answerer_turns (exchange rules rows others box))) (to_left (exchange rules rows others box)) }
+    ensures answerer { (v : View R X C T I) (rules : Rules R X C) (caller answerer : Machine T I I R G) (rows others : List R) (box : Option X)
+        → HasDisjointParts rules → CanCut rules rows → CanCut rules others
+        → TakeTurns v rules caller answerer rows others box
+        → HearsAll answerer caller.spelling (flat_map v.items_of (caller_turns (exchange rules rows others box))) (to_right (exchange rules rows others box)) }
+{}
+
+/// Two sessions whose greetings pass and whose sides take the turns of an exchange, each of which reads what the other
+/// writes: whatever bytes they write are their greetings and these turns, both are done, and each has the rows that the
+/// exchange sends it.
+pub fn settles<H, P, X, F, R, T, I, G, C>()
+    ensures { (p : Pair H P X F R T I G) (v : View R X C T I) (rules : Rules R X C) (rows others : List R) (box : Option X) (left right : List ℕ)
+        → HasDisjointParts rules → CanCut rules rows → CanCut rules others
+        → GreetEachOther p → TakeTurns v rules (caller_side p) (answerer_side p) rows others box
+        → CanReadTurns v (caller_side p) (answerer_side p) (exchange rules rows others box)
+        → Meet (out (calling p)) (out (answering p)) left right
+        → AreExchanged p v (exchange rules rows others box) left right }
 {}
