@@ -97,7 +97,7 @@ module _ {R X C T I G : Type 0} (v : View R X C T I) (rules : Rules R X C) (call
   said_so_far zero = refl
   said_so_far (suc n) =
       let mine : tells caller answerer.spelling (dialogue caller answerer n).1 ≡ flat_map v.items_of (take (suc n) (caller_turns all_turns))
-          = ap (λ d. tells caller answerer.spelling d.1) (said_so_far n) ∙ caller_tells n in
+      = ap (λ d. tells caller answerer.spelling d.1) (said_so_far n) ∙ caller_tells n in
       ap₂ both mine (ap (tells answerer caller.spelling) mine ∙ answerer_tells (suc n))
 
   pub all_said : (n : ℕ) → length all_turns ≤ n → dialogue caller answerer n ≡ both (flat_map v.items_of (caller_turns all_turns)) (flat_map v.items_of (answerer_turns all_turns))
@@ -105,7 +105,7 @@ module _ {R X C T I G : Type 0} (v : View R X C T I) (rules : Rules R X C) (call
       let fit = few_turns all_turns in
       said_so_far n
       ∙ ap₂ (λ x y. both (flat_map v.items_of x) (flat_map v.items_of y))
-        (take_all n (caller_turns all_turns) (omega (arith, fit.0))) (take_all n (answerer_turns all_turns) (omega (arith, fit.1)))
+      (take_all n (caller_turns all_turns) (omega (arith, fit.0))) (take_all n (answerer_turns all_turns) (omega (arith, fit.1)))
 
   -- ---- all that each hears
 

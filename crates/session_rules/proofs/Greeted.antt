@@ -84,10 +84,10 @@ module _ {H P X F R T I G : Type 0} (g : Greeting H P X F) (k : Talk R X T I G) 
         ∙ run_append (move here) (start here) first (second ++ bytes)
         ∙ ap (λ m. then m (read here m.stand (second ++ bytes))) hello_whole
         ∙ ap (then to_first) (
-          run_append (move here) to_first.stand second bytes
-          ∙ ap (λ m. then m (read here m.stand bytes)) (proof_whole (length first) ∙ ap to_second n)
-          ∙ ap (λ at. then (to_second length_of_greeting) (read here (Waits (Talking with_other.first) at []) bytes)) none
-          ∙ ap (then (to_second length_of_greeting)) (exchanged length_of_greeting)
+        run_append (move here) to_first.stand second bytes
+        ∙ ap (λ m. then m (read here m.stand bytes)) (proof_whole (length first) ∙ ap to_second n)
+        ∙ ap (λ at. then (to_second length_of_greeting) (read here (Waits (Talking with_other.first) at []) bytes)) none
+        ∙ ap (then (to_second length_of_greeting)) (exchanged length_of_greeting)
         )
 
     pub out_is_exchange : out here (greeting_bytes g hello proof ++ bytes) ≡ greeting_bytes g own.hello own.proof ++ out with_other bytes

@@ -1,5 +1,6 @@
 pub mod Runs
 pub mod Growing
+pub mod Ends
 pub mod Meeting
 pub mod Spelled
 pub mod Firsts

@@ -148,9 +148,9 @@ module _ {H P X F R T I G : Type 0} (g : Greeting H P X F) (k : Talk R X T I G) 
       let e = exchange_with g k own rows hello in
       let later = (read e (start e) rest).says in
       let told : (to_proof own.role own ++ map Item e.opening) ++ (read here (Waits (Talking e.first) n []) rest).says ≡ to_proof own.role own ++ map Item (e.opening ++ later)
-          = ap (λ m. (to_proof own.role own ++ map Item e.opening) ++ says_of m) (exchange_read hello n rest)
-            ∙ append_assoc (to_proof own.role own) (map Item e.opening) (map Item later)
-            ∙ ap (λ items. to_proof own.role own ++ items) (sym (map-append Item e.opening later)) in
+      = ap (λ m. (to_proof own.role own ++ map Item e.opening) ++ says_of m) (exchange_read hello n rest)
+      ∙ append_assoc (to_proof own.role own) (map Item e.opening) (map Item later)
+      ∙ ap (λ items. to_proof own.role own ++ items) (sym (map-append Item e.opening later)) in
       ⊎_elim (λ first. absurd (no_item_to_proof own own.role item first)) (λ second. in_mapped (e.opening ++ later) item second)
       (Contains-append_cases (to_proof own.role own) (map Item (e.opening ++ later)) (Item item) (subst (λ says. Contains says (Item item)) told c))
 
@@ -173,12 +173,12 @@ module _ {H P X F R T I G : Type 0} (g : Greeting H P X F) (k : Talk R X T I G) 
       let Then : H → List ℕ → Type 0 = λ hello rest. Contains (said (exchange_with g k own rows hello) rest) item in
       let nothing : (q : Stand (Stage H T) (Cause F G)) → Wanted (stay q) → ⊥ = λ q wanted. none_in (Item item) wanted in
       let goes_on : (hello : H) (n : ℕ) (rest : List ℕ) → (let m = stepped n (hello_read own hello None) in Wanted (then m (read here m.stand rest))) → HasProof Then hello rest
-          = λ hello n rest wanted. proved Wanted nothing Then hello n (item_in_exchange hello item) rest
-            (⊎_elim (λ c. absurd (no_item_to_hello own own.role item c)) (λ c. c)
-              (Contains-append_cases (to_hello own.role own) (read here (Waits (Proving hello) n []) rest).says (Item item) wanted)) in
+      = λ hello n rest wanted. proved Wanted nothing Then hello n (item_in_exchange hello item) rest
+      (⊎_elim (λ c. absurd (no_item_to_hello own own.role item c)) (λ c. c)
+      (Contains-append_cases (to_hello own.role own) (read here (Waits (Proving hello) n []) rest).says (Item item) wanted)) in
       greeted Then bytes (opened Wanted nothing (HasProof Then) goes_on bytes
-        (⊎_elim (λ c. absurd (no_item_in_opening own own.role item c)) (λ c. c)
-          (Contains-append_cases (opening own.role own) (read here (start here) bytes).says (Item item) c)))
+      (⊎_elim (λ c. absurd (no_item_in_opening own own.role item c)) (λ c. c)
+      (Contains-append_cases (opening own.role own) (read here (start here) bytes).says (Item item) c)))
 
   pub rows_granted : (bytes : List ℕ) (row : R) → Contains (got here bytes) row
       → (w : IsGreeted g own bytes) × Contains (got (exchange_with g k own rows w.hello) w.behind) row
@@ -187,7 +187,7 @@ module _ {H P X F R T I G : Type 0} (g : Greeting H P X F) (k : Talk R X T I G) 
       let Then : H → List ℕ → Type 0 = λ hello rest. Contains (got (exchange_with g k own rows hello) rest) row in
       let nothing : (q : Stand (Stage H T) (Cause F G)) → Wanted (stay q) → ⊥ = λ q wanted. none_in row wanted in
       let goes_on : (hello : H) (n : ℕ) (rest : List ℕ) → (let m = stepped n (hello_read own hello None) in Wanted (then m (read here m.stand rest))) → HasProof Then hello rest
-          = λ hello n rest wanted. proved Wanted nothing Then hello n (row_in_exchange hello row) rest wanted in
+      = λ hello n rest wanted. proved Wanted nothing Then hello n (row_in_exchange hello row) rest wanted in
       greeted Then bytes (opened Wanted nothing (HasProof Then) goes_on bytes c)
 
   pub proofs_granted : (bytes : List ℕ) (proof : P) → Contains (said here bytes) (Proof proof) → (hello : H) × HasHello g bytes hello
@@ -195,6 +195,6 @@ module _ {H P X F R T I G : Type 0} (g : Greeting H P X F) (k : Talk R X T I G) 
       let Wanted : AMove → Type 0 = λ m. Contains m.says (Proof proof) in
       let nothing : (q : Stand (Stage H T) (Cause F G)) → Wanted (stay q) → ⊥ = λ q wanted. none_in (Proof proof) wanted in
       let w = opened Wanted nothing (λ hello rest. Unit {0}) (λ hello n rest wanted. tt) bytes
-            (⊎_elim (λ c. absurd (no_proof_in_opening own own.role proof c)) (λ c. c)
-              (Contains-append_cases (opening own.role own) (read here (start here) bytes).says (Proof proof) c)) in
+      (⊎_elim (λ c. absurd (no_proof_in_opening own own.role proof c)) (λ c. c)
+      (Contains-append_cases (opening own.role own) (read here (start here) bytes).says (Proof proof) c)) in
       (w.0, w.1)

@@ -76,10 +76,10 @@ module _ {R X C T I G : Type 0} (v : View R X C T I) (rules : Rules R X C) (side
     one_turn = record {
       said = said_more;
       whole =
-        told_behind (caller_turns rest)
-        ∙ ap (then m) later.whole
-        ∙ ap₂ (λ x y. move_of Over (x ++ flat (answerer_turns rest)) (y ++ rows_of_turns (caller_turns rest))) says takes
-        ∙ ap (λ ts. move_of Over (flat ts) (rows_of_turns (t ∷ caller_turns rest))) (sym (caller_turns-cons u rest));
+          told_behind (caller_turns rest)
+          ∙ ap (then m) later.whole
+          ∙ ap₂ (λ x y. move_of Over (x ++ flat (answerer_turns rest)) (y ++ rows_of_turns (caller_turns rest))) says takes
+          ∙ ap (λ ts. move_of Over (flat ts) (rows_of_turns (t ∷ caller_turns rest))) (sym (caller_turns-cons u rest));
     }
 
   parted : (q : Stand T G) → told q (v.items_of bye) ≡ stay Over → Takes q (bye ∷ [])
@@ -93,7 +93,7 @@ module _ {R X C T I G : Type 0} (v : View R X C T I) (rules : Rules R X C) (side
       → Replies v rules rows t opens counted most m → IsWhole rules (suc n) rows others opens
       → counted + length t.items + count_of_items (turns rules (suc n) rows others opens) ≤ most
       → ((asks : List (Ask R X)) (sofar : ℕ) (p : Stand T G) → HearingAt v rows asks sofar most p → IsWhole rules n others rows asks
-        → sofar + count_of_items (turns rules n others rows asks) ≤ most → Takes p (turns rules n others rows asks))
+      → sofar + count_of_items (turns rules n others rows asks) ≤ most → Takes p (turns rules n others rows asks))
       → (q : Stand T G) → told q (v.items_of t) ≡ m → Takes q (t ∷ turns rules (suc n) rows others opens)
   unfolding turns
   behind_turn n [] t counted most m replies is_whole few later q is =

@@ -1,5 +1,6 @@
 pub mod Machine
 pub mod Reading
+pub mod Endings
 pub mod Rounds
 pub mod Messages
 pub mod Talk

@@ -1,6 +1,6 @@
 -- A machine as a function of the bytes that it reads. Its reader is asked after every byte, so what it says does not
 -- depend on the pieces in which they come.
-use Rattle.std.specs.Prelude.{ℕ, ◌+◌, List, [], ◌∷◌, ◌++◌, length, flat_map}
+use Rattle.std.specs.Prelude.{◌≡◌, ℕ, ◌+◌, List, [], ◌∷◌, ◌++◌, length, flat_map}
 use Rattle.session_rules.specs.Machine.{Seen, Whole, Part, Wrong, Step, Goes, Ends, Refuses, Machine}
 
 -- How a machine stands: it waits for a message, which begins at an offset and of which these bytes are held; it has
@@ -88,3 +88,7 @@ got a bytes = (read a (start a) bytes).rows
 -- how it ends
 abbrev pub ending : {S M O R E : Type 0} → Machine S M O R E → List ℕ → Ending E
 ending a bytes = ending_of (read a (start a) bytes).stand
+
+-- what it writes and takes, and how it ends, to some bytes
+abbrev pub Shows : {S M O R E : Type 0} → Machine S M O R E → List ℕ → List ℕ → List R → Ending E → Type 0
+Shows a bytes written rows end = (out a bytes ≡ written) × (got a bytes ≡ rows) × (ending a bytes ≡ end)

@@ -1,6 +1,7 @@
 -- One side of an exchange, item by item, as a machine that reads items.
-use Rattle.std.specs.Prelude.{ℕ, zero, suc, Bool, true, false, List, [], ◌∷◌, Option, None, Some, option_to_list, Result, Ok, Err, filter}
+use Rattle.std.specs.Prelude.{◌≡◌, ℕ, zero, suc, Bool, true, false, List, [], ◌∷◌, Option, None, Some, option_to_list, Result, Ok, Err, filter, Contains}
 use Rattle.session_rules.specs.Machine.{Seen, Step, Goes, Ends, Refuses, Machine}
+use Rattle.session_rules.specs.Reading.{said}
 
 -- the side that begins, and the other one
 pub data Role : Type 0 where
@@ -73,3 +74,8 @@ talk k role rows box = record {
   step = λ t item. item_heard k item (k.heard t item);
   spelling = k.spelling;
 }
+
+-- whatever it reads, a side tells no rows but those that it began with
+abbrev pub TellsOwn : {R X T I G : Type 0} → Talk R X T I G → Type 0
+TellsOwn {R} {X} {I = I} k = (role : Role) (rows : List R) (box : Option X) (bytes : List ℕ) (item : I) (row : R)
+    → Contains (said (talk k role rows box) bytes) item → k.row_in item ≡ Some row → Contains rows row

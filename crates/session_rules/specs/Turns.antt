@@ -53,11 +53,11 @@ pub record Replies {R X C T I G : Type 0} (v : View R X C T I) (rules : Rules R 
 -- many items are counted, and is over at its farewell
 pub record GoesOn {R X C T I G : Type 0} (v : View R X C T I) (rules : Rules R X C) (side : Machine T I I R G) (spelling : I → List ℕ) (rows others : List R) : Type 0 where
   pub replies : (t : T) (at : ℕ) (ask : Ask R X) (asks : List (Ask R X)) (counted most : ℕ)
-    → Hearing v rows (ask ∷ asks) counted most t → counted + length (turn rules others (ask ∷ asks)).items ≤ most
-    → Replies v rules rows (turn rules others (ask ∷ asks)) (opened rules others (ask ∷ asks)) counted most
-        (run (taken side spelling) (Waits t at []) (v.items_of (turn rules others (ask ∷ asks))))
+      → Hearing v rows (ask ∷ asks) counted most t → counted + length (turn rules others (ask ∷ asks)).items ≤ most
+      → Replies v rules rows (turn rules others (ask ∷ asks)) (opened rules others (ask ∷ asks)) counted most
+      (run (taken side spelling) (Waits t at []) (v.items_of (turn rules others (ask ∷ asks))))
   pub parts : (t : T) (at counted most : ℕ) → Hearing v rows [] counted most t
-    → run (taken side spelling) (Waits t at []) (v.items_of bye) ≡ stay Over
+      → run (taken side spelling) (Waits t at []) (v.items_of bye) ≡ stay Over
 
 -- ---- how an exchange begins
 
@@ -79,7 +79,7 @@ pub record Begins {R X C T I G : Type 0} (v : View R X C T I) (rules : Rules R X
 pub record Awaits {R X C T I G : Type 0} (v : View R X C T I) (rules : Rules R X C) (side : Machine T I I R G) (spelling : I → List ℕ) (rows others : List R) (box : Option X) (most : ℕ) : Type 0 where
   pub silent : side.opening ≡ []
   pub replies : Replies v rules rows (opening_turn rules others box) (opening_asks rules others box) 0 most
-        (run (taken side spelling) (start side) (v.items_of (opening_turn rules others box)))
+      (run (taken side spelling) (start side) (v.items_of (opening_turn rules others box)))
 
 -- two sides take the turns of the exchange of a caller with rows and an answerer with others; the items of it are not too
 -- many for either

@@ -7,5 +7,11 @@ returns-clause-out g c = out_grows
 pub returns-clause-got : goal.returns-clause-got
 returns-clause-got g c = got_grows
 
-pub returns-clause-over : goal.returns-clause-over
-returns-clause-over g c = same_over
+pub returns-clause-out_over : goal.returns-clause-out_over
+returns-clause-out_over g c = λ a bytes more over. (same_over a bytes more over).0
+
+pub returns-clause-got_over : goal.returns-clause-got_over
+returns-clause-got_over g c = λ a bytes more over. (same_over a bytes more over).1
+
+pub returns-clause-ending_over : goal.returns-clause-ending_over
+returns-clause-ending_over g c = λ a bytes more over. (same_over a bytes more over).2
