@@ -1,19 +1,18 @@
 -- Two sides that take the turns of an exchange.
-use Rattle.std.proofs.Common.{◌≡◌, ℕ, zero, suc, ◌+◌, ◌*◌, ◌<◌, ◌≤◌, List, [], ◌∷◌, ◌++◌, length, take, flat_map, sum_by, Option, None, Some, take_all, sym, refl, ap, ap₂, ◌∙◌, subst, arith}
+use Rattle.std.proofs.Common.{◌≡◌, ℕ, zero, suc, ◌+◌, ◌*◌, ◌≤◌, List, ◌∷◌, ◌++◌, length, take, flat_map, Option, None, Some, take_all, sym, refl, ap, ap₂, ◌∙◌, arith}
 use Rattle.exchange_rules.specs.Rules.{Rules, box_rows}
-use Rattle.exchange_rules.specs.Items.{Turn, counted as count_of_items, rows_of_turns, caller_turns, answerer_turns, to_left, to_right}
+use Rattle.exchange_rules.specs.Items.{Turn, counted as count_of_items, caller_turns, answerer_turns, to_left, to_right}
 use Rattle.exchange_rules.specs.Exchange.{turns, enough, exchange}
 use Rattle.exchange_rules.specs.Premises.{HasDisjointParts, CanCut}
 use Rattle.exchange_rules.proofs.Potentials.{caller_turns-cons}
-use Rattle.exchange_rules.proofs.Costs.{cost}
 use Rattle.exchange_rules.proofs.Ends.{enough_for_first}
 use Rattle.session_rules.specs.Machine.{Machine}
-use Rattle.session_rules.specs.Reading.{Stand, Over, Done, More, ending_of, start, got, ending, out, run}
+use Rattle.session_rules.specs.Reading.{start, run}
 use Rattle.session_rules.specs.Rounds.{rounds}
 use Rattle.session_rules.specs.Messages.{taken, hear, tells, dialogue}
 use Rattle.session_rules.specs.Turns.{View, opening_turn, opening_asks, TakeTurns, HearsAll}
-use Rattle.session_rules.proofs.Growing.{says_of, rows_of}
-use Rattle.session_rules.proofs.Turning.{IsWhole, enough_whole, count-cons, few_turns, flat, Takes, behind_turn, takes_turns}
+use Rattle.session_rules.proofs.Growing.{rows_of}
+use Rattle.session_rules.proofs.Turning.{IsWhole, enough_whole, count-cons, few_turns, Takes, behind_turn, takes_turns}
 
 module _ {R X C : Type 0} (rules : Rules R X C) where
   -- how many turns there may be behind the first, but for one

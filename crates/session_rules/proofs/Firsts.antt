@@ -1,7 +1,7 @@
 -- The first message in front of some bytes, and what comes of all of them by it.
 use Rattle.std.proofs.Common.{◌≡◌, ℕ, ◌+◌, List, [], ◌∷◌, ◌++◌, length, append_assoc, sym, refl, ap, ◌∙◌}
 use Rattle.session_rules.specs.Machine.{Seen, Whole, Part, Wrong, Machine}
-use Rattle.session_rules.specs.Reading.{Stand, Waits, Broken, Move, stay, then, stepped, judged, move, run, read}
+use Rattle.session_rules.specs.Reading.{Waits, Broken, Move, stay, then, stepped, judged, move, run, read}
 use Rattle.session_rules.specs.Session.{seen_as}
 use Rattle.session_rules.proofs.Runs.{run_idle}
 

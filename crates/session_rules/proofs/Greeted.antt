@@ -1,10 +1,10 @@
 -- Behind a greeting that passes.
-use Rattle.std.proofs.Common.{◌≡◌, ℕ, ◌+◌, ◌<◌, List, [], ◌∷◌, ◌++◌, map, length, flat_map, Option, None, append_assoc, length-append, add_assoc, zero-add, sym, refl, ap, ap₂, ◌∙◌, arith}
-use Rattle.session_rules.specs.Machine.{Seen, Whole, Part, Wrong, Step, Goes, Ends, Refuses, Machine}
-use Rattle.session_rules.specs.Reading.{Stand, Waits, Over, Broken, Refused, Move, stay, then, stepped, judged, move, run, read, start, ending_of, said, out, got, ending}
+use Rattle.std.proofs.Common.{◌≡◌, ℕ, ◌+◌, List, [], ◌∷◌, ◌++◌, map, length, flat_map, append_assoc, length-append, zero-add, sym, refl, ap, ◌∙◌, arith}
+use Rattle.session_rules.specs.Machine.{Seen, Machine}
+use Rattle.session_rules.specs.Reading.{Stand, Waits, Over, Broken, Refused, Move, then, stepped, move, read, start, ending_of, out, got, ending}
 use Rattle.session_rules.specs.Messages.{IsReadAs}
-use Rattle.session_rules.specs.Talk.{Role, Caller, Answerer, Talk, talk}
-use Rattle.session_rules.specs.Greeting.{Greeting, Own, other_refusal, common_box, Greets, greeting_bytes}
+use Rattle.session_rules.specs.Talk.{Role, Caller, Answerer, Talk}
+use Rattle.session_rules.specs.Greeting.{Greeting, Own, common_box, Greets, greeting_bytes}
 use Rattle.session_rules.specs.Session.{Message, Hello, Proof, Item, Stage, Opening, Proving, Talking, Cause, opening, to_hello, to_proof, common_rows, exchange_with, hello_read, proof_read, seen_as, message_spelling, session, ends_as}
 use Rattle.session_rules.proofs.Runs.{move_of, run_append}
 use Rattle.session_rules.proofs.Growing.{says_of, rows_of}

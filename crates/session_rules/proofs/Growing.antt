@@ -2,10 +2,10 @@
 use Rattle.std.proofs.Common.{◌≡◌, ℕ, List, [], ◌∷◌, ◌++◌, flat_map, append_assoc, append-nil, sym, refl, ap, ◌∙◌}
 use Rattle.std.proofs.lemmas.List.Concat.{flat_map-append}
 use Rattle.session_rules.specs.Machine.{Seen, Part, Machine}
-use Rattle.session_rules.specs.Reading.{Stand, Waits, Move, stay, then, judged, move, run, read, start, Ending, More, ending_of, said, out, got, ending}
+use Rattle.session_rules.specs.Reading.{Waits, Move, stay, then, judged, move, run, read, start, More, ending_of, said, out, got, ending}
 use Rattle.session_rules.specs.Rounds.{IsFront, IsOver}
 use Rattle.session_rules.specs.Messages.{ArePart}
-use Rattle.session_rules.proofs.Runs.{then_stay, run_append, run_stays, idle_over}
+use Rattle.session_rules.proofs.Runs.{run_append, run_stays, idle_over}
 
 -- ---- fronts
 

@@ -1,5 +1,5 @@
 -- Two sides that each read what the other writes.
-use Rattle.std.proofs.Common.{◌≡◌, ℕ, zero, suc, List, [], ◌++◌, sym, refl, ap, ap₂, ◌∙◌}
+use Rattle.std.proofs.Common.{◌≡◌, ℕ, zero, suc, List, [], sym, refl, ap, ap₂, ◌∙◌}
 use Rattle.session_rules.specs.Machine.{Machine}
 use Rattle.session_rules.specs.Reading.{out, ending, run}
 use Rattle.session_rules.specs.Rounds.{IsFront, IsOver, rounds, Meet}

@@ -1,11 +1,11 @@
 -- A session by its first two messages: what it grants, and in two worlds.
 use Rattle.std.proofs.Common.{◌≡◌, ℕ, ◌+◌, List, [], ◌∷◌, ◌++◌, map, length, Contains, Option, None, Some, add-zero, append_assoc, sym, refl, ap, ◌∙◌, subst, ⊎_elim, arith}
 use Rattle.std.proofs.lemmas.List.Elements.{Contains-append_cases, Contains-append_left, Contains-append_right, Contains-push, Contains-push_cases}
-use Rattle.session_rules.specs.Machine.{Whole, Goes, Machine}
-use Rattle.session_rules.specs.Reading.{Stand, Waits, Broken, Refused, Move, stay, then, stepped, move, run, read, start, said, got}
-use Rattle.session_rules.specs.Talk.{Role, Caller, Answerer, Talk, talk}
+use Rattle.session_rules.specs.Machine.{Whole, Machine}
+use Rattle.session_rules.specs.Reading.{Stand, Waits, Broken, Refused, Move, stay, then, stepped, move, read, start, said, got}
+use Rattle.session_rules.specs.Talk.{Role, Caller, Answerer, Talk}
 use Rattle.session_rules.specs.Greeting.{Greeting, Own, other_refusal, common_box, HasHello, IsGreeted}
-use Rattle.session_rules.specs.Session.{Message, Hello, Proof, Item, Stage, Opening, Proving, Talking, Cause, InGreeting, opening, to_hello, to_proof, common_rows, exchange_with, hello_read, proof_read, session, SameInCommon}
+use Rattle.session_rules.specs.Session.{Message, Hello, Proof, Item, Stage, Opening, Proving, Talking, Cause, InGreeting, opening, to_hello, to_proof, common_rows, exchange_with, hello_read, proof_read, session}
 use Rattle.session_rules.proofs.Runs.{run_idle}
 use Rattle.session_rules.proofs.Firsts.{First, Found, Unfinished, Bad, first_of, IsFirst, first_is, first_as, first_of-as, by_first, read_first}
 use Rattle.session_rules.proofs.Growing.{says_of}

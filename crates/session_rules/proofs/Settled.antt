@@ -6,9 +6,9 @@ use Rattle.exchange_rules.specs.Exchange.{exchange}
 use Rattle.exchange_rules.specs.Premises.{HasDisjointParts, CanCut}
 use Rattle.session_rules.specs.Reading.{Ending, Done, More, ending_of, start, out}
 use Rattle.session_rules.specs.Rounds.{IsOver, Meet}
-use Rattle.session_rules.specs.Messages.{CanReadAll, hear, dialogue, CanTalk}
+use Rattle.session_rules.specs.Messages.{CanReadAll, hear, CanTalk}
 use Rattle.session_rules.specs.Session.{ends_as}
-use Rattle.session_rules.specs.Pairs.{Pair, calling, answering, caller_side, answerer_side, by_caller, by_answerer, GreetEachOther, exchanged, AreSettled}
+use Rattle.session_rules.specs.Pairs.{Pair, calling, answering, caller_side, answerer_side, by_caller, by_answerer, GreetEachOther, exchanged}
 use Rattle.session_rules.specs.Turns.{View, TakeTurns, CanReadTurns, AreExchanged, HearsAll}
 use Rattle.session_rules.proofs.Settling.{are_settled}
 use Rattle.session_rules.proofs.Exchanging.{all_said, caller_hears, answerer_hears}

@@ -1,16 +1,13 @@
 -- Two sessions whose greetings pass, each of which reads what the other writes.
-use Rattle.std.proofs.Common.{◌≡◌, ℕ, zero, suc, List, [], ◌∷◌, ◌++◌, length, flat_map, Option, None, append-nil, sym, refl, ap, ap₂, ◌∙◌, subst}
-use Rattle.session_rules.specs.Machine.{Machine}
-use Rattle.session_rules.specs.Reading.{Ending, Done, More, BadMessage, Refusal, ending_of, run, start, read, out, got, ending}
-use Rattle.session_rules.specs.Rounds.{IsFront, IsOver, rounds, Meet}
-use Rattle.session_rules.specs.Messages.{hear, dialogue, CanTalk, IsDialogue}
-use Rattle.session_rules.specs.Talk.{Role, Caller, Answerer, Talk}
-use Rattle.session_rules.specs.Greeting.{Greeting, Own, Greets, greeting_bytes}
-use Rattle.session_rules.specs.Session.{Message, Hello, Proof, Stage, Cause, opening, to_hello, message_spelling, exchange_with, session, ends_as}
+use Rattle.std.proofs.Common.{◌≡◌, ℕ, zero, suc, List, [], ◌++◌, length, flat_map, append-nil, sym, refl, ap, ap₂, ◌∙◌, subst}
+use Rattle.session_rules.specs.Reading.{Ending, Done, More, BadMessage, Refusal, ending_of, run, read, out, got, ending}
+use Rattle.session_rules.specs.Rounds.{IsOver, rounds, Meet}
+use Rattle.session_rules.specs.Messages.{hear, CanTalk}
+use Rattle.session_rules.specs.Session.{opening, to_hello, message_spelling, ends_as}
 use Rattle.session_rules.specs.Pairs.{Pair, calling, answering, caller_side, answerer_side, by_caller, by_answerer, GreetEachOther, exchanged, AreSettled}
 use Rattle.session_rules.proofs.Growing.{says_of}
 use Rattle.session_rules.proofs.Meeting.{first_over, they_meet}
-use Rattle.session_rules.proofs.Spelled.{rounds_spelled, read_spelled, over_in_bytes, dialogue_meets, is_dialogue}
+use Rattle.session_rules.proofs.Spelled.{rounds_spelled, over_in_bytes, dialogue_meets, is_dialogue}
 use Rattle.session_rules.proofs.Greeted.{hello_whole, out_is_exchange, got_is_exchange, ending_is_exchange}
 
 -- an end of the exchange is one of the session

@@ -1,9 +1,9 @@
 -- Messages, read by their bytes.
 use Rattle.std.proofs.Common.{◌≡◌, ℕ, zero, suc, ◌+◌, ◌<◌, List, [], ◌∷◌, ◌++◌, length, flat_map, append_assoc, length-append, sym, refl, ap, ap₂, ◌∙◌, subst, arith}
 use Rattle.session_rules.specs.Machine.{Seen, Whole, Step, Goes, Ends, Refuses, Machine}
-use Rattle.session_rules.specs.Reading.{Stand, Waits, Over, Broken, Refused, Move, stay, then, stepped, judged, move, run, read, start, ending_of, said, out, got, ending}
+use Rattle.session_rules.specs.Reading.{Stand, Waits, Over, Broken, Refused, stay, then, stepped, judged, move, run, read, start, ending_of, out, got, ending}
 use Rattle.session_rules.specs.Rounds.{IsFront, IsOver, rounds, Meet}
-use Rattle.session_rules.specs.Messages.{IsReadAs, taken, CanRead, CanReadAll, hear, tells, dialogue, CanTalk, IsDialogue}
+use Rattle.session_rules.specs.Messages.{IsReadAs, taken, CanReadAll, hear, tells, dialogue, CanTalk, IsDialogue}
 use Rattle.session_rules.proofs.Runs.{then_stay, run_append, run_idle, run_stays}
 use Rattle.session_rules.proofs.Growing.{Grows, front_by, says_of, rows_of, judged_part}
 use Rattle.session_rules.proofs.Meeting.{rounds_grow, first_over, they_meet}

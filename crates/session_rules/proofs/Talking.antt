@@ -1,7 +1,7 @@
 -- Behind its greeting a session is the exchange.
 use Rattle.std.proofs.Common.{◌≡◌, ℕ, ◌+◌, List, [], ◌∷◌, ◌++◌, map, length, Option, sym, refl, ap, ◌∙◌}
-use Rattle.session_rules.specs.Machine.{Seen, Whole, Part, Wrong, Step, Goes, Ends, Refuses, Machine}
-use Rattle.session_rules.specs.Reading.{Stand, Waits, Over, Broken, Refused, Move, stay, then, stepped, judged, move, run, read}
+use Rattle.session_rules.specs.Machine.{Seen, Whole, Part, Wrong, Step, Goes, Ends, Refuses}
+use Rattle.session_rules.specs.Reading.{Stand, Waits, Over, Broken, Refused, Move, then, stepped, judged, run, read}
 use Rattle.session_rules.specs.Talk.{Role, Talk, talk, item_heard}
 use Rattle.session_rules.specs.Greeting.{Greeting, Own}
 use Rattle.session_rules.specs.Session.{Message, Item, Stage, Talking, Cause, InTalk, item_read, seen_as, session}

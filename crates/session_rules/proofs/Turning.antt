@@ -1,19 +1,17 @@
 -- Sides that take the turns of an exchange, item by item.
-use Rattle.std.proofs.Common.{◌≡◌, ℕ, zero, suc, ◌+◌, ◌*◌, ◌<◌, ◌≤◌, List, [], ◌∷◌, ◌++◌, length, take, flat_map, sum_by, Option, None, Some, append-nil, take_all, sym, refl, ap, ap₂, ◌∙◌, subst, arith}
+use Rattle.std.proofs.Common.{◌≡◌, ℕ, zero, suc, ◌+◌, ◌<◌, ◌≤◌, List, [], ◌∷◌, ◌++◌, length, take, flat_map, sum_by, append-nil, sym, refl, ap, ap₂, ◌∙◌, subst, arith}
 use Rattle.std.proofs.lemmas.List.Sums.{sum_by-cons}
-use Rattle.exchange_rules.specs.Rules.{Rules, box_rows}
-use Rattle.exchange_rules.specs.Items.{Ask, Turn, bye, counted as count_of_items, rows_of_turn, rows_of_turns, caller_turns, answerer_turns, to_left, to_right}
+use Rattle.exchange_rules.specs.Rules.{Rules}
+use Rattle.exchange_rules.specs.Items.{Ask, Turn, bye, counted as count_of_items, rows_of_turn, rows_of_turns, caller_turns, answerer_turns}
 use Rattle.exchange_rules.specs.Answer.{turn, opened}
-use Rattle.exchange_rules.specs.Exchange.{turns, enough, exchange}
+use Rattle.exchange_rules.specs.Exchange.{turns}
 use Rattle.exchange_rules.specs.Premises.{HasDisjointParts, CanCut}
 use Rattle.exchange_rules.proofs.Potentials.{caller_turns-cons}
 use Rattle.exchange_rules.proofs.Costs.{cost, turn_costs}
-use Rattle.exchange_rules.proofs.Ends.{enough_for_first}
 use Rattle.session_rules.specs.Machine.{Machine}
-use Rattle.session_rules.specs.Reading.{Stand, Waits, Over, Broken, Refused, Move, stay, then, start, run}
-use Rattle.session_rules.specs.Rounds.{rounds}
-use Rattle.session_rules.specs.Messages.{taken, hear, tells, dialogue}
-use Rattle.session_rules.specs.Turns.{View, Hearing, HearingAt, Replies, GoesOn, opening_turn, opening_asks, Begins, Awaits, TakeTurns, HearsAll}
+use Rattle.session_rules.specs.Reading.{Stand, Waits, Over, Broken, Refused, Move, stay, then, run}
+use Rattle.session_rules.specs.Messages.{taken}
+use Rattle.session_rules.specs.Turns.{View, HearingAt, Replies, GoesOn}
 use Rattle.session_rules.proofs.Runs.{move_of, run_append}
 use Rattle.session_rules.proofs.Growing.{says_of}
 

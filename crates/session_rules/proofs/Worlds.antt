@@ -1,10 +1,10 @@
 -- Two sessions of one side that have the same rows in the area that both may read.
-use Rattle.std.proofs.Common.{◌≡◌, ℕ, ◌+◌, List, [], ◌∷◌, ◌++◌, map, length, Option, None, Some, sym, refl, ap, ◌∙◌}
+use Rattle.std.proofs.Common.{◌≡◌, ℕ, ◌+◌, List, [], ◌++◌, length, Option, None, Some, sym, refl, ap, ◌∙◌}
 use Rattle.session_rules.specs.Machine.{Whole, Machine}
 use Rattle.session_rules.specs.Reading.{Waits, Refused, Move, stay, then, stepped, move, read, start}
 use Rattle.session_rules.specs.Talk.{Caller, Talk, talk}
 use Rattle.session_rules.specs.Greeting.{Greeting, Own, other_refusal, common_box, HasHello}
-use Rattle.session_rules.specs.Session.{Message, Hello, Proof, Item, Stage, Opening, Proving, Talking, Cause, InGreeting, to_proof, common_rows, exchange_with, hello_read, proof_read, session, SameInCommon}
+use Rattle.session_rules.specs.Session.{Message, Hello, Proof, Stage, Opening, Proving, Talking, Cause, InGreeting, common_rows, exchange_with, hello_read, proof_read, session, SameInCommon}
 use Rattle.session_rules.proofs.Runs.{run_idle}
 use Rattle.session_rules.proofs.Firsts.{First, Found, Unfinished, Bad, first_of, IsFirst, first_is, first_as, by_first}
 use Rattle.session_rules.proofs.Talking.{talking}

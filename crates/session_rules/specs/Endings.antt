@@ -1,6 +1,6 @@
 -- Where a machine ends: each end is that of one message, which begins at an offset.
 use Rattle.std.specs.Prelude.{◌≡◌, ℕ, List, [], ◌++◌, length}
-use Rattle.session_rules.specs.Machine.{Whole, Wrong, Step, Ends, Refuses, Machine}
+use Rattle.session_rules.specs.Machine.{Whole, Wrong, Step, Machine}
 use Rattle.session_rules.specs.Reading.{Waits, start, read}
 
 -- in front of the last of some bytes the machine waits for a message that begins at this offset, with nothing held

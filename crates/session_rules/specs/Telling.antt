@@ -4,7 +4,7 @@ use Rattle.std.specs.Prelude.{ℕ, suc, ◌+◌, ◌-◌, Bool, true, false, not
 use Rattle.std.specs.List.{list_any}
 use Rattle.session_rules.specs.Machine.{Seen, Whole, Part, Wrong}
 use Rattle.session_rules.specs.Talk.{Role, Caller, Answerer, Talk}
-use Rattle.session_rules.specs.Greeting.{Greeting, Own}
+use Rattle.session_rules.specs.Greeting.{Greeting}
 use Rattle.session_rules.specs.Pairs.{Pair}
 
 -- one byte
