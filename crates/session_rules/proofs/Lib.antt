@@ -1,3 +1,4 @@
+pub mod Members
 pub mod Runs
 pub mod Growing
 pub mod Ends
@@ -13,3 +14,5 @@ pub mod Settling
 pub mod Turning
 pub mod Exchanging
 pub mod Settled
+pub mod Holding
+pub mod Tellers

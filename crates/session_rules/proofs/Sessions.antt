@@ -6,19 +6,14 @@ use Rattle.session_rules.specs.Reading.{Stand, Waits, Broken, Refused, Move, sta
 use Rattle.session_rules.specs.Talk.{Role, Caller, Answerer, Talk}
 use Rattle.session_rules.specs.Greeting.{Greeting, Own, other_refusal, common_box, HasHello, IsGreeted}
 use Rattle.session_rules.specs.Session.{Message, Hello, Proof, Item, Stage, Opening, Proving, Talking, Cause, InGreeting, opening, to_hello, to_proof, common_rows, exchange_with, hello_read, proof_read, session}
+use Rattle.session_rules.proofs.Members.{none_in, in_one}
 use Rattle.session_rules.proofs.Runs.{run_idle}
 use Rattle.session_rules.proofs.Firsts.{First, Found, Unfinished, Bad, first_of, IsFirst, first_is, first_as, first_of-as, by_first, read_first}
 use Rattle.session_rules.proofs.Growing.{says_of}
 use Rattle.session_rules.proofs.Shifting.{shift, shift-read}
 use Rattle.session_rules.proofs.Talking.{map-append, lift, talking}
 
--- ---- few messages
-
-none_in : {A : Type 0} (x : A) → Contains [] x → ⊥
-none_in x c = omega (arith, c.1)
-
-in_one : {A : Type 0} (x y : A) → Contains (x ∷ []) y → x ≡ y
-in_one x y c = ⊎_elim (λ none. absurd (none_in y none)) (λ e. e) (Contains-push_cases [] x y c)
+-- ---- messages of other kinds
 
 hello-no_item : {H P I : Type 0} (hello : H) (item : I) → ◌≡◌ {A = Message H P I} (Hello hello) (Item item) → ⊥
 hello-no_item hello item e = cc

@@ -8,7 +8,7 @@ ghost use Rattle.exchange_rules.specs.Items.{caller_turns, answerer_turns, to_le
 ghost use Rattle.exchange_rules.specs.Exchange.{exchange};
 ghost use Rattle.exchange_rules.specs.Premises.{HasDisjointParts, CanCut};
 ghost use Rattle.session_rules.specs.Machine.{Ends, Refuses, Machine};
-ghost use Rattle.session_rules.specs.Reading.{Stand, Waits, Done, More, BadMessage, Refusal, start, run, read, then, said, out, got, ending_of, ending, Shows};
+ghost use Rattle.session_rules.specs.Reading.{Stand, Waits, Over, Done, More, BadMessage, Refusal, start, run, read, then, said, out, got, ending_of, ending, Shows};
 ghost use Rattle.session_rules.specs.Endings.{StandsBefore, IsBadAt, Steps};
 ghost use Rattle.session_rules.specs.Rounds.{IsFront, IsOver, rounds, Meet};
 ghost use Rattle.session_rules.specs.Messages.{ArePart, taken, CanReadAll, hear, dialogue, CanTalk, IsDialogue};
@@ -18,7 +18,7 @@ ghost use Rattle.session_rules.specs.Session.{Item, Proof, InGreeting, common_ro
 ghost use Rattle.session_rules.specs.Pairs.{Pair, calling, answering, caller_side, answerer_side, by_caller, by_answerer, GreetEachOther, exchanged, AreSettled};
 ghost use Rattle.session_rules.specs.Turns.{View, TakeTurns, HearsAll, CanReadTurns, AreExchanged};
 ghost use Rattle.session_rules.specs.Adding.{adding};
-ghost use Rattle.session_rules.specs.Telling.{tellers, caller_told, answerer_told};
+ghost use Rattle.session_rules.specs.Telling.{told_spelling, by_telling, tellers, caller_told, answerer_told};
 
 /// A small machine on no bytes, on two messages, on one and a half, on one behind that which ends it, on one that it
 /// refuses, and on bytes that are none.
@@ -42,6 +42,14 @@ pub fn a_small_session()
     ensures bad_hello { Shows (answering tellers) (0 ∷ 15 ∷ 0 ∷ []) [] [] (Refusal (InGreeting 0)) }
     ensures bad_proof { Shows (calling tellers) (6 ∷ 15 ∷ 3 ∷ 0 ∷ []) (9 ∷ []) [] (Refusal (InGreeting 1)) }
     ensures nothing_in_common { Shows (calling tellers) (1 ∷ 11 ∷ 0 ∷ []) (9 ∷ 15 ∷ 0 ∷ []) [] Done }
+{}
+
+/// These two meet what the laws of two sessions ask: their greetings pass, and each reads what the other says.
+pub fn a_small_session_is_lawful()
+    ensures greets { GreetEachOther tellers }
+    ensures reads { CanTalk (caller_side tellers) (answerer_side tellers) 1 }
+    ensures over { (hear (caller_side tellers) told_spelling (exchanged tellers 1).1).stand ≡ Over }
+    ensures own { TellsOwn by_telling }
 {}
 
 /// In whatever pieces bytes come, the same comes of them.

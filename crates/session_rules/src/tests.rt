@@ -2,6 +2,7 @@
 fn the_laws_can_be_called() {
     crate::laws::a_small_machine();
     crate::laws::a_small_session();
+    crate::laws::a_small_session_is_lawful();
     crate::laws::pieces::<u8, u16, u32, u64, bool>();
     crate::laws::grows::<u8, u16, u32, u64, bool>();
     crate::laws::nothing_early::<u8, u16, u32, u64, bool>();
