@@ -1,9 +1,9 @@
 -- A side that tells only rows that it began with: what it holds at each of its places keeps that.
-use Rattle.std.proofs.Common.{◌≡◌, ℕ, zero, suc, ◌+◌, Bool, true, false, List, [], ◌∷◌, ◌++◌, length, Contains, Option, None, Some, Result, Ok, Err, option_to_list, sym, refl, ap, ◌∙◌, subst, ⊎_elim}
+use Rattle.std.proofs.Common.{◌≡◌, ℕ, zero, suc, ◌+◌, Bool, true, false, List, [], ◌∷◌, ◌++◌, length, Contains, Option, None, Some, Result, Ok, Err, option_to_list, refl, ap, ◌∙◌, ⊎_elim}
 use Rattle.std.proofs.lemmas.List.Elements.{Contains-append_cases}
-use Rattle.session_rules.specs.Machine.{Seen, Whole, Part, Wrong, Step, Goes, Ends, Refuses, Machine}
-use Rattle.session_rules.specs.Reading.{Stand, Waits, Over, Broken, Refused, Move, stay, stepped, judged, run, read, start}
-use Rattle.session_rules.specs.Talk.{Role, Talk, with_item, speaks_from, speaks, spoken, answered, item_heard, talk, TellsOwn}
+use Rattle.session_rules.specs.Machine.{Seen, Whole, Part, Wrong, Machine}
+use Rattle.session_rules.specs.Reading.{Stand, Waits, Over, Broken, Refused, Move, stepped, judged, run, read, start}
+use Rattle.session_rules.specs.Talk.{Role, Talk, speaks_from, speaks, spoken, answered, item_heard, talk}
 use Rattle.session_rules.proofs.Members.{none_in, in_one}
 
 -- each row that is told by these items is one of the rows

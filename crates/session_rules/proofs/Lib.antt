@@ -14,5 +14,6 @@ pub mod Settling
 pub mod Turning
 pub mod Exchanging
 pub mod Settled
+pub mod TurnByTurn
 pub mod Holding
 pub mod Tellers

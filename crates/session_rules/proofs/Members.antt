@@ -1,5 +1,5 @@
 -- What stands in short lists.
-use Rattle.std.proofs.Common.{◌≡◌, List, [], ◌∷◌, ◌++◌, Contains, ⊎_elim, arith}
+use Rattle.std.proofs.Common.{◌≡◌, [], ◌∷◌, Contains, ⊎_elim, arith}
 use Rattle.std.proofs.lemmas.List.Elements.{Contains-push_cases}
 
 pub none_in : {A : Type 0} (x : A) → Contains [] x → ⊥

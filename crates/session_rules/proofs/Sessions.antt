@@ -1,6 +1,6 @@
 -- A session by its first two messages: what it grants, and in two worlds.
-use Rattle.std.proofs.Common.{◌≡◌, ℕ, ◌+◌, List, [], ◌∷◌, ◌++◌, map, length, Contains, Option, None, Some, add-zero, append_assoc, sym, refl, ap, ◌∙◌, subst, ⊎_elim, arith}
-use Rattle.std.proofs.lemmas.List.Elements.{Contains-append_cases, Contains-append_left, Contains-append_right, Contains-push, Contains-push_cases}
+use Rattle.std.proofs.Common.{◌≡◌, ℕ, ◌+◌, List, [], ◌∷◌, ◌++◌, map, length, Contains, Option, None, Some, add-zero, append_assoc, sym, refl, ap, ◌∙◌, subst, ⊎_elim}
+use Rattle.std.proofs.lemmas.List.Elements.{Contains-append_cases, Contains-append_left, Contains-append_right, Contains-push}
 use Rattle.session_rules.specs.Machine.{Whole, Machine}
 use Rattle.session_rules.specs.Reading.{Stand, Waits, Broken, Refused, Move, stay, then, stepped, move, read, start, said, got}
 use Rattle.session_rules.specs.Talk.{Role, Caller, Answerer, Talk}

@@ -1,13 +1,12 @@
 -- The small session meets what the laws ask.
-use Rattle.std.proofs.Common.{◌≡◌, ℕ, suc, ◌<◌, Bool, true, false, cond, not, nat_eq, List, [], ◌∷◌, ◌++◌, length, filter, Contains, Option, None, Some, Result, Ok, Err, length-append, refl, ap, subst, ⊎_elim, arith}
+use Rattle.std.proofs.Common.{◌≡◌, ℕ, suc, Bool, true, false, cond, not, nat_eq, List, [], ◌∷◌, ◌++◌, length, filter, Contains, None, Some, Result, Ok, Err, length-append, refl, ap, subst, ⊎_elim, arith}
 use Rattle.std.specs.List.{list_any}
 use Rattle.std.proofs.lemmas.List.Elements.{Contains-append_cases, Contains-append_left, Contains-append_right, Contains-push}
 use Rattle.session_rules.specs.Machine.{Seen, Whole}
 use Rattle.session_rules.specs.Reading.{run}
 use Rattle.session_rules.specs.Rounds.{rounds}
-use Rattle.session_rules.specs.Messages.{IsReadAs, CanReadAll, CanTalk, dialogue}
+use Rattle.session_rules.specs.Messages.{IsReadAs, CanTalk}
 use Rattle.session_rules.specs.Talk.{Role, Caller, Answerer, speaks, TellsOwn}
-use Rattle.session_rules.specs.Greeting.{Greets}
 use Rattle.session_rules.specs.Pairs.{GreetEachOther, caller_side, answerer_side}
 use Rattle.session_rules.specs.Telling.{Told, Row, All, Teller, Begins, Listens, Compares, Answers, IsDone, told_first, next_told, listened, told_seen, told_spelling, by_telling, tellers}
 use Rattle.session_rules.proofs.Holding.{IsOwn, own_told}

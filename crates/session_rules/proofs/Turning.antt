@@ -113,18 +113,18 @@ module _ {R X C T I G : Type 0} (v : View R X C T I) (rules : Rules R X C) (side
     replies_to (Broken at) ask asks counted most hears few = absurd hears
     replies_to (Refused cause) ask asks counted most hears few = absurd hears
 
-    parts_at : (q : Stand T G) (counted most : ℕ) → HearingAt v rows [] counted most q → told q (v.items_of bye) ≡ stay Over
-    parts_at (Waits t at []) counted most hears = goes_on.parts t at counted most hears
-    parts_at (Waits t at (byte ∷ held)) counted most hears = absurd hears
-    parts_at Over counted most hears = absurd hears
-    parts_at (Broken at) counted most hears = absurd hears
-    parts_at (Refused cause) counted most hears = absurd hears
+    parts_at : (q : Stand T G) (counted most : ℕ) → HearingAt v rows [] counted most q → counted ≤ most → told q (v.items_of bye) ≡ stay Over
+    parts_at (Waits t at []) counted most hears few = goes_on.parts t at counted most hears few
+    parts_at (Waits t at (byte ∷ held)) counted most hears few = absurd hears
+    parts_at Over counted most hears few = absurd hears
+    parts_at (Broken at) counted most hears few = absurd hears
+    parts_at (Refused cause) counted most hears few = absurd hears
 
     pub takes_turns : (n : ℕ) (most : ℕ) (asks : List (Ask R X)) (counted : ℕ) (q : Stand T G) → HearingAt v rows asks counted most q → IsWhole rules n others rows asks
         → counted + count_of_items (turns rules n others rows asks) ≤ most → Takes q (turns rules n others rows asks)
     unfolding turns
     takes_turns zero most asks counted q hears is_whole few = absurd is_whole
-    takes_turns (suc n) most [] counted q hears is_whole few = parted q (parts_at q counted most hears)
+    takes_turns (suc n) most [] counted q hears is_whole few = parted q (parts_at q counted most hears (omega arith))
     takes_turns (suc zero) most (ask ∷ asks) counted q hears is_whole few = absurd is_whole
     takes_turns (suc (suc n)) most (ask ∷ asks) counted q hears is_whole few =
         let t = turn rules others (ask ∷ asks) in

@@ -8,5 +8,6 @@ pub mod Greeting
 pub mod Session
 pub mod Pairs
 pub mod Turns
+pub mod WholeTurns
 pub mod Adding
 pub mod Telling

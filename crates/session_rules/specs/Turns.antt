@@ -56,7 +56,7 @@ pub record GoesOn {R X C T I G : Type 0} (v : View R X C T I) (rules : Rules R X
       → Hearing v rows (ask ∷ asks) counted most t → counted + length (turn rules others (ask ∷ asks)).items ≤ most
       → Replies v rules rows (turn rules others (ask ∷ asks)) (opened rules others (ask ∷ asks)) counted most
       (run (taken side spelling) (Waits t at []) (v.items_of (turn rules others (ask ∷ asks))))
-  pub parts : (t : T) (at counted most : ℕ) → Hearing v rows [] counted most t
+  pub parts : (t : T) (at counted most : ℕ) → Hearing v rows [] counted most t → counted ≤ most
       → run (taken side spelling) (Waits t at []) (v.items_of bye) ≡ stay Over
 
 -- ---- how an exchange begins

@@ -4,19 +4,20 @@
 ghost use Rattle.std.specs.Prelude.{◌≡◌, ℕ, suc, ◌≤◌, List, [], ◌∷◌, ◌++◌, length, flat_map, Contains, Option, Some};
 ghost use Rattle.std.specs.List.{concat};
 ghost use Rattle.exchange_rules.specs.Rules.{Rules};
-ghost use Rattle.exchange_rules.specs.Items.{caller_turns, answerer_turns, to_left, to_right};
+ghost use Rattle.exchange_rules.specs.Items.{counted as count_of_items, caller_turns, answerer_turns, to_left, to_right};
 ghost use Rattle.exchange_rules.specs.Exchange.{exchange};
-ghost use Rattle.exchange_rules.specs.Premises.{HasDisjointParts, CanCut};
+ghost use Rattle.exchange_rules.specs.Premises.{HasDisjointParts, CanCut, CanSend};
 ghost use Rattle.session_rules.specs.Machine.{Ends, Refuses, Machine};
 ghost use Rattle.session_rules.specs.Reading.{Stand, Waits, Over, Done, More, BadMessage, Refusal, start, run, read, then, said, out, got, ending_of, ending, Shows};
 ghost use Rattle.session_rules.specs.Endings.{StandsBefore, IsBadAt, Steps};
 ghost use Rattle.session_rules.specs.Rounds.{IsFront, IsOver, rounds, Meet};
 ghost use Rattle.session_rules.specs.Messages.{ArePart, taken, CanReadAll, hear, dialogue, CanTalk, IsDialogue};
-ghost use Rattle.session_rules.specs.Talk.{Talk, TellsOwn};
+ghost use Rattle.session_rules.specs.Talk.{Caller, Answerer, Talk, TellsOwn};
 ghost use Rattle.session_rules.specs.Greeting.{Greeting, Own, HasHello, IsGreeted, Greets, greeting_bytes};
 ghost use Rattle.session_rules.specs.Session.{Item, Proof, InGreeting, common_rows, exchange_with, session, SameInCommon, ends_as};
 ghost use Rattle.session_rules.specs.Pairs.{Pair, calling, answering, caller_side, answerer_side, by_caller, by_answerer, GreetEachOther, exchanged, AreSettled};
 ghost use Rattle.session_rules.specs.Turns.{View, TakeTurns, HearsAll, CanReadTurns, AreExchanged};
+ghost use Rattle.session_rules.specs.WholeTurns.{by_turns, as_turns};
 ghost use Rattle.session_rules.specs.Adding.{adding};
 ghost use Rattle.session_rules.specs.Telling.{told_spelling, by_telling, tellers, caller_told, answerer_told};
 
@@ -229,6 +230,14 @@ pub fn items_tell_turns<R, X, C, T, I, G>()
         → HasDisjointParts rules → CanCut rules rows → CanCut rules others → TakeTurns v rules a b rows others box
         → HearsAll b a.spelling (flat_map v.items_of (caller_turns (exchange rules rows others box)))
         (to_right (exchange rules rows others box)) }
+{}
+
+/// For any lawful rules there are sides that take the turns of their exchanges: those that say and read whole turns.
+pub fn whole_turns<R, X, C>()
+    ensures { (rules : Rules R X C) (rows others : List R) (box : Option X) (most : ℕ)
+        → CanCut rules rows → CanCut rules others → CanSend rules rows → CanSend rules others
+        → count_of_items (exchange rules rows others box) ≤ most
+        → TakeTurns (as_turns R X C) rules (by_turns rules Caller rows box most) (by_turns rules Answerer others box most) rows others box }
 {}
 
 /// Two sessions whose greetings pass and whose sides take the turns of an exchange, each of which reads what the other

@@ -15,5 +15,6 @@ fn the_laws_can_be_called() {
     crate::laws::goes_on_as_exchange::<u8, u16, u32, u64, bool, u8, u16, u32>();
     crate::laws::sessions_meet::<u8, u16, u32, u64, bool, u8, u16, u32>();
     crate::laws::items_tell_turns::<u8, u16, u32, u64, bool, u8>();
+    crate::laws::whole_turns::<u8, u16, u32>();
     crate::laws::settles::<u8, u16, u32, u64, bool, u8, u16, u32, u64>();
 }
