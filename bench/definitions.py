@@ -128,8 +128,10 @@ def listed_rows():
 
 
 def defines(file: str, word: str) -> bool:
+    """Whether the file has the word as a definition or as a constructor of a type."""
     text = (CRATES / f"{file}.antt").read_text()
-    return re.search(rf"^(?:\w+ )*pub (?:record |data |fn )?{word}\b", text, re.MULTILINE) is not None
+    constructor = rf"|^  {word} : " if word[0].isupper() else ""
+    return re.search(rf"^(?:\w+ )*pub (?:record |data |fn )?{word}\b{constructor}", text, re.MULTILINE) is not None
 
 
 def main() -> int:

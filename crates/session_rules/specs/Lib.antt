@@ -1,0 +1,13 @@
+pub mod Machine
+pub mod Reading
+pub mod Endings
+pub mod Rounds
+pub mod Messages
+pub mod Talk
+pub mod Greeting
+pub mod Session
+pub mod Pairs
+pub mod Turns
+pub mod WholeTurns
+pub mod Adding
+pub mod Telling

@@ -1,0 +1,81 @@
+-- One side of an exchange, item by item, as a machine that reads items.
+use Rattle.std.specs.Prelude.{◌≡◌, ℕ, zero, suc, Bool, true, false, List, [], ◌∷◌, Option, None, Some, option_to_list, Result, Ok, Err, filter, Contains}
+use Rattle.session_rules.specs.Machine.{Seen, Step, Goes, Ends, Refuses, Machine}
+use Rattle.session_rules.specs.Reading.{said}
+
+-- the side that begins, and the other one
+pub data Role : Type 0 where
+  Caller : Role
+  Answerer : Role
+
+-- What a side of an exchange goes by. Rows, boxes, places, items and causes to refuse stay abstract.
+pub record Talk (R X T I G : Type 0) : Type 0 where
+  -- the box has the row
+  pub has : X → R → Bool
+  -- the place of a side at the beginning, with its rows and the box, if there is one
+  pub begin : Role → List R → Option X → T
+  -- the next item that it says, and its place then; none where it reads
+  pub said : T → Option (I × T)
+  -- it says no more items than so many until it reads
+  pub to_say : T → ℕ
+  -- its place once it has read an item, or why it refuses that
+  pub heard : T → I → Result T G
+  -- it neither says nor reads any more
+  pub is_done : T → Bool
+  -- the row of an item, if it is one
+  pub row_in : I → Option R
+  -- what some bytes are, and the bytes of an item
+  pub sees : T → List ℕ → Seen I
+  pub spelling : I → List ℕ
+
+-- the rows in a box, in order
+abbrev pub rows_in : {R X T I G : Type 0} → Talk R X T I G → Option X → List R → List R
+rows_in k None rows = []
+rows_in k (Some x) rows = filter (k.has x) rows
+
+-- ---- what is said
+
+-- an item, and what is said behind it
+abbrev pub with_item : {T I : Type 0} → I → List I × T → List I × T
+with_item item spoken = (item ∷ spoken.0, spoken.1)
+
+-- what is said from a next item on
+abbrev pub speaks_from : {T I : Type 0} → (T → List I × T) → T → Option (I × T) → List I × T
+speaks_from behind t None = ([], t)
+speaks_from behind t (Some next) = with_item next.0 (behind next.1)
+
+-- at most so many items that it says, one after the other, and its place then
+unfoldable pub speaks : {R X T I G : Type 0} → Talk R X T I G → ℕ → T → List I × T
+speaks k zero t = ([], t)
+speaks k (suc most) t = speaks_from (speaks k most) t (k.said t)
+
+-- all that it says until it reads, and its place then
+abbrev pub spoken : {R X T I G : Type 0} → Talk R X T I G → T → List I × T
+spoken k t = speaks k (k.to_say t) t
+
+-- ---- what is read
+
+-- it goes on behind what it has said, or is done with it
+abbrev pub answered : {T I R G : Type 0} → Bool → List I × T → List R → Step T I R G
+answered true spoken rows = Ends spoken.0 rows
+answered false spoken rows = Goes spoken.1 spoken.0 rows
+
+-- what comes of an item, by its place then
+abbrev pub item_heard : {R X T I G : Type 0} → Talk R X T I G → I → Result T G → Step T I R G
+item_heard k item (Err cause) = Refuses cause
+item_heard k item (Ok t) = answered (k.is_done (spoken k t).1) (spoken k t) (option_to_list (k.row_in item))
+
+-- a side of an exchange as a machine: it begins with what it says first
+abbrev pub talk : {R X T I G : Type 0} → Talk R X T I G → Role → List R → Option X → Machine T I I R G
+talk k role rows box = record {
+  opening = (spoken k (k.begin role rows box)).0;
+  first = (spoken k (k.begin role rows box)).1;
+  sees = k.sees;
+  step = λ t item. item_heard k item (k.heard t item);
+  spelling = k.spelling;
+}
+
+-- whatever it reads, a side tells no rows but those that it began with
+abbrev pub TellsOwn : {R X T I G : Type 0} → Talk R X T I G → Type 0
+TellsOwn {R} {X} {I = I} k = (role : Role) (rows : List R) (box : Option X) (bytes : List ℕ) (item : I) (row : R)
+    → Contains (said (talk k role rows box) bytes) item → k.row_in item ≡ Some row → Contains rows row
