@@ -1,0 +1,1 @@
+-- Any cutting of a stream into pieces.
