@@ -4,3 +4,6 @@ pub mod Frames
 pub mod Longer
 pub mod Passing
 pub mod CutFrame
+pub mod OneReading
+pub mod Cutting
+pub mod Alike

@@ -5,6 +5,7 @@
 
 mod begun;
 mod frame;
+pub mod laws;
 mod reading;
 mod refusal;
 mod stream;
