@@ -1,5 +1,5 @@
 -- The same bytes in other pieces end alike.
-use Rattle.std.proofs.Common.{◌≡◌, ℕ, ◌+◌, List, [], ◌∷◌, ◌++◌, length, Option, Some, None, refl, sym, ap, subst, ◌∙◌, arith}
+use Rattle.std.proofs.Common.{◌≡◌, ℕ, List, ◌++◌, length, Option, Some, None, refl, sym, ap, subst, ◌∙◌}
 use Rattle.willow_entry.specs.EntryForm.{IsEntry}
 use Rattle.willow_entry.specs.Row.{RowValue}
 use Rattle.row_stream.specs.declared.refusal.StreamRefusal.{StreamRefusal}

@@ -1,9 +1,8 @@
 -- The frame that has begun, completed by the front of a piece.
-use Rattle.std.proofs.Common.{◌≡◌, ℕ, ◌+◌, ◌<◌, ◌≤◌, List, ◌++◌, length, take, Some, sym, ap, ◌∙◌, arith, ◌⊎◌, inl, inr}
+use Rattle.std.proofs.Common.{◌≡◌, ℕ, ◌+◌, ◌<◌, ◌≤◌, List, length, take, Some, sym, ap, ◌∙◌, arith, ◌⊎◌, inl, inr}
 use Rattle.std.specs.Int.{w32, from_be_bytes}
 use Rattle.std.proofs.lemmas.Bool.{cases_lt}
 use Rattle.std.proofs.lemmas.List.{length-take, take-take}
-use Rattle.willow_entry.specs.declared.frame.TheConstants.{MAX_FRAME}
 use Rattle.row_stream.specs.Places.{length_told, IsUnfinished}
 use Rattle.row_stream.specs.Steps.{TellsSize, IsFilled, IsCompleted}
 

@@ -1,5 +1,5 @@
 -- A frame that the end of a piece has cut, and the bytes behind it.
-use Rattle.std.proofs.Common.{◌≡◌, ℕ, ◌+◌, ◌<◌, ◌≤◌, List, [], ◌∷◌, ◌++◌, length, map, drop, Option, Some, None, Result, Ok, Err, refl, sym, ap, subst, ◌∙◌, append_assoc, arith, Bor}
+use Rattle.std.proofs.Common.{◌≡◌, ℕ, ◌+◌, ◌≤◌, List, [], ◌∷◌, ◌++◌, length, map, Option, Some, None, Result, Ok, Err, refl, sym, ap, subst, ◌∙◌, arith, Bor}
 use Rattle.std.specs.Global.{Vec}
 use Rattle.std.proofs.lemmas.List.{append-nil, length-append}
 use Rattle.std.specs.Result.{IsErrAnd}
@@ -13,12 +13,12 @@ use Rattle.willow_entry.specs.Frame.{row_frame}
 use Rattle.willow_entry.specs.RowBody.{ReadsBody}
 use Rattle.row_stream.specs.declared.refusal.StreamRefusal.{StreamRefusal}
 use Rattle.row_stream.specs.declared.refusal.StreamRefusal.TheVariants.{BadFrame, FrameTooLong}
-use Rattle.row_stream.specs.Places.{length_told, IsTooLong}
-use Rattle.row_stream.specs.Streams.{frames_of, IsStreamRow, IsJudged, IsStream, GoesWrong}
+use Rattle.row_stream.specs.Places.{IsTooLong}
+use Rattle.row_stream.specs.Streams.{frames_of, IsStream, GoesWrong}
 use Rattle.row_stream.specs.Steps.{Adds, ReadsOn, ReadsRow, IsSplit, Splits, IsCompleted}
 use Rattle.row_stream.proofs.Frames.{row_split, row_framed, split_long, body_long}
 use Rattle.row_stream.proofs.Passing.{nothing_passed, bad_here, too_long_here}
-use Rattle.row_stream.proofs.Longer.{wrong_more, stream_on, wrong_on, frames_longer}
+use Rattle.row_stream.proofs.Longer.{wrong_more, stream_on, frames_longer}
 
 nothing : (left : List ℕ) → length left ≤ 0 → left ≡ []
 nothing [] h = refl

@@ -1,7 +1,6 @@
 -- Streams in any pieces.
 use Rattle.std.proofs.Common.{◌≡◌, ℕ, ◌+◌, List, [], ◌∷◌, ◌++◌, length, Option, Some, None, Result, refl, sym, ap, subst, ◌∙◌, append_assoc, arith, inl, inr}
 use Rattle.std.specs.Prelude.{Ok, Err}
-use Rattle.std.specs.List.{flat_map}
 use Rattle.std.proofs.lemmas.List.{append-nil}
 use Rattle.std.proofs.lemmas.List.Concat.{flat_map-cons}
 use Rattle.spelling.specs.declared.ending.End.{End}
@@ -9,7 +8,7 @@ use Rattle.spelling.specs.declared.ending.End.TheVariants.{Refused, NoMemory}
 use Rattle.willow_entry.specs.Row.{RowValue}
 use Rattle.row_stream.specs.declared.refusal.StreamRefusal.{StreamRefusal}
 use Rattle.row_stream.specs.Streams.{frames_of, IsStream}
-use Rattle.row_stream.specs.Feeding.{StreamState, at_start, Feeds, HandsOut, Breaks}
+use Rattle.row_stream.specs.Feeding.{StreamState, nothing_fed, Feeds, HandsOut, Breaks}
 use Rattle.row_stream.specs.Pieces.{Fed, Runs, taken_of, rows_of, all_taken, all_rows, AreFirst, HandsOutAll, HoldsForAnyCutting}
 use Rattle.row_stream.proofs.Longer.{stream_more, stream_on, frames_longer}
 
@@ -20,7 +19,7 @@ same_some : {A : Type 0} (o : Option A) (x y : A) → o ≡ Some x → o ≡ Som
 same_some o x y e f = cc
 
 module _ (IsRow : RowValue → Type 0) where
-  at_first : HandsOutAll IsRow [] [] at_start
+  at_first : HandsOutAll IsRow [] [] nothing_fed
   at_first = record {
     unrefused = λ none. (record { fit = tt; parts = refl; judged = λ there. absurd (omega (arith, there)) }, refl);
     refused = λ refusal is. absurd (none_is_not_some None refusal refl is);
@@ -77,4 +76,4 @@ module _ (IsRow : RowValue → Type 0) where
       subst (λ (b : List ℕ). HandsOutAll IsRow b (rows ++ all_rows (f ∷ more)) new) taken (subst (λ (xs : List RowValue). HandsOutAll IsRow ((bytes ++ taken_of f.piece f.answer) ++ all_taken more) xs new) out next)
 
   pub any_cutting : HoldsForAnyCutting IsRow
-  any_cutting fed state runs = all_steps [] [] at_start state fed at_first runs
+  any_cutting fed state runs = all_steps [] [] nothing_fed state fed at_first runs

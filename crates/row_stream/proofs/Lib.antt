@@ -7,3 +7,4 @@ pub mod CutFrame
 pub mod OneReading
 pub mod Cutting
 pub mod Alike
+pub mod Handing

@@ -1,5 +1,5 @@
 -- Bytes have one reading as a stream.
-use Rattle.std.proofs.Common.{◌≡◌, ℕ, ◌+◌, ◌<◌, ◌≤◌, List, [], ◌∷◌, ◌++◌, length, drop, Option, Some, None, refl, sym, ap, subst, ◌∙◌, append_assoc, arith}
+use Rattle.std.proofs.Common.{◌≡◌, ℕ, ◌+◌, List, [], ◌∷◌, ◌++◌, length, drop, Option, Some, None, refl, sym, ap, subst, ◌∙◌, append_assoc, arith}
 use Rattle.std.specs.List.{AllByRecursion}
 use Rattle.std.proofs.lemmas.List.{length-append, drop_at}
 use Rattle.std.proofs.lemmas.List.Concat.{flat_map-cons}
@@ -12,7 +12,7 @@ use Rattle.row_stream.specs.declared.refusal.StreamRefusal.{StreamRefusal}
 use Rattle.row_stream.specs.declared.refusal.StreamRefusal.TheVariants.{BadFrame, FrameTooLong, CutShort}
 use Rattle.row_stream.specs.Places.{length_told, body_told}
 use Rattle.row_stream.specs.Streams.{frames_of, IsStreamRow, IsJudged}
-use Rattle.row_stream.specs.Pieces.{HaveOneReading}
+use Rattle.row_stream.specs.Pieces.{HaveOneStream}
 use Rattle.row_stream.proofs.Frames.{told_back, frame_long, body_back}
 
 -- bytes behind the same bytes
@@ -67,7 +67,7 @@ module _ (IsRow : RowValue → Type 0) (fit : (r : RowValue) → IsRow r → IsE
   one_verdict here left (Some (FrameTooLong at)) (Some (CutShort place)) j k = absurd k
   one_verdict here left (Some (CutShort at)) because j k = absurd j
 
-  pub one_reading : HaveOneReading IsRow
+  pub one_reading : HaveOneStream IsRow
   one_reading from bytes rows others left rest refusal because s t =
       let same = same_rows (from + length (frames_of rows)) (from + length (frames_of others)) rows others left rest refusal because s.fit t.fit s.judged t.judged (sym s.parts ∙ t.parts) in
       let judged : IsJudged IsRow (from + length (frames_of rows)) left because =

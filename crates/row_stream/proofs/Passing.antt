@@ -1,6 +1,6 @@
 -- How the frames in front of bytes are read, one after the other.
-use Rattle.std.proofs.Common.{◌≡◌, ℕ, ◌+◌, ◌<◌, ◌≤◌, ◌^◌, List, [], ◌∷◌, ◌++◌, length, map, Some, None, refl, sym, ap, subst, ◌∙◌, append_assoc, arith}
-use Rattle.std.specs.List.{AllByRecursion, flat_map}
+use Rattle.std.proofs.Common.{◌≡◌, ℕ, ◌+◌, List, [], ◌∷◌, ◌++◌, length, map, Some, None, refl, sym, ap, subst, ◌∙◌, append_assoc, arith}
+use Rattle.std.specs.List.{AllByRecursion}
 use Rattle.std.proofs.lemmas.List.{append-nil, length-append, map-append}
 use Rattle.std.proofs.lemmas.Grind.{flat_map-append}
 use Rattle.spelling.proofs.Lists.{All-append}
@@ -68,6 +68,6 @@ module _ {R : Type 0} (IsRow : RowValue → Type 0) (value : R → RowValue) (fr
         fit = so_far.fit;
         parts = so_far.parts;
         judged = subst (λ (r : StreamRefusal). IsJudged IsRow (from + length (frames_of passed)) left (Some r)) (sym told)
-        (record { field_there = s.field_there; within = s.within; whole = s.whole; no_row = subst (λ (b : List ℕ). ReadsBody IsRow b None) s.body_is none }, so_far.place);
+            (record { field_there = s.field_there; within = s.within; whole = s.whole; no_row = subst (λ (b : List ℕ). ReadsBody IsRow b None) s.body_is none }, so_far.place);
       };
     }

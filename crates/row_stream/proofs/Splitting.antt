@@ -1,5 +1,5 @@
 -- The frame in front of bytes, from the readers of its length and its body.
-use Rattle.std.proofs.Common.{◌≡◌, ℕ, ◌+◌, ◌<◌, ◌≤◌, Bool, true, false, cond, ltb, List, [], ◌∷◌, ◌++◌, length, take, drop, Result, Err, refl, sym, ap, subst, ◌∙◌, append_assoc, arith}
+use Rattle.std.proofs.Common.{◌≡◌, ℕ, ◌<◌, ◌≤◌, Bool, true, false, cond, ltb, List, ◌++◌, length, take, drop, Result, Err, refl, sym, ap, subst, ◌∙◌, append_assoc, arith}
 use Rattle.std.specs.Int.{w32, from_be_bytes, to_be_bytes}
 use Rattle.std.proofs.lemmas.Nat.{be_bytes_4}
 use Rattle.spelling.specs.Form.{AreBytes}
@@ -8,12 +8,12 @@ use Rattle.std.specs.Result.{IsErrAnd}
 use Rattle.std.proofs.lemmas.Result.{err_from_is_err_and}
 use Rattle.std.proofs.lemmas.Bool.{ltb-true, ltb-false}
 use Rattle.std.proofs.lemmas.List.{length-drop, length-take, length-take-le, take-append-drop}
-use Rattle.spelling.specs.Front.{Front, Whole, Part, Wrong}
+use Rattle.spelling.specs.Front.{Whole, Part, Wrong}
 use Rattle.spelling.specs.Reading.{number_at, bytes_at, Fails}
 use Rattle.spelling.specs.declared.input.Unread.{Unread}
 use Rattle.spelling.specs.declared.input.Unread.TheVariants as unread
 use Rattle.willow_entry.specs.declared.frame.TheConstants.{MAX_FRAME}
-use Rattle.row_stream.specs.Places.{length_told, body_told, IsUnfinished, IsTooLong}
+use Rattle.row_stream.specs.Places.{length_told, IsUnfinished, IsTooLong}
 use Rattle.row_stream.specs.Steps.{IsSplit, Splits}
 
 -- ---- tests of what is there

@@ -15,8 +15,8 @@ pub record StreamState : Type 0 where
   pub refusal : Option StreamRefusal
 
 -- the state of a stream of which nothing was fed
-abbrev pub at_start : StreamState
-at_start = record { begun = []; at = 0; refusal = None }
+abbrev pub nothing_fed : StreamState
+nothing_fed = record { begun = []; at = 0; refusal = None }
 
 -- what contracts see of an answer
 abbrev pub handed : {R E : Type 0} → (R → RowValue) → Result (Vec R) E → Result (List RowValue) E
@@ -29,6 +29,8 @@ pub record HandsOut (IsRow : RowValue → Type 0) (old new : StreamState) (piece
   pub goes_on : new.refusal ≡ None
   pub stream : IsStream IsRow old.at (old.begun ++ piece) rows new.begun None
   pub moved_on : new.at ≡ old.at + length (frames_of rows)
+  -- what has begun ends where the piece does
+  pub none_lost : new.at + length new.begun ≡ old.at + length old.begun + length piece
 
 -- with this piece the stream goes wrong
 pub record Breaks (IsRow : RowValue → Type 0) (old : StreamState) (piece : List ℕ) (refusal : StreamRefusal) : Type 0 where

@@ -6,7 +6,7 @@ use Rattle.spelling.specs.declared.ending.End.TheVariants.{Refused, NoMemory}
 use Rattle.willow_entry.specs.Row.{RowValue}
 use Rattle.row_stream.specs.declared.refusal.StreamRefusal.{StreamRefusal}
 use Rattle.row_stream.specs.Streams.{frames_of, IsStream}
-use Rattle.row_stream.specs.Feeding.{StreamState, at_start, Feeds}
+use Rattle.row_stream.specs.Feeding.{StreamState, nothing_fed, Feeds}
 
 -- a piece that was fed, and what was answered
 pub record Fed : Type 0 where
@@ -50,11 +50,11 @@ pub record HandsOutAll (IsRow : RowValue → Type 0) (bytes : List ℕ) (rows : 
 
 -- so it is, however the stream is cut
 abbrev pub HoldsForAnyCutting : (RowValue → Type 0) → Type 0
-HoldsForAnyCutting IsRow = (fed : List Fed) (state : StreamState) → Runs IsRow at_start fed state → HandsOutAll IsRow (all_taken fed) (all_rows fed) state
+HoldsForAnyCutting IsRow = (fed : List Fed) (state : StreamState) → Runs IsRow nothing_fed fed state → HandsOutAll IsRow (all_taken fed) (all_rows fed) state
 
 -- bytes have one reading at most
-abbrev pub HaveOneReading : (RowValue → Type 0) → Type 0
-HaveOneReading IsRow = (from : ℕ) (bytes : List ℕ) (rows others : List RowValue) (left rest : List ℕ) (refusal because : Option StreamRefusal)
+abbrev pub HaveOneStream : (RowValue → Type 0) → Type 0
+HaveOneStream IsRow = (from : ℕ) (bytes : List ℕ) (rows others : List RowValue) (left rest : List ℕ) (refusal because : Option StreamRefusal)
     → IsStream IsRow from bytes rows left refusal → IsStream IsRow from bytes others rest because → (rows ≡ others) × (left ≡ rest) × (refusal ≡ because)
 
 -- two streams end alike: with the same refusal, or with the same rows and the same frame begun
@@ -65,5 +65,5 @@ pub record EndAlike (rows others : List RowValue) (s t : StreamState) : Type 0 w
 
 -- the same bytes in other pieces end alike
 abbrev pub EndAlikeInAnyPieces : (RowValue → Type 0) → Type 0
-EndAlikeInAnyPieces IsRow = (fed others : List Fed) (s t : StreamState) → Runs IsRow at_start fed s → Runs IsRow at_start others t → all_taken fed ≡ all_taken others
+EndAlikeInAnyPieces IsRow = (fed others : List Fed) (s t : StreamState) → Runs IsRow nothing_fed fed s → Runs IsRow nothing_fed others t → all_taken fed ≡ all_taken others
     → EndAlike (all_rows fed) (all_rows others) s t

@@ -1,6 +1,6 @@
 //! What holds of streams: of any cutting into pieces, and of any grammar of bodies.
 
-ghost use Rattle.row_stream.specs.Pieces.{EndAlikeInAnyPieces, HaveOneReading, HoldsForAnyCutting};
+ghost use Rattle.row_stream.specs.Pieces.{EndAlikeInAnyPieces, HaveOneStream, HoldsForAnyCutting};
 
 use willow_entry::RowForm;
 
@@ -13,7 +13,7 @@ pub fn any_cutting<F: RowForm>()
 
 /// Bytes have one reading at most: the rows at the front, what is left behind them, and why that is refused.
 pub fn one_reading<F: RowForm>()
-    ensures { HaveOneReading F.IsRow }
+    ensures { HaveOneStream F.IsRow }
 {}
 
 /// The same bytes in other pieces end alike: with the same refusal, or with the same rows and the same frame begun.

@@ -12,3 +12,6 @@ mod stream;
 
 pub use refusal::StreamRefusal;
 pub use stream::RowStream;
+
+#[cfg(test)]
+mod tests;

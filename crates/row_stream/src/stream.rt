@@ -1,7 +1,7 @@
 //! The stream.
 
 ghost use Rattle.std.specs.Prelude.{◌≡◌, ◌+◌, ◌^◌, ◌<◌, length, None};
-ghost use Rattle.row_stream.specs.Feeding.{at_start, handed, Feeds, Finishes};
+ghost use Rattle.row_stream.specs.Feeding.{nothing_fed, handed, Feeds, Finishes};
 
 use crate::reading::read_piece;
 use crate::refusal::StreamRefusal;
@@ -37,7 +37,7 @@ impl<F: RowForm> Model for RowStream<F> {
 impl<F: RowForm> RowStream<F> {
     /// A stream of which nothing was fed. It keeps the allocator, for rows and for the frame that has begun.
     pub fn new(alloc: Global) -> RowStream<F>
-        ensures { result ≡ at_start }
+        ensures { result ≡ nothing_fed }
     {
         RowStream {
             alloc,

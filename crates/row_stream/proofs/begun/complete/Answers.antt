@@ -1,4 +1,3 @@
-use Rattle.std.proofs.Common.{◌≡◌, List, ℕ, ap}
 use Rattle.std.proofs.lemmas.Result.{IfOk-weaker}
 use Rattle.row_stream.specs.Steps.{TellsSize}
 use Rattle.std.specs.Prelude.{Some}
