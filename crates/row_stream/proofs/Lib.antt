@@ -1,0 +1,10 @@
+pub mod Splitting
+pub mod Completing
+pub mod Frames
+pub mod Longer
+pub mod Passing
+pub mod CutFrame
+pub mod OneReading
+pub mod Cutting
+pub mod Alike
+pub mod Handing

@@ -1,0 +1,5 @@
+pub mod Places
+pub mod Streams
+pub mod Feeding
+pub mod Steps
+pub mod Pieces

@@ -1,0 +1,100 @@
+//! Reading the frames of a piece.
+
+ghost use Rattle.std.specs.Prelude.{◌≡◌, ◌+◌, ◌^◌, ◌<◌, [], ◌++◌, length, take, OnErr};
+ghost use Rattle.row_stream.specs.Places.{IsUnfinished};
+ghost use Rattle.row_stream.specs.Steps.{ReadsFrames, ReadsOn, ReadsRow};
+
+use crate::begun::complete;
+use crate::frame::{FIELD, split_frame};
+use crate::refusal::StreamRefusal;
+use spelling::{End, Unread};
+use std::alloc::Global;
+use willow_entry::RowForm;
+
+// Reads a piece behind the bytes that have begun, of which the first has this offset. Answers the rows that became
+// whole and the offset behind their frames, and leaves what then has begun. Where that does not end well, what had
+// begun still stands in front.
+pub(crate) fn read_piece<F: RowForm>(
+    alloc: Global,
+    at: u64,
+    begun: &mut Vec<u8>,
+    piece: &[u8],
+) -> Result<(Vec<F::R>, u64), End<StreamRefusal>>
+    requires unfinished { IsUnfinished begun.old.items }
+    requires few { at + length begun.old.items + length piece.now < 2 ^ 64 }
+    ensures reads { ReadsOn F.IsRow F.R.value at (begun.old.items ++ piece.now) [] begun.new.items result }
+    ensures kept { OnErr result (take (length begun.old.items) begun.new.items ≡ begun.old.items) }
+{
+    let mut rows = Vec::new(alloc);
+    if begun.is_empty() {
+        return read_on::<F>(alloc, at, rows, begun, piece);
+    }
+    let rest = complete(begun, piece)?;
+    match split_frame(begun) {
+        Ok((body, _)) => {
+            rows.push(read_row::<F>(alloc, at, body)?)?;
+            let here = at + begun.len() as u64;
+            read_on::<F>(alloc, here, rows, begun, rest)
+        }
+        Err(Unread::Part) => Ok((rows, at)),
+        Err(Unread::Wrong) => Err(End::Refused(StreamRefusal::FrameTooLong { at })),
+        Err(Unread::NoMemory) => Err(End::NoMemory),
+    }
+}
+
+// Reads the frames in front of the bytes, of which the first has this offset, adds their rows, and puts what is left
+// in place of what has begun.
+fn read_on<F: RowForm>(
+    alloc: Global,
+    at: u64,
+    mut rows: Vec<F::R>,
+    begun: &mut Vec<u8>,
+    bytes: &[u8],
+) -> Result<(Vec<F::R>, u64), End<StreamRefusal>>
+    requires { at + length bytes.now < 2 ^ 64 }
+    ensures reads { ReadsOn F.IsRow F.R.value at bytes.now rows.items begun.new.items result }
+    ensures kept { OnErr result (begun.new.items ≡ begun.old.items) }
+{
+    let (here, left) = read_frames::<F>(alloc, at, bytes, &mut rows)?;
+    *begun = Vec::from_slice(alloc, left)?;
+    Ok((rows, here))
+}
+
+// Reads the frames in front of the bytes, of which the first has this offset, where they stand. Adds their rows, and
+// answers the offset behind them and the bytes that are left.
+fn read_frames<'a, F: RowForm>(
+    alloc: Global,
+    at: u64,
+    bytes: &'a [u8],
+    rows: &mut Vec<F::R>,
+) -> Result<(u64, &'a [u8]), End<StreamRefusal>>
+    requires { at + length bytes.now < 2 ^ 64 }
+    ensures { ReadsFrames F.IsRow F.R.value (λ x. x.0) (λ x. x.1.now) at bytes.now rows.old.items rows.new.items result }
+{
+    let mut here = at;
+    let mut left = bytes;
+    'frames: loop {
+        match split_frame(left) {
+            Ok((body, behind)) => {
+                rows.push(read_row::<F>(alloc, here, body)?)?;
+                here += (FIELD + body.len()) as u64;
+                left = behind;
+            }
+            Err(Unread::Part) => return Ok((here, left)),
+            Err(Unread::Wrong) => {
+                return Err(End::Refused(StreamRefusal::FrameTooLong { at: here }));
+            }
+            Err(Unread::NoMemory) => return Err(End::NoMemory),
+        }
+    }
+}
+
+// The row of the body of the frame at this offset.
+fn read_row<F: RowForm>(alloc: Global, at: u64, body: &[u8]) -> Result<F::R, End<StreamRefusal>>
+    ensures { ReadsRow F.IsRow F.R.value at body.now result }
+{
+    match F::read(alloc, body)? {
+        Some(row) => Ok(row),
+        None => Err(End::Refused(StreamRefusal::BadFrame { at })),
+    }
+}
