@@ -49,14 +49,17 @@ common_rows g k own rows hello = rows_in k (common_box g own hello) rows
 abbrev pub exchange_with : {H P X F R T I G : Type 0} → Greeting H P X F → Talk R X T I G → Own H P → List R → H → Machine T I I R G
 exchange_with g k own rows hello = talk k own.role (common_rows g k own rows hello) (common_box g own hello)
 
+-- a hello, by why it is refused, if it is
 abbrev pub hello_read : {H P T I R F G : Type 0} → Own H P → H → Option F → Step (Stage H T) (Message H P I) R (Cause F G)
 hello_read own hello (Some cause) = Refuses (InGreeting cause)
 hello_read own hello None = Goes (Proving hello) (to_hello own.role own) []
 
+-- a proof, by why it is refused, if it is, and the exchange that is due behind it
 abbrev pub proof_read : {H P T I R F G : Type 0} → Own H P → Machine T I I R G → Option F → Step (Stage H T) (Message H P I) R (Cause F G)
 proof_read own exchange (Some cause) = Refuses (InGreeting cause)
 proof_read own exchange None = Goes (Talking exchange.first) (to_proof own.role own ++ map Item exchange.opening) []
 
+-- an item, by what comes of it in the exchange
 abbrev pub item_read : {H P T I R F G : Type 0} → Step T I R G → Step (Stage H T) (Message H P I) R (Cause F G)
 item_read (Goes t items rows) = Goes (Talking t) (map Item items) rows
 item_read (Ends items rows) = Ends (map Item items) rows
@@ -71,6 +74,7 @@ session_step g k own rows stage other = Goes stage [] []
 
 -- ---- bytes
 
+-- the same, as messages of a kind
 abbrev pub seen_as : {A M : Type 0} → (A → M) → Seen A → Seen M
 seen_as f (Whole x) = Whole (f x)
 seen_as f Part = Part
@@ -82,6 +86,7 @@ session_sees g k Opening bytes = seen_as Hello (g.sees_hello bytes)
 session_sees g k (Proving hello) bytes = seen_as Proof (g.sees_proof bytes)
 session_sees g k (Talking t) bytes = seen_as Item (k.sees t bytes)
 
+-- the bytes of a message
 abbrev pub message_spelling : {H P X F R T I G : Type 0} → Greeting H P X F → Talk R X T I G → Message H P I → List ℕ
 message_spelling g k (Hello hello) = g.hello_spelling hello
 message_spelling g k (Proof proof) = g.proof_spelling proof
