@@ -1,6 +1,5 @@
 -- The laws of the machine of a log.
-use Rattle.std.proofs.Common.{◌≡◌, ◌↔◌, ℕ, ◌+◌, ◌<◌, ◌≤◌, Bool, true, false, cond, nat_lt, List, [], ◌∷◌, ◌++◌, length, map, Contains, refl, sym, ap, ◌∙◌, subst, append_assoc, append-nil, length-append, ltb-true, arith}
-use Rattle.std.specs.List.{list_any}
+use Rattle.std.proofs.Common.{◌≡◌, ◌↔◌, ◌≤◌, Bool, true, false, cond, nat_lt, List, [], ◌∷◌, ◌++◌, length, Contains, refl, sym, ap, ◌∙◌, subst, append_assoc, append-nil, length-append, ltb-true, arith}
 use Rattle.std.proofs.lemmas.List.{map-append}
 use Rattle.std.proofs.lemmas.Bool.{ltb-true, both_ways}
 use Rattle.willow_entry.specs.LogRow.{LogValue}
@@ -8,7 +7,7 @@ use Rattle.willow_entry.specs.Row.{RowValue, is_covering, live, new, HasCovering
 use Rattle.willow_entry.proofs.Members.{contains_from_member, member_from_contains, member_append_left, any_true}
 use Rattle.willow_entry.proofs.RowLaws.{covering_means}
 use Rattle.willow_entry.proofs.Live.{live-covered, live_covers, live_early_left, live_same_members}
-use Rattle.ns_state.specs.Machine.{Event, Offer, Snapshot, Reply, StoredAt, Covered, Full, Live, rows_of, is_covered, reply, log_after, next, run, taken, unrefused, accepted}
+use Rattle.ns_state.specs.Machine.{Event, Offer, Snapshot, Reply, StoredAt, Covered, Full, rows_of, is_covered, reply, log_after, next, run, taken, unrefused, accepted}
 use Rattle.ns_state.specs.declared.state.TheConstants.{LOG_LIMIT}
 use Rattle.ns_state.proofs.NewRows.{covered_test, new-with_covered, new-with_uncovered, covering_alike, covering_of_new, new_covering}
 

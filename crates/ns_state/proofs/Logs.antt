@@ -1,5 +1,5 @@
 -- What one more row makes of a log and of its store.
-use Rattle.std.proofs.Common.{◌≡◌, ℕ, ◌+◌, ◌<◌, ◌≤◌, Bool, true, false, cond, List, [], ◌∷◌, ◌++◌, map, take, drop, length, filter, refl, sym, ap, ◌∙◌, subst, inl, inr, arith, append-nil, length-append, Ordering, Less, Equal, Greater}
+use Rattle.std.proofs.Common.{◌≡◌, ℕ, ◌+◌, ◌<◌, ◌≤◌, List, [], ◌∷◌, ◌++◌, map, take, drop, length, filter, refl, sym, ap, ◌∙◌, subst, inl, arith, length-append, Ordering, Less, Equal, Greater}
 use Rattle.std.specs.List.{All, take-map, drop-map}
 use Rattle.std.specs.Ordering.{match_ordering}
 use Rattle.std.specs.declared.sync.Arc.{Arc}

@@ -1,6 +1,6 @@
 -- What one more row makes of the items of live rows by recency.
-use Rattle.std.proofs.Common.{◌≡◌, inl, inr, ℕ, Bool, true, false, not, List, [], ◌∷◌, ◌++◌, map, filter, length, get_or, Contains, refl, sym, ap, ◌∙◌, subst, Ordering, Less, Equal, Greater}
-use Rattle.std.specs.List.{All, AllByRecursion, IsDistinct}
+use Rattle.std.proofs.Common.{◌≡◌, inl, inr, ℕ, true, false, not, List, [], ◌∷◌, ◌++◌, filter, get_or, Contains, refl, sym, ap, ◌∙◌, subst, Less, Equal}
+use Rattle.std.specs.List.{All, IsDistinct}
 use Rattle.std.specs.List.Sorted.{IsStrictlySortedBy}
 use Rattle.std.specs.Cmp.{Equal-is}
 use Rattle.std.specs.Ordering.{is_eq, eq_by_cmp}
@@ -9,13 +9,13 @@ use Rattle.std.proofs.lemmas.Cmp.{tied_itself, tied_back}
 use Rattle.std.proofs.lemmas.List.{get_or_default}
 use Rattle.std.proofs.lemmas.List.Kept.{IsStrictlySortedBy-filter}
 use Rattle.willow_entry.specs.Pruning.{placed}
-use Rattle.willow_entry.specs.Row.{RowValue, is_dominating, place_cmp, subspace_path_cmp, inner_place_cmp, left_of, live, HasCovering, IsRising}
-use Rattle.willow_entry.proofs.Members.{Member, contains_from_member, member_from_contains, member_filter, filter_member, any_false, false_of_any, true_of_any, any_true}
+use Rattle.willow_entry.specs.Row.{RowValue, is_dominating, place_cmp, inner_place_cmp, left_of, live, HasCovering, IsRising}
+use Rattle.willow_entry.proofs.Members.{Member, contains_from_member, member_from_contains, member_filter, filter_member, any_false, true_of_any, any_true}
 use Rattle.willow_entry.proofs.Pruning.{pruned_member}
 use Rattle.willow_entry.proofs.Ranks.{subspace_path_total, place_total, place-in_one_namespace}
 use Rattle.willow_entry.proofs.Rising.{Less≢Equal, all_member, all_from_members, member_from_placed, member_placed_old, member_placed_new}
 use Rattle.willow_entry.proofs.RowLaws.{rows_prune, settled_rows, covering_from_covered}
-use Rattle.willow_entry.proofs.Live.{live-uncovered, live-rises}
+use Rattle.willow_entry.proofs.Live.{live-uncovered}
 use Rattle.willow_entry.proofs.Between.{rising_live}
 use Rattle.recency_index.specs.declared.ranked.Ranked.{Ranked}
 use Rattle.recency_index.specs.Recency.{ranked_of, recency_cmp, newest, is_at, has_at, is_among, without}

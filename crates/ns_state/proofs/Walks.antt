@@ -1,5 +1,5 @@
 -- The walk over a log to a row that covers another.
-use Rattle.std.proofs.Common.{◌≡◌, ℕ, List, map, Option, Some, None, IfSome, position, sym, ap, ◌∙◌}
+use Rattle.std.proofs.Common.{◌≡◌, ℕ, List, map, Option, None, IfSome, position, sym, ap, ◌∙◌}
 use Rattle.std.specs.declared.sync.Arc.{Arc}
 use Rattle.std.proofs.lemmas.Simd.{map-map}
 use Rattle.willow_entry.specs.declared.row.LogRow.{LogRow}

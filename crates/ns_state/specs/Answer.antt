@@ -10,7 +10,7 @@ use Rattle.ns_state.specs.declared.state.Told.{Told}
 use Rattle.ns_state.specs.declared.state.Told.TheVariants.{Stored, Kept}
 use Rattle.ns_state.specs.declared.state.TheConstants.{LOG_LIMIT}
 use Rattle.ns_state.specs.Log.{values}
-use Rattle.ns_state.specs.Machine.{Reply, StoredAt, Covered, Full, Event, Offer, next, reply}
+use Rattle.ns_state.specs.Machine.{Reply, StoredAt, Covered, Full, Offer, next, reply}
 
 module _ {R : Type 0} (value : R → RowValue) where
   -- no row of the log covers the new one, the log has room, and the new one is its last now, at the position told

@@ -1,4 +1,4 @@
-use Rattle.std.proofs.Common.{◌≡◌, map, Some, None, IfNone, position, refl, sym, ap, ◌∙◌, subst}
+use Rattle.std.proofs.Common.{map, Some, None, IfNone, position, refl, sym, ap, ◌∙◌, subst}
 use Rattle.willow_entry.specs.Row.{HasCovering, IsCoveringAt, is_covering}
 use Rattle.willow_entry.proofs.Between.{covering_from_at}
 use Rattle.ns_state.specs.Log.{values, plain_row}

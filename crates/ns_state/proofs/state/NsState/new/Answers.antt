@@ -1,4 +1,4 @@
-use Rattle.std.proofs.Common.{◌≡◌, [], map, sym, ap, ◌∙◌, subst}
+use Rattle.std.proofs.Common.{map, sym, ap, ◌∙◌, subst}
 use Rattle.willow_entry.specs.Row.{live}
 use Rattle.willow_entry.proofs.Between.{live-empty}
 use Rattle.recency_index.specs.Recency.{newest}
