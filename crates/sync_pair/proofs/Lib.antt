@@ -1,0 +1,3 @@
+pub mod TurnEnds
+pub mod Plain
+pub mod Exchanging

@@ -1,0 +1,17 @@
+//! The exchange of two stores in memory: each of two sides hears what the other says.
+//! The contract: the bytes of each turn, the rows that each side gets and the number of items are those of the exchange.
+#![tactic(auto)]
+
+mod meet;
+mod pass;
+mod peer;
+
+pub use meet::{PairRun, meet_rows};
+pub use sync_core::SNAPSHOT_MAX;
+
+#[cfg(test)]
+mod checks;
+#[cfg(test)]
+mod tests;
+#[cfg(test)]
+mod trials;
