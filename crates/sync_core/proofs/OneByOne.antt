@@ -100,16 +100,16 @@ says_counted place = says_so_many (left_to_say place.doing) place
 -- ---- what is heard
 
 -- the first item is heard, and what follows is heard behind it
-pub record HearsFirst (place : Place) (item : ItemValue) (items : List ItemValue) : Type 0 where
+pub record TakesFirst (place : Place) (item : ItemValue) (items : List ItemValue) : Type 0 where
   pub next : Place
   pub first : heard place item ≡ Ok next
   pub rest : hears place (item ∷ items) ≡ hears next items
 
-pub hears_first_item : (place : Place) (item : ItemValue) (items : List ItemValue) → IsOk (hears place (item ∷ items)) → HearsFirst place item items
+pub hears_first_item : (place : Place) (item : ItemValue) (items : List ItemValue) → IsOk (hears place (item ∷ items)) → TakesFirst place item items
 unfolding hears
 hears_first_item place item items ok = by_first (heard place item) refl ok
   where
-    by_first : (o : Result Place CoreRefusal) → heard place item ≡ o → IsOk (heard_from (λ p. hears p items) o) → HearsFirst place item items
+    by_first : (o : Result Place CoreRefusal) → heard place item ≡ o → IsOk (heard_from (λ p. hears p items) o) → TakesFirst place item items
     by_first (Ok next) is h = record { next = next; first = is; rest = ap (heard_from (λ p. hears p items)) is }
     by_first (Err cause) is h = absurd cc
 

@@ -18,11 +18,11 @@ use Rattle.sync_core.specs.Held.{to_count, owing}
 
 -- ---- a turn says one counted item for each ask at most
 
-to_count-append : (xs ys : List ItemValue) → to_count (xs ++ ys) ≡ to_count xs + to_count ys
+pub to_count-append : (xs ys : List ItemValue) → to_count (xs ++ ys) ≡ to_count xs + to_count ys
 to_count-append [] ys = omega arith
 to_count-append (x ∷ xs) ys = omega (arith, to_count-append xs ys)
 
-to_count-rows : (rows : List RowValue) → to_count (map (λ r. Row r) rows) ≡ 0
+pub to_count-rows : (rows : List RowValue) → to_count (map (λ r. Row r) rows) ≡ 0
 to_count-rows [] = refl
 to_count-rows (r ∷ rows) = omega (arith, to_count-rows rows)
 

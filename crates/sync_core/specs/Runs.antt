@@ -56,6 +56,18 @@ unfoldable pub hears : Place → List ItemValue → Result Place CoreRefusal
 hears place [] = Ok place
 hears place (item ∷ items) = heard_from (λ next. hears next items) (heard place item)
 
+-- it is to hear the answers to some asks
+abbrev pub HearsAnswers : Place → List AskValue → Type 0
+HearsAnswers place asks = place.doing ≡ Hearing asks []
+
+-- it has heard nothing yet, and the peer begins
+abbrev pub HearsFirst : Place → Type 0
+HearsFirst place = place.doing ≡ Beginning
+
+-- it has said its farewell, and the peer's is due
+abbrev pub HearsLast : Place → Type 0
+HearsLast place = place.doing ≡ Parting
+
 -- with the items of the turn no more are counted than may be
 abbrev pub HasRoom : Place → TurnValue → Type 0
 HasRoom place t = place.sent + place.read + to_count (turn_items t) ≤ most_items place.area place.rows
@@ -68,6 +80,10 @@ replying rows (ask ∷ asks) = answering rows (ask ∷ asks)
 -- its place then
 abbrev pub place_behind : Place → TurnValue → List AskValue → Place
 place_behind place t opens = record place { read = place.read + to_count (turn_items t); doing = replying place.rows opens }
+
+-- its place behind the last farewell
+abbrev pub place_at_end : Place → Place
+place_at_end place = record place { doing = Finished }
 
 -- ---- two sides
 

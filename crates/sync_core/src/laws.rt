@@ -15,8 +15,8 @@ ghost use Rattle.sync_msg.specs.Items.{HasSpelling};
 ghost use Rattle.sync_msg.specs.declared.role.Role.TheVariants.{Caller, Answerer};
 ghost use Rattle.sync_core.specs.SyncRules.{sync_rules};
 ghost use Rattle.sync_core.specs.Flat.{AskValue, TurnValue, IsToldTurn, turn_items};
-ghost use Rattle.sync_core.specs.Place.{Beginning, Finished, Hearing, Parting, Place, first_place, saying};
-ghost use Rattle.sync_core.specs.Runs.{HasRoom, SayTurns, hears, place_after, place_behind, says};
+ghost use Rattle.sync_core.specs.Place.{Place, first_place, saying};
+ghost use Rattle.sync_core.specs.Runs.{HasRoom, HearsAnswers, HearsFirst, HearsLast, SayTurns, hears, place_after, place_at_end, place_behind, says};
 
 use crate::stage::SNAPSHOT_MAX;
 
@@ -43,23 +43,23 @@ pub fn turns_are_said()
 /// the own farewell it is the last.
 pub fn turns_are_heard()
     ensures answers { (place : Place) (t : TurnValue) (asks opens : List AskValue)
-        → place.doing ≡ Hearing asks [] → IsToldTurn t → heard sync_rules asks t ≡ Some opens → HasRoom place t
+        → HearsAnswers place asks → IsToldTurn t → heard sync_rules asks t ≡ Some opens → HasRoom place t
         → hears place (turn_items t) ≡ Ok (place_behind place t opens) }
     ensures refused { (place : Place) (t : TurnValue) (asks : List AskValue)
-        → place.doing ≡ Hearing asks [] → IsToldTurn t → heard sync_rules asks t ≡ None
+        → HearsAnswers place asks → IsToldTurn t → heard sync_rules asks t ≡ None
         → IsErr (hears place (turn_items t)) }
     ensures first { (place : Place) (t : TurnValue) (area : Ranges) (opens : List AskValue)
-        → place.doing ≡ Beginning → place.area ≡ Some area → IsToldTurn t
+        → HearsFirst place → place.area ≡ Some area → IsToldTurn t
         → first_opens area t.items t.ends_with_bye ≡ Some opens → HasRoom place t
         → hears place (turn_items t) ≡ Ok (place_behind place t opens) }
     ensures first_refused { (place : Place) (t : TurnValue) (area : Ranges)
-        → place.doing ≡ Beginning → place.area ≡ Some area → IsToldTurn t
+        → HearsFirst place → place.area ≡ Some area → IsToldTurn t
         → first_opens area t.items t.ends_with_bye ≡ None
         → IsErr (hears place (turn_items t)) }
-    ensures without_area { (place : Place) → place.doing ≡ Beginning → place.area ≡ None → HasRoom place bye
+    ensures without_area { (place : Place) → HearsFirst place → place.area ≡ None → HasRoom place bye
         → hears place (turn_items bye) ≡ Ok (place_behind place bye []) }
-    ensures last { (place : Place) → place.doing ≡ Parting → HasRoom place bye
-        → hears place (turn_items bye) ≡ Ok (record place { doing = Finished }) }
+    ensures last { (place : Place) → HearsLast place → HasRoom place bye
+        → hears place (turn_items bye) ≡ Ok (place_at_end place) }
 {}
 
 /// Items tell each turn that answers asks over rising rows, and where the rows fit frames and are no more than

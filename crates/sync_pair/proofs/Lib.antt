@@ -2,3 +2,6 @@ pub mod LiveParts
 pub mod Stores
 pub mod SelfContained
 pub mod Agreeing
+pub mod TurnEnds
+pub mod Plain
+pub mod Exchanging

@@ -1,2 +1,4 @@
 pub mod Stores
 pub mod Agreement
+pub mod Passing
+pub mod Meeting
