@@ -24,6 +24,8 @@ const REMEMBERED: usize = 16;
 pub struct KnownCapabilities<S: Verify> {
     scheme: S,
     spellings: Vec<Vec<u8>>,
+    // Where the last one that was asked for stands: the next rows are often by the same author, or the next one.
+    last: usize,
     ghost valid: { All (IsKnown S.rules) spellings.items },
 }
 
@@ -33,6 +35,7 @@ impl<S: Verify> KnownCapabilities<S> {
         KnownCapabilities {
             scheme,
             spellings: Vec::new(alloc),
+            last: 0,
         }
     }
 
@@ -69,13 +72,16 @@ impl<S: Verify> KnownCapabilities<S> {
     }
 
     // Whether the row's capability is known.
-    fn has_capability_of(&self, row: &RawRow) -> bool
+    fn has_capability_of(&mut self, row: &RawRow) -> bool
         ensures { IsTrue result → capability_refusal S.rules row.now.token.capability ≡ None }
     {
         row.known();
         let bytes = row.capability_bytes();
-        for spelling in &self.spellings {
-            if spelling.as_slice() == bytes {
+        let count = self.spellings.len();
+        for turn in 0..count {
+            let at = self.last.wrapping_add(turn) % count;
+            if self.spellings[at].as_slice() == bytes {
+                self.last = at;
                 return true;
             }
         }

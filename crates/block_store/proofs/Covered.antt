@@ -1,5 +1,5 @@
 -- A row that covers another is found by a search at the fronts of its path, the shortest first.
-use Rattle.std.proofs.Common.{◌≡◌, ◌⊎◌, inl, inr, ℕ, zero, suc, ◌+◌, ◌≤◌, ◌<◌, true, false, cond, nat_lt, List, [], ◌∷◌, length, take, drop, get_or, Some, None, position, sym, ap, ◌∙◌, subst, Less, Equal, is_lt, is_gt, lt-ltb, arith}
+use Rattle.std.proofs.Common.{◌≡◌, ◌⊎◌, inl, inr, ℕ, zero, suc, ◌+◌, ◌≤◌, ◌<◌, true, false, cond, nat_lt, List, [], ◌∷◌, ◌++◌, length, take, drop, get_or, Some, None, position, sym, ap, ◌∙◌, subst, Less, Equal, is_lt, is_gt, lt-ltb, arith}
 use Rattle.std.specs.List.{AllByRecursion, position_or_len}
 use Rattle.std.specs.List.Sorted.{IsStrictlySortedBy}
 use Rattle.std.specs.Ordering.{ordering_then, ordering_reverse}
@@ -13,13 +13,13 @@ use Rattle.willow_path.specs.Path.{is_prefix, path_cmp}
 use Rattle.willow_path.proofs.PathOrder.{is_prefix_decides, path_cmp_equal}
 use Rattle.willow_entry.specs.Pruning.{IsPlace}
 use Rattle.willow_entry.specs.Entry.{bytes_cmp}
-use Rattle.willow_entry.specs.Row.{RowValue, is_covering, place_cmp, IsRising}
+use Rattle.willow_entry.specs.Row.{RowValue, is_at_prefix, is_covering, place_cmp, IsRising}
 use Rattle.willow_entry.proofs.Members.{Member, contains_from_member, member_from_contains, member_append_cases}
 use Rattle.willow_entry.proofs.Rising.{all_member, Less≢Equal}
 use Rattle.willow_entry.proofs.Ranks.{place_total, bytes_same}
 use Rattle.willow_entry.proofs.RowLaws.{covering_means}
-use Rattle.willow_entry.proofs.Local.{IsAtPrefix, at_prefix_not_above, IsAtFront, covering_at_front}
-use Rattle.block_store.specs.Front.{front, ReachFrom}
+use Rattle.willow_entry.proofs.Local.{IsAtPrefix, at_prefix_not_above, at_prefix_test, IsAtFront, covering_at_front}
+use Rattle.block_store.specs.Front.{front, HaveComponents, ReachFrom}
 
 -- a row is its own longest front
 pub front_whole : (r : RowValue) → front r (length r.entry.path) ≡ r
@@ -58,6 +58,15 @@ covering_not_below s r k e h below =
     } in
     false≢true (sym (at_prefix_not_above (front r k) s at) ∙ ap is_gt (place_total.antisymm (front r k) s ∙ ap ordering_reverse below))
 
+-- a row that stands at no prefix of the path of r does not cover r
+pub covering_not : (s r : RowValue) → is_at_prefix s r ≡ false → is_covering s r ≡ false
+covering_not s r none = false_from_ne_true (is_covering s r) (λ e.
+    let f = covering_front s r e in
+    let n = length s.entry.path in
+    let on : r.entry.path ≡ s.entry.path ++ drop n r.entry.path = sym (take-append-drop n r.entry.path) ∙ ap (λ p. p ++ drop n r.entry.path) f.front in
+    let at : IsAtPrefix s r = record { namespace = f.namespace; subspace = f.subspace; path = (is_prefix_decides s.entry.path r.entry.path).1 (drop n r.entry.path, on) } in
+    both_ways (is_at_prefix s r) none (at_prefix_test s r at))
+
 pub rising_drop : (n : ℕ) (rows : List RowValue) → IsRising rows → IsRising (drop n rows)
 unfolding IsStrictlySortedBy
 rising_drop zero rows up = up
@@ -74,8 +83,11 @@ first_tied t (y ∷ rows) up beyond s (inr m) e d =
     absurd (false≢true (sym beyond.0 ∙ ap is_lt (sym (alike_right place_total s t y e) ∙ less)))
 
 module _ (rows : List RowValue) (r : RowValue) where
-  pub from_start : ReachFrom rows r 0
-  from_start = record { reach = λ s m e. omega arith }
+  pub from_fewest : (k : ℕ) → HaveComponents rows k → ReachFrom rows r k
+  from_fewest k have = record { reach = λ s m e. have.each s m }
+
+  pub reach_shorter : (k n : ℕ) → n ≤ k → ReachFrom rows r k → ReachFrom rows r n
+  reach_shorter k n h reach = record { reach = λ s m e. omega (arith, reach.reach s m e) }
 
   position_at : (n : ℕ) → n < length rows → position_or_len (λ s. is_covering s r) rows ≡ n → position (λ s. is_covering s r) rows ≡ Some n
   position_at n h e = ap (λ k. cond (nat_lt k (length rows)) (Some k) None) e ∙ ap (λ b. cond b (Some n) None) (lt-ltb n (length rows) h)

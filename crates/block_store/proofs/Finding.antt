@@ -124,6 +124,19 @@ module _ {Y X : Type 0} (f : Y → List X) where
           ap test (sym (item_index i d (omega arith)))
           ∙ split (start ys b + i) (start ys b + j) d (omega arith) (omega (arith, ends)) (ap test (item_index j d lt) ∙ passes)
 
+      -- where some items of the piece pass and others do not, all items end passing there
+      pub found_inside : (off : ℕ) → 0 < off → off < length piece → IsPartitionPoint (λ x. test x ≡ true) (λ x. test x ≡ false) piece off → IsPartitionPoint (λ x. test x ≡ true) (λ x. test x ≡ false) (flat_map f ys) (start ys b + off)
+      found_inside off some_pass short found = (before, behind) where
+        before : (k : ℕ) (d : X) → 0 ≤ k → k < start ys b + off → test (get_or (flat_map f ys) k d) ≡ true
+        before k d le lt =
+            split k (start ys b + (off - 1)) d (omega arith) (omega (arith, ends))
+            (ap test (item_index (off - 1) d (omega arith)) ∙ found.0 (off - 1) d (omega arith) (omega arith))
+
+        behind : (k : ℕ) (d : X) → start ys b + off ≤ k → k < length (flat_map f ys) → test (get_or (flat_map f ys) k d) ≡ false
+        behind k d le lt = false_from_ne_true (test (get_or (flat_map f ys) k d)) (λ passes.
+            both_ways (test (get_or piece off d)) (found.1 off d (omega arith) short)
+            (ap test (sym (item_index off d short)) ∙ split (start ys b + off) k d le lt passes))
+
       module _ (point : IsPartitionPoint (λ y. last_passes test (f y) ≡ true) (λ y. last_passes test (f y) ≡ false) ys b)
           (off : ℕ) (found : IsPartitionPoint (λ x. test x ≡ true) (λ x. test x ≡ false) piece off) where
         -- the last item of the piece fails, so not all of its items pass

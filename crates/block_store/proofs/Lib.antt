@@ -18,3 +18,4 @@ mod Spans
 mod Narrowing
 mod Spots
 mod BlockRuns
+mod Fewest

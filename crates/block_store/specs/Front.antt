@@ -6,6 +6,10 @@ use Rattle.willow_entry.specs.Row.{RowValue, is_covering}
 abbrev pub front : RowValue → ℕ → RowValue
 front row count = record row { entry = record row.entry { path = take count row.entry.path } }
 
+-- each of the rows has a path of at least so many components
+pub record HaveComponents (rows : List RowValue) (count : ℕ) : Type 0 where
+  pub each : (s : RowValue) → Contains rows s → count ≤ length s.entry.path
+
 -- each of the rows that covers r has a path of at least so many components
 pub record ReachFrom (rows : List RowValue) (r : RowValue) (count : ℕ) : Type 0 where
   pub reach : (s : RowValue) → Contains rows s → is_covering s r ≡ true → count ≤ length s.entry.path

@@ -7,6 +7,7 @@ ghost use Rattle.willow_entry.specs.Placed.{IsPlaced, OnKept};
 ghost use Rattle.block_store.specs.Blocks.{block_rows, block_values, index_of, IsSpot};
 ghost use Rattle.block_store.specs.Packing.{IsPacked};
 ghost use Rattle.block_store.specs.Counting.{rows_after};
+ghost use Rattle.block_store.specs.Front.{HaveComponents};
 ghost use Rattle.block_store.specs.Positions.{positions};
 
 use crate::block::Piece;
@@ -55,9 +56,15 @@ fn store<R: Row>(
     })
 }
 
-// Keeps the rows where one of them covers the new row, and else puts it in its place.
-pub(crate) fn offer<R: Row>(pieces: &mut Vec<Piece<R>>, row: R) -> Result<Placed, NoMemory>
+// Keeps the rows where one of them covers the new row, and else puts it in its place. None has fewer components than
+// `fewest`.
+pub(crate) fn offer<R: Row>(
+    pieces: &mut Vec<Piece<R>>,
+    row: R,
+    fewest: usize,
+) -> Result<Placed, NoMemory>
     requires is_live { AreLive (block_values R.value pieces.old.items) }
+    requires fewest { HaveComponents (block_values R.value pieces.old.items) fewest }
     requires room { length (block_rows pieces.old.items) < 2 ^ 32 - 1 }
     ensures rows { OnOk result (block_values R.value pieces.new.items ≡ live (block_values R.value pieces.old.items ++ R.value row ∷ [])) }
     ensures placed { IfOk result (λ placed. IsPlaced (block_values R.value pieces.old.items) (R.value row) placed) }
@@ -66,7 +73,7 @@ pub(crate) fn offer<R: Row>(pieces: &mut Vec<Piece<R>>, row: R) -> Result<Placed
     ensures packed { IsPacked pieces.old.items → IsPacked pieces.new.items }
     ensures err { OnErr result (block_rows pieces.new.items ≡ block_rows pieces.old.items) }
 {
-    match place_or_cover(pieces, &row) {
+    match place_or_cover(pieces, &row, fewest) {
         Err(by) => Ok(Placed::Kept { by }),
         Ok(at) => {
             let held = Arc::new(*pieces.allocator(), row)?;
@@ -79,8 +86,10 @@ pub(crate) fn offer<R: Row>(pieces: &mut Vec<Piece<R>>, row: R) -> Result<Placed
 pub(crate) fn offer_shared<R: Row>(
     pieces: &mut Vec<Piece<R>>,
     held: Arc<R>,
+    fewest: usize,
 ) -> Result<Placed, NoMemory>
     requires is_live { AreLive (block_values R.value pieces.old.items) }
+    requires fewest { HaveComponents (block_values R.value pieces.old.items) fewest }
     requires room { length (block_rows pieces.old.items) < 2 ^ 32 - 1 }
     ensures rows { OnOk result (block_values R.value pieces.new.items ≡ live (block_values R.value pieces.old.items ++ R.value held.value ∷ [])) }
     ensures placed { IfOk result (λ placed. IsPlaced (block_values R.value pieces.old.items) (R.value held.value) placed) }
@@ -89,7 +98,7 @@ pub(crate) fn offer_shared<R: Row>(
     ensures packed { IsPacked pieces.old.items → IsPacked pieces.new.items }
     ensures err { OnErr result (block_rows pieces.new.items ≡ block_rows pieces.old.items) }
 {
-    match place_or_cover(pieces, &*held) {
+    match place_or_cover(pieces, &*held, fewest) {
         Err(by) => Ok(Placed::Kept { by }),
         Ok(at) => store(pieces, held, at),
     }

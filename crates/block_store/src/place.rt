@@ -7,11 +7,11 @@ ghost use Rattle.willow_path.specs.Path.{path_cmp};
 ghost use Rattle.willow_entry.specs.Pruning.{IsPlace};
 ghost use Rattle.willow_entry.specs.Row.{RowValue, AreLive, IsRising, HasCovering, IsCoveringAt, is_at_prefix, is_covering, left_of, inner_place_cmp, place_cmp};
 ghost use Rattle.block_store.specs.Blocks.{block_rows, block_values, index_of, IsSpot};
-ghost use Rattle.block_store.specs.Front.{front, covers_at, ReachFrom};
+ghost use Rattle.block_store.specs.Front.{front, covers_at, HaveComponents, ReachFrom};
 
 use crate::block::Piece;
 use crate::index::{index_of, row_at};
-use crate::search::{Test, partition_point};
+use crate::search::{Test, partition_point, partition_point_near};
 use crate::spot::Spot;
 use std::cmp::Ordering;
 use willow_entry::{Row, covers};
@@ -93,6 +93,15 @@ fn place<R: Row>(pieces: &[Piece<R>], row: &R, count: usize) -> Spot
     partition_point(pieces, &BelowFront { row, count })
 }
 
+// The same, looked for first in one block.
+fn place_near<R: Row>(pieces: &[Piece<R>], row: &R, count: usize, near: usize) -> Spot
+    requires { IsRising (block_values R.value pieces.now) }
+    ensures spot { IsSpot pieces.now result }
+    ensures place { IsPlace place_cmp (front (R.value row.now) count) (block_values R.value pieces.now) (index_of pieces.now result) }
+{
+    partition_point_near(pieces, &BelowFront { row, count }, near)
+}
+
 // Where the row stands.
 pub(crate) fn own_place<R: Row>(pieces: &[Piece<R>], row: &R) -> Spot
     requires { IsRising (block_values R.value pieces.now) }
@@ -127,6 +136,13 @@ pub(crate) fn run_end<R: Row>(pieces: &[Piece<R>], row: &R, at: Spot) -> Spot
     }
 }
 
+// Whether the held row is the row or dominates it. Most rows that are asked about stand at no prefix of its path.
+fn is_covering<R: Row>(held: &R, row: &R) -> bool
+    ensures { result ≡ is_covering (R.value held.now) (R.value row.now) }
+{
+    extends(row, held) && covers(held, row)
+}
+
 // Whether a row stands at the spot that is the row or dominates it.
 fn is_covered_at<R: Row>(pieces: &[Piece<R>], row: &R, at: Spot) -> bool
     requires { IsSpot pieces.now at }
@@ -134,21 +150,28 @@ fn is_covered_at<R: Row>(pieces: &[Piece<R>], row: &R, at: Spot) -> bool
     ensures not_found { result ≡ false → index_of pieces.now at < length (block_values R.value pieces.now) → covers_at (block_values R.value pieces.now) (index_of pieces.now at) (R.value row.now) ≡ false }
 {
     match row_at(pieces, at) {
-        Some(held) => covers(held, row),
+        Some(held) => is_covering(held, row),
         None => false,
     }
 }
 
-// The first position whose row is the row or dominates it, at a front of its path that is not the path itself.
-// Where there is none, such a row has all components of the path.
-fn covered_in_front<R: Row>(pieces: &[Piece<R>], row: &R) -> Option<u32>
+// The first position whose row is the row or dominates it, at a front of its path that is not the path itself: no row
+// has fewer components than `fewest`, and most fronts stand in the row's own block. Where there is no such position,
+// such a row has all components of the path.
+fn covered_in_front<R: Row>(
+    pieces: &[Piece<R>],
+    row: &R,
+    fewest: usize,
+    own: usize,
+) -> Option<u32>
     requires rising { IsRising (block_values R.value pieces.now) }
     requires few { length (block_rows pieces.now) < 2 ^ 32 }
+    requires fewest { HaveComponents (block_values R.value pieces.now) fewest }
     ensures found { IfSome result (λ i. position (λ s. is_covering s (R.value row.now)) (block_values R.value pieces.now) ≡ Some i) }
     ensures none { IfNone result (ReachFrom (block_values R.value pieces.now) (R.value row.now) (length (R.value row.now).entry.path)) }
 {
-    for count in 0..row.entry().path.count() {
-        let at = place(pieces, row, count);
+    for count in fewest..row.entry().path.count() {
+        let at = place_near(pieces, row, count, own);
         if is_covered_at(pieces, row, at) {
             return Some(index_of(pieces, at) as u32);
         }
@@ -157,19 +180,24 @@ fn covered_in_front<R: Row>(pieces: &[Piece<R>], row: &R) -> Option<u32>
 }
 
 // The place of a row that no row equals or dominates, or else the first position whose row does. Such rows stand at
-// the fronts of its path.
-pub(crate) fn place_or_cover<R: Row>(pieces: &[Piece<R>], row: &R) -> Result<Spot, u32>
+// the fronts of its path. No row has fewer components than `fewest`.
+pub(crate) fn place_or_cover<R: Row>(
+    pieces: &[Piece<R>],
+    row: &R,
+    fewest: usize,
+) -> Result<Spot, u32>
     requires few { length (block_rows pieces.now) < 2 ^ 32 }
     requires is_live { AreLive (block_values R.value pieces.now) }
+    requires fewest { HaveComponents (block_values R.value pieces.now) fewest }
     ensures spot { IfOk result (λ at. IsSpot pieces.now at) }
     ensures place { IfOk result (λ at. IsPlace place_cmp (R.value row.now) (block_values R.value pieces.now) (index_of pieces.now at)) }
     ensures free { IfOk result (λ at. position (λ s. is_covering s (R.value row.now)) (block_values R.value pieces.now) ≡ None) }
     ensures covered { IfErr result (λ by. position (λ s. is_covering s (R.value row.now)) (block_values R.value pieces.now) ≡ Some by) }
 {
-    if let Some(by) = covered_in_front(pieces, row) {
+    let at = own_place(pieces, row);
+    if let Some(by) = covered_in_front(pieces, row, fewest, at.block) {
         return Err(by);
     }
-    let at = own_place(pieces, row);
     if is_covered_at(pieces, row, at) {
         return Err(index_of(pieces, at) as u32);
     }
@@ -177,12 +205,13 @@ pub(crate) fn place_or_cover<R: Row>(pieces: &[Piece<R>], row: &R) -> Result<Spo
 }
 
 // The first position whose row is the row or dominates it, among live rows, with what it means.
-pub(crate) fn cover<R: Row>(pieces: &[Piece<R>], row: &R) -> Option<u32>
+pub(crate) fn cover<R: Row>(pieces: &[Piece<R>], row: &R, fewest: usize) -> Option<u32>
     requires few { length (block_rows pieces.now) < 2 ^ 32 }
     requires is_live { AreLive (block_values R.value pieces.now) }
+    requires fewest { HaveComponents (block_values R.value pieces.now) fewest }
     ensures first { result ≡ position (λ s. is_covering s (R.value row.now)) (block_values R.value pieces.now) }
     ensures found { IfSome result (λ i. IsCoveringAt (block_values R.value pieces.now) i (R.value row.now)) }
     ensures none { IfNone result (HasCovering (block_values R.value pieces.now) (R.value row.now) → ⊥) }
 {
-    place_or_cover(pieces, row).err()
+    place_or_cover(pieces, row, fewest).err()
 }

@@ -1,6 +1,6 @@
 //! The one search among rows in blocks: where the rows end that pass a test.
 
-ghost use Rattle.std.specs.Prelude.{◌≡◌, ◌≤◌, Bool, true, false, length};
+ghost use Rattle.std.specs.Prelude.{◌≡◌, ◌≤◌, Bool, true, false, length, IfSome};
 ghost use Rattle.std.specs.List.Sorted.{IsPartitionedBy, IsPartitionPoint};
 ghost use Rattle.willow_entry.specs.Row.{RowValue};
 ghost use Rattle.block_store.specs.Blocks.{block_values, index_of, IsSpot, last_passes};
@@ -58,4 +58,49 @@ pub(crate) fn partition_point<R: Row, T: Test<R>>(pieces: &[Piece<R>], test: &T)
     }
     let row = passing_rows(&pieces[block].block.rows, test);
     Spot { block, row }
+}
+
+// The same, looked for first in one block and in the one before it: it is where some rows of a block pass and some do
+// not.
+pub(crate) fn partition_point_near<R: Row, T: Test<R>>(
+    pieces: &[Piece<R>],
+    test: &T,
+    near: usize,
+) -> Spot
+    requires { IsPartitionedBy (T.test test.now) (block_values R.value pieces.now) }
+    ensures spot { IsSpot pieces.now result }
+    ensures point { IsPartitionPoint (λ r. T.test test.now r ≡ true) (λ r. T.test test.now r ≡ false) (block_values R.value pieces.now) (index_of pieces.now result) }
+{
+    if let Some(spot) = partition_point_in(pieces, test, near) {
+        return spot;
+    }
+    if let Some(spot) = partition_point_in(pieces, test, near.saturating_sub(1)) {
+        return spot;
+    }
+    partition_point(pieces, test)
+}
+
+// Where the rows end that pass, if they end inside the block.
+fn partition_point_in<R: Row, T: Test<R>>(
+    pieces: &[Piece<R>],
+    test: &T,
+    block: usize,
+) -> Option<Spot>
+    requires { IsPartitionedBy (T.test test.now) (block_values R.value pieces.now) }
+    ensures spot { IfSome result (λ spot. IsSpot pieces.now spot) }
+    ensures point { IfSome result (λ spot. IsPartitionPoint (λ r. T.test test.now r ≡ true) (λ r. T.test test.now r ≡ false) (block_values R.value pieces.now) (index_of pieces.now spot)) }
+{
+    if block >= pieces.len() {
+        return None;
+    }
+    let rows = &pieces[block].block.rows;
+    // Most often the first row tells that the rows end before.
+    if !test.passes(&*rows[0]) {
+        return None;
+    }
+    let row = passing_rows(rows, test);
+    if row == 0 || row >= rows.len() {
+        return None;
+    }
+    Some(Spot { block, row })
 }

@@ -22,11 +22,14 @@ use willow_path::NoMemory;
 pub struct BlockStore<R: Row> {
     pieces: Vec<Piece<R>>,
     rows: u32,
+    // No row has a path of fewer components.
+    fewest: usize,
 }
 
 impl<R: Row> Model for BlockStore<R> {
     ghost use Rattle.std.specs.Prelude.{◌≡◌, ◌<◌, ◌^◌, List, map, length};
     ghost use Rattle.block_store.specs.Blocks.{block_rows};
+    ghost use Rattle.block_store.specs.Front.{HaveComponents};
     ghost use Rattle.block_store.specs.Packing.{IsPacked};
 
     ghost Value = { List R };
@@ -35,7 +38,8 @@ impl<R: Row> Model for BlockStore<R> {
 
     ghost use Rattle.willow_entry.specs.Row.{AreLive};
 
-    ghost invariant = { λ s. AreLive (map R.value (block_rows s.pieces.items)) × (s.rows ≡ length (block_rows s.pieces.items)) × (length (block_rows s.pieces.items) < 2 ^ 32) × IsPacked s.pieces.items };
+    ghost invariant = { λ s. AreLive (map R.value (block_rows s.pieces.items)) × (s.rows ≡ length (block_rows s.pieces.items)) × (length (block_rows s.pieces.items) < 2 ^ 32) × IsPacked s.pieces.items
+        × HaveComponents (map R.value (block_rows s.pieces.items)) s.fewest };
 }
 
 impl<R: Row> BlockStore<R> {
@@ -46,6 +50,7 @@ impl<R: Row> BlockStore<R> {
         BlockStore {
             pieces: Vec::new(alloc),
             rows: 0,
+            fewest: usize::MAX,
         }
     }
 
@@ -69,8 +74,10 @@ impl<R: Row> BlockStore<R> {
         ensures was_live { AreLive (map R.value self.old) }
         ensures err { OnErr result (self.new ≡ self.old) }
     {
-        let placed = offer(&mut self.pieces, row)?;
+        let count = row.entry().path.count();
+        let placed = offer(&mut self.pieces, row, self.fewest)?;
         self.rows = rows_after(self.rows, placed);
+        self.fewest = self.fewest.min(count);
         Ok(placed)
     }
 
@@ -85,8 +92,10 @@ impl<R: Row> BlockStore<R> {
         ensures was_live { AreLive (map R.value self.old) }
         ensures err { OnErr result (self.new ≡ self.old) }
     {
-        let placed = offer_shared(&mut self.pieces, row)?;
+        let count = row.entry().path.count();
+        let placed = offer_shared(&mut self.pieces, row, self.fewest)?;
         self.rows = rows_after(self.rows, placed);
+        self.fewest = self.fewest.min(count);
         Ok(placed)
     }
 
@@ -111,7 +120,7 @@ impl<R: Row> BlockStore<R> {
         ensures found { IfSome result (λ i. IsCoveringAt (map R.value self.now) i (R.value row.now)) }
         ensures none { IfNone result (HasCovering (map R.value self.now) (R.value row.now) → ⊥) }
     {
-        cover(&self.pieces, row)
+        cover(&self.pieces, row, self.fewest)
     }
 
     /// The positions, rising, of the rows that the row dominates.

@@ -12,7 +12,7 @@ returns-in-Some-clause-found g c = λ passes.
     let at = index_of c.args.pieces.now c.args.at in
     let there = value_at g.R.Row.value c.args.pieces.now at c.in-Some.held.now c.in-Some.ensures in (
       slice_get_within rows at (g.R.Row.value c.in-Some.held.now) there,
-      ap (λ s. is_covering s r) (get_or_from_slice_get rows at (g.R.Row.value c.in-Some.held.now) r there) ∙ sym c.covers.ensures ∙ passes,
+      ap (λ s. is_covering s r) (get_or_from_slice_get rows at (g.R.Row.value c.in-Some.held.now) r there) ∙ sym c.is_covering.ensures ∙ passes,
     )
 
 pub returns-in-Some-clause-not_found : goal.returns-in-Some-clause-not_found
@@ -21,7 +21,7 @@ returns-in-Some-clause-not_found g c = λ fails within.
     let rows = block_values g.R.Row.value c.args.pieces.now in
     let at = index_of c.args.pieces.now c.args.at in
     let there = value_at g.R.Row.value c.args.pieces.now at c.in-Some.held.now c.in-Some.ensures in
-    ap (λ s. is_covering s r) (get_or_from_slice_get rows at (g.R.Row.value c.in-Some.held.now) r there) ∙ sym c.covers.ensures ∙ fails
+    ap (λ s. is_covering s r) (get_or_from_slice_get rows at (g.R.Row.value c.in-Some.held.now) r there) ∙ sym c.is_covering.ensures ∙ fails
 
 pub returns-in-None-clause-not_found : goal.returns-in-None-clause-not_found
 returns-in-None-clause-not_found g c = λ fails within. absurd (omega (arith, values_long g.R.Row.value c.args.pieces.now, c.in-None.ensures))

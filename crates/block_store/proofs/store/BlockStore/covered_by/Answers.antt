@@ -2,6 +2,7 @@ use Rattle.std.proofs.Common.{map, position, sym, ap, ◌∙◌, subst}
 use Rattle.willow_entry.specs.Row.{RowValue, AreLive, is_covering}
 use Rattle.willow_entry.proofs.Covering.{covering_found, covering_none}
 use Rattle.block_store.specs.Blocks.{block_values}
+use Rattle.block_store.specs.Front.{HaveComponents}
 use Rattle.block_store.proofs.Pieces.{values_seen}
 use Rattle.block_store.proofs.store.BlockStore.covered_by.Goals as goal
 
@@ -9,6 +10,11 @@ pub cover-requires-clause-is_live : goal.cover-requires-clause-is_live
 cover-requires-clause-is_live g c =
     let value = g.R.Row.value in
     subst (λ l. AreLive (block_values value l)) (sym c.deref.ensures.value) (subst (λ l. AreLive l) (values_seen value c.self.inside.pieces.items) c.self.invariant.0)
+
+pub cover-requires-clause-fewest : goal.cover-requires-clause-fewest
+cover-requires-clause-fewest g c =
+    let value = g.R.Row.value in
+    subst (λ l. HaveComponents (block_values value l) c.self.inside.fewest) (sym c.deref.ensures.value) (subst (λ l. HaveComponents l c.self.inside.fewest) (values_seen value c.self.inside.pieces.items) c.self.invariant.4)
 
 pub returns-clause-first : goal.returns-clause-first
 returns-clause-first g c =
