@@ -1,10 +1,11 @@
 -- What a list of items has when the most recent come first.
-use Rattle.std.proofs.Common.{◌≡◌, ◌↔◌, List, [], ◌∷◌, ◌++◌, Bool, true, false, not, filter, Contains, sym, ap, ◌∙◌}
+use Rattle.std.proofs.Common.{◌≡◌, ℕ, ◌↔◌, List, [], ◌∷◌, ◌++◌, Bool, true, false, not, filter, Contains, sym, ap, ◌∙◌}
 use Rattle.std.specs.List.{list_any}
-use Rattle.willow_entry.proofs.Members.{Member, contains_from_member, member_from_contains}
+use Rattle.willow_entry.proofs.Members.{Member, contains_from_member, member_from_contains, filter_member, any_false}
+use Rattle.std.proofs.lemmas.Bool.{not-true}
 use Rattle.willow_entry.proofs.Rising.{IsApart, rising-rises, member_from_rising, member_rising, same_rising}
 use Rattle.recency_index.specs.declared.ranked.Ranked.{Ranked}
-use Rattle.recency_index.specs.Recency.{recency_cmp, newest, AreNewestFirst}
+use Rattle.recency_index.specs.Recency.{recency_cmp, newest, AreNewestFirst, is_at, has_at, without_at}
 use Rattle.recency_index.proofs.Order.{recency_total, recency_tie}
 
 pub newest_is_so : (items : List Ranked) → AreNewestFirst (newest items)
@@ -36,3 +37,8 @@ newest_only items kept order same = newest_of kept items order
 -- lists with the same members are the same in this order
 pub newest_alike : (xs ys : List Ranked) → ((item : Ranked) → Member xs item → Member ys item) → ((item : Ranked) → Member ys item → Member xs item) → newest xs ≡ newest ys
 newest_alike xs ys f g = newest_of (newest xs) ys (newest_is_so xs) (λ item m. f item (member_from_newest xs item m)) (λ item m. member_newest xs item (g item m))
+
+-- where the items at a place are left out none stands there
+pub none_at : (subspace : List ℕ) (path : List (List ℕ)) (items : List Ranked) → has_at subspace path (without_at subspace path items) ≡ false
+none_at subspace path items = any_false (is_at subspace path) (without_at subspace path items) (λ item m.
+    not-true (is_at subspace path item) (filter_member (λ i. not (is_at subspace path i)) items item m).1)

@@ -9,3 +9,5 @@ mod ranked;
 pub use index::Recency;
 pub use ranked::Ranked;
 
+#[cfg(test)]
+mod tests;

@@ -17,8 +17,7 @@ loop-item-preserved c =
     let old = c.args.items.now.items in
     let at = c.loop-item.item-index in
     let x = c.item-item.result in
-    let upto : take at gone ++ x ∷ [] ≡ take (at + 1) gone = ap (λ y. take at gone ++ y ∷ []) c.item-item.is ∙ sym (ap (λ n. take n gone) (add-one at) ∙ take-suc gone at x c.loop-item-test.true) in
-    (
+    let upto : take at gone ++ x ∷ [] ≡ take (at + 1) gone = ap (λ y. take at gone ++ y ∷ []) c.item-item.is ∙ sym (ap (λ n. take n gone) (add-one at) ∙ take-suc gone at x c.loop-item-test.true) in (
       c.take_out.ensures.items ∙ ap (without (x ∷ [])) c.loop-item.invariant.0 ∙ without_more (take at gone) x old ∙ ap (λ l. without l old) upto,
       omega (arith, c.take_out.ensures.len, c.loop-item.invariant.1),
       c.take_out.ensures.capacity ∙ c.loop-item.invariant.2,
