@@ -131,7 +131,7 @@ def defines(file: str, word: str) -> bool:
     """Whether the file has the word as a definition or as a constructor of a type."""
     text = (CRATES / f"{file}.antt").read_text()
     constructor = rf"|^  {word} : " if word[0].isupper() else ""
-    return re.search(rf"^(?:\w+ )*pub (?:record |data |fn )?{word}\b{constructor}", text, re.MULTILINE) is not None
+    return re.search(rf"^ *(?:\w+ )*pub (?:record |data |fn )?{word}\b{constructor}", text, re.MULTILINE) is not None
 
 
 def main() -> int:
