@@ -33,11 +33,7 @@ pub(crate) fn rows_after(rows: u32, placed: Placed) -> u32
 }
 
 // Stores a row that no row covers.
-fn store<R: Row>(
-    pieces: &mut Vec<Piece<R>>,
-    held: Arc<R>,
-    at: Spot,
-) -> Result<Placed, NoMemory>
+fn store<R: Row>(pieces: &mut Vec<Piece<R>>, held: Arc<R>, at: Spot) -> Result<Placed, NoMemory>
     requires few { length (block_rows pieces.old.items) < 2 ^ 32 }
     requires is_live { AreLive (block_values R.value pieces.old.items) }
     requires uncovered { HasCovering (block_values R.value pieces.old.items) (R.value held.value) → ⊥ }

@@ -158,12 +158,7 @@ fn is_covered_at<R: Row>(pieces: &[Piece<R>], row: &R, at: Spot) -> bool
 // The first position whose row is the row or dominates it, at a front of its path that is not the path itself: no row
 // has fewer components than `fewest`, and most fronts stand in the row's own block. Where there is no such position,
 // such a row has all components of the path.
-fn covered_in_front<R: Row>(
-    pieces: &[Piece<R>],
-    row: &R,
-    fewest: usize,
-    own: usize,
-) -> Option<u32>
+fn covered_in_front<R: Row>(pieces: &[Piece<R>], row: &R, fewest: usize, own: usize) -> Option<u32>
     requires rising { IsRising (block_values R.value pieces.now) }
     requires few { length (block_rows pieces.now) < 2 ^ 32 }
     requires fewest { HaveComponents (block_values R.value pieces.now) fewest }
