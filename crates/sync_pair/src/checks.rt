@@ -9,14 +9,19 @@ use block_store::Snapshot;
 use willow_entry::Row;
 use willow_path::NamespaceKey;
 
-// Whether the row is of the namespace, and its entry and token are short enough for a frame.
+// Whether the row's entry and token are short enough for a frame.
+fn has_frame<R: Row>(row: &R) -> bool
+    ensures { IsTrue result → HasFrame (R.value row.now) }
+{
+    row.entry_bytes().len() <= 65_536 && row.token_bytes().len() <= 65_536
+}
+
+// Whether the row is of the namespace and fits a frame.
 fn fits<R: Row>(row: &R, namespace: &NamespaceKey) -> bool
     ensures of { IsTrue result → (R.value row.now).entry.namespace ≡ namespace.now }
     ensures framed { IsTrue result → HasFrame (R.value row.now) }
 {
-    row.entry().namespace == *namespace
-        && row.entry_bytes().len() <= 65_536
-        && row.token_bytes().len() <= 65_536
+    row.entry().namespace == *namespace && has_frame(row)
 }
 
 // Whether all rows are of the namespace and fit frames, and they are not too many.
