@@ -9,4 +9,3 @@ mod log;
 mod state;
 
 pub use state::{LOG_LIMIT, LogFull, NsState, Told};
-

@@ -160,8 +160,14 @@ fn the_order(rt: HostRuntime) -> Result<(), Fail> {
         Spot::new(0x53, b"a", 7, 0xff, 9),
     ];
     assert_eq!(rt; leaves(alloc, &[], &[]), Some(true));
-    assert_eq!(rt; leaves(alloc, &[Step::Put(LATE), Step::Put(EARLY)], &[LATE, EARLY]), Some(true));
-    assert_eq!(rt; leaves(alloc, &[Step::Put(EARLY), Step::Put(LATE)], &[LATE, EARLY]), Some(true));
+    assert_eq!(rt;
+        leaves(alloc, &[Step::Put(LATE), Step::Put(EARLY)], &[LATE, EARLY]),
+        Some(true)
+    );
+    assert_eq!(rt;
+        leaves(alloc, &[Step::Put(EARLY), Step::Put(LATE)], &[LATE, EARLY]),
+        Some(true)
+    );
     // The oldest first, the newest first, and neither.
     for order in [
         [9, 8, 7, 6, 5, 4, 3, 2, 1, 0],
@@ -187,13 +193,37 @@ fn changed(alloc: Global, step: Step, wanted: &[Spot]) -> Option<bool> {
 #[test]
 fn taken_out_and_replaced(rt: HostRuntime) -> Result<(), Fail> {
     let alloc = rt.alloc();
-    let newer = Spot { rank: (7, 0x11, 1), ..EARLY };
-    let other = Spot { subspace: 0x56, ..EARLY };
-    assert_eq!(rt; changed(alloc, Step::Take(EARLY, true), &[LATE]), Some(true));
-    assert_eq!(rt; changed(alloc, Step::Take(newer, true), &[LATE]), Some(true));
-    assert_eq!(rt; changed(alloc, Step::Take(other, false), &[LATE, EARLY]), Some(true));
-    assert_eq!(rt; changed(alloc, Step::Swap(EARLY, newer), &[newer, LATE]), Some(true));
-    assert_eq!(rt; changed(alloc, Step::Swap(EARLY, other), &[LATE, other]), Some(true));
-    assert_eq!(rt; changed(alloc, Step::Swap(LATE, EARLY), &[EARLY]), Some(true));
+    let newer = Spot {
+        rank: (7, 0x11, 1),
+        ..EARLY
+    };
+    let other = Spot {
+        subspace: 0x56,
+        ..EARLY
+    };
+    assert_eq!(rt;
+        changed(alloc, Step::Take(EARLY, true), &[LATE]),
+        Some(true)
+    );
+    assert_eq!(rt;
+        changed(alloc, Step::Take(newer, true), &[LATE]),
+        Some(true)
+    );
+    assert_eq!(rt;
+        changed(alloc, Step::Take(other, false), &[LATE, EARLY]),
+        Some(true)
+    );
+    assert_eq!(rt;
+        changed(alloc, Step::Swap(EARLY, newer), &[newer, LATE]),
+        Some(true)
+    );
+    assert_eq!(rt;
+        changed(alloc, Step::Swap(EARLY, other), &[LATE, other]),
+        Some(true)
+    );
+    assert_eq!(rt;
+        changed(alloc, Step::Swap(LATE, EARLY), &[EARLY]),
+        Some(true)
+    );
     Ok(())
 }

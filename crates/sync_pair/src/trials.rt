@@ -152,11 +152,7 @@ pub(crate) fn met_bytes(
 }
 
 // What comes of it where generated rows meet in an area.
-pub(crate) fn met_made(
-    alloc: Global,
-    rows: &Made,
-    place: &Place,
-) -> Option<PairRun<BareRow>> {
+pub(crate) fn met_made(alloc: Global, rows: &Made, place: &Place) -> Option<PairRun<BareRow>> {
     let pair = made(alloc, rows)?;
     let area = area(alloc, place)?;
     met(alloc, &pair, Some(&area))
