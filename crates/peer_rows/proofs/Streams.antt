@@ -150,4 +150,5 @@ full_stops namespace bytes left rows before (stop.Pruned from row by) so passes 
 full_stops namespace bytes left rows before (stop.Missing name) so passes is h = absurd h
 full_stops namespace bytes left rows before (stop.Taken name) so passes is h = absurd h
 full_stops namespace bytes left rows before (stop.Refused refusal) so passes is h = absurd h
+full_stops namespace bytes left rows before (stop.SessionRefused refusal) so passes is h = absurd h
 full_stops namespace bytes left rows before stop.KeySpent so passes is h = absurd h

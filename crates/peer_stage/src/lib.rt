@@ -7,5 +7,5 @@ mod outcome;
 mod stage;
 
 pub use laws::input_limit;
-pub use outcome::{Done, JoinCounts, Origin, ShowCounts, Stop};
+pub use outcome::{Done, JoinCounts, MeetCounts, Origin, ShowCounts, SideCounts, Stop};
 pub use stage::{INPUT_LIMIT, read_input, write_both, write_output};
