@@ -67,7 +67,7 @@ module _ {R X C : Type 0} (g : Rules R X C) (l : List R) (can_cut : CanCut g l) 
   read_items [] = refl
   read_items (ask ∷ asks) = ap₂ joined (read_answer ask) (read_items asks)
 
-  read_turn : (asks : List (Ask R X)) → heard g asks (turn g l asks) ≡ Some (opened g l asks)
+  pub read_turn : (asks : List (Ask R X)) → heard g asks (turn g l asks) ≡ Some (opened g l asks)
   unfolding heard
   read_turn asks = ap (ended_by (is_empty (opened g l asks))) (read_items asks) ∙ ended_as_opened (opened g l asks)
 

@@ -25,6 +25,7 @@ use Rattle.range_split.specs.Choice.{choice, points_of, subspaces_of}
 use Rattle.range_split.specs.Sides.{LeavesRows}
 use Rattle.range_split.proofs.Choosing.{are_many}
 use Rattle.range_split.proofs.Parting.{all_leave_rows}
+use Rattle.sync_msg.specs.Items.{HasPoint}
 use Rattle.exchange_rules.specs.Premises.{IsDeciding, HasDisjointParts, DividesRows, CanCut, CanSend, boxes_with}
 use Rattle.sync_core.specs.SyncRules.{cut_all, parts_at, is_rising, sync_rules}
 
@@ -77,21 +78,22 @@ disjoint area ats row = cut_counts area ats row
 -- ---- the chosen cut
 
 -- where a box is cut at one point inside, its parts are those below it and above it
-one_cut : (area : Ranges) (at : CutAt) → IsTrue (can_cut area at) → parts_at area (at ∷ []) ≡ lower_part area at ∷ upper_part area at ∷ []
+pub one_cut : (area : Ranges) (at : CutAt) → IsTrue (can_cut area at) → parts_at area (at ∷ []) ≡ lower_part area at ∷ upper_part area at ∷ []
 one_cut area at can = ap (λ b. unwrap_or (cond b (Some (lower_part area at ∷ upper_part area at ∷ [])) None) []) can
 
--- a choice is a cut at one point
+-- a choice is a cut at one point, which is a subspace or a path
 pub record HasOnePoint (ats : List CutAt) : Type 0 where
   pub point : CutAt
   pub alone : ats ≡ point ∷ []
+  pub told : HasPoint point
 
 abbrev points_by : Bool → Option (List ℕ) → List ℕ → List (List ℕ) → Points
 points_by above least key path = cond above (by_subspace (key ∷ [])) (option_map_or (λ k. by_subspace (k ∷ [])) least (by_path (path ∷ [])))
 
 one_point_by : (above : Bool) (least : Option (List ℕ)) (key : List ℕ) (path : List (List ℕ)) → HasOnePoint (cuts_at (points_by above least key path))
-one_point_by true least key path = record { point = Subspace key; alone = refl }
-one_point_by false None key path = record { point = Path path; alone = refl }
-one_point_by false (Some k) key path = record { point = Subspace k; alone = refl }
+one_point_by true least key path = record { point = Subspace key; alone = refl; told = tt }
+one_point_by false None key path = record { point = Path path; alone = refl; told = tt }
+one_point_by false (Some k) key path = record { point = Subspace k; alone = refl; told = tt }
 
 one_point_of : (first middle : RowValue) (rows : List RowValue) → HasOnePoint (cuts_at (points_of first middle rows))
 one_point_of first middle rows =
@@ -126,12 +128,24 @@ divides rows area at leaves =
     let all = subst P (sym (one_cut area at leaves.inside)) two in
     record { several = all.0; own = all.1; covers = all.2 }
 
-pub can_cut_rows : (rows : List RowValue) → IsStrictlySortedBy inner_place_cmp rows → CanCut sync_rules rows
-can_cut_rows rows rise area ats e =
+-- the cut that is chosen for the rows of a box: at one point, which leaves rows on both sides
+pub record CutsInside (rows : List RowValue) (area : Ranges) (ats : List CutAt) : Type 0 where
+  pub point : CutAt
+  pub alone : ats ≡ point ∷ []
+  pub told : HasPoint point
+  pub leaves : LeavesRows area rows point
+
+pub cuts_inside : (rows : List RowValue) → IsStrictlySortedBy inner_place_cmp rows → (area : Ranges) (ats : List CutAt) → option_map cuts_at (choice (rows_in area rows)) ≡ Some ats → CutsInside rows area ats
+cuts_inside rows rise area ats e =
     let c = chosen_by (rows_in area rows) ats (choice (rows_in area rows)) refl e in
     let one = one_point (rows_in area rows) c.points c.chosen in
     let leaves : All (LeavesRows area rows) (one.point ∷ []) = subst (λ l. All (LeavesRows area rows) l) one.alone (all_leave_rows area rows c.points rise c.chosen) in
-    subst (λ l. DividesRows sync_rules rows area l) (sym one.alone ∙ c.cuts) (divides rows area one.point (leaves 0 one.point (omega arith)))
+    record { point = one.point; alone = sym c.cuts ∙ one.alone; told = one.told; leaves = leaves 0 one.point (omega arith) }
+
+pub can_cut_rows : (rows : List RowValue) → IsStrictlySortedBy inner_place_cmp rows → CanCut sync_rules rows
+can_cut_rows rows rise area ats e =
+    let c = cuts_inside rows rise area ats e in
+    subst (λ l. DividesRows sync_rules rows area l) (sym c.alone) (divides rows area c.point c.leaves)
 
 -- ---- what is sent
 

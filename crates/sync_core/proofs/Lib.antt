@@ -11,3 +11,9 @@ pub mod Replying
 pub mod Telling
 pub mod Steady
 pub mod Running
+pub mod HeardTurns
+pub mod TurnsCounted
+pub mod SpelledTurns
+pub mod TwoSides
+pub mod Rising
+pub mod OneByOne

@@ -1,5 +1,6 @@
 -- Turns as the items that are sent one by one: each list of rows is told by its number, and its rows follow.
 use Rattle.std.specs.Prelude.{ℕ, List, [], ◌∷◌, ◌++◌, map, length, flat_map, Option, None, Some, if◌then◌else◌}
+use Rattle.std.specs.List.{AllByRecursion}
 use Rattle.willow_area.specs.Boxes.{Ranges}
 use Rattle.willow_area.specs.declared.cut.CutAt.{CutAt}
 use Rattle.willow_entry.specs.Row.{RowValue}
@@ -32,6 +33,27 @@ items_of (rules.Rest rows) = Rest (length rows) ∷ map Row rows
 -- the items of a turn, with its end
 abbrev pub turn_items : TurnValue → List ItemValue
 turn_items t = flat_map items_of t.items ++ (if t.ends_with_bye then Bye else EndTurn) ∷ []
+
+-- a cut at one point, which comes with two fingerprints
+abbrev pub IsOneCut : List CutAt → List (List ℕ) → Type 0
+IsOneCut [] prints = ⊥
+IsOneCut (at ∷ []) [] = ⊥
+IsOneCut (at ∷ []) (lower ∷ []) = ⊥
+IsOneCut (at ∷ []) (lower ∷ upper ∷ []) = Unit {0}
+IsOneCut (at ∷ []) (lower ∷ upper ∷ more ∷ prints) = ⊥
+IsOneCut (at ∷ other ∷ cuts) prints = ⊥
+
+-- an item of the rules that items tell: if it is a cut, then one at one point
+abbrev pub IsTold : rules.Item RowValue (List CutAt) → Type 0
+IsTold (rules.First print) = Unit {0}
+IsTold rules.Agree = Unit {0}
+IsTold (rules.Split cuts prints) = IsOneCut cuts prints
+IsTold (rules.Entries rows) = Unit {0}
+IsTold (rules.Rest rows) = Unit {0}
+
+-- a turn of such items
+abbrev pub IsToldTurn : TurnValue → Type 0
+IsToldTurn t = AllByRecursion IsTold t.items
 
 -- the row of an item, if it is one
 abbrev pub row_in : {Q : Type 0} → Item Q → Option Q

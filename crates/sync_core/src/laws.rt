@@ -1,13 +1,22 @@
 //! What holds of the rules of stores. These functions do nothing: each is called, if at all, for its clauses.
 
-ghost use Rattle.std.specs.Prelude.{◌≡◌, List, length};
+ghost use Rattle.std.specs.Prelude.{◌≡◌, ◌≤◌, List, [], length, All, Option, None, Some, Ok, IsErr};
 ghost use Rattle.std.specs.List.Sorted.{IsStrictlySortedBy};
-ghost use Rattle.willow_entry.specs.Row.{RowValue, inner_place_cmp};
+ghost use Rattle.willow_area.specs.Boxes.{Ranges};
+ghost use Rattle.willow_entry.specs.Frame.{HasFrame};
+ghost use Rattle.willow_entry.specs.Row.{RowValue, AreLive, inner_place_cmp};
+ghost use Rattle.block_store.specs.BoxKinds.{IsOfOneNamespace};
+ghost use Rattle.exchange_rules.specs.AnyPeer.{heard, first_opens};
+ghost use Rattle.exchange_rules.specs.Answer.{turn};
+ghost use Rattle.exchange_rules.specs.Exchange.{exchange, first_turn};
+ghost use Rattle.exchange_rules.specs.Items.{bye};
 ghost use Rattle.exchange_rules.specs.Premises.{IsDeciding, HasDisjointParts, CanCut, CanSend};
+ghost use Rattle.sync_msg.specs.Items.{HasSpelling};
+ghost use Rattle.sync_msg.specs.declared.role.Role.TheVariants.{Caller, Answerer};
 ghost use Rattle.sync_core.specs.SyncRules.{sync_rules};
-ghost use Rattle.sync_core.specs.Flat.{AskValue, TurnValue, turn_items};
-ghost use Rattle.sync_core.specs.Place.{Place, saying};
-ghost use Rattle.sync_core.specs.Runs.{place_after, says};
+ghost use Rattle.sync_core.specs.Flat.{AskValue, TurnValue, IsToldTurn, turn_items};
+ghost use Rattle.sync_core.specs.Place.{Beginning, Finished, Hearing, Parting, Place, first_place, saying};
+ghost use Rattle.sync_core.specs.Runs.{HasRoom, SayTurns, hears, place_after, place_behind, says};
 
 use crate::stage::SNAPSHOT_MAX;
 
@@ -26,6 +35,57 @@ pub fn rules_are_lawful()
 /// what the turn opened, or waits for a farewell where that is nothing.
 pub fn turns_are_said()
     ensures { (place : Place) (t : TurnValue) (asks : List AskValue) → place.doing ≡ saying t asks → says (length (turn_items t)) place ≡ (turn_items t, place_after place t asks) }
+{}
+
+/// A side that hears a turn, item by item, goes on to answer what the turn opens, or to say farewell where that is
+/// nothing; the counted items of the turn are read then. A turn that is refused has an item that is. Likewise for the first
+/// turn that the side reads that does not begin, and for a farewell: without an area it is the first turn, and behind
+/// the own farewell it is the last.
+pub fn turns_are_heard()
+    ensures answers { (place : Place) (t : TurnValue) (asks opens : List AskValue)
+        → place.doing ≡ Hearing asks [] → IsToldTurn t → heard sync_rules asks t ≡ Some opens → HasRoom place t
+        → hears place (turn_items t) ≡ Ok (place_behind place t opens) }
+    ensures refused { (place : Place) (t : TurnValue) (asks : List AskValue)
+        → place.doing ≡ Hearing asks [] → IsToldTurn t → heard sync_rules asks t ≡ None
+        → IsErr (hears place (turn_items t)) }
+    ensures first { (place : Place) (t : TurnValue) (area : Ranges) (opens : List AskValue)
+        → place.doing ≡ Beginning → place.area ≡ Some area → IsToldTurn t
+        → first_opens area t.items t.ends_with_bye ≡ Some opens → HasRoom place t
+        → hears place (turn_items t) ≡ Ok (place_behind place t opens) }
+    ensures first_refused { (place : Place) (t : TurnValue) (area : Ranges)
+        → place.doing ≡ Beginning → place.area ≡ Some area → IsToldTurn t
+        → first_opens area t.items t.ends_with_bye ≡ None
+        → IsErr (hears place (turn_items t)) }
+    ensures without_area { (place : Place) → place.doing ≡ Beginning → place.area ≡ None → HasRoom place bye
+        → hears place (turn_items bye) ≡ Ok (place_behind place bye []) }
+    ensures last { (place : Place) → place.doing ≡ Parting → HasRoom place bye
+        → hears place (turn_items bye) ≡ Ok (record place { doing = Finished }) }
+{}
+
+/// Items tell each turn that answers asks over rising rows, and where the rows fit frames and are no more than
+/// `SNAPSHOT_MAX`, each of these items has a spelling; so has each of the first turn.
+pub fn turns_are_spelled()
+    ensures told { (rows : List RowValue) (asks : List AskValue)
+        → IsStrictlySortedBy inner_place_cmp rows → IsToldTurn (turn sync_rules rows asks) }
+    ensures spelled { (rows : List RowValue) (asks : List AskValue)
+        → IsStrictlySortedBy inner_place_cmp rows → length rows ≤ SNAPSHOT_MAX → All HasFrame rows
+        → All HasSpelling (turn_items (turn sync_rules rows asks)) }
+    ensures first { (rows : List RowValue) (area : Ranges)
+        → All HasSpelling (turn_items (first_turn sync_rules rows area)) }
+{}
+
+/// Two sides over rising rows, of which each hears what the other says, say the exchange turn by turn: no item of it is
+/// refused, not even for the number of items.
+pub fn two_sides_say_the_exchange()
+    ensures { (a b : List RowValue) (x : Option Ranges)
+        → IsStrictlySortedBy inner_place_cmp a → IsStrictlySortedBy inner_place_cmp b
+        → length a ≤ SNAPSHOT_MAX → length b ≤ SNAPSHOT_MAX
+        → SayTurns (exchange sync_rules a b x) (first_place Caller a x) (first_place Answerer b x) }
+{}
+
+/// What a snapshot keeps rises so: live rows of one namespace rise by subspace and path.
+pub fn live_rows_rise()
+    ensures { (rows : List RowValue) → AreLive rows → IsOfOneNamespace rows → IsStrictlySortedBy inner_place_cmp rows }
 {}
 
 /// The limit is this number.

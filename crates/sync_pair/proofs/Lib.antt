@@ -1,0 +1,4 @@
+pub mod LiveParts
+pub mod Stores
+pub mod SelfContained
+pub mod Agreeing
