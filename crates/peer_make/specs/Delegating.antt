@@ -1,5 +1,5 @@
 -- What `delegate` does: a capability with one delegation more.
-use Rattle.std.specs.Prelude.{◌≡◌, ℕ, ◌+◌, true, false, length, Result, Ok, Err, nat_lt, unwrap_or, if◌then◌else◌}
+use Rattle.std.specs.Prelude.{List, ◌≡◌, ℕ, ◌+◌, true, false, length, Result, Ok, Err, nat_lt, unwrap_or, if◌then◌else◌}
 use Rattle.scheme_core.specs.Rules.{Rules}
 use Rattle.lms_core.specs.Use.{peer_rules}
 use Rattle.willow_area.specs.declared.area.Area.{Area}
