@@ -160,6 +160,7 @@ module _ {S R : Type 0} (content : Content S R) (cell : CellFacts) where
         record {
           is = refl;
           seen = front;
+          older = prefixes_of_longer view.older view.seen log front k.older;
           namespace = home.3 ∙ ap (λ (c : CellFacts). c.namespace) (sym same_cell);
           kept = kept;
           once = λ n. let h = sum_by-at_le (λ (v : View R). numbered n v.books) s.views id view at in let o = r.books.once n in omega arith;

@@ -82,12 +82,13 @@ module _ {S R : Type 0} where
 
 module _ {S R : Type 0} (content : Content S R) where
   -- A pass takes the turn, and with it a state.
-  -- `seen`: what it had seen is a prefix of the state's log. `kept`: its books have just the rows of their numbers.
+  -- `seen`, `older`: all that it had seen are prefixes of the state's log. `kept`: its books have just the rows of their numbers.
   -- `once`: no number stands at two of its books.
   -- `whole`, `known`: who has all parts had seen the whole log, and has a book for each row.
   pub record TakesTurn (ticket : ℕ) (state : S) (before after : View R) : Type 0 where
     pub is : after ≡ record before { role = Holds ticket; seen = content.log state }
     pub seen : IsPrefix before.seen (content.log state)
+    pub older : ArePrefixes before.older (content.log state)
     pub namespace : content.namespace state ≡ before.cell.namespace
     pub kept : AreKept (content.log state) before.books
     pub once : (number : ℕ) → numbered number before.books ≤ 1
