@@ -15,20 +15,20 @@ use Rattle.log_rule.specs.declared.view.CellFacts.{CellFacts}
 use Rattle.log_rule.specs.declared.view.View.{View}
 use Rattle.log_rule.specs.declared.view.Book.{Book}
 use Rattle.log_rule.specs.declared.view.Role.TheVariants.{Idle}
-use Rattle.log_rule.specs.Views.{rows_of, AreOf, numbered}
+use Rattle.log_rule.specs.Views.{rows_of_pass, AreOf, numbered}
 use Rattle.log_rule.specs.Rule.{Content, HasTurn, Knows, books_of, AreBooks, Ruled}
 use Rattle.log_rule.specs.Steps.{first_view, after_making, made_view, lent_view, joined_view, spent_view}
 use Rattle.log_rule.proofs.Sums.{one_if, one_here, none_here, one_at_most}
 use Rattle.log_rule.proofs.Prefixes.{prefix_self}
-use Rattle.log_rule.proofs.Books.{rows_of-own, rows_of-none, rows_of_prefix, kept_between, prefixes_of_longer, longer_prefix}
+use Rattle.log_rule.proofs.Books.{rows_of_pass-own, rows_of_pass-none, rows_of_pass_prefix, kept_between, prefixes_of_longer, longer_prefix}
 use Rattle.log_rule.proofs.Swaps.{all_weaker, SameRoles, swaps_split, swaps_join, sum_stays, turn_stays, queue_stays, books_stay, each_set, seen_set, seen_joined}
 
-module _ {S R : Type 0} (content : Content S R) (cell : CellFacts) where
+module _ {S R : Type 0} (content : Content S R) (IsLawful : List ℕ → List (LogRow R) → Type 0) (cell : CellFacts) where
   abbrev Table : Type 0
   Table = State (Option S) (View R)
 
   abbrev Rule : Table → Type 0
-  Rule = Ruled content cell
+  Rule = Ruled content IsLawful cell
 
   -- ---- split seat
 
@@ -52,6 +52,7 @@ module _ {S R : Type 0} (content : Content S R) (cell : CellFacts) where
         next = r.next;
         served = r.served;
         made = made;
+        lawful = r.lawful;
         words = r.words;
         one_slot = r.one_slot;
         at_home = λ z. r.at_home (sym (turn_stays s.views (view ∷ []) (left ∷ right ∷ []) (set s.views id left ++ right ∷ []) swaps same) ∙ z);
@@ -88,8 +89,8 @@ module _ {S R : Type 0} (content : Content S R) (cell : CellFacts) where
       let none : AllByRecursion (λ (row : LogRow R). view.made ≢ row.pass) r.log =
       all_weaker (λ (row : LogRow R). 0 < books_of row.pass s.views) (λ (row : LogRow R). view.made ≢ row.pass)
       (λ row there e. let free = r.books.others view.made (omega arith) in let same = ap (λ n. books_of n s.views) e in omega arith) r.log r.books.known in
-      let fresh : rows_of view.made r.log ≡ [] = rows_of-none view.made r.log none in
-      let fresh_seen : rows_of view.made view.seen ≡ [] = rows_of_prefix view.made view.seen r.log k.seen fresh in
+      let fresh : rows_of_pass view.made r.log ≡ [] = rows_of_pass-none view.made r.log none in
+      let fresh_seen : rows_of_pass view.made view.seen ≡ [] = rows_of_pass_prefix view.made view.seen r.log k.seen fresh in
       let number : right.books ≡ (record { number = r.made; rows = [] }) ∷ [] = ap (λ n. let b : Book R = record { number = n; rows = [] } in b ∷ []) m.1 in
       cut s r id (r.made + 1) view left right at refl refl refl (omega arith) (omega arith) (books_made r.log s.views id r.made view left right at refl number r.books)
       (record { seen = k.seen; older = k.older; kept = k.kept; kept_seen = k.kept_seen; no_books = λ z. absurd (omega arith); queues = λ _. omega arith; cell_is = λ _. k.cell_is (omega arith); turn = k.turn; maker = λ _. (m.0, ap (λ n. n + 1) m.1) })
@@ -124,6 +125,7 @@ module _ {S R : Type 0} (content : Content S R) (cell : CellFacts) where
         next = r.next;
         served = r.served;
         made = r.made;
+        lawful = r.lawful;
         words = r.words;
         one_slot = r.one_slot;
         at_home = λ z. r.at_home (sym (turn_stays s.views (view ∷ taken ∷ []) (both ∷ spent ∷ []) (set changed other spent) swaps same) ∙ z);
@@ -133,8 +135,8 @@ module _ {S R : Type 0} (content : Content S R) (cell : CellFacts) where
             (record {
               seen = fronts.2;
               older = (fronts.0, (fronts.1, prefixes_of_longer view.older view.seen both.seen fronts.0 k.older));
-              kept = All-append (λ (book : Book R). rows_of book.number r.log ≡ book.rows) view.books taken.books k.kept h.kept;
-              kept_seen = All-append (λ (book : Book R). rows_of book.number both.seen ≡ book.rows) view.books taken.books
+              kept = All-append (λ (book : Book R). rows_of_pass book.number r.log ≡ book.rows) view.books taken.books k.kept h.kept;
+              kept_seen = All-append (λ (book : Book R). rows_of_pass book.number both.seen ≡ book.rows) view.books taken.books
                   (kept_between view.seen both.seen r.log view.books fronts.0 fronts.2 k.kept_seen k.kept) (kept_between taken.seen both.seen r.log taken.books fronts.1 fronts.2 h.kept_seen h.kept);
               no_books = λ z. absurd (omega arith);
               queues = λ _. omega arith;
@@ -154,8 +156,8 @@ module _ {S R : Type 0} (content : Content S R) (cell : CellFacts) where
   first_knows log own some_pass zero view at = subst (Knows cell 0 1 log 0) (some-injective (first_view cell log) view at) (record {
     seen = prefix_self log;
     older = tt;
-    kept = (rows_of-own 0 log own, tt);
-    kept_seen = (rows_of-own 0 log own, tt);
+    kept = (rows_of_pass-own 0 log own, tt);
+    kept_seen = (rows_of_pass-own 0 log own, tt);
     no_books = λ z. absurd (omega arith);
     queues = λ z. absurd (false≢true z);
     cell_is = λ _. refl;
@@ -164,12 +166,13 @@ module _ {S R : Type 0} (content : Content S R) (cell : CellFacts) where
   })
   first_knows log own some_pass (suc seat) view at = absurd (some-ne-none view (sym at))
 
-  pub begins : (state : S) → AreOf 0 (content.log state) → 0 < cell.passes → content.namespace state ≡ cell.namespace → Rule (opening (0 ∷ 0 ∷ []) (Some state ∷ []) (first_view cell (content.log state)))
-  begins state own some_pass space = record {
+  pub begins : (state : S) → AreOf 0 (content.log state) → 0 < cell.passes → content.namespace state ≡ cell.namespace → IsLawful cell.namespace (content.log state) → Rule (opening (0 ∷ 0 ∷ []) (Some state ∷ []) (first_view cell (content.log state)))
+  begins state own some_pass space lawful = record {
     log = content.log state;
     next = 0;
     served = 0;
     made = 1;
+    lawful = lawful;
     words = refl;
     one_slot = refl;
     at_home = λ _. (state, refl, refl, space);

@@ -17,7 +17,7 @@ use Rattle.log_rule.specs.declared.view.View.{View}
 use Rattle.log_rule.specs.declared.view.Book.{Book}
 use Rattle.log_rule.specs.declared.view.Role.{Role}
 use Rattle.log_rule.specs.declared.view.Role.TheVariants.{Idle, Waits, Holds}
-use Rattle.log_rule.specs.Views.{is_queued, rows_of, AreOf, numbered, AreKept}
+use Rattle.log_rule.specs.Views.{is_queued, rows_of_pass, AreOf, numbered, AreKept}
 use Rattle.log_rule.specs.Rule.{Content, HasTurn, Knows, IsQueue, books_of, AreBooks, IsSeen, IsAtHome, Ruled}
 use Rattle.log_rule.specs.Steps.{with_rows, after_turn, Draws, TakesTurn, MeetsTicket, Looks, HandsOn}
 use Rattle.log_rule.proofs.Sums.{one_here, within, sum_by-set_at, sum_by-at_le, sum_by-two_le, sum_by-alone}
@@ -48,7 +48,7 @@ module _ {S : Type 0} where
   same_hand : (x y : S) (carried : List (ℕ × Option S)) → carried ≡ (0, Some x) ∷ [] → carried ≡ (0, Some y) ∷ [] → x ≡ y
   same_hand x y carried a b = ap (carried_or x) (sym a ∙ b)
 
-module _ {S R : Type 0} (content : Content S R) (cell : CellFacts) where
+module _ {S R : Type 0} (content : Content S R) (IsLawful : List ℕ → List (LogRow R) → Type 0) (cell : CellFacts) where
   abbrev Table : Type 0
   Table = State (Option S) (View R)
 
@@ -56,17 +56,17 @@ module _ {S R : Type 0} (content : Content S R) (cell : CellFacts) where
   Seat = Me (Option S) (View R)
 
   abbrev Rule : Table → Type 0
-  Rule = Ruled content cell
+  Rule = Ruled content IsLawful cell
 
   -- a step of one seat, which keeps its parts and its numbers
   moved : (s : Table) (r : Rule s) (id : ℕ) (view new : View R) → get_elem? s.views id ≡ some view → new.parts ≡ view.parts → ((n : ℕ) → numbered n new.books ≡ numbered n view.books)
       → (words : List ℕ) (homes : List (maybe.Option (Option S))) (log : List (LogRow R)) (next served : ℕ)
-      → words ≡ next % 2 ^ 64 ∷ served % 2 ^ 64 ∷ [] → length homes ≡ 1 → (sum_by turn (set s.views id new) ≡ 0 → IsAtHome content cell log homes)
+      → IsLawful cell.namespace log → words ≡ next % 2 ^ 64 ∷ served % 2 ^ 64 ∷ [] → length homes ≡ 1 → (sum_by turn (set s.views id new) ≡ 0 → IsAtHome content IsLawful cell log homes)
       → IsQueue next served (set s.views id new)
       → Knows cell served r.made log id new → ((seat : ℕ) (v : View R) → seat ≢ id → get_elem? s.views seat ≡ some v → Knows cell served r.made log seat v)
       → AllByRecursion (λ (row : LogRow R). 0 < books_of row.pass s.views) log → IsSeen log (set s.views id new)
       → Rule record { words = words; homes = homes; views = set s.views id new }
-  moved s r id view new at parts numbers words homes log next served are_words one home queue own others known seen =
+  moved s r id view new at parts numbers words homes log next served lawful are_words one home queue own others known seen =
       let swaps = swaps_one s.views id view new at in
       let stays : AreBooks r.made log (set s.views id new) = books_stay r.made log s.views (view ∷ []) (new ∷ []) (set s.views id new) swaps (λ n. let e = numbers n in omega arith)
       (record { once = r.books.once; others = r.books.others; known = known }) in
@@ -75,6 +75,7 @@ module _ {S R : Type 0} (content : Content S R) (cell : CellFacts) where
         next = next;
         served = served;
         made = r.made;
+        lawful = lawful;
         words = are_words;
         one_slot = one;
         at_home = home;
@@ -97,7 +98,7 @@ module _ {S R : Type 0} (content : Content S R) (cell : CellFacts) where
         new,
         keeps,
         tt,
-        moved s r id view new at refl (λ _. refl) (set s.words 0 ((get_or s.words 0 0 + 1) % 2 ^ 64)) s.homes r.log (r.next + 1) r.served
+        moved s r id view new at refl (λ _. refl) (set s.words 0 ((get_or s.words 0 0 + 1) % 2 ^ 64)) s.homes r.log (r.next + 1) r.served r.lawful
             (ap₂ (λ l n. set l 0 n) r.words more) r.one_slot (λ z. r.at_home (sym no_turns ∙ z))
             (queue_drawn r.next r.served s.views id view new at idle refl r.queue)
             (record { seen = k.seen; older = k.older; kept = k.kept; kept_seen = k.kept_seen; no_books = k.no_books; queues = λ _. some_part; cell_is = k.cell_is; turn = tt; maker = k.maker })
@@ -142,7 +143,7 @@ module _ {S R : Type 0} (content : Content S R) (cell : CellFacts) where
         new,
         state,
         ap (λ l. get_elem? l 0) home.1,
-        moved s r id view new at refl (λ _. refl) (set s.words 1 (get_or s.words 1 0)) (set s.homes 0 none) r.log r.next r.served
+        moved s r id view new at refl (λ _. refl) (set s.words 1 (get_or s.words 1 0)) (set s.homes 0 none) r.log r.next r.served r.lawful
             (set-get_or s.words 1 0 ∙ r.words) (length-set s.homes 0 none ∙ r.one_slot) (λ z. absurd (has_turn_now z))
             (queue_waited r.next r.served own s.views id view new at waits refl r.queue)
             (record {
@@ -204,8 +205,9 @@ module _ {S R : Type 0} (content : Content S R) (cell : CellFacts) where
       let one = one_here book.number book.number refl in omega arith
 
   pub hands_on : (slots id own : ℕ) (me : Seat) (state : S) (more : List (LogRow R)) (book : Book R) → me.0.role ≡ Holds own → me.1 ≡ (0, Some state) ∷ [] → 0 < me.0.parts → me.0.books ≡ book ∷ []
-      → content.log state ≡ me.0.seen ++ more → AreOf book.number more → content.namespace state ≡ me.0.cell.namespace → Allows Rule slots id me 1 (λ n. (n + 1) % 2 ^ 64) (HandsOn content (step slots 1 1 0 none) me)
-  hands_on slots id own me state more book holds carried some_part books is are space s r _ at _ =
+      → content.log state ≡ me.0.seen ++ more → AreOf book.number more → content.namespace state ≡ me.0.cell.namespace → IsLawful me.0.cell.namespace (content.log state)
+      → Allows Rule slots id me 1 (λ n. (n + 1) % 2 ^ 64) (HandsOn content (step slots 1 1 0 none) me)
+  hands_on slots id own me state more book holds carried some_part books is are space lawful s r _ at _ =
       let view : View R = me.0 in let k = r.each id view at in
       let has : HasTurn r.served r.log view.seen (Holds own) = subst (HasTurn r.served r.log view.seen) holds k.turn in
       let mine : own ≡ r.served = has.0 in
@@ -218,7 +220,7 @@ module _ {S R : Type 0} (content : Content S R) (cell : CellFacts) where
       let found : get_or s.words 1 0 ≡ r.served % 2 ^ 64 = ap (λ l. get_or l 1 0) r.words in
       let up : (get_or s.words 1 0 + 1) % 2 ^ 64 ≡ (r.served + 1) % 2 ^ 64 = ap (λ n. (n + 1) % 2 ^ 64) found ∙ word_more r.served in
       let kept : AreKept r.log (book ∷ []) = subst (AreKept r.log) books k.kept in
-      let rows : rows_of book.number log ≡ book.rows ++ more = ap (rows_of book.number) longer ∙ kept_own r.log more book kept.0 are in
+      let rows : rows_of_pass book.number log ≡ book.rows ++ more = ap (rows_of_pass book.number) longer ∙ kept_own r.log more book kept.0 are in
       let own_book : 0 < books_of book.number s.views = (
       let e : numbered book.number view.books ≡ numbered book.number (book ∷ []) = ap (numbered book.number) books in
       let one = one_here book.number book.number refl in
@@ -229,7 +231,7 @@ module _ {S R : Type 0} (content : Content S R) (cell : CellFacts) where
         gives,
         tt,
         moved s r id view new at refl (λ n. numbered-with_rows n (drop (length view.seen) log) view.books) (set s.words 1 ((get_or s.words 1 0 + 1) % 2 ^ 64)) (put_back s.homes me.1) log r.next (r.served + 1)
-            (ap₂ (λ l n. set l 1 n) r.words up) (ap length (back ∙ homes')) (λ _. (state, back ∙ homes', refl, space ∙ ap (λ (c : CellFacts). c.namespace) (k.cell_is some_part)))
+            (subst (λ (c : CellFacts). IsLawful c.namespace log) (k.cell_is some_part) lawful) (ap₂ (λ l n. set l 1 n) r.words up) (ap length (back ∙ homes')) (λ _. (state, back ∙ homes', refl, space ∙ ap (λ (c : CellFacts). c.namespace) (k.cell_is some_part)))
             (queue_served r.next r.served own s.views id view new at holds mine refl r.queue)
             (record {
               seen = prefix_self log;

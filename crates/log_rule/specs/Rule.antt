@@ -4,8 +4,9 @@
 -- the turn: it takes the state out of the slot, puts it back, and serves the next ticket. The table's two words hold the
 -- next ticket and the one served, both modulo 2^64; here neither has a bound.
 --
--- All passes share one log, the state's. Each has seen a prefix of it. It only grows, and only by whoever has the turn,
--- who has seen all of it. Each row stands in the book of the pass that offered it.
+-- All passes share one log, the state's, which keeps the rules of its kind (`IsLawful`: the state's crate says them). Each
+-- pass has seen a prefix of it. It only grows, and only by whoever has the turn, who has seen all of it. Each row stands
+-- in the book of the pass that offered it; those of the opening log stand in that of pass 0.
 --
 -- That something is at one place alone is always said by a sum over all views: one pass has the turn, no ticket and no
 -- number is there twice, and a ticket or number that was not given out yet is nowhere.
@@ -74,19 +75,21 @@ module _ {R : Type 0} where
   abbrev pub IsSeen : List (LogRow R) → List (View R) → Type 0
   IsSeen log views = (seat : ℕ) × (view : View R) × (get_elem? views seat ≡ some view) × (0 < view.parts) × (view.seen ≡ log)
 
-module _ {S R : Type 0} (content : Content S R) where
+module _ {S R : Type 0} (content : Content S R) (IsLawful : List ℕ → List (LogRow R) → Type 0) where
   -- the state of this log lies in the slot
   abbrev pub IsAtHome : CellFacts → List (LogRow R) → List (maybe.Option (Option S)) → Type 0
   IsAtHome cell log homes = (state : S) × (homes ≡ some (Some state) ∷ []) × (content.log state ≡ log) × (content.namespace state ≡ cell.namespace)
 
   -- The rule, of the two words, the one slot and the views of all seats: there are a log, the next ticket, the one served
   -- and a number of passes made, of which all this is so.
-  -- `at_home`: where nobody has the turn, the state lies in the slot. `parts`: there are as many parts as passes.
+  -- `lawful`: the log keeps its rules, in the cell's namespace. `at_home`: where nobody has the turn, the state lies in the
+  -- slot. `parts`: there are as many parts as passes.
   pub record Ruled (cell : CellFacts) (table : State (Option S) (View R)) : Type 0 where
     pub log : List (LogRow R)
     pub next : ℕ
     pub served : ℕ
     pub made : ℕ
+    pub lawful : IsLawful cell.namespace log
     pub words : table.words ≡ next % 2 ^ 64 ∷ served % 2 ^ 64 ∷ []
     pub one_slot : length table.homes ≡ 1
     pub at_home : count_by (λ (view : View R). has_turn view.role) table.views ≡ 0 → IsAtHome cell log table.homes

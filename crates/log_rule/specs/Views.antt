@@ -27,8 +27,8 @@ has_ticket ticket (Holds own) = ticket == own
 
 module _ {R : Type 0} where
   -- the rows of the pass of this number, in order
-  abbrev pub rows_of : ℕ → List (LogRow R) → List (LogRow R)
-  rows_of number log = filter (λ row. number == row.pass) log
+  abbrev pub rows_of_pass : ℕ → List (LogRow R) → List (LogRow R)
+  rows_of_pass number log = filter (λ row. number == row.pass) log
 
   -- all rows are of the pass of this number
   abbrev pub AreOf : ℕ → List (LogRow R) → Type 0
@@ -40,7 +40,7 @@ module _ {R : Type 0} where
 
   -- each book has just the rows of its number in the log
   abbrev pub AreKept : List (LogRow R) → List (Book R) → Type 0
-  AreKept log = AllByRecursion (λ book. rows_of book.number log ≡ book.rows)
+  AreKept log = AllByRecursion (λ book. rows_of_pass book.number log ≡ book.rows)
 
   -- each of the lists is a prefix of this one
   abbrev pub ArePrefixes : List (List (LogRow R)) → List (LogRow R) → Type 0

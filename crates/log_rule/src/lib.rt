@@ -2,7 +2,9 @@
 //! state, and one log of which each pass has seen a prefix. There is no code: each kind of step keeps the rule.
 #![tactic(auto)]
 
+mod lawful;
 pub mod laws;
 mod view;
 
+pub use lawful::Lawful;
 pub use view::{Book, CellFacts, Role, View};

@@ -14,7 +14,8 @@ pub enum Role {
     Holds(u64),
 }
 
-/// The rows that a pass was told Stored, in order, with the pass's number.
+/// The rows that a pass was told Stored, in order, with the pass's number. The book of pass 0 begins with the rows of the
+/// opening log.
 pub struct Book<R> {
     pub number: u64,
     pub rows: LinkedList<LogRow<R>>,
