@@ -2,3 +2,4 @@ pub mod Steps
 pub mod Turned
 pub mod NewPasses
 pub mod Joined
+pub mod Offers

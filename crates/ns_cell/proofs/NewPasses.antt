@@ -5,14 +5,14 @@ use Rattle.std.proofs.lemmas.List.Elements.{All-from_recursion}
 use Rattle.atomic_table.specs.Seated.{TableId}
 use Rattle.willow_entry.specs.Row.{RowValue}
 use Rattle.willow_entry.specs.declared.row.LogRow.{LogRow}
-use Rattle.ns_state.specs.Machine.{StateValue, IsLog}
+use Rattle.ns_state.specs.Log.{StateValue, IsLog}
 use Rattle.log_rule.specs.declared.view.CellFacts.{CellFacts}
 use Rattle.log_rule.specs.declared.view.View.{View}
 use Rattle.log_rule.specs.declared.view.Book.{Book}
 use Rattle.log_rule.specs.declared.view.Role.TheVariants.{Idle}
-use Rattle.log_rule.specs.Views.{rows_of, AreOf}
+use Rattle.log_rule.specs.Views.{rows_of_pass, AreOf}
 use Rattle.log_rule.specs.Steps.{first_view, made_view}
-use Rattle.log_rule.proofs.Books.{rows_of-own, rows_of-other}
+use Rattle.log_rule.proofs.Books.{rows_of_pass-own, rows_of_pass-other}
 use Rattle.ns_cell.specs.Passes.{CellValue, PassValue, IsPassOf, opening_rows, new_pass, new_passes}
 use Rattle.ns_cell.specs.Seats.{Place, own_of, cell_at, pass_of, IsAtRest}
 
@@ -32,7 +32,7 @@ module _ {R : Type 0} (value : R → RowValue) (cell : CellFacts) (log : List (L
         role = ap (λ (m : Place R). m.0.role) is;
         parts = ap (λ (m : Place R). m.0.parts) is;
         books = ap (λ (m : Place R). m.0.books) is ∙ (ap (λ n. let b : Book R = record { number = n; rows = [] } in b ∷ []) made ∙ ap (λ l. let b : Book R = record { number = number; rows = l } in b ∷ []) (sym own));
-        own = ap (rows_of number) seen ∙ (rows_of-other number 0 log (λ e. omega arith) are ∙ sym own);
+        own = ap (rows_of_pass number) seen ∙ (rows_of_pass-other number 0 log (λ e. omega arith) are ∙ sym own);
         log = subst (λ n. IsLog value n me.0.seen) (sym space) (subst (IsLog value cell.namespace) (sym seen) is_log);
       }
 
@@ -53,7 +53,7 @@ module _ {R : Type 0} (value : R → RowValue) (cell : CellFacts) (log : List (L
         role = ap (λ (m : Place R). m.0.role) is;
         parts = ap (λ (m : Place R). m.0.parts) is ∙ one;
         books = ap (λ (m : Place R). m.0.books) is ∙ ap (λ l. let b : Book R = record { number = 0; rows = l } in b ∷ []) (sym own);
-        own = ap (rows_of 0) seen ∙ (rows_of-own 0 log are ∙ sym own);
+        own = ap (rows_of_pass 0) seen ∙ (rows_of_pass-own 0 log are ∙ sym own);
         log = subst (λ n. IsLog value n me.0.seen) (sym (ap (λ (m : Place R). m.0.cell.namespace) is)) (subst (IsLog value cell.namespace) (sym seen) is_log);
       }
 

@@ -3,7 +3,8 @@ use Rattle.std.proofs.Common.{◌≡◌, ◌≢◌, ℕ, ◌+◌, ◌%◌, ◌^�
 use mathlib.Core.Option.{none}
 use Rattle.atomic_table.specs.Table.{Step, step, Allows, rest}
 use Rattle.willow_entry.specs.declared.row.LogRow.{LogRow}
-use Rattle.ns_state.specs.Machine.{StateValue}
+use Rattle.willow_entry.specs.Row.{RowValue}
+use Rattle.ns_state.specs.Log.{StateValue, IsLog}
 use Rattle.log_rule.specs.declared.view.CellFacts.{CellFacts}
 use Rattle.log_rule.specs.declared.view.View.{View}
 use Rattle.log_rule.specs.declared.view.Book.{Book}
@@ -50,11 +51,11 @@ module _ {R : Type 0} where
       subst (λ t. TakesTurn content t state view after) (sym (ap (λ (v : View R). ticket_of v.role) h.is)) h
 
   -- the turn may be handed on
-  pub may_hand_on : (cell : CellFacts) (slots id ticket : ℕ) (view : View R) (state : StateValue R) (rows : List (LogRow R)) (book : Book R) (me : Place R) → me ≡ (view, (0, Some state) ∷ []) → view.role ≡ Holds ticket → 0 < view.parts → view.books ≡ book ∷ []
-      → state.log ≡ view.seen ++ rows → AreOf book.number rows → state.namespace ≡ view.cell.namespace → Allows (CellRule cell) slots id me 1 (λ n. (n + 1) % 2 ^ 64) (HandsOn content (step slots 1 1 0 none) me)
-  may_hand_on cell slots id ticket view state rows book me is holds some_part books longer own space =
-      subst (λ (m : Place R). Allows (CellRule cell) slots id m 1 (λ n. (n + 1) % 2 ^ 64) (HandsOn content (step slots 1 1 0 none) m)) (sym is)
-      (hands_on content cell slots id ticket (view, (0, Some state) ∷ []) state rows book holds refl some_part books longer own space)
+  pub may_hand_on : (value : R → RowValue) (cell : CellFacts) (slots id ticket : ℕ) (view : View R) (state : StateValue R) (rows : List (LogRow R)) (book : Book R) (me : Place R) → me ≡ (view, (0, Some state) ∷ []) → view.role ≡ Holds ticket → 0 < view.parts → view.books ≡ book ∷ []
+      → state.log ≡ view.seen ++ rows → AreOf book.number rows → state.namespace ≡ view.cell.namespace → IsLog value state.namespace state.log → Allows (CellRule value cell) slots id me 1 (λ n. (n + 1) % 2 ^ 64) (HandsOn content (step slots 1 1 0 none) me)
+  may_hand_on value cell slots id ticket view state rows book me is holds some_part books longer own space lawful =
+      subst (λ (m : Place R). Allows (CellRule value cell) slots id m 1 (λ n. (n + 1) % 2 ^ 64) (HandsOn content (step slots 1 1 0 none) m)) (sym is)
+      (hands_on content (IsLog value) cell slots id ticket (view, (0, Some state) ∷ []) state rows book holds refl some_part books longer own space (subst (λ n. IsLog value n state.log) space lawful))
 
 -- what was taken out of the slot
 pub out_of : {S : Type 0} (x : S) (y : Option S) (carried others : List (ℕ × Option S)) → carried ≡ (0, Some x) ∷ others → carried ≡ (0, y) ∷ rest carried → y ≡ Some x

@@ -6,7 +6,8 @@ use Rattle.spelling.specs.declared.ending.End.{End}
 use Rattle.spelling.specs.declared.ending.End.TheVariants.{Refused, NoMemory}
 use Rattle.willow_entry.specs.Row.{RowValue, IsCoveringAt}
 use Rattle.willow_entry.specs.declared.row.LogRow.{LogRow}
-use Rattle.ns_state.specs.Machine.{StateValue, values, IsLog, IsAnswer, IsFull}
+use Rattle.ns_state.specs.Log.{StateValue, values, IsLog}
+use Rattle.ns_state.specs.Answer.{IsAnswer}
 use Rattle.ns_state.specs.declared.state.LogFull.{LogFull}
 use Rattle.ns_state.specs.declared.state.Told.{Told}
 use Rattle.ns_state.specs.declared.state.Told.TheVariants.{Stored, Kept}
@@ -14,12 +15,12 @@ use Rattle.log_rule.specs.declared.view.CellFacts.{CellFacts}
 use Rattle.log_rule.specs.declared.view.View.{View}
 use Rattle.log_rule.specs.declared.view.Book.{Book}
 use Rattle.log_rule.specs.declared.view.Role.TheVariants.{Idle, Holds}
-use Rattle.log_rule.specs.Views.{rows_of, AreOf, AreKept}
+use Rattle.log_rule.specs.Views.{rows_of_pass, AreOf, AreKept}
 use Rattle.log_rule.specs.Steps.{ticket_of, with_rows, after_turn, TakesTurn}
 use Rattle.log_rule.proofs.Prefixes.{prefix_more, drop-prefix}
-use Rattle.log_rule.proofs.Books.{rows_of-append, rows_of-own}
+use Rattle.log_rule.proofs.Books.{rows_of_pass-append, rows_of_pass-own}
 use Rattle.ns_cell.specs.Passes.{CellValue, PassValue, IsLater}
-use Rattle.ns_cell.specs.Answers.{IsStored, IsOffered}
+use Rattle.ns_cell.specs.Answers.{stored}
 use Rattle.ns_cell.specs.Seats.{Place, content, own_of, pass_of, IsAtRest, IsTurned}
 
 module _ {R : Type 0} where
@@ -59,7 +60,7 @@ module _ {R : Type 0} where
       let books : after.0.books ≡ (record { number = number; rows = own ++ rows }) ∷ [] = ap (λ (m : Place R). m.0.books) is ∙ ap₂ with_rows added books_before in
       let own' : own_of after.0.books ≡ own ++ rows = ap own_of books in
       let kept : AreKept state.log ((record { number = number; rows = own }) ∷ []) = subst (AreKept state.log) rest.books took.kept in
-      let in_log : rows_of number log ≡ own ++ rows = ap (rows_of number) longer ∙ (rows_of-append number state.log rows ∙ ap₂ (λ l k. l ++ k) kept.0 (rows_of-own number rows are)) in
+      let in_log : rows_of_pass number log ≡ own ++ rows = ap (rows_of_pass number) longer ∙ (rows_of_pass-append number state.log rows ∙ ap₂ (λ l k. l ++ k) kept.0 (rows_of_pass-own number rows are)) in
       let seen' : after.0.seen ≡ log = ap (λ (m : Place R). m.0.seen) is in
       let cell' : after.0.cell ≡ me.0.cell = ap (λ (m : Place R). m.0.cell) is ∙ ap (λ (v : View R). v.cell) took.is in
       record {
@@ -68,7 +69,7 @@ module _ {R : Type 0} where
           role = ap (λ (m : Place R). m.0.role) is;
           parts = ap (λ (m : Place R). m.0.parts) is ∙ (ap (λ (v : View R). v.parts) took.is ∙ rest.parts);
           books = books ∙ ap (λ l. let b : Book R = record { number = number; rows = l } in b ∷ []) (sym own');
-          own = ap (rows_of number) seen' ∙ (in_log ∙ sym own');
+          own = ap (rows_of_pass number) seen' ∙ (in_log ∙ sym own');
           log = subst (λ (space : List ℕ). IsLog value space after.0.seen) (took.namespace ∙ sym (ap (λ (c : CellFacts). c.namespace) cell')) (subst (IsLog value state.namespace) (sym seen') is_log);
         };
         cell = cell';
@@ -94,25 +95,13 @@ module _ {R : Type 0} where
 
   -- ---- what the state answered to an offer
 
-  abbrev pub added_by : LogRow R → Result Told (End LogFull) → List (LogRow R)
-  added_by row (Ok (Stored at)) = row ∷ []
-  added_by row (Ok (Kept at)) = []
-  added_by row (Err e) = []
+  pub stored_there : (value : R → RowValue) (log log' : List (LogRow R)) (row : LogRow R) (result : Result Told (End LogFull)) → IsAnswer value log row log' result → log' ≡ log ++ stored row result
+  stored_there value log log' row (Ok (Stored at)) h = h.log_is
+  stored_there value log log' row (Ok (Kept at)) h = h.log_is ∙ sym (append-nil log)
+  stored_there value log log' row (Err (Refused full)) h = h.1 ∙ sym (append-nil log)
+  stored_there value log log' row (Err NoMemory) h = h ∙ sym (append-nil log)
 
-  pub added : (value : R → RowValue) (log log' : List (LogRow R)) (row : LogRow R) (answer : Result Told (End LogFull)) → IsAnswer value log row log' answer → log' ≡ log ++ added_by row answer
-  added value log log' row (Ok (Stored at)) h = h.2
-  added value log log' row (Ok (Kept at)) h = h.1 ∙ sym (append-nil log)
-  added value log log' row (Err (Refused full)) h = h.1 ∙ sym (append-nil log)
-  added value log log' row (Err NoMemory) h = h ∙ sym (append-nil log)
-
-  pub added_own : (row : LogRow R) (answer : Result Told (End LogFull)) → AreOf row.pass (added_by row answer)
-  added_own row (Ok (Stored at)) = (refl, tt)
-  added_own row (Ok (Kept at)) = tt
-  added_own row (Err e) = tt
-
-  pub offered_as : (value : R → RowValue) (log : List (LogRow R)) (before after : PassValue R) (row : R) (answer : Result Told (End LogFull)) → IsAnswer value log (record { pass = before.number; row = row }) after.seen answer → IsPrefix before.seen log
-      → after.own ≡ before.own ++ added_by (record { pass = before.number; row = row }) answer → IsOffered value before row after answer
-  offered_as value log before after row (Ok (Stored at)) h prefix own = record { earlier = log; seen_before = prefix; at_is = h.1; seen = h.2; uncovered = h.0; own = own }
-  offered_as value log before after row (Ok (Kept at)) h prefix own = (subst (λ l. IsCoveringAt (values value l) at (value row)) (sym h.1) h.0, own ∙ append-nil before.own)
-  offered_as value log before after row (Err (Refused full)) h prefix own = (subst (λ l. IsFull value l row full.front) (sym h.1) h.0, own ∙ append-nil before.own)
-  offered_as value log before after row (Err NoMemory) h prefix own = own ∙ append-nil before.own
+  pub stored_own : (row : LogRow R) (result : Result Told (End LogFull)) → AreOf row.pass (stored row result)
+  stored_own row (Ok (Stored at)) = (refl, tt)
+  stored_own row (Ok (Kept at)) = tt
+  stored_own row (Err e) = tt

@@ -4,8 +4,8 @@ use mathlib.Core.List.{IsPrefix}
 use Rattle.atomic_table.specs.Seated.{TableId}
 use Rattle.willow_entry.specs.Row.{RowValue}
 use Rattle.willow_entry.specs.declared.row.LogRow.{LogRow}
-use Rattle.ns_state.specs.Machine.{IsLog}
-use Rattle.log_rule.specs.Views.{rows_of}
+use Rattle.ns_state.specs.Log.{IsLog}
+use Rattle.log_rule.specs.Views.{rows_of_pass}
 
 -- which cell it is, how many passes it has, and the namespace of its rows
 pub record CellValue : Type 0 where
@@ -29,7 +29,7 @@ module _ {R : Type 0} where
   -- list is the rows of its number there, each once and in order.
   pub record IsPass (value : R → RowValue) (pass : PassValue R) : Type 0 where
     pub log : IsLog value pass.cell.namespace pass.seen
-    pub own : rows_of pass.number pass.seen ≡ pass.own
+    pub own : rows_of_pass pass.number pass.seen ≡ pass.own
 
   -- the same pass later: what it has seen begins with what it had seen
   pub record IsLater (before after : PassValue R) : Type 0 where

@@ -5,13 +5,13 @@ use Rattle.atomic_table.specs.Table.{State, Me}
 use Rattle.atomic_table.specs.Seated.{TableId}
 use Rattle.willow_entry.specs.Row.{RowValue}
 use Rattle.willow_entry.specs.declared.row.LogRow.{LogRow}
-use Rattle.ns_state.specs.Machine.{StateValue, IsLog}
+use Rattle.ns_state.specs.Log.{StateValue, IsLog}
 use Rattle.log_rule.specs.declared.view.CellFacts.{CellFacts}
 use Rattle.log_rule.specs.declared.view.View.{View}
 use Rattle.log_rule.specs.declared.view.Book.{Book}
 use Rattle.log_rule.specs.declared.view.Role.{Role}
 use Rattle.log_rule.specs.declared.view.Role.TheVariants.{Idle, Waits}
-use Rattle.log_rule.specs.Views.{rows_of}
+use Rattle.log_rule.specs.Views.{rows_of_pass}
 use Rattle.log_rule.specs.Rule.{Content, Ruled}
 use Rattle.log_rule.specs.Steps.{ticket_of}
 use Rattle.ns_cell.specs.Passes.{CellValue, PassValue}
@@ -33,8 +33,9 @@ module _ {R : Type 0} where
   abbrev pub content : Content (StateValue R) R
   content = record { log = λ state. state.log; namespace = λ state. state.namespace }
 
-  abbrev pub CellRule : CellFacts → State (Option (StateValue R)) (View R) → Type 0
-  CellRule = Ruled content
+  -- the rule of the table, whose log keeps the rules of a state's
+  abbrev pub CellRule : (R → RowValue) → CellFacts → State (Option (StateValue R)) (View R) → Type 0
+  CellRule value = Ruled content (IsLog value)
 
   -- the rows of the first book
   abbrev pub own_of : List (Book R) → List (LogRow R)
@@ -51,7 +52,7 @@ module _ {R : Type 0} where
     pub role : me.0.role ≡ Idle
     pub parts : me.0.parts ≡ 1
     pub books : me.0.books ≡ (record { number = number; rows = own_of me.0.books }) ∷ []
-    pub own : rows_of number me.0.seen ≡ own_of me.0.books
+    pub own : rows_of_pass number me.0.seen ≡ own_of me.0.books
     pub log : IsLog value me.0.cell.namespace me.0.seen
 
   -- a turn in which these rows came to the log, from the seat before it to the seat after it

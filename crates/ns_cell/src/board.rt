@@ -34,7 +34,7 @@ impl<R: Row> TableRule<Option<NsState<R>>, View<R>, Start<R>> for LogRule<R> {
     ghost use Rattle.log_rule.specs.Steps.{first_view};
     ghost use Rattle.ns_cell.specs.Seats.{CellRule};
 
-    ghost holds = { λ start. CellRule (record { passes = start.passes; namespace = start.state.value.namespace }) };
+    ghost holds = { λ start. CellRule R.value (record { passes = start.passes; namespace = start.state.value.namespace }) };
 
     ghost first = { λ start. first_view (record { passes = start.passes; namespace = start.state.value.namespace }) start.state.value.log };
 }

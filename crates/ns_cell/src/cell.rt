@@ -3,7 +3,7 @@
 ghost use Rattle.std.specs.Prelude.{◌≡◌, ◌⊎◌, ◌<◌, ◌≤◌, length, map, take, drop, All, IfOk, vec_len};
 ghost use mathlib.Core.List.{IsPrefix};
 ghost use Rattle.willow_entry.specs.Row.{live};
-ghost use Rattle.ns_state.specs.Machine.{IsLog, values, plain_row};
+ghost use Rattle.ns_state.specs.Log.{IsLog, values, plain_row};
 ghost use Rattle.log_rule.specs.Views.{AreOf};
 ghost use Rattle.ns_cell.specs.declared.limits.TheConstants.{PASS_LIMIT};
 ghost use Rattle.ns_cell.specs.Passes.{IsPassOf, IsPass, IsLater, new_passes};

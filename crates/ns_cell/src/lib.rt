@@ -18,3 +18,6 @@ pub use cell::NsCell;
 pub use limits::PASS_LIMIT;
 pub use ns_state::{LogFull, NsState, Told};
 pub use pass::Pass;
+
+#[cfg(test)]
+mod tests;

@@ -2,7 +2,7 @@
 
 ghost use Rattle.std.specs.Prelude.{◌≡◌, ◌<◌, ◌≤◌, [], length, IfOk};
 ghost use Rattle.willow_entry.specs.Row.{RowValue};
-ghost use Rattle.ns_state.specs.Machine.{IsLog};
+ghost use Rattle.ns_state.specs.Log.{IsLog};
 ghost use Rattle.log_rule.specs.Views.{AreOf};
 ghost use Rattle.log_rule.specs.Steps.{first_view};
 ghost use Rattle.ns_cell.specs.declared.limits.TheConstants.{PASS_LIMIT};
@@ -25,6 +25,7 @@ pub(crate) fn lay<R: Row>(
 ) -> Result<(Board<R>, Place<R>), NoMemory>
     requires passes { 0 < passes }
     requires opening { AreOf 0 state.log }
+    requires lawful { IsLog R.value state.namespace state.log }
     ensures words { IfOk result (λ r. r.0.shared.table_id.words ≡ 2) }
     ensures key { IfOk result (λ r. (r.0.shared.key.passes ≡ passes) × (r.0.shared.key.state.value ≡ state)) }
     ensures seat { IfOk result (λ r. r.1.table_id ≡ r.0.shared.table_id) }

@@ -8,7 +8,8 @@ use std::marker::Model;
 use willow_entry::Row;
 
 /// The right to call one cell, under a number. A contract sees of which cell it is, its number, the prefix of the
-/// cell's log that it has seen, and its own list: the rows that it was told Stored.
+/// cell's log that it has seen, and its own list: the rows that it was told Stored, and, for pass 0, before them those
+/// of the log at first.
 #[derive(Drop)]
 pub struct Pass<R: Row> {
     pub(crate) number: u32,

@@ -2,6 +2,7 @@
 
 ghost use Rattle.std.specs.Prelude.{◌≡◌, ℕ, ◌<◌, ◌^◌, ◌++◌, List, [], ◌∷◌, None};
 ghost use Rattle.willow_entry.specs.declared.row.LogRow.{LogRow};
+ghost use Rattle.ns_state.specs.Log.{IsLog};
 ghost use Rattle.log_rule.specs.declared.view.Book.{Book};
 ghost use Rattle.log_rule.specs.declared.view.Role.TheVariants.{Idle, Holds};
 ghost use Rattle.log_rule.specs.Views.{AreOf};
@@ -62,6 +63,7 @@ pub(crate) fn end<R: Row>(top: &Top<R>, seat: &mut Place<R>, state: NsState<R>)
     requires holds { (seat.old.me.0.role ≡ Holds (ticket_of seat.old.me.0.role)) × (0 < seat.old.me.0.parts) × (seat.old.me.1 ≡ (0, None) ∷ []) }
     requires log { (book : Book R) × (rows : List (LogRow R)) × (seat.old.me.0.books ≡ book ∷ []) × (state.log ≡ seat.old.me.0.seen ++ rows) × AreOf book.number rows }
     requires namespace { state.namespace ≡ seat.old.me.0.cell.namespace }
+    requires lawful { IsLog R.value state.namespace state.log }
     ensures same { seat.new.table_id ≡ seat.old.table_id }
     ensures view { seat.new.me ≡ (after_turn state.log seat.old.me.0, []) }
 {

@@ -2,7 +2,7 @@
 
 ghost use Rattle.std.specs.Prelude.{◌≡◌, ◌<◌, ◌^◌, length, map, take, drop, IfOk};
 ghost use Rattle.willow_entry.specs.Row.{live};
-ghost use Rattle.ns_state.specs.Machine.{values, plain_row};
+ghost use Rattle.ns_state.specs.Log.{values, plain_row};
 ghost use Rattle.ns_cell.specs.Passes.{IsLater};
 ghost use Rattle.ns_cell.specs.Answers.{IsOffered};
 ghost use Rattle.ns_cell.specs.Seats.{IsAtRest, pass_of};

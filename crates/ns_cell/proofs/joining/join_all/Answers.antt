@@ -1,4 +1,5 @@
 use Rattle.std.proofs.Common.{◌≡◌, ◌<◌, ◌∷◌, ◌++◌, [], length, arith, sym, ap, ◌∙◌, subst}
+use Rattle.ns_state.specs.Log.{IsLog}
 use Rattle.log_rule.proofs.Seats.{joins}
 use Rattle.ns_cell.specs.Passes.{IsPassOf}
 use Rattle.ns_cell.specs.Seats.{content, cell_at}
@@ -16,7 +17,7 @@ join_seat-requires g c =
       c.seat_of.ensures.table ∙ ap (λ k. k.table) own,
       c.seat_of.ensures.carries,
       omega arith,
-      joins content _ _ _ _ _ (let e = inv.2.3.parts in let h = inv.2.2 in omega arith) inv.2.3.role c.seat_of.ensures.joined.role,
+      joins content (IsLog g.R.Row.value) _ _ _ _ _ (let e = inv.2.3.parts in let h = inv.2.2 in omega arith) inv.2.3.role c.seat_of.ensures.joined.role,
     )
 
 pub loop-pass-preserved : goal.loop-pass-preserved

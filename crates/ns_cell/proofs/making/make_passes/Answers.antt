@@ -1,4 +1,5 @@
 use Rattle.std.proofs.Common.{◌≡◌, ◌+◌, ◌-◌, ◌<◌, ◌≤◌, ◌++◌, ◌∷◌, [], length, arith, sym, ap, ap₂, ◌∙◌, subst, refl, length-append}
+use Rattle.ns_state.specs.Log.{IsLog}
 use Rattle.log_rule.specs.Steps.{after_making}
 use Rattle.log_rule.proofs.Seats.{makes}
 use Rattle.ns_cell.specs.Passes.{new_pass, new_passes}
@@ -12,7 +13,7 @@ split_seat-made-requires g c =
     (
       inv.0 ∙ c.requires.table.0,
       omega arith,
-      makes content _ _ _ (ap (λ m. m.0.role) inv.1) (omega arith) (omega arith),
+      makes content (IsLog g.R.Row.value) _ _ _ (ap (λ m. m.0.role) inv.1) (omega arith) (omega arith),
     )
 
 pub invariant_of-push_reserved : goal.invariant_of-push_reserved

@@ -14,7 +14,7 @@ fetch_add-requires g c =
     (
       h.0 ∙ c.requires.table.0,
       omega arith,
-      may_hand_on _ _ _ (ticket_of c.args.seat.now.me.0.role) c.args.seat.now.me.0 c.args.state l.1 l.0 c.exchange.new.seat.me is c.requires.holds.0 c.requires.holds.1 l.2 l.3 l.4 c.requires.namespace,
+      may_hand_on g.R.Row.value _ _ _ (ticket_of c.args.seat.now.me.0.role) c.args.seat.now.me.0 c.args.state l.1 l.0 c.exchange.new.seat.me is c.requires.holds.0 c.requires.holds.1 l.2 l.3 l.4 c.requires.namespace c.requires.lawful,
     )
 
 pub returns-clause-view : goal.returns-clause-view

@@ -1,13 +1,14 @@
 use Rattle.std.proofs.Common.{◌≡◌, ◌<◌, [], ◌∷◌, None, Some, rules, arith, sym, ap, ◌∙◌}
 use mathlib.Core.Option.{none}
 use Rattle.atomic_table.specs.Table.{step, rest}
+use Rattle.ns_state.specs.Log.{IsLog}
 use Rattle.log_rule.proofs.Turns.{looks}
 use Rattle.ns_cell.specs.Seats.{content}
 use Rattle.ns_cell.proofs.Steps.{looked_hit, looked_miss, out_of}
 use Rattle.ns_cell.proofs.turn.take.Goals as goal
 
 pub load-requires : goal.load-requires
-load-requires g c = let words = c.requires.table.1 in (c.loop.invariant.0 ∙ c.requires.table.0, omega arith, looks content _ _ _ c.loop.seat.me c.requires.few)
+load-requires g c = let words = c.requires.table.1 in (c.loop.invariant.0 ∙ c.requires.table.0, omega arith, looks content (IsLog g.R.Row.value) _ _ _ c.loop.seat.me c.requires.few)
 
 pub exchange-requires : goal.exchange-requires
 exchange-requires g c =
