@@ -11,7 +11,7 @@ use Rattle.ns_state.specs.declared.state.Told.{Told}
 use Rattle.ns_state.specs.declared.state.Told.TheVariants.{Stored, Kept}
 use Rattle.log_rule.proofs.Prefixes.{prefix_length}
 use Rattle.ns_cell.specs.Passes.{PassValue, IsLater}
-use Rattle.ns_cell.specs.Answers.{IsOffered, Call, Makes, offered, place}
+use Rattle.ns_cell.specs.Answers.{IsOffered, Call, Offers, Else, Makes, offered, place}
 
 take-front : {A : Type 0} (xs ys : List A) → take (length xs) (xs ++ ys) ≡ xs
 take-front [] ys = refl
@@ -45,7 +45,7 @@ module _ {R : Type 0} (value : R → RowValue) where
 
   -- ---- places
 
-  pub place_between : (before after : PassValue R) (call : Call) → Makes value before call after → (length before.seen ≤ place call after) × (place call after ≤ length after.seen)
+  pub place_between : (before after : PassValue R) (call : Call R) → Makes value before call after → (length before.seen ≤ place call after) × (place call after ≤ length after.seen)
   place_between before after (Offers row (Ok (Stored at))) h =
       let long = stored_is before after row at h.1 in let front = prefix_length before.seen h.1.log h.1.seen in let is = h.1.answer.at_is in
       (omega arith, (let l = long.1 in omega arith))
@@ -53,7 +53,7 @@ module _ {R : Type 0} (value : R → RowValue) where
   place_between before after (Offers row (Err e)) h = (prefix_length before.seen after.seen h.0.seen, omega arith)
   place_between before after Else h = (prefix_length before.seen after.seen h.seen, omega arith)
 
-  pub place_rises : (first then next last : PassValue R) (call later_call : Call) → Makes value first call then → IsLater then next → Makes value next later_call last → place call then ≤ place later_call last
+  pub place_rises : (first then next last : PassValue R) (call later_call : Call R) → Makes value first call then → IsLater then next → Makes value next later_call last → place call then ≤ place later_call last
   place_rises first then next last call later_call a between b =
       let x = place_between first then call a in let y = place_between next last later_call b in
       let z = prefix_length then.seen next.seen between.seen in let x1 = x.1 in let y0 = y.0 in omega arith

@@ -12,6 +12,11 @@ use Rattle.ns_state.specs.declared.state.Told.{Told}
 use Rattle.ns_state.specs.declared.state.Told.TheVariants.{Stored, Kept}
 use Rattle.ns_cell.specs.Passes.{PassValue, IsLater}
 
+-- what a pass does in a call: it offers a row and is answered so, or it does something else
+pub data Call (R : Type 0) : Type 0 where
+  Offers : R → Result Told (End LogFull) → Call R
+  Else : Call R
+
 module _ {R : Type 0} where
   -- the row as it stands in a log, under the number of the pass
   abbrev pub offered : PassValue R → R → LogRow R
@@ -34,18 +39,13 @@ module _ {R : Type 0} where
     pub event : IsOffer (logged value log) (log_value value (offered before row)) (logged value after.seen) result
     pub own : after.own ≡ before.own ++ stored (offered before row) result
 
-  -- What a pass does in a call: it offers a row and is answered so, or it does something else.
-  pub data Call : Type 0 where
-    Offers : R → Result Told (End LogFull) → Call
-    Else : Call
-
   -- the call made this of the pass
-  abbrev pub Makes : (R → RowValue) → PassValue R → Call → PassValue R → Type 0
+  abbrev pub Makes : (R → RowValue) → PassValue R → Call R → PassValue R → Type 0
   Makes value before (Offers row result) after = IsLater before after × IsOffered value before row after result
   Makes value before Else after = IsLater before after
 
   -- the place of a call in the one log: that of the row where one was stored, else where that ends which was then seen
-  abbrev pub place : Call → PassValue R → ℕ
+  abbrev pub place : Call R → PassValue R → ℕ
   place (Offers row (Ok (Stored at))) after = at
   place (Offers row (Ok (Kept at))) after = length after.seen
   place (Offers row (Err e)) after = length after.seen

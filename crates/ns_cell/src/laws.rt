@@ -44,10 +44,10 @@ pub fn answers<R: Row>()
 /// Each call of a pass has its place in the one log between what the pass had seen before it and what it has seen after
 /// it, and the places of one pass never fall, whatever it did between two calls.
 pub fn places<R: Row>()
-    ensures between { (before after : PassValue R) (call : Call)
+    ensures between { (before after : PassValue R) (call : Call R)
         → Makes R.value before call after
         → (length before.seen ≤ place call after) × (place call after ≤ length after.seen) }
-    ensures rise { (first then next last : PassValue R) (call later_call : Call)
+    ensures rise { (first then next last : PassValue R) (call later_call : Call R)
         → Makes R.value first call then → IsLater then next → Makes R.value next later_call last
         → place call then ≤ place later_call last }
 {}

@@ -39,8 +39,8 @@ fn row(alloc: Global, namespace: &NamespaceKey, part: u8, timestamp: u64) -> Opt
 struct Answers {
     numbers: (u32, u32),
     first: Told,
+    other_of_first: (Told, u32),
     second: Told,
-    again: Told,
     seen_apart: (u32, u32),
     seen_met: (u32, u32),
     live: u32,
@@ -62,7 +62,7 @@ fn digits<R: Row>(rows: &[LogRow<Arc<R>>]) -> (usize, u64) {
     (rows.len(), digits)
 }
 
-// Two passes offer a row each, the second its own again, and then they meet.
+// One pass offers a row, which the other is then told of without having met it, and a row of its own. Then they meet.
 fn all_calls<W: Wait>(
     rt: &W,
     alloc: Global,
@@ -76,8 +76,9 @@ fn all_calls<W: Wait>(
     requires namespace { namespace ≡ cell.namespace }
 {
     let first = cell.ingest(rt, &mut one, row(alloc, &namespace, b'a', 5)?).ok()?;
+    let known = cell.ingest(rt, &mut other, row(alloc, &namespace, b'a', 5)?).ok()?;
+    let other_of_first = (known, other.seen());
     let second = cell.ingest(rt, &mut other, row(alloc, &namespace, b'b', 6)?).ok()?;
-    let again = cell.ingest(rt, &mut other, row(alloc, &namespace, b'b', 6)?).ok()?;
     let seen_apart = (one.seen(), other.seen());
     cell.meet(&mut one, &mut other);
     let seen_met = (one.seen(), other.seen());
@@ -92,8 +93,8 @@ fn all_calls<W: Wait>(
     Some(Answers {
         numbers,
         first,
+        other_of_first,
         second,
-        again,
         seen_apart,
         seen_met,
         live,
@@ -119,8 +120,8 @@ fn two_passes(rt: HostRuntime) {
     let wanted = Answers {
         numbers: (0, 1),
         first: Told::Stored { at: 0 },
+        other_of_first: (Told::Kept { at: 0 }, 1),
         second: Told::Stored { at: 1 },
-        again: Told::Kept { at: 1 },
         seen_apart: (1, 2),
         seen_met: (2, 2),
         live: 2,
