@@ -26,8 +26,7 @@ module _ {R : Type 0} (value : R → RowValue) where
       → (slice_get after.seen at ≡ Some (offered before row)) × (length after.seen ≡ at + 1) × (HasCovering (values value (take at after.seen)) (value row) → ⊥) × (after.own ≡ before.own ++ offered before row ∷ [])
   stored_is before after row at h =
       let a = h.answer in let new = offered before row in
-      let front : take at after.seen ≡ h.log = ap (λ n. take n after.seen) a.at_is ∙ (ap (take (length h.log)) a.log_is ∙ take-front h.log (new ∷ [])) in
-      (
+      let front : take at after.seen ≡ h.log = ap (λ n. take n after.seen) a.at_is ∙ (ap (take (length h.log)) a.log_is ∙ take-front h.log (new ∷ [])) in (
         ap (λ n. slice_get after.seen n) a.at_is ∙ (ap (λ l. slice_get l (length h.log)) a.log_is ∙ get-behind h.log new),
         omega (arith, a.at_is, ap length a.log_is, length-append h.log (new ∷ [])),
         subst (λ l. HasCovering (values value l) (value row) → ⊥) (sym front) a.uncovered,

@@ -36,14 +36,13 @@ module _ {R : Type 0} where
 
   pub further_rows : (value : R → RowValue) (number ticket : ℕ) (me : Place R) (view : View R) (state : StateValue R) (log rows : List (LogRow R)) → IsAtRest value number me → TakesTurn content ticket state me.0 view → log ≡ state.log ++ rows → AreOf number rows
       → (book : Book R) × (more : List (LogRow R)) × (view.books ≡ book ∷ []) × (log ≡ view.seen ++ more) × AreOf book.number more
-  further_rows value number ticket me view state log rows rest took longer are =
-      (
-        record { number = number; rows = own_of me.0.books },
-        rows,
-        ap (λ (v : View R). v.books) took.is ∙ rest.books,
-        longer ∙ ap (λ l. l ++ rows) (sym (ap (λ (v : View R). v.seen) took.is)),
-        are,
-      )
+  further_rows value number ticket me view state log rows rest took longer are = (
+    record { number = number; rows = own_of me.0.books },
+    rows,
+    ap (λ (v : View R). v.books) took.is ∙ rest.books,
+    longer ∙ ap (λ l. l ++ rows) (sym (ap (λ (v : View R). v.seen) took.is)),
+    are,
+  )
 
   pub same_namespace : (ticket : ℕ) (me : Place R) (view : View R) (state : StateValue R) → TakesTurn content ticket state me.0 view → state.namespace ≡ view.cell.namespace
   same_namespace ticket me view state took = took.namespace ∙ sym (ap (λ (v : View R). v.cell.namespace) took.is)
@@ -73,6 +72,7 @@ module _ {R : Type 0} where
           log = subst (λ (space : List ℕ). IsLog value space after.0.seen) (took.namespace ∙ sym (ap (λ (c : CellFacts). c.namespace) cell')) (subst (IsLog value state.namespace) (sym seen') is_log);
         };
         cell = cell';
+        turns = ap (λ (m : Place R). m.0.turns) is ∙ ap (λ (v : View R). v.turns + 1) took.is;
         seen = subst (IsPrefix me.0.seen) (sym (seen' ∙ longer)) (prefix_more me.0.seen state.log rows took.seen);
         own = own';
       }

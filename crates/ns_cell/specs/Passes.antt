@@ -13,10 +13,12 @@ pub record CellValue : Type 0 where
   pub passes : ℕ
   pub namespace : List ℕ
 
--- a pass: of which cell it is, its number, the prefix of the log that it has seen, and its own list
+-- a pass: of which cell it is, its number, how many turns it has had, the prefix of the log that it has seen, and its own
+-- list; at the end of a turn it had seen the whole log of that moment
 pub record PassValue (R : Type 0) : Type 0 where
   pub cell : CellValue
   pub number : ℕ
+  pub turns : ℕ
   pub seen : List (LogRow R)
   pub own : List (LogRow R)
 
@@ -37,13 +39,13 @@ module _ {R : Type 0} where
     pub number : after.number ≡ before.number
     pub seen : IsPrefix before.seen after.seen
 
-  -- a pass of a new cell: it has seen the log, which is the own list of pass 0
+  -- a pass of a new cell: it has had no turn, and has seen the log, which is the own list of pass 0
   abbrev pub opening_rows : ℕ → List (LogRow R) → List (LogRow R)
   opening_rows zero log = log
   opening_rows (suc number) log = []
 
   abbrev pub new_pass : CellValue → List (LogRow R) → ℕ → PassValue R
-  new_pass cell log number = record { cell = cell; number = number; seen = log; own = opening_rows number log }
+  new_pass cell log number = record { cell = cell; number = number; turns = 0; seen = log; own = opening_rows number log }
 
   -- so many of them, numbered from this number on
   abbrev pub new_passes : CellValue → List (LogRow R) → ℕ → ℕ → List (PassValue R)

@@ -1,5 +1,5 @@
 -- The seats of a cell's table: a pass between its calls, and what a turn makes of it.
-use Rattle.std.specs.Prelude.{◌≡◌, ℕ, ◌%◌, ◌^◌, ◌<◌, ◌++◌, List, [], ◌∷◌, length, Option}
+use Rattle.std.specs.Prelude.{◌≡◌, ℕ, ◌+◌, ◌%◌, ◌^◌, ◌<◌, ◌++◌, List, [], ◌∷◌, length, Option}
 use mathlib.Core.List.{IsPrefix}
 use Rattle.atomic_table.specs.Table.{State, Me}
 use Rattle.atomic_table.specs.Seated.{TableId}
@@ -44,7 +44,7 @@ module _ {R : Type 0} where
 
   -- what contracts see of a pass with this seat
   abbrev pub pass_of : TableId → ℕ → Place R → PassValue R
-  pass_of table number me = record { cell = cell_at table me.0.cell.passes me.0.cell.namespace; number = number; seen = me.0.seen; own = own_of me.0.books }
+  pass_of table number me = record { cell = cell_at table me.0.cell.passes me.0.cell.namespace; number = number; turns = me.0.turns; seen = me.0.seen; own = own_of me.0.books }
 
   -- the seat of a pass between its calls
   pub record IsAtRest (value : R → RowValue) (number : ℕ) (me : Place R) : Type 0 where
@@ -59,6 +59,7 @@ module _ {R : Type 0} where
   pub record IsTurned (value : R → RowValue) (number : ℕ) (rows : List (LogRow R)) (before after : Place R) : Type 0 where
     pub rest : IsAtRest value number after
     pub cell : after.0.cell ≡ before.0.cell
+    pub turns : after.0.turns ≡ before.0.turns + 1
     pub seen : IsPrefix before.0.seen after.0.seen
     pub own : own_of after.0.books ≡ own_of before.0.books ++ rows
 

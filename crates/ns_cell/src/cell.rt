@@ -1,6 +1,6 @@
 //! The cell.
 
-ghost use Rattle.std.specs.Prelude.{◌≡◌, ◌⊎◌, ◌<◌, ◌≤◌, length, map, take, drop, All, IfOk, vec_len};
+ghost use Rattle.std.specs.Prelude.{◌≡◌, ◌⊎◌, ◌+◌, ◌<◌, ◌≤◌, length, map, take, drop, All, IfOk, vec_len};
 ghost use mathlib.Core.List.{IsPrefix};
 ghost use Rattle.willow_entry.specs.Row.{live};
 ghost use Rattle.ns_state.specs.Log.{IsLog, values, plain_row};
@@ -76,16 +76,12 @@ impl<R: Row> NsCell<R> {
 
     /// Offers a row of the namespace in a turn, under the number of the pass. After any answer the pass has seen the whole
     /// log of that moment; where the row is not stored, its own list stays.
-    pub fn ingest<W: Wait>(
-        &self,
-        rt: &W,
-        pass: &mut Pass<R>,
-        row: R,
-    ) -> Result<Told, End<LogFull>>
+    pub fn ingest<W: Wait>(&self, rt: &W, pass: &mut Pass<R>, row: R) -> Result<Told, End<LogFull>>
         requires pass { IsPassOf self.now pass.old }
         requires namespace { (R.value row).entry.namespace ≡ self.now.namespace }
         ensures later { IsLater pass.old pass.new }
         ensures offered { IsOffered R.value pass.old row pass.new result }
+        ensures turn { pass.new.turns ≡ pass.old.turns + 1 }
         ensures pass { IsPass R.value pass.new }
     {
         let (answer, front) = work::offer(rt, &self.table.shared, &mut pass.seat, pass.number, row);
@@ -98,6 +94,7 @@ impl<R: Row> NsCell<R> {
         requires { IsPassOf self.now pass.old }
         ensures later { IsLater pass.old pass.new }
         ensures own { pass.new.own ≡ pass.old.own }
+        ensures turn { pass.new.turns ≡ pass.old.turns + 1 }
         ensures live { IfOk result (λ snapshot. map R.value snapshot ≡ live (values R.value pass.new.seen)) }
         ensures pass { IsPass R.value pass.new }
     {
@@ -117,10 +114,18 @@ impl<R: Row> NsCell<R> {
         requires { IsPassOf self.now pass.old }
         ensures later { IsLater pass.old pass.new }
         ensures own { pass.new.own ≡ pass.old.own }
+        ensures turn { pass.new.turns ≡ pass.old.turns + 1 }
         ensures rows { IfOk result (λ rows. map plain_row rows.items ≡ take most (drop from pass.new.seen)) }
         ensures pass { IsPass R.value pass.new }
     {
-        let (rows, front) = work::read(rt, &self.table.shared, &mut pass.seat, pass.number, from, most);
+        let (rows, front) = work::read(
+            rt,
+            &self.table.shared,
+            &mut pass.seat,
+            pass.number,
+            from,
+            most,
+        );
         pass.seen = front;
         rows
     }
@@ -133,6 +138,7 @@ impl<R: Row> NsCell<R> {
         ensures same { one.new.seen ≡ other.new.seen }
         ensures no_more { (one.new.seen ≡ one.old.seen) ⊎ (one.new.seen ≡ other.old.seen) }
         ensures own { (one.new.own ≡ one.old.own) × (other.new.own ≡ other.old.own) }
+        ensures turns { (one.new.turns ≡ one.old.turns) × (other.new.turns ≡ other.old.turns) }
         ensures pass { IsPass R.value one.new × IsPass R.value other.new }
     {
         let top = &self.table.shared;

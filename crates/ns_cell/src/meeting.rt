@@ -18,6 +18,7 @@ pub(crate) fn learn_from<R: Row>(top: &Top<R>, one: &mut Pass<R>, other: &mut Pa
     ensures learned { IsPrefix other.old.seen one.new.seen }
     ensures seen { one.new.seen ≡ longer one.old.seen other.old.seen }
     ensures own { one.new.own ≡ one.old.own }
+    ensures turns { one.new.turns ≡ one.old.turns }
     ensures pass { IsPass R.value one.new }
     ensures other { other.new ≡ other.old }
 {

@@ -75,10 +75,16 @@ fn all_calls<W: Wait>(
     requires count { cell.passes ≡ 2 }
     requires namespace { namespace ≡ cell.namespace }
 {
-    let first = cell.ingest(rt, &mut one, row(alloc, &namespace, b'a', 5)?).ok()?;
-    let known = cell.ingest(rt, &mut other, row(alloc, &namespace, b'a', 5)?).ok()?;
+    let first = cell
+        .ingest(rt, &mut one, row(alloc, &namespace, b'a', 5)?)
+        .ok()?;
+    let known = cell
+        .ingest(rt, &mut other, row(alloc, &namespace, b'a', 5)?)
+        .ok()?;
     let other_of_first = (known, other.seen());
-    let second = cell.ingest(rt, &mut other, row(alloc, &namespace, b'b', 6)?).ok()?;
+    let second = cell
+        .ingest(rt, &mut other, row(alloc, &namespace, b'b', 6)?)
+        .ok()?;
     let seen_apart = (one.seen(), other.seen());
     cell.meet(&mut one, &mut other);
     let seen_met = (one.seen(), other.seen());

@@ -11,8 +11,7 @@ pub join_seat-requires : goal.join_seat-requires
 join_seat-requires g c =
     let inv = c.loop-pass.invariant in let words = c.requires.words in
     let cell = cell_at c.args.top.now.table_id c.args.top.now.key.passes c.args.top.now.key.state.value.namespace in
-    let own = all_mid (IsPassOf cell) c.args.passes.items c.loop-pass.passes.items c.pop-in-loop-pass.new.self.items inv.2.0 c.in-Some-pop.pass c.requires.passes inv.2.1 c.in-Some-pop.ensures.items in
-    (
+    let own = all_mid (IsPassOf cell) c.args.passes.items c.loop-pass.passes.items c.pop-in-loop-pass.new.self.items inv.2.0 c.in-Some-pop.pass c.requires.passes inv.2.1 c.in-Some-pop.ensures.items in (
       inv.0,
       c.seat_of.ensures.table ∙ ap (λ k. k.table) own,
       c.seat_of.ensures.carries,
@@ -24,8 +23,7 @@ pub loop-pass-preserved : goal.loop-pass-preserved
 loop-pass-preserved g c =
     let inv = c.loop-pass.invariant in let now = c.join_seat.ensures.2 in
     let cell = cell_at c.args.top.now.table_id c.args.top.now.key.passes c.args.top.now.key.state.value.namespace in
-    let own = all_mid (IsPassOf cell) c.args.passes.items c.loop-pass.passes.items c.pop-in-loop-pass.new.self.items inv.2.0 c.in-Some-pop.pass c.requires.passes inv.2.1 c.in-Some-pop.ensures.items in
-    (
+    let own = all_mid (IsPassOf cell) c.args.passes.items c.loop-pass.passes.items c.pop-in-loop-pass.new.self.items inv.2.0 c.in-Some-pop.pass c.requires.passes inv.2.1 c.in-Some-pop.ensures.items in (
       c.join_seat.ensures.0 ∙ inv.0,
       ap (λ m. m.1) now ∙ inv.1,
       (

@@ -10,8 +10,7 @@ exchange-requires g c = (c.requires.table.0, (None, c.requires.holds.2 ∙ ap (�
 pub fetch_add-requires : goal.fetch_add-requires
 fetch_add-requires g c =
     let h = c.exchange.ensures in let l = c.requires.log in let words = c.requires.table.1 in
-    let is = h.3 ∙ ap (λ k. (c.args.seat.now.me.0, (0, Some c.args.state) ∷ rest k)) c.requires.holds.2 in
-    (
+    let is = h.3 ∙ ap (λ k. (c.args.seat.now.me.0, (0, Some c.args.state) ∷ rest k)) c.requires.holds.2 in (
       h.0 ∙ c.requires.table.0,
       omega arith,
       may_hand_on g.R.Row.value _ _ _ (ticket_of c.args.seat.now.me.0.role) c.args.seat.now.me.0 c.args.state l.1 l.0 c.exchange.new.seat.me is c.requires.holds.0 c.requires.holds.1 l.2 l.3 l.4 c.requires.namespace c.requires.lawful,

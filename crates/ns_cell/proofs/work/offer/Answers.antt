@@ -40,3 +40,6 @@ returns-clause-offered g c =
       event = subst (λ l. IsOffer (logged value log) (log_value value row) (logged value l) c.ingest-answer.result) seen c.ingest-answer.ensures.offer;
       own = (whole_turn g c).own;
     }
+
+pub returns-clause-turn : goal.returns-clause-turn
+returns-clause-turn g c = (whole_turn g c).turns

@@ -15,3 +15,6 @@ returns-clause-rest g c = (whole_turn g c).rest
 
 pub returns-clause-own : goal.returns-clause-own
 returns-clause-own g c = (whole_turn g c).own ∙ append-nil _
+
+pub returns-clause-turn : goal.returns-clause-turn
+returns-clause-turn g c = (whole_turn g c).turns
