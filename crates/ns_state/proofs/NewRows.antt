@@ -17,7 +17,7 @@ new_after-append {X} covers earlier (x ∷ xs) ys =
     let more : new_after covers (earlier ++ x ∷ []) (xs ++ ys) ≡ new_after covers (earlier ++ x ∷ []) xs ++ new_after covers (earlier ++ x ∷ xs) ys =
     new_after-append covers (earlier ++ x ∷ []) xs ys ∙ ap (λ l. new_after covers (earlier ++ x ∷ []) xs ++ new_after covers l ys) (append_assoc earlier (x ∷ []) xs) in
     let P : Bool → Type 0 = λ b. cond b (new_after covers (earlier ++ x ∷ []) (xs ++ ys)) (x ∷ new_after covers (earlier ++ x ∷ []) (xs ++ ys))
-        ≡ cond b (new_after covers (earlier ++ x ∷ []) xs) (x ∷ new_after covers (earlier ++ x ∷ []) xs) ++ new_after covers (earlier ++ x ∷ xs) ys in
+    ≡ cond b (new_after covers (earlier ++ x ∷ []) xs) (x ∷ new_after covers (earlier ++ x ∷ []) xs) ++ new_after covers (earlier ++ x ∷ xs) ys in
     let each : (b : Bool) → P b = elim [ true ↦ more | false ↦ ap (λ l. x ∷ l) more ] in
     each (list_any (λ y. covers y x) earlier)
 

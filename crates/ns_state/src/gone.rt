@@ -22,10 +22,7 @@ fn item_at<R: Row>(store: &BlockStore<R>, at: u32) -> Result<Ranked, NoMemory>
 }
 
 // The items of the rows that the row dominates.
-pub(crate) fn gone_items<R: Row>(
-    store: &BlockStore<R>,
-    row: &R,
-) -> Result<Vec<Ranked>, NoMemory>
+pub(crate) fn gone_items<R: Row>(store: &BlockStore<R>, row: &R) -> Result<Vec<Ranked>, NoMemory>
     ensures { IfOk result (λ gone. gone.items ≡ items_of (filter (is_dominating (R.value row.now)) (map R.value store.now))) }
 {
     let positions = store.pruned_by(row)?;

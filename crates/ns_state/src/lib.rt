@@ -10,3 +10,5 @@ mod state;
 
 pub use state::{LOG_LIMIT, LogFull, NsState, Told};
 
+#[cfg(test)]
+mod tests;
