@@ -33,6 +33,16 @@ class Area:
     def is_empty(self) -> bool:
         return self.end is not None and self.end <= self.start
 
+    def common(self, other: "Area") -> Optional["Area"]:
+        """The area of what is in both; None where nothing is."""
+        subspaces = {area.subspace for area in (self, other)} - {None}
+        short, long = sorted((self.path, other.path), key=len)
+        ends = [area.end for area in (self, other) if area.end is not None]
+        both = Area(min(subspaces, default=None), long, max(self.start, other.start), min(ends, default=None))
+        if len(subspaces) > 1 or not is_prefix(short, long) or both.is_empty():
+            return None
+        return both
+
     def spelled(self) -> bytes:
         subspace = b"\x00" if self.subspace is None else b"\x01" + self.subspace
         end = b"\x00" if self.end is None else b"\x01" + number(8, self.end)
@@ -133,6 +143,20 @@ class Capability:
     def handover(self, area: Area, user: bytes) -> bytes:
         """What the receiver signs to hand the area over."""
         return b"H" + self.spelled() + area.spelled() + user
+
+    def hello_refusal(self, namespace: bytes, ask: Area) -> Optional[str]:
+        """Why a hello of version 1 that shows this capability and asks for the area is refused: what fails first."""
+        if self.namespace != namespace:
+            return "WrongNamespace"
+        if self.mode != READ:
+            return "NotRead"
+        chain = self.refusal()
+        if chain is not None:
+            return f"Chain {chain}"
+        # An area without times can stand in no hello; one that is asked for counts as one outside the grant.
+        if ask.is_empty() or not self.grant().includes_area(ask):
+            return "AskOutsideGrant"
+        return None
 
     def delegated(self, delegation: Delegation) -> "Capability":
         return replace(self, chain=self.chain + (delegation,))

@@ -2,14 +2,15 @@
 from dataclasses import dataclass
 
 import lms
-from capabilities import (Area, Capability, Delegation, entry_message, initial_message, open_signature,
+from capabilities import (FULL, Area, Capability, Delegation, entry_message, initial_message, open_signature,
                           read_capability)
 from entries import Entry, Store, live
+from exchange import Run, exchange
 from octets import NotSpelled, whole
 from outside import Fault, Objects
 from report import (BAD_INPUT, KEY_SPENT, LOG_FULL, MISSING, NOT_RISING, PRUNED, READ_FAULT, REFUSED, TAKEN, USAGE,
-                    WRITE_FAULT, Stop, first_refused)
-from rows import BadBytes, NotRising, Pruned, Row, generated, image, read_image, read_rows
+                    SESSION_REFUSED, WRITE_FAULT, Stop, first_refused)
+from rows import OWNED, BadBytes, NotRising, Pruned, Row, generated, image, read_image, read_rows
 from grammar import NONE, ANY, Usage, read_words
 
 LOG_LIMIT = 65_536
@@ -46,6 +47,14 @@ def judged(rows: list, namespace: bytes):
     return authorised, [(at, refusal) for at, refusal in enumerate(refusals, 1) if refusal is not None]
 
 
+def take(store: Store, rows: list) -> None:
+    """Offers the rows in order; a row that would be stored may meet a full log."""
+    for row in rows:
+        if store.stored == LOG_LIMIT and not store.covers(row):
+            raise Stop(LOG_FULL)
+        store.take(row)
+
+
 def join(objects: Objects, namespace: bytes) -> End:
     data = taken(objects.input.read_all)
     try:
@@ -54,10 +63,7 @@ def join(objects: Objects, namespace: bytes) -> End:
         raise Stop(BAD_INPUT, name=INPUT, offset=bad.offset) from None
     authorised, refusals = judged(rows, namespace)
     store = Store()
-    for row in authorised:
-        if store.stored == LOG_LIMIT and not store.covers(row):
-            raise Stop(LOG_FULL)
-        store.take(row)
+    take(store, authorised)
     kept = store.live()
     assert len(authorised) > SMALL or kept == live(authorised)
     given(lambda: objects.output.write_whole(image(namespace, kept)))
@@ -65,16 +71,20 @@ def join(objects: Objects, namespace: bytes) -> End:
     return End(counts + first_refused(refusals), bool(refusals))
 
 
-def show(objects: Objects) -> End:
-    data = taken(objects.input.read_all)
+def image_in(data: bytes, name: str):
+    """The namespace and the rows of an image; what is wrong with it is told of where it came from."""
     try:
-        namespace, rows = read_image(data)
+        return read_image(data)
     except BadBytes as bad:
-        raise Stop(BAD_INPUT, name=INPUT, offset=bad.offset) from None
+        raise Stop(BAD_INPUT, name=name, offset=bad.offset) from None
     except NotRising as wrong:
-        raise Stop(NOT_RISING, name=INPUT, at=wrong.args[0]) from None
+        raise Stop(NOT_RISING, name=name, at=wrong.args[0]) from None
     except Pruned as wrong:
-        raise Stop(PRUNED, name=INPUT, at=wrong.args[0], by=wrong.args[1]) from None
+        raise Stop(PRUNED, name=name, at=wrong.args[0], by=wrong.args[1]) from None
+
+
+def show(objects: Objects) -> End:
+    namespace, rows = image_in(taken(objects.input.read_all), INPUT)
     authorised, refusals = judged(rows, namespace)
     # In how many pieces a listing is written is not part of what a run must do: it is taken from the program, and only
     # the cases in which a call of the output fails rest on it.
@@ -106,11 +116,17 @@ class Signer:
         return open_signature(self.told, message) if self.file is None else self.file.sign(message)
 
 
-def reserved(objects: Objects, name: str) -> lms.LmsKey:
-    """The key of the file, with its next index, which is then used up on the shelf."""
+def named(objects: Objects, name: str) -> bytes:
+    """The bytes under a name."""
     data = taken(lambda: objects.shelf.get(name))
     if data is None:
         raise Stop(MISSING, name=name)
+    return data
+
+
+def reserved(objects: Objects, name: str) -> lms.LmsKey:
+    """The key of the file, with its next index, which is then used up on the shelf."""
+    data = named(objects, name)
     try:
         file = lms.read_key_file(data)
     except NotSpelled:
@@ -139,12 +155,15 @@ def grant(objects: Objects, namespace: bytes, mode: int, user: bytes, key=None) 
     return made_capability(objects, Capability(mode, namespace, user, initial))
 
 
-def input_capability(objects: Objects) -> Capability:
-    data = taken(objects.input.read_all)
+def capability_in(data: bytes, name: str) -> Capability:
     try:
         return whole(read_capability, data)
     except NotSpelled:
-        raise Stop(BAD_INPUT, name=INPUT, offset=0) from None
+        raise Stop(BAD_INPUT, name=name, offset=0) from None
+
+
+def input_capability(objects: Objects) -> Capability:
+    return capability_in(taken(objects.input.read_all), INPUT)
 
 
 def asked_area(granted: Area, words: dict) -> Area:
@@ -176,14 +195,79 @@ def gen(objects: Objects, rows: int) -> End:
     return End()
 
 
-COMMANDS = {"join": join, "show": show, "key": key, "grant": grant, "delegate": delegate, "write": write, "gen": gen}
+class Side:
+    """A side of a meeting: what it stored, and what then became of the rows that came."""
+
+    def __init__(self, rows: list):
+        self.store, self.rows = Store(), len(rows)
+        take(self.store, rows)
+        self.before = self.store.live()
+
+    def take_in(self, rows: list) -> None:
+        stored, kept = self.store.stored, self.store.kept
+        take(self.store, rows)
+        self.stored, self.kept = self.store.stored - stored, self.store.kept - kept
+
+    def line(self) -> str:
+        return f"rows {self.rows} stored {self.stored} kept {self.kept}"
+
+
+def met(left: Side, right: Side, area) -> Run:
+    """Both sides exchange what they have in the area, and take what comes."""
+    run = exchange(left.before, right.before, area)
+    left.take_in(run.came[0])
+    right.take_in(run.came[1])
+    return run
+
+
+def drill(objects: Objects, rows: int) -> End:
+    made_rows = [generated(index) for index in range(rows)]
+    sides = [Side(judged(some, OWNED)[0]) for some in (made_rows, made_rows[:rows // 2])]
+    run = met(*sides, FULL)
+    before, after = [len(side.before) for side in sides], [len(side.store.live()) for side in sides]
+    given(lambda: objects.output.write_whole(
+        f"rows {rows}\nleft {before[0]}\nright {before[1]}\nleft after {after[0]}\nright after {after[1]}\n"
+        f"items {run.items} turns {len(run.turns)}\n".encode()))
+    return End()
+
+
+def asked_by(capability: Capability, namespace: bytes, words: dict) -> Area:
+    """What a side asks for, where nothing is against its hello."""
+    ask = asked_area(capability.grant(), words)
+    refusal = capability.hello_refusal(namespace, ask)
+    if refusal is not None:
+        raise Stop(SESSION_REFUSED, text=refusal)
+    return ask
+
+
+def meet(objects: Objects, left: str, right: str, left_cap: str, right_cap: str, left_out: str, right_out: str,
+         **words) -> End:
+    images = [image_in(named(objects, name), name) for name in (left, right)]
+    capabilities = [capability_in(named(objects, name), name) for name in (left_cap, right_cap)]
+    namespace = images[0][0]
+    if images[1][0] != namespace:
+        raise Stop(SESSION_REFUSED, text="WrongNamespace")
+    asks = [asked_by(capability, namespace, words) for capability in capabilities]
+    authorised = [judged(rows, namespace)[0] for _, rows in images]
+    refusals = judged(images[0][1] + images[1][1], namespace)[1]
+    sides = [Side(rows) for rows in authorised]
+    run = met(*sides, asks[0].common(asks[1]))
+    for name, side in zip((left_out, right_out), sides):
+        given(lambda: objects.shelf.put(name, image(namespace, side.store.live())))
+    given(lambda: objects.output.write_whole(run.transcript()))
+    lines = f"left {sides[0].line()}\nright {sides[1].line()}\nitems {run.items} turns {len(run.turns)}\n"
+    return End(lines + first_refused(refusals), bool(refusals))
+
+
+COMMANDS = {"join": join, "show": show, "key": key, "grant": grant, "delegate": delegate, "write": write, "gen": gen,
+            "drill": drill, "meet": meet}
 
 
 def run(words: list, objects: Objects) -> int:
     """Runs the words over the objects and answers the status."""
     try:
         command, options = read_words(words)
-        end = COMMANDS[command](objects, **options)
+        end = COMMANDS[command](objects, **{name.replace("-", "_"): value for name, value in options.items()})
     except Usage:
         return stopped(objects, Stop(USAGE))
     except Stop as stop:

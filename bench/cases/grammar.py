@@ -18,7 +18,12 @@ OPTIONS = {
     "delegate": "key to [subspace] [under] [from] [until]",
     "write": "key path time length digest [subspace]",
     "gen": "rows",
+    "drill": "rows",
+    "meet": "left right left-cap right-cap left-out right-out [subspace] [under] [from] [until]",
 }
+
+
+NAMES = ("left", "right", "left-cap", "right-cap", "left-out", "right-out")
 
 
 class Usage(Exception):
@@ -95,7 +100,7 @@ def until(word: str):
 VALUES = {
     "namespace": key, "user": key, "to": key, "name": name, "height": height, "mode": mode, "key": signer,
     "path": path, "time": number, "length": number, "digest": digest, "rows": count,
-    "under": path, "from": number, "until": until,
+    "under": path, "from": number, "until": until, **{option: name for option in NAMES},
 }
 
 

@@ -17,6 +17,7 @@ NOT_RISING = Kind(5, "not rising {name} row {at}\n")
 PRUNED = Kind(5, "pruned {name} row {at} by {by}\n")
 MISSING = Kind(5, "missing {name}\n")
 TAKEN = Kind(5, "taken {name}\n")
+SESSION_REFUSED = Kind(6, "session refused: {text}\n")
 LOG_FULL = Kind(8, "log full\n")
 KEY_SPENT = Kind(9, "key spent\n")
 

@@ -182,14 +182,32 @@ PATHS_AND_NUMBERS = [
     words("of-a-count-of-65-bits", "gen", "--rows", str(GREATEST + 1)),
 ]
 
+SIX = {"left": "a", "right": "b", "left-cap": "c", "right-cap": "d", "left-out": "e", "right-out": "f"}
+
+
+def meet(name: str, wanting=(), **options) -> Case:
+    options = {**SIX, **options}
+    return words(name, *words_of("meet", **{option: value for option, value in options.items() if option not in wanting}))
+
+
+MEETINGS = [
+    *(meet(f"of-meet-without-{option}", (option,)) for option in SIX),
+    meet("of-meet-with-a-name-of-a-folder", left="a/b"),
+    meet("of-meet-with-a-name-that-begins-with-a-dot", **{"right-out": ".f"}),
+    meet("of-meet-with-a-key", key=BY_U),
+    meet("of-meet-with-an-end-at-the-start", **{"from": 5}, until=5),
+    meet("of-meet-with-times-in-words", until="never"),
+    words("of-drill-without-rows", "drill"),
+    words("of-drill-with-no-rows", "drill", "--rows", "0"),
+    words("of-drill-with-65537-rows", "drill", "--rows", "65537"),
+    words("of-drill-with-an-area", "drill", "--rows", "5", "--under", "/61"),
+]
+
 # These are commands of the grammar, but none that is built.
 NOT_BUILT = [
     words("of-show-with-the-newest", "show", "--newest", "3"),
     words("of-show-with-none-of-the-newest", "show", "--newest", "0"),
     words("of-show-without-the-number-of-the-newest", "show", "--newest"),
-    words("of-drill", "drill", "--rows", "5"),
-    words("of-meet", "meet", "--left", "a", "--right", "b", "--left-cap", "c", "--right-cap", "d", "--left-out", "e",
-          "--right-out", "f"),
     words("of-sync", "sync", "--image", "a", "--cap", "c", "--key", BY_U, "--to", "localhost:7000"),
     words("of-serve", "serve", "--image", "a", "--cap", "c", "--key", BY_U, "--at", "localhost:7000", "--links", "2"),
     words("of-watch", "watch", "--image", "a"),
@@ -202,5 +220,6 @@ GROUPS = {
     "grants and signers": GRANTS,
     "areas": AREAS,
     "paths, numbers and digests": PATHS_AND_NUMBERS,
+    "drills and meetings": MEETINGS,
     "commands that are not built yet": NOT_BUILT,
 }

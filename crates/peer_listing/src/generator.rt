@@ -141,8 +141,8 @@ fn open_signature(alloc: Global, key: UserKey, message: &[u8]) -> Result<Signatu
     }
 }
 
-// The key of the generator's namespace.
-fn generator_namespace() -> NamespaceKey
+/// The key of the generator's namespace.
+pub fn generator_namespace() -> NamespaceKey
     ensures { result ≡ generator_namespace }
 {
     NamespaceKey::from_bytes(namespace_bytes()).unwrap()

@@ -1,13 +1,15 @@
-//! Lines of entries and keys, and the rows of a generator.
+//! Lines of entries, keys and drills, and the rows of a generator.
 //! The contract: a call appends just the line that the definitions give, or leaves the vector as it was.
 #![tactic(auto)]
 
 mod generator;
 pub mod laws;
 mod listing;
+mod summary;
 
-pub use generator::{GENERATED_ROWS, generated_row};
+pub use generator::{GENERATED_ROWS, generated_row, generator_namespace};
 pub use listing::{key_line, listing_head, listing_line};
+pub use summary::{DrillCounts, drill_summary};
 
 #[cfg(test)]
 mod tests;

@@ -113,3 +113,31 @@ fn generated_rows(rt: HostRuntime) {
     assert_eq!(rt; generates(alloc, 49, ROW_49), Some(true));
     assert_eq!(rt; generates(alloc, 12345, ROW_12345), Some(true));
 }
+
+// Whether the numbers have this summary.
+fn sums_up(alloc: Global, counts: DrillCounts, wanted: &str) -> Option<bool> {
+    let mut out = Vec::new(alloc);
+    drill_summary(&counts, &mut out).ok()?;
+    Some(out.as_slice() == wanted.as_bytes())
+}
+
+#[test]
+fn drills_summed_up(rt: HostRuntime) {
+    let counts = DrillCounts {
+        rows: 20_000,
+        left: 14_051,
+        right: 7_032,
+        left_after: 14_051,
+        right_after: 14_052,
+        items: 54,
+        turns: 14,
+    };
+    assert_eq!(rt;
+        sums_up(
+            rt.alloc(),
+            counts,
+            "rows 20000\nleft 14051\nright 7032\nleft after 14051\nright after 14052\nitems 54 turns 14\n",
+        ),
+        Some(true)
+    );
+}

@@ -35,7 +35,8 @@ use Rattle.peer_make.specs.Signing.{Signs, StopsSigning}
 use Rattle.peer_make.specs.Reading.{IsSpelled, IsRead, IsUnfit, ReadsOne}
 use Rattle.peer_make.specs.Making.{FindsFree, DrawsKey, PutsFile, own_user_key}
 use Rattle.peer_make.specs.Granting.{BeginsBy, Checks, Tells, first_capability}
-use Rattle.peer_make.specs.Delegating.{Asks, asked, is_empty}
+use Rattle.peer_words.specs.Areas.{is_empty}
+use Rattle.peer_make.specs.Delegating.{Asks, asked}
 use Rattle.peer_make.specs.Writing.{EntryWords, entry_under, row_under, Authorises, TellsRow}
 use Rattle.peer_make.specs.Deeds.{HasCapability, CanSign, CanBegin, CanDelegate, CanWrite, IsFree, SignerRose, BeginningRose, key_deed, grant_deed, delegate_deed, write_deed}
 use Rattle.peer_make.proofs.Signers.{given, signer_ready, signer_rose, signer_wrote}
@@ -241,7 +242,7 @@ signed_writes_last (OpenKey key) old between new counts (inl rose) = absurd rose
 signed_writes_last (LmsFile name) old between new counts (inl rose) = inl (rose_behind _ _ _ counts.shelf_writes rose)
 
 -- bytes spell one capability
-same_capability : (bytes : List ℕ) (c d : Capability) → IsSpelled bytes c → IsSpelled bytes d → c ≡ d
+pub same_capability : (bytes : List ℕ) (c d : Capability) → IsSpelled bytes c → IsSpelled bytes d → c ≡ d
 same_capability bytes c d one other = (one_spelling capability-reads c d [] [] one.fits other.fits (ap (λ (b : List ℕ). b ++ []) (sym one.spelled ∙ other.spelled))).0
 
 pub no_unfit : (i i' : SourceFacts) (at : ℕ) (c : Capability) → HasCapability i c → IsUnfit i i' at → ⊥

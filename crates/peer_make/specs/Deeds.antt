@@ -18,7 +18,8 @@ use Rattle.peer_stage.specs.Inputs.{HasInput}
 use Rattle.peer_make.specs.Reading.{IsSpelled}
 use Rattle.peer_make.specs.Making.{MakesKey}
 use Rattle.peer_make.specs.Granting.{Grants}
-use Rattle.peer_make.specs.Delegating.{asked, is_empty, Delegates}
+use Rattle.peer_words.specs.Areas.{is_empty}
+use Rattle.peer_make.specs.Delegating.{asked, Delegates}
 use Rattle.peer_make.specs.Writing.{WritesEntry, EntryWords}
 
 -- ---- signers

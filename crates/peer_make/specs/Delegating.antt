@@ -1,8 +1,7 @@
 -- What `delegate` does: a capability with one delegation more.
-use Rattle.std.specs.Prelude.{◌≡◌, ℕ, ◌+◌, Bool, true, false, List, length, Result, Ok, Err, nat_lt, unwrap_or, if◌then◌else◌}
+use Rattle.std.specs.Prelude.{List, ◌≡◌, ℕ, ◌+◌, true, false, length, Result, Ok, Err, nat_lt, unwrap_or, if◌then◌else◌}
 use Rattle.scheme_core.specs.Rules.{Rules}
 use Rattle.lms_core.specs.Use.{peer_rules}
-use Rattle.willow_area.specs.Times.{ends_by}
 use Rattle.willow_area.specs.declared.area.Area.{Area}
 use Rattle.mc_cap.specs.Grant.{extended, granted}
 use Rattle.mc_cap.specs.Messages.{handover}
@@ -14,6 +13,7 @@ use Rattle.mc_cap.specs.declared.check.ChainRefusal.TheVariants.{AreaGrows, TooM
 use Rattle.mc_cap.specs.declared.refusal.RowRefusal.TheVariants.{Chain}
 use Rattle.peer_words.specs.declared.command.SignerWord.{SignerWord}
 use Rattle.peer_words.specs.declared.command.AreaWords.{AreaWords}
+use Rattle.peer_words.specs.Areas.{completed, is_empty}
 use Rattle.peer_stage.specs.Steps.{Step, Then, Inside, OnInput, OnShelf}
 use Rattle.peer_stage.specs.declared.outcome.Done.{Done}
 use Rattle.peer_stage.specs.declared.outcome.Stop.{Stop}
@@ -23,19 +23,6 @@ use Rattle.peer_make.specs.Granting.{Tells}
 use Rattle.peer_make.specs.Reading.{ReadsOne}
 
 -- ---- the area
-
--- the area of the words, where a field without a word is that of the other area
-abbrev pub completed : AreaWords → Area → Area
-completed words area =
-    record {
-      subspace = unwrap_or words.subspace area.subspace;
-      path = unwrap_or words.under area.path;
-      times = record { start = unwrap_or words.from area.times.start; end = unwrap_or words.until area.times.end };
-    }
-
--- the area has no times
-abbrev pub is_empty : Area → Bool
-is_empty area = ends_by area.times.end area.times.start
 
 -- the area of the words for what a capability grants
 abbrev pub asked : AreaWords → Capability → Area

@@ -1,5 +1,5 @@
 -- What `key` does: a new key under a name that was absent, and its user key as a line.
-use Rattle.std.specs.Prelude.{◌≡◌, ℕ, ◌≤◌, ◌⊎◌, List, [], ◌∷◌, ◌++◌, length, take, Result, Ok, Err, Some, None}
+use Rattle.std.specs.Prelude.{◌≡◌, ℕ, ◌≤◌, List, [], ◌∷◌, ◌++◌, length, take, Result, Ok, Err, Some, None}
 use Rattle.std.specs.Option.{option_map}
 use Rattle.std.specs.String.{string_bytes}
 use Rattle.std.specs.declared.string.String.{String}
@@ -8,13 +8,14 @@ use Rattle.willow_outside.specs.Counts.{Rose}
 use Rattle.willow_outside.specs.Facts.{ShelfFacts, NoiseFacts}
 use Rattle.willow_outside.specs.Draws.{IsDraw}
 use Rattle.willow_outside.specs.Names.{GetsName}
-use Rattle.lms_core.specs.Key.{Key, IsKey}
+use Rattle.lms_core.specs.Key.{Key, IsKey, key_file}
 use Rattle.lms_core.specs.Use.{user_key_of}
-use Rattle.lms_core.specs.Reserve.{KeepsNames, IsOnlyRead, PutsKey}
+use Rattle.lms_core.specs.Reserve.{KeepsNames, IsOnlyRead}
 use Rattle.lms_core.specs.declared.height.Height.{Height}
 use Rattle.peer_listing.specs.Listing.{key_line}
 use Rattle.peer_stage.specs.Steps.{Step, Then, OnShelf, OnNoise, OnOutput}
 use Rattle.peer_stage.specs.Stages.{Writes}
+use Rattle.peer_stage.specs.Shelves.{PutsBytes}
 use Rattle.peer_stage.specs.declared.outcome.Done.{Done}
 use Rattle.peer_stage.specs.declared.outcome.Done.TheVariants as done
 use Rattle.peer_stage.specs.declared.outcome.Stop.{Stop}
@@ -81,10 +82,7 @@ DrawsKey height old new (Err e) = ⊥
 
 -- the putting of a key's file
 abbrev pub PutsFile : List ℕ → Key → ShelfFacts → ShelfFacts → Result (Unit {0}) Stop → Type 0
-PutsFile name k old new (Ok u) = PutsKey old new name k
-PutsFile name k old new (Err stop.WriteFault) = Rose old.write_faults new.write_faults × (KeepsNames old new ⊎ PutsKey old new name k)
-PutsFile name k old new (Err stop.NoMemory) = KeepsNames old new
-PutsFile name k old new (Err e) = ⊥
+PutsFile name k = PutsBytes name (key_file k)
 
 -- ---- the command
 

@@ -5,6 +5,7 @@ use Rattle.mc_cap.specs.Forms.{IsCapability, capability_spelling}
 use Rattle.mc_cap.specs.declared.capability.Capability.{Capability}
 use Rattle.peer_stage.specs.Stages.{IsReadWhole, IsReadTooFar, IsReadToFault, IsReadSomewhat, IsInput}
 use Rattle.peer_stage.specs.declared.stage.TheConstants.{INPUT_LIMIT}
+use Rattle.peer_stage.specs.declared.outcome.Origin.{Origin}
 use Rattle.peer_stage.specs.declared.outcome.Stop.{Stop}
 use Rattle.peer_stage.specs.declared.outcome.Stop.TheVariants as stop
 
@@ -17,12 +18,12 @@ pub record IsSpelled (bytes : List ℕ) (c : Capability) : Type 0 where
 abbrev pub IsNoCapability : List ℕ → Type 0
 IsNoCapability bytes = (c : Capability) → IsSpelled bytes c → ⊥
 
--- the capability that the bytes are
-abbrev pub Parses : List ℕ → Result Capability Stop → Type 0
-Parses bytes (Ok c) = IsSpelled bytes c
-Parses bytes (Err (stop.BadInput from at)) = IsInput from × (at ≡ 0) × IsNoCapability bytes
-Parses bytes (Err stop.NoMemory) = Unit {0}
-Parses bytes (Err e) = ⊥
+-- the capability that the bytes are; that they are none is told at 0 of where they came from
+abbrev pub ReadsCapabilityFrom : Origin → List ℕ → Result Capability Stop → Type 0
+ReadsCapabilityFrom origin bytes (Ok c) = IsSpelled bytes c
+ReadsCapabilityFrom origin bytes (Err (stop.BadInput from at)) = (from ≡ origin) × (at ≡ 0) × IsNoCapability bytes
+ReadsCapabilityFrom origin bytes (Err stop.NoMemory) = Unit {0}
+ReadsCapabilityFrom origin bytes (Err e) = ⊥
 
 -- the input was read whole, and is the spelling of the capability
 pub record IsRead (i i' : SourceFacts) (c : Capability) : Type 0 where

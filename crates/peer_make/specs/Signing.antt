@@ -14,9 +14,9 @@ use Rattle.lms_core.specs.declared.reserve.KeyRefusal.{KeyRefusal}
 use Rattle.lms_core.specs.declared.reserve.KeyRefusal.TheVariants.{ShelfRead, Missing, BadKeyFile, KeySpent, ShelfWrite}
 use Rattle.peer_words.specs.declared.command.SignerWord.{SignerWord}
 use Rattle.peer_words.specs.declared.command.SignerWord.TheVariants.{OpenKey, LmsFile}
+use Rattle.peer_stage.specs.Shelves.{IsOfName}
 use Rattle.peer_stage.specs.declared.outcome.Stop.{Stop}
 use Rattle.peer_stage.specs.declared.outcome.Stop.TheVariants as stop
-use Rattle.peer_stage.specs.declared.outcome.Origin.{Origin}
 use Rattle.peer_stage.specs.declared.outcome.Origin.TheVariants as origin
 
 -- The next index of the key under a name is used up: its signer is handed out, and the key's file is put back
@@ -41,11 +41,6 @@ Signed (LmsFile name) old new message signature = IsSignedNext (string_bytes nam
 abbrev pub UsesAtMostOne : SignerWord → ShelfFacts → ShelfFacts → Type 0
 UsesAtMostOne (OpenKey key) old new = new ≡ old
 UsesAtMostOne (LmsFile name) old new = KeepsNames old new ⊎ ((signer : Use) × IsUsed (string_bytes name) old new signer)
-
--- the bytes came from the name
-abbrev pub IsOfName : Origin → String Global → Type 0
-IsOfName origin.Input name = ⊥
-IsOfName (origin.Name other) name = other ≡ name
 
 -- The name holds no key file.
 pub record HoldsOther (name : List ℕ) (old new : ShelfFacts) : Type 0 where

@@ -1,7 +1,6 @@
 //! `delegate`: a capability with one delegation more.
 
-ghost use Rattle.std.specs.Prelude.{◌≡◌, ◌≤◌, true, false, IfOk, MatchOption};
-ghost use Rattle.willow_area.specs.Times.{ends_by};
+ghost use Rattle.std.specs.Prelude.{◌≡◌, ◌≤◌, IfOk};
 ghost use Rattle.lms_core.specs.Use.{peer_rules};
 ghost use Rattle.mc_cap.specs.Grant.{extended};
 ghost use Rattle.peer_words.specs.Signers.{IsSigner};
@@ -18,7 +17,7 @@ use peer_stage::{Done, Stop};
 use peer_words::{AreaWords, SignerWord};
 use spelling::{End, NoMemory};
 use std::alloc::Global;
-use willow_area::{Area, TimeRange};
+use willow_area::Area;
 use willow_outside::{Shelf, Sink, Source};
 use willow_path::UserKey;
 
@@ -43,7 +42,7 @@ pub fn delegate<H: Shelf, I: Source, O: Sink>(
         (record others { shelf = H.facts shelf.new; input = I.facts input.new; output = O.facts output.new }) result }
 {
     let capability = read_one(alloc, input)?;
-    let area = ask(&capability, area)?;
+    let area = ask(&capability, &area)?;
     let message = capability.handover(&area, &to)?;
     let signature = sign_with(alloc, shelf, key, &message)?;
     let delegation = Delegation {
@@ -55,33 +54,14 @@ pub fn delegate<H: Shelf, I: Source, O: Sink>(
 }
 
 // The area that the words ask for, where it has times.
-fn ask(capability: &Capability, words: AreaWords) -> Result<Area, Stop>
-    ensures { Asks words capability.now result }
+fn ask(capability: &Capability, words: &AreaWords) -> Result<Area, Stop>
+    ensures { Asks words.now capability.now result }
 {
     let granted = capability.granted_area()?;
-    let AreaWords {
-        subspace,
-        under,
-        from,
-        until,
-    } = words;
-    let start = from.unwrap_or(granted.times.start());
-    let end = until.unwrap_or(granted.times.end());
-    match times_of(start, end) {
-        Some(times) => Ok(Area {
-            subspace: subspace.unwrap_or(granted.subspace),
-            path: under.unwrap_or(granted.path),
-            times,
-        }),
+    match words.completed(granted)? {
+        Some(area) => Ok(area),
         None => Err(Stop::Refused(RowRefusal::Chain(growing_refusal(capability)?))),
     }
-}
-
-// The times from a start up to an end, where there are some.
-fn times_of(start: u64, end: Option<u64>) -> Option<TimeRange>
-    ensures { MatchOption result (ends_by end start ≡ true) (λ times. (times ≡ record { start = start; end = end }) × (ends_by end start ≡ false)) }
-{
-    TimeRange::new(start, end)
 }
 
 // Why the capability is not handed on for an area without times.

@@ -17,6 +17,7 @@ pub use laws::{
     rows_are_read_back,
 };
 pub use making::make_key;
+pub use reading::capability_from;
 pub use writing::write;
 
 #[cfg(test)]

@@ -9,7 +9,7 @@ ghost use Rattle.peer_make.specs.Making.{MakesKey, FindsFree, DrawsKey, DrawsOne
 
 use lms_core::{Height, LmsKey};
 use peer_listing::key_line;
-use peer_stage::{Done, Stop, write_output};
+use peer_stage::{Done, Stop, put_bytes, write_output};
 use std::alloc::Global;
 use willow_outside::{Fault, Noise, Shelf, Sink};
 use willow_path::NoMemory;
@@ -104,9 +104,5 @@ fn put_file<H: Shelf>(alloc: Global, shelf: &mut H, name: &str, key: &LmsKey) ->
 {
     let mut file = Vec::new(alloc);
     key.encode(&mut file)?;
-    match shelf.put(name, &file) {
-        Ok(()) => Ok(()),
-        Err(Fault::Failed) => Err(Stop::WriteFault),
-        Err(Fault::NoMemory) => Err(Stop::NoMemory),
-    }
+    put_bytes(shelf, name, &file)
 }

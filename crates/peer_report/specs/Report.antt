@@ -5,11 +5,15 @@ use Rattle.std.specs.String.{string_bytes}
 use Rattle.willow_outside.specs.Counts.{Rose}
 use Rattle.willow_outside.specs.Facts.{SinkFacts}
 use Rattle.mc_cap.specs.declared.refusal.RowRefusal.{RowRefusal}
+use Rattle.session_end.specs.declared.end.SessionEnd.TheVariants as ending
 use Rattle.peer_text.specs.Refusals.{row_refusal_text}
+use Rattle.peer_text.specs.Sessions.{session_end_text}
 use Rattle.peer_stage.specs.Status.{status_of}
 use Rattle.peer_stage.specs.Stages.{IsWritten, IsPartlyWritten}
 use Rattle.peer_stage.specs.declared.outcome.JoinCounts.{JoinCounts}
 use Rattle.peer_stage.specs.declared.outcome.ShowCounts.{ShowCounts}
+use Rattle.peer_stage.specs.declared.outcome.SideCounts.{SideCounts}
+use Rattle.peer_stage.specs.declared.outcome.MeetCounts.{MeetCounts}
 use Rattle.mc_cap.specs.declared.refusal.RefusedRow.{RefusedRow}
 use Rattle.peer_stage.specs.declared.outcome.Origin.{Origin}
 use Rattle.peer_stage.specs.declared.outcome.Origin.TheVariants as origin
@@ -31,6 +35,18 @@ rows_line counts = line (codes "rows " ++ (decimal counts.rows ++ (codes " store
 -- `rows N refused R`
 abbrev pub shown_line : ShowCounts → List ℕ
 shown_line counts = line (codes "rows " ++ (decimal counts.rows ++ (codes " refused " ++ decimal counts.refused)))
+
+-- `NAME rows A stored S kept K` of one side of a meeting
+abbrev pub side_line : List ℕ → SideCounts → List ℕ
+side_line name counts = line (name ++ (codes " rows " ++ (decimal counts.rows ++ (codes " stored " ++ (decimal counts.stored ++ (codes " kept " ++ decimal counts.kept))))))
+
+-- `items I turns T`
+abbrev pub exchange_line : ℕ → ℕ → List ℕ
+exchange_line items turns = line (codes "items " ++ (decimal items ++ (codes " turns " ++ decimal turns)))
+
+-- the lines of a meeting: those of the left side, of the right side, and of the exchange
+abbrev pub met_lines : MeetCounts → List ℕ
+met_lines counts = side_line (codes "left") counts.left ++ (side_line (codes "right") counts.right ++ exchange_line counts.items counts.turns)
 
 -- the text of a refusal, as the end of a line
 abbrev pub refused_line : RowRefusal → List ℕ
@@ -62,6 +78,7 @@ pruned_line name row by = line (codes "pruned " ++ (name ++ (codes " row " ++ (d
 abbrev pub done_lines : Done → List ℕ
 done_lines (done.Joined counts) = rows_line counts ++ first_line counts.first
 done_lines (done.Shown counts) = shown_line counts ++ first_line counts.first
+done_lines (done.Met counts) = met_lines counts ++ first_line counts.first
 done_lines done.Made = []
 
 -- the line of a stop
@@ -75,6 +92,7 @@ stop_line (stop.Pruned from row by) = pruned_line (name_text from) row by
 stop_line (stop.Missing name) = line (codes "missing " ++ string_bytes name)
 stop_line (stop.Taken name) = line (codes "taken " ++ string_bytes name)
 stop_line (stop.Refused refusal) = codes "refused: " ++ refused_line refusal
+stop_line (stop.SessionRefused refusal) = line (session_end_text (ending.Hello refusal))
 stop_line stop.NoMemory = line (codes "no memory")
 stop_line stop.LogFull = line (codes "log full")
 stop_line stop.KeySpent = line (codes "key spent")

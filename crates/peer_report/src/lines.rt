@@ -2,11 +2,13 @@
 
 ghost use Rattle.std.specs.Prelude.{◌≡◌, ◌<◌, ◌++◌, length, IfOk, OnOk, OnErr};
 ghost use Rattle.peer_stage.specs.declared.outcome.Done.TheVariants as done;
-ghost use Rattle.peer_report.specs.Report.{report_of, stop_line, rows_line, shown_line, first_line, name_text, refused_line, bad_input_line, not_rising_line, pruned_line};
+ghost use Rattle.peer_stage.specs.declared.outcome.Stop.TheVariants as stop;
+ghost use Rattle.peer_report.specs.Report.{report_of, stop_line, rows_line, shown_line, side_line, exchange_line, met_lines, first_line, name_text, refused_line, bad_input_line, not_rising_line, pruned_line};
 
 use mc_cap::{RefusedRow, RowRefusal};
-use peer_stage::{Done, JoinCounts, Origin, ShowCounts, Stop};
-use peer_text::row_refusal_text;
+use peer_stage::{Done, JoinCounts, MeetCounts, Origin, ShowCounts, SideCounts, Stop};
+use peer_text::{row_refusal_text, session_end_text};
+use session_end::{HelloRefusal, SessionEnd};
 use spelling::{NoMemory, put_byte, put_bytes};
 use std::alloc::Global;
 
@@ -18,6 +20,7 @@ pub(crate) fn report_of(alloc: Global, end: &Result<Done, Stop>) -> Result<Vec<u
     match end {
         Ok(Done::Joined(counts)) => joined_lines(alloc, counts),
         Ok(Done::Shown(counts)) => shown_lines(alloc, counts),
+        Ok(Done::Met(counts)) => met_lines(alloc, counts),
         Ok(Done::Made) => Ok(Vec::new(alloc)),
         Err(stop) => stop_line(alloc, stop),
     }
@@ -52,6 +55,35 @@ fn shown_lines(alloc: Global, counts: &ShowCounts) -> Result<Vec<u8>, NoMemory>
     let mut text = format!(in alloc; "rows {rows} refused {refused}\n")?.into_bytes();
     put_first_line(alloc, first, &mut text)?;
     Ok(text)
+}
+
+// The numbers of a meeting, and the first refused row.
+fn met_lines(alloc: Global, counts: &MeetCounts) -> Result<Vec<u8>, NoMemory>
+    ensures { IfOk result (λ text. text.items ≡ met_lines counts.now ++ first_line counts.now.first) }
+{
+    let mut text = side_line(alloc, "left", &counts.left)?;
+    let right = side_line(alloc, "right", &counts.right)?;
+    put_bytes(&mut text, &right)?;
+    let exchange = exchange_line(alloc, counts.items, counts.turns)?;
+    put_bytes(&mut text, &exchange)?;
+    put_first_line(alloc, counts.first, &mut text)?;
+    Ok(text)
+}
+
+// The numbers of one side of a meeting.
+fn side_line(alloc: Global, name: &str, counts: &SideCounts) -> Result<Vec<u8>, NoMemory>
+    ensures { IfOk result (λ text. text.items ≡ side_line name.now counts.now) }
+{
+    let SideCounts { rows, stored, kept } = *counts;
+    let line = format!(in alloc; "{name} rows {rows} stored {stored} kept {kept}\n")?;
+    Ok(line.into_bytes())
+}
+
+// The numbers of an exchange.
+fn exchange_line(alloc: Global, items: u32, turns: u64) -> Result<Vec<u8>, NoMemory>
+    ensures { IfOk result (λ text. text.items ≡ exchange_line items turns) }
+{
+    Ok(format!(in alloc; "items {items} turns {turns}\n")?.into_bytes())
 }
 
 // Appends the line of the first refused row, where there is one.
@@ -98,10 +130,21 @@ fn stop_line(alloc: Global, stop: &Stop) -> Result<Vec<u8>, NoMemory>
             put_refusal(*refusal, &mut line)?;
             Ok(line)
         }
+        Stop::SessionRefused(refusal) => session_line(alloc, *refusal),
         Stop::NoMemory => plain_line(alloc, "no memory\n"),
         Stop::LogFull => plain_line(alloc, "log full\n"),
         Stop::KeySpent => plain_line(alloc, "key spent\n"),
     }
+}
+
+// Why a session is refused.
+fn session_line(alloc: Global, refusal: HelloRefusal) -> Result<Vec<u8>, NoMemory>
+    ensures { IfOk result (λ text. text.items ≡ stop_line (stop.SessionRefused refusal)) }
+{
+    let mut line = Vec::new(alloc);
+    session_end_text(&SessionEnd::Hello(refusal), &mut line)?;
+    put_byte(&mut line, b'\n')?;
+    Ok(line)
 }
 
 // Where the bytes of this name go wrong.

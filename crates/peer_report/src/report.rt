@@ -1,10 +1,11 @@
 //! The status of a run, and its report.
 
 ghost use Rattle.std.specs.Prelude.{◌≡◌, ◌≤◌, Ok};
-ghost use Rattle.peer_stage.specs.Status.{status_of, stop_status, refused_status};
+ghost use Rattle.peer_stage.specs.Status.{status_of, stop_status, refused_status, first_status};
 ghost use Rattle.peer_report.specs.Report.{after_report_fault, Reports};
 
 use crate::lines::report_of;
+use mc_cap::RefusedRow;
 use peer_stage::{Done, Stop, write_output};
 use std::alloc::Global;
 use willow_outside::Sink;
@@ -26,6 +27,7 @@ fn done_status(done: &Done) -> u8
     match done {
         Done::Joined(counts) => refused_status(counts.refused),
         Done::Shown(counts) => refused_status(counts.refused),
+        Done::Met(counts) => first_status(counts.first),
         Done::Made => 0,
     }
 }
@@ -44,6 +46,7 @@ fn stop_status(stop: &Stop) -> u8
         Stop::Pruned { .. } => 5,
         Stop::Missing { .. } => 5,
         Stop::Taken { .. } => 5,
+        Stop::SessionRefused(_) => 6,
         Stop::NoMemory => 7,
         Stop::LogFull => 8,
         Stop::KeySpent => 9,
@@ -55,6 +58,16 @@ fn refused_status(refused: u64) -> u8
     ensures { result ≡ refused_status refused }
 {
     if refused == 0 { 0 } else { 1 }
+}
+
+/// 0 where there is no first refused row, else 1.
+fn first_status(first: Option<RefusedRow>) -> u8
+    ensures { result ≡ first_status first }
+{
+    match first {
+        None => 0,
+        Some(_) => 1,
+    }
 }
 
 /// The status after the report failed: 4 where it would be 0 or 1.

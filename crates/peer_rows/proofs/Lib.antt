@@ -1,11 +1,13 @@
 pub mod NewRows
 pub mod Firsts
+pub mod Taken
 pub mod Logged
 pub mod Streams
-pub mod Keeping
 pub mod Framed
 pub mod Joined
+pub mod Imaged
 pub mod Listed
 pub mod Generated
+pub mod DrilledRows
 pub mod Deeds
 pub mod Reading

@@ -19,11 +19,13 @@ use Rattle.cap_codec.specs.Rows.{RawValue, row_of, FitsFrame, frame, AreFrames}
 use Rattle.cap_codec.specs.Streams.{FramesStopAt, HasNoFrame}
 use Rattle.cap_codec.proofs.Frames.{FramesSo, frame_long, frame_on}
 use Rattle.peer_rows.proofs.NewRows.{new_after-longer}
+use Rattle.auth_entry.specs.Authorised.{AuthorisedValue}
+use Rattle.peer_rows.specs.RowLogs.{LogRows}
 use Rattle.peer_rows.specs.Logged.{authorised_rows, stored_rows, AreCounts, IsLogOf, Offers, PassesLog}
 use Rattle.peer_rows.specs.Stored.{IsWholeLog, LogsBytes, StopsFull}
-use Rattle.peer_rows.specs.declared.log.LogFull.{LogFull}
+use Rattle.peer_rows.specs.declared.row_log.LogFull.{LogFull}
 use Rattle.peer_rows.specs.declared.log.Log.{Log}
-use Rattle.peer_rows.specs.declared.log.TheConstants.{LOG_LIMIT}
+use Rattle.peer_rows.specs.declared.row_log.TheConstants.{LOG_LIMIT}
 use Rattle.peer_stage.specs.declared.outcome.JoinCounts.{JoinCounts}
 use Rattle.peer_stage.specs.declared.outcome.Stop.{Stop}
 use Rattle.peer_stage.specs.declared.outcome.Stop.TheVariants as stop
@@ -32,7 +34,7 @@ use Rattle.peer_stage.specs.declared.outcome.Stop.TheVariants as stop
 pub record HasSeen (namespace bytes left : List ℕ) (log : Log) : Type 0 where
   pub seen : List RawValue
   pub frames : FramesSo bytes seen left
-  pub is_log : IsLogOf namespace seen (stored_rows log.store) log.counts
+  pub is_log : IsLogOf namespace seen (stored_rows log.kept.rows) log.counts
   pub fits : log.counts.stored ≤ LOG_LIMIT
 
 -- nothing is counted yet
@@ -43,16 +45,20 @@ counts_none : (namespace : List ℕ) → AreCounts namespace [] no_counts
 unfolding new_after first_some
 counts_none namespace = record { all = refl; stored = refl; kept = refl; refused = refl; first = refl }
 
--- nothing is read yet
-pub HasSeen-start : (namespace bytes left : List ℕ) (log : Log) → left ≡ bytes → log.store ≡ [] → log.counts ≡ no_counts → HasSeen namespace bytes left log
+-- a log to which nothing was offered
+pub IsLogOf-start : (namespace : List ℕ) (log : Log) → log.kept ≡ record { rows = []; stored = 0 } → log.counts ≡ no_counts → IsLogOf namespace [] (stored_rows log.kept.rows) log.counts
 unfolding pruned
+IsLogOf-start namespace log empty none = record {
+  held_is = ap (λ (kept : LogRows AuthorisedValue). stored_rows kept.rows) empty;
+  counted = subst (λ (counts : JoinCounts). AreCounts namespace [] counts) (sym none) (counts_none namespace);
+}
+
+-- nothing is read yet
+pub HasSeen-start : (namespace bytes left : List ℕ) (log : Log) → left ≡ bytes → log.kept ≡ record { rows = []; stored = 0 } → log.counts ≡ no_counts → HasSeen namespace bytes left log
 HasSeen-start namespace bytes left log same empty none = record {
   seen = [];
   frames = record { fit = tt; parts = sym same };
-  is_log = record {
-    held_is = ap stored_rows empty;
-    counted = subst (λ (counts : JoinCounts). AreCounts namespace [] counts) (sym none) (counts_none namespace);
-  };
+  is_log = IsLogOf-start namespace log empty none;
   fits = rw none (omega arith);
 }
 
@@ -62,7 +68,7 @@ frames_on bytes left left' seen row taken so one is = rw is (frame_on bytes left
 
 -- one more frame is read, and its row offered
 pub HasSeen-goes : (namespace bytes left left' : List ℕ) (row : RawValue) (taken : ℕ) (log log' : Log) → (h : HasSeen namespace bytes left log) → Decodes frame FitsFrame left (Ok (row, taken)) → left' ≡ drop taken left
-    → IsLogOf namespace (h.seen ++ row ∷ []) (stored_rows log'.store) log'.counts → log'.counts.stored ≤ LOG_LIMIT → HasSeen namespace bytes left' log'
+    → IsLogOf namespace (h.seen ++ row ∷ []) (stored_rows log'.kept.rows) log'.counts → log'.counts.stored ≤ LOG_LIMIT → HasSeen namespace bytes left' log'
 HasSeen-goes namespace bytes left left' row taken log log' h one is next fits =
     record { seen = h.seen ++ row ∷ []; frames = frames_on bytes left left' h.seen row taken h.frames one is; is_log = next; fits = fits }
 
@@ -104,7 +110,7 @@ stops_there bytes left seen at so more none is = record {
 authorised_rows-append : (n : List ℕ) (xs ys : List RawValue) → authorised_rows n (xs ++ ys) ≡ authorised_rows n xs ++ authorised_rows n ys
 authorised_rows-append n xs ys = ap (map row_of) (filter-append (is_authorised peer_rules n) xs ys) ∙ map-append row_of (filter (is_authorised peer_rules n) xs) (filter (is_authorised peer_rules n) ys)
 
-PassesLog-longer : (n : List ℕ) (rows more : List RawValue) → PassesLog n rows → PassesLog n (rows ++ more)
+pub PassesLog-longer : (n : List ℕ) (rows more : List RawValue) → PassesLog n rows → PassesLog n (rows ++ more)
 PassesLog-longer n rows more passes = rw (authorised_rows-append n rows more) (omega (arith, passes, new_after-longer is_covering [] (authorised_rows n rows) (authorised_rows n more)))
 
 -- frames of rows behind frames of rows
@@ -150,4 +156,5 @@ full_stops namespace bytes left rows before (stop.Pruned from row by) so passes 
 full_stops namespace bytes left rows before (stop.Missing name) so passes is h = absurd h
 full_stops namespace bytes left rows before (stop.Taken name) so passes is h = absurd h
 full_stops namespace bytes left rows before (stop.Refused refusal) so passes is h = absurd h
+full_stops namespace bytes left rows before (stop.SessionRefused refusal) so passes is h = absurd h
 full_stops namespace bytes left rows before stop.KeySpent so passes is h = absurd h

@@ -1,4 +1,7 @@
+pub mod RowLogs
 pub mod Logged
+pub mod Images
+pub mod Drilled
 pub mod Stored
 pub mod Join
 pub mod Show

@@ -1,5 +1,5 @@
 -- What a log holds after some rows of a stream.
-use Rattle.std.specs.Prelude.{◌≡◌, ℕ, ◌+◌, ◌≤◌, ◌<◌, List, [], ◌∷◌, ◌++◌, length, map, Option, Some, Result, Ok, Err, option_map}
+use Rattle.std.specs.Prelude.{◌≡◌, ℕ, ◌+◌, ◌≤◌, Bool, true, false, List, [], ◌∷◌, ◌++◌, length, map, Option, Some, Result, Ok, Err, option_map}
 use Rattle.spelling.specs.Answers.{or_else, first_some}
 use Rattle.spelling.specs.declared.ending.End.{End}
 use Rattle.spelling.specs.declared.ending.End.TheVariants.{Refused, NoMemory}
@@ -10,16 +10,20 @@ use Rattle.cap_codec.specs.Rows.{RawValue, row_of}
 use Rattle.auth_entry.specs.Authorised.{AuthorisedValue, authorised, row_refusal}
 use Rattle.peer_stage.specs.declared.outcome.JoinCounts.{JoinCounts}
 use Rattle.mc_cap.specs.declared.refusal.RefusedRow.{RefusedRow}
-use Rattle.peer_rows.specs.declared.log.LogFull.{LogFull}
-use Rattle.peer_rows.specs.declared.log.TheConstants.{LOG_LIMIT}
+use Rattle.peer_rows.specs.RowLogs.{ArePastLog}
+use Rattle.peer_rows.specs.declared.row_log.LogFull.{LogFull}
+use Rattle.peer_rows.specs.declared.row_log.TheConstants.{LOG_LIMIT}
 
 -- the rows that are authorised, in order, as a store sees them
 abbrev pub authorised_rows : List ℕ → List RawValue → List RowValue
 authorised_rows namespace rows = map row_of (authorised peer_rules namespace rows)
 
--- the rows of authorised entries, as a store sees them
+-- the row of an authorised entry, as a store sees it; those of several
+abbrev pub entry_row : AuthorisedValue → RowValue
+entry_row a = row_of a.row
+
 abbrev pub stored_rows : List AuthorisedValue → List RowValue
-stored_rows = map (λ a. row_of a.row)
+stored_rows = map entry_row
 
 -- ---- refused rows
 
@@ -50,6 +54,11 @@ with_stored counts = record counts { rows = counts.rows + 1; stored = counts.sto
 abbrev pub with_kept : JoinCounts → JoinCounts
 with_kept counts = record counts { rows = counts.rows + 1; kept = counts.kept + 1 }
 
+-- the numbers with one authorised row more
+abbrev pub with_offered : Bool → JoinCounts → JoinCounts
+with_offered true counts = with_stored counts
+with_offered false counts = with_kept counts
+
 -- the numbers with one row more that is not authorised
 abbrev pub with_refused : RowRefusal → JoinCounts → JoinCounts
 with_refused refusal counts = record counts {
@@ -71,7 +80,7 @@ FitsLog namespace rows = length (new (authorised_rows namespace rows)) ≤ LOG_L
 
 -- a row that would be stored met a full log
 abbrev pub PassesLog : List ℕ → List RawValue → Type 0
-PassesLog namespace rows = LOG_LIMIT < length (new (authorised_rows namespace rows))
+PassesLog namespace rows = ArePastLog (authorised_rows namespace rows)
 
 -- how the offer of a row ends, over the rows seen before it: the log is that of the rows with this one, or
 -- the row would be stored and is one too many

@@ -11,7 +11,7 @@ use Rattle.peer_rows.specs.declared.log.Log.{Log}
 
 -- a log of just these rows, each that would be stored with room
 pub record IsWholeLog (namespace : List ℕ) (rows : List RawValue) (log : Log) : Type 0 where
-  pub is_log : IsLogOf namespace rows (stored_rows log.store) log.counts
+  pub is_log : IsLogOf namespace rows (stored_rows log.kept.rows) log.counts
   pub fits_log : FitsLog namespace rows
 
 -- how the storing of a stream ends

@@ -6,7 +6,8 @@ ghost use Rattle.peer_stage.specs.Faults.{CountsStep};
 ghost use Rattle.peer_rows.specs.Join.{Joins, JoinsInput, JoinsBytes};
 ghost use Rattle.peer_rows.specs.Stored.{LogsBytes, StopsFull};
 
-use crate::log::{Log, LogFull};
+use crate::log::Log;
+use crate::row_log::LogFull;
 use cap_codec::{BadFrames, behind, decode_frame, read_frames};
 use peer_image::write_store_image;
 use peer_stage::{Done, INPUT_LIMIT, JoinCounts, Stop, read_input, write_output};
@@ -55,7 +56,7 @@ fn join_bytes(
     ensures { JoinsBytes namespace.now bytes.now result }
 {
     let log = log_of(alloc, namespace, bytes)?;
-    let image = write_store_image(alloc, namespace, &log.store)?;
+    let image = write_store_image(alloc, namespace, log.kept.store())?;
     Ok((image, log.counts))
 }
 

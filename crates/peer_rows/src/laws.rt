@@ -2,7 +2,7 @@
 
 ghost use Rattle.std.specs.Prelude.{◌≡◌};
 
-use crate::log::LOG_LIMIT;
+use crate::row_log::LOG_LIMIT;
 
 /// A law, and no code: how many rows a log stores at most.
 pub fn log_limit()

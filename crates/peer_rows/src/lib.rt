@@ -3,16 +3,21 @@
 //! The contract of each says, for each end, what was read and written and why it came.
 #![tactic(auto)]
 
+mod drilled;
 mod generating;
+mod images;
 mod joining;
 mod laws;
 mod log;
+mod row_log;
 mod showing;
 
+pub use drilled::generated_logs;
 pub use generating::generate;
+pub use images::{EntryLog, image_from, log_image, log_stop};
 pub use joining::join;
 pub use laws::log_limit;
-pub use log::LOG_LIMIT;
+pub use row_log::{LOG_LIMIT, LogFull, RowLog};
 pub use showing::show;
 
 #[cfg(test)]

@@ -9,12 +9,12 @@ ghost use Rattle.peer_stage.specs.Faults.{CountsStep};
 ghost use Rattle.peer_rows.specs.Show.{Shows, ShowsInput, ShowsBytes};
 ghost use Rattle.peer_rows.specs.Listed.{IsListed, IsListing, with_listed, with_left_out};
 
+use crate::images::image_from;
 use crate::log::first_of;
 use auth_entry::{KnownCapabilities, RowRefusal};
 use cap_codec::RawRow;
 use lms_core::PeerScheme;
 use mc_cap::RefusedRow;
-use peer_image::{ImageRefusal, read_image};
 use peer_listing::{listing_head, listing_line};
 use peer_stage::{Done, INPUT_LIMIT, Origin, ShowCounts, Stop, read_input, write_both};
 use spelling::{End, NoMemory};
@@ -53,20 +53,8 @@ fn show_input<I: Source>(
 fn show_bytes(alloc: Global, bytes: &[u8]) -> Result<(Vec<u8>, Vec<u8>, ShowCounts), Stop>
     ensures { ShowsBytes bytes.now result }
 {
-    match read_image(alloc, bytes) {
-        Ok(image) => Ok(list_rows(alloc, &image.namespace, &image.rows)?),
-        Err(End::Refused(ImageRefusal::BadImage { at })) => Err(Stop::bad_input(at)),
-        Err(End::Refused(ImageRefusal::NotRising { at })) => Err(Stop::NotRising {
-            origin: Origin::Input,
-            row: at,
-        }),
-        Err(End::Refused(ImageRefusal::Pruned { at, by })) => Err(Stop::Pruned {
-            origin: Origin::Input,
-            row: at,
-            by,
-        }),
-        Err(End::NoMemory) => Err(Stop::NoMemory),
-    }
+    let image = image_from(alloc, bytes, Origin::Input)?;
+    Ok(list_rows(alloc, &image.namespace, &image.rows)?)
 }
 
 // The head and the lines of the listing of the rows, and their numbers. The head counts the lines, so it is made last.

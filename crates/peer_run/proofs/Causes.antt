@@ -11,8 +11,8 @@ use Rattle.peer_stage.specs.declared.outcome.Stop.TheVariants as stop
 use Rattle.peer_report.specs.Report.{Reports, after_report_fault, report_of}
 use Rattle.peer_run.specs.Deeds.{deed_of}
 use Rattle.peer_run.specs.Run.{Run, RunsWords, before_report}
-use Rattle.peer_run.specs.Promises.{HasEnded, HasStopped, HasTold, HasReadFault, HasWriteFault, IsNoRun, IsSomeRun, IsBadEnd, IsFullEnd, IsSpentEnd}
-use Rattle.peer_run.proofs.Ends.{own_status, after_is, memory_end, is_end, bad_end, full_end, spent_end}
+use Rattle.peer_run.specs.Promises.{HasEnded, HasStopped, HasTold, HasReadFault, HasWriteFault, IsNoRun, IsSomeRun, IsBadEnd, IsRefusedEnd, IsFullEnd, IsSpentEnd}
+use Rattle.peer_run.proofs.Ends.{own_status, after_is, memory_end, is_end, bad_end, refused_end, full_end, spent_end}
 use Rattle.peer_run.proofs.Laws.{laws_of}
 
 -- of a run without a command the status is 2, 4 or 7
@@ -69,6 +69,9 @@ stopped IsOne k each two four seven run (inl runs) is =
 pub bad_input : (run : Run) → RunsWords run → run.status ≡ 5 → HasStopped IsBadEnd run
 bad_input = stopped IsBadEnd 5 bad_end (λ e. omega (arith, e)) (λ e. omega (arith, e)) (λ e. omega (arith, e))
 
+pub refused : (run : Run) → RunsWords run → run.status ≡ 6 → HasStopped IsRefusedEnd run
+refused = stopped IsRefusedEnd 6 refused_end (λ e. omega (arith, e)) (λ e. omega (arith, e)) (λ e. omega (arith, e))
+
 pub log_full : (run : Run) → RunsWords run → run.status ≡ 8 → HasStopped IsFullEnd run
 log_full = stopped IsFullEnd 8 full_end (λ e. omega (arith, e)) (λ e. omega (arith, e)) (λ e. omega (arith, e))
 
@@ -123,17 +126,14 @@ write_fault run (inl runs) is = record { command = runs.command; is_words = runs
 
 -- ---- no other status
 
-pub statuses : (run : Run) → RunsWords run → (run.status ≤ 5) ⊎ ((7 ≤ run.status) × (run.status ≤ 9))
+pub statuses : (run : Run) → RunsWords run → run.status ≤ 9
 statuses run runs = go runs where
-  of_end : (end : Result Done Stop) → Reports run.old.report run.new.report end run.status → (run.status ≤ 5) ⊎ ((7 ≤ run.status) × (run.status ≤ 9))
-  of_end end (inl told) = subst (λ (k : ℕ). (k ≤ 5) ⊎ ((7 ≤ k) × (k ≤ 9))) (sym told.status_is) (known end)
-  of_end end (inr (inl fault)) = elim (after_is run.status (status_of end) fault.status_is) [
-    | inl four ↦ inl (omega (arith, four))
-    | inr same ↦ subst (λ (k : ℕ). (k ≤ 5) ⊎ ((7 ≤ k) × (k ≤ 9))) (sym same.0) (known end)
-  ]
-  of_end end (inr (inr none)) = inr (omega (arith, none.status_is), omega (arith, none.status_is))
+  of_end : (end : Result Done Stop) → Reports run.old.report run.new.report end run.status → run.status ≤ 9
+  of_end end (inl told) = omega (arith, told.status_is, known end)
+  of_end end (inr (inl fault)) = elim (after_is run.status (status_of end) fault.status_is) [ inl four ↦ omega (arith, four) | inr same ↦ omega (arith, same.0, known end) ]
+  of_end end (inr (inr none)) = omega (arith, none.status_is)
 
-  go : RunsWords run → (run.status ≤ 5) ⊎ ((7 ≤ run.status) × (run.status ≤ 9))
+  go : RunsWords run → run.status ≤ 9
   go (inl r1) = of_end r1.end r1.reports
   go (inr (inl m)) = of_end (Err stop.Usage) m.reports
   go (inr (inr n)) = of_end (Err stop.NoMemory) n.reports

@@ -9,7 +9,7 @@ use Rattle.peer_stage.specs.declared.outcome.Stop.TheVariants as stop
 use Rattle.peer_stage.specs.Status.{status_of}
 use Rattle.peer_stage.proofs.Ends.{done_small}
 use Rattle.peer_report.specs.Report.{Reports, after_report_fault}
-use Rattle.peer_run.specs.Promises.{IsEnd, IsBadEnd, IsFullEnd, IsSpentEnd}
+use Rattle.peer_run.specs.Promises.{IsEnd, IsBadEnd, IsRefusedEnd, IsFullEnd, IsSpentEnd}
 
 -- ---- what a status tells of the end
 
@@ -50,6 +50,11 @@ bad_end (Err (stop.Pruned from row by)) is = tt
 bad_end (Err (stop.Missing name)) is = tt
 bad_end (Err (stop.Taken name)) is = tt
 bad_end (Err e) is = absurd (omega (arith, is))
+
+pub refused_end : (end : Result Done Stop) → status_of end ≡ 6 → IsRefusedEnd end
+refused_end (Ok d) is = absurd (omega (arith, done_small d, is))
+refused_end (Err (stop.SessionRefused refusal)) is = tt
+refused_end (Err e) is = absurd (omega (arith, is))
 
 pub full_end : (end : Result Done Stop) → status_of end ≡ 8 → IsFullEnd end
 full_end (Ok d) is = absurd (omega (arith, done_small d, is))

@@ -2,7 +2,7 @@
 use Rattle.std.proofs.Common.{◌≤◌}
 use Rattle.peer_run.specs.Run.{Run, RunsWords}
 use Rattle.peer_run.specs.Promises.{KeepsPromises}
-use Rattle.peer_run.proofs.Causes.{ended, usage, is_command, read_fault, write_fault, bad_input, log_full, key_spent, statuses}
+use Rattle.peer_run.proofs.Causes.{ended, usage, is_command, read_fault, write_fault, bad_input, refused, log_full, key_spent, statuses}
 use Rattle.peer_run.proofs.Complete.{complete}
 use Rattle.peer_run.proofs.WholeJoin.{whole_join}
 use Rattle.peer_run.proofs.Reported.{counts_stand, none_passed_over, report_stood}
@@ -19,6 +19,7 @@ keeps run runs faults =
       read_fault = read_fault run runs;
       write_fault = write_fault run runs;
       bad_input = bad_input run runs;
+      refused = refused run runs;
       log_full = log_full run runs;
       key_spent = key_spent run runs;
       unfailed = none_passed_over run runs;

@@ -6,6 +6,7 @@ use Rattle.peer_make.proofs.Deeds.{key_is_lawful, grant_is_lawful, delegate_is_l
 use Rattle.peer_words.specs.declared.command.Command.{Command}
 use Rattle.peer_words.specs.declared.command.Command.TheVariants as cmd
 use Rattle.peer_run.specs.Deeds.{deed_of}
+use Rattle.peer_run.proofs.PairDeeds.{drill_is_lawful, meet_is_lawful}
 
 -- One line a command.
 pub laws_of : (c : Command) → IsLawful (deed_of c)
@@ -16,4 +17,7 @@ laws_of (cmd.Grant namespace mode user key) = grant_is_lawful namespace mode use
 laws_of (cmd.Delegate key to area) = delegate_is_lawful key to area
 laws_of (cmd.Write key path time payload_length digest subspace) = write_is_lawful key (record { path = path; time = time; payload_length = payload_length; digest = digest; subspace = subspace })
 laws_of (cmd.Gen rows) = gen_is_lawful rows
+laws_of (cmd.Drill rows) = drill_is_lawful rows
+laws_of (cmd.Meet left right left_cap right_cap left_out right_out area) =
+    meet_is_lawful (record { left = left; right = right; left_cap = left_cap; right_cap = right_cap; left_out = left_out; right_out = right_out; area = area })
 laws_of command = not_built_is_lawful

@@ -1,3 +1,9 @@
+pub mod Members
+pub mod AuthorisedRows
+pub mod FewNew
+pub mod Drilling
+pub mod FirstOfBoth
+pub mod PairDeeds
 pub mod Laws
 pub mod Ends
 pub mod Causes

@@ -1,4 +1,13 @@
+pub mod Exchanged
+pub mod Drill
+pub mod Getting
+pub mod Greeting
+pub mod Transcript
+pub mod ImagesMet
+pub mod Meet
+pub mod PairDeeds
 pub mod Deeds
 pub mod Run
 pub mod Headline
+pub mod MeetHeadline
 pub mod Promises

@@ -57,7 +57,7 @@ pub record HasWriteFault (run : Run) : Type 0 where
   pub is_words : IsWords run.words command
   pub rose : (deed_of command).writes run.old (before_report run) ⊎ Rose run.old.report.faults run.new.report.faults
 
--- ---- 5, 8 and 9
+-- ---- 5, 6, 8 and 9
 
 -- bytes of the input or of a name are not in their grammar or too many, a name is missing or taken
 abbrev pub IsBadEnd : Result Done Stop → Type 0
@@ -67,6 +67,11 @@ IsBadEnd (Err (stop.Pruned origin row by)) = Unit {0}
 IsBadEnd (Err (stop.Missing name)) = Unit {0}
 IsBadEnd (Err (stop.Taken name)) = Unit {0}
 IsBadEnd end = ⊥
+
+-- a session is refused before it begins
+abbrev pub IsRefusedEnd : Result Done Stop → Type 0
+IsRefusedEnd (Err (stop.SessionRefused refusal)) = Unit {0}
+IsRefusedEnd end = ⊥
 
 -- a row that would be stored met a full log
 abbrev pub IsFullEnd : Result Done Stop → Type 0
@@ -126,16 +131,18 @@ pub record KeepsPromises (run : Run) : Type 0 where
   pub write_fault : run.status ≡ 4 → HasWriteFault run
   -- 5: bytes or a name are not as they must be, and the report tells which
   pub bad_input : run.status ≡ 5 → HasStopped IsBadEnd run
+  -- 6: a session is refused, and the report tells why
+  pub refused : run.status ≡ 6 → HasStopped IsRefusedEnd run
   -- 8: a row met a full log, and the report tells it
   pub log_full : run.status ≡ 8 → HasStopped IsFullEnd run
   -- 9: a key file has no index left, and the report tells it
   pub key_spent : run.status ≡ 9 → HasStopped IsSpentEnd run
-  -- at 0, 1, 2, 5, 8 and 9 no fault was passed over: before the report no count of faults rose of any object
+  -- at 0, 1, 2, 5, 6, 8 and 9 no fault was passed over: before the report no count of faults rose of any object
   pub unfailed : run.status ≢ 3 → run.status ≢ 4 → run.status ≢ 7 → Unfailed run.old (before_report run)
   -- and at 0 and 1 that of the report did not rise either
   pub report_unfailed : run.status ≤ 1 → run.new.report.faults ≡ run.old.report.faults
   -- no other status comes but 7, for want of memory
-  pub statuses : (run.status ≤ 5) ⊎ ((7 ≤ run.status) × (run.status ≤ 9))
+  pub statuses : run.status ≤ 9
   -- no count falls, that of the report's faults included
   pub counts : NeverFall run.old run.new
   -- a command that is ready comes to its end, but for faults and want of memory

@@ -2,6 +2,13 @@
 //! answers a status. Its contract says what is read, written and reported at each status, and why it comes.
 #![tactic(auto)]
 
+mod drilling;
+mod exchanging;
+mod getting;
+mod greeting;
+mod images_met;
+mod meeting;
 mod run;
+mod transcript;
 
 pub use run::peer_run;

@@ -9,6 +9,8 @@ ghost use Rattle.peer_run.specs.Deeds.{deed_of};
 ghost use Rattle.peer_run.specs.Run.{RunsWords};
 ghost use Rattle.peer_run.specs.Promises.{KeepsPromises};
 
+use crate::drilling::drill;
+use crate::meeting::{MeetWords, meet};
 use peer_make::{delegate, grant, make_key, write};
 use peer_report::end_run;
 use peer_rows::{generate, join, show};
@@ -54,8 +56,27 @@ fn run_command<H: Shelf, I: Source, O: Sink, N: Noise>(
             alloc, key, path, time, length, digest, subspace, shelf, input, output,
         ),
         Command::Gen { rows } => generate(alloc, rows, output),
-        Command::Drill { .. } => Err(Stop::Usage),
-        Command::Meet { .. } => Err(Stop::Usage),
+        Command::Drill { rows } => drill(alloc, rows, output),
+        Command::Meet {
+            left,
+            right,
+            left_cap,
+            right_cap,
+            left_out,
+            right_out,
+            area,
+        } => {
+            let words = MeetWords {
+                left,
+                right,
+                left_cap,
+                right_cap,
+                left_out,
+                right_out,
+                area,
+            };
+            meet(alloc, words, shelf, output)
+        }
         Command::Sync { .. } => Err(Stop::Usage),
         Command::Serve { .. } => Err(Stop::Usage),
         Command::Watch { .. } => Err(Stop::Usage),

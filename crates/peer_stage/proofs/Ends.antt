@@ -1,9 +1,10 @@
 -- From the status of an end back to the end.
-use Rattle.std.proofs.Common.{◌≡◌, ℕ, ◌≤◌, ◌<◌, Bool, true, false, cond, eqb, ◌⊎◌, inl, inr, [], ◌∷◌, refl, sym, arith}
+use Rattle.std.proofs.Common.{◌≡◌, ℕ, ◌≤◌, ◌<◌, Bool, true, false, cond, eqb, [], ◌∷◌, Option, Some, None, refl, sym, arith}
 use Rattle.std.specs.Prelude.{Result, Ok, Err}
 use Rattle.std.proofs.lemmas.Bool.{eqb-true}
 use Rattle.std.proofs.lemmas.Bool.Decides.{nat_tests}
-use Rattle.peer_stage.specs.Status.{status_of, refused_status, first_met, told_order}
+use Rattle.mc_cap.specs.declared.refusal.RefusedRow.{RefusedRow}
+use Rattle.peer_stage.specs.Status.{status_of, refused_status, first_status, first_met, told_order}
 use Rattle.peer_stage.specs.declared.outcome.Done.{Done}
 use Rattle.peer_stage.specs.declared.outcome.Done.TheVariants as done
 use Rattle.peer_stage.specs.declared.outcome.Stop.{Stop}
@@ -37,6 +38,18 @@ refused_some refused e = above (eqb refused 0) 1 refl (sym e) refl where
   above true s t h one_is = absurd (omega (arith, h, one_is))
   above false s t h one_is = grind (arith, nat_tests)
 
+-- ---- a first refused row
+
+-- of one thing that was met the status is its own
+pub first_only : (first : Option RefusedRow) → first_met told_order (first_status first ∷ []) ≡ first_status first
+unfolding first_met
+first_only None = refl
+first_only (Some first) = refl
+
+first_small : (first : Option RefusedRow) → first_status first ≤ 1
+first_small None = omega arith
+first_small (Some first) = omega arith
+
 -- ---- all ends
 
 pub none_met : first_met told_order [] ≡ 0
@@ -47,15 +60,14 @@ none_met = refl
 pub done_small : (d : Done) → status_of (Ok d) ≤ 1
 done_small (done.Joined counts) = rw (refused_only counts.refused) (refused_small counts.refused)
 done_small (done.Shown counts) = rw (refused_only counts.refused) (refused_small counts.refused)
+done_small (done.Met counts) = rw (first_only counts.first) (first_small counts.first)
 done_small done.Made = rw none_met (omega arith)
 
 -- no end has another status
-pub known : (end : Result Done Stop) → (status_of end ≤ 5) ⊎ ((7 ≤ status_of end) × (status_of end ≤ 9))
-known (Ok d) = inl (omega (arith, done_small d))
-known (Err stop.NoMemory) = inr (omega arith, omega arith)
-known (Err stop.LogFull) = inr (omega arith, omega arith)
-known (Err stop.KeySpent) = inr (omega arith, omega arith)
-known (Err e) = inl (omega arith)
+pub known : (end : Result Done Stop) → status_of end ≤ 9
+known (Ok d) = omega (arith, done_small d)
+known (Err stop.NoMemory) = omega arith
+known (Err e) = omega arith
 
 -- ---- stops
 

@@ -29,5 +29,6 @@ both_end old mid new first behind (Err (stop.Pruned from row by)) w same h = abs
 both_end old mid new first behind (Err (stop.Missing name)) w same h = absurd h
 both_end old mid new first behind (Err (stop.Taken name)) w same h = absurd h
 both_end old mid new first behind (Err (stop.Refused refusal)) w same h = absurd h
+both_end old mid new first behind (Err (stop.SessionRefused refusal)) w same h = absurd h
 both_end old mid new first behind (Err stop.LogFull) w same h = absurd h
 both_end old mid new first behind (Err stop.KeySpent) w same h = absurd h

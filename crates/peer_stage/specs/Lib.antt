@@ -4,4 +4,5 @@ pub mod Faults
 pub mod Deed
 pub mod Stages
 pub mod Inputs
+pub mod Shelves
 pub mod Steps

@@ -1,6 +1,7 @@
 -- The status of each end of a command.
-use Rattle.std.specs.Prelude.{ℕ, ◌==◌, if◌then◌else◌, List, [], ◌∷◌, Result, Ok, Err}
+use Rattle.std.specs.Prelude.{ℕ, ◌==◌, if◌then◌else◌, List, [], ◌∷◌, Option, Some, None, Result, Ok, Err}
 use Rattle.std.specs.List.{list_any}
+use Rattle.mc_cap.specs.declared.refusal.RefusedRow.{RefusedRow}
 use Rattle.peer_stage.specs.declared.outcome.Done.{Done}
 use Rattle.peer_stage.specs.declared.outcome.Done.TheVariants as done
 use Rattle.peer_stage.specs.declared.outcome.Stop.{Stop}
@@ -12,10 +13,16 @@ use Rattle.peer_stage.specs.declared.outcome.Stop.TheVariants as stop
 abbrev pub refused_status : ℕ → ℕ
 refused_status refused = if refused == 0 then 0 else 1
 
+-- 1 where there is a first refused row, else 0
+abbrev pub first_status : Option RefusedRow → ℕ
+first_status None = 0
+first_status (Some first) = 1
+
 -- the statuses of what was met on the way to what is done, which stopped nothing
 abbrev pub statuses_met : Done → List ℕ
 statuses_met (done.Joined counts) = refused_status counts.refused ∷ []
 statuses_met (done.Shown counts) = refused_status counts.refused ∷ []
+statuses_met (done.Met counts) = first_status counts.first ∷ []
 statuses_met done.Made = []
 
 -- the first of these statuses that was met, 0 where none was
@@ -39,6 +46,7 @@ stop_status (stop.NotRising from row) = 5
 stop_status (stop.Pruned from row by) = 5
 stop_status (stop.Missing name) = 5
 stop_status (stop.Taken name) = 5
+stop_status (stop.SessionRefused refusal) = 6
 stop_status stop.NoMemory = 7
 stop_status stop.LogFull = 8
 stop_status stop.KeySpent = 9

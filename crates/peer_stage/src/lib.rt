@@ -1,11 +1,14 @@
-//! What every command shares: how a command ends, and the stages that read the input and write the output.
+//! What every command shares: how a command ends, and the stages that read the input, write the output, and get and
+//! put the bytes of names.
 //! The contract: each stage says what it took or gave, and each end why it came.
 #![tactic(auto)]
 
 mod laws;
 mod outcome;
+mod shelf;
 mod stage;
 
 pub use laws::input_limit;
-pub use outcome::{Done, JoinCounts, Origin, ShowCounts, Stop};
+pub use outcome::{Done, JoinCounts, MeetCounts, Origin, ShowCounts, SideCounts, Stop};
+pub use shelf::{get_bytes, put_bytes};
 pub use stage::{INPUT_LIMIT, read_input, write_both, write_output};

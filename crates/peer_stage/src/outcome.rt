@@ -5,6 +5,7 @@ ghost use Rattle.peer_stage.specs.declared.outcome.Origin.TheVariants as origin;
 ghost use Rattle.peer_stage.specs.declared.outcome.Stop.TheVariants as stop;
 
 use mc_cap::{RefusedRow, RowRefusal};
+use session_end::HelloRefusal;
 use spelling::NoMemory;
 
 /// The numbers of a join: every row read, those stored when they came, those that an earlier row covered,
@@ -34,6 +35,34 @@ pub struct ShowCounts {
     pub first: Option<RefusedRow>,
 }
 
+/// The numbers of one side of a meeting: the authorised rows of its image, and of the rows that came to it those
+/// stored and those that an earlier row covered.
+#[derive(Clone, Copy, Debug, PartialEq, Eq)]
+pub struct SideCounts {
+    /// Authorised rows of the image.
+    pub rows: u64,
+    /// Rows that came and that no earlier one covered.
+    pub stored: u64,
+    /// Rows that came and that an earlier one covered.
+    pub kept: u64,
+}
+
+/// The numbers of a meeting: those of both sides, the counted items and the turns of the exchange, and the first row
+/// of the images that is not authorised, counted over the left image and then the right one.
+#[derive(Clone, Copy, Debug, PartialEq, Eq)]
+pub struct MeetCounts {
+    /// The side that began.
+    pub left: SideCounts,
+    /// The side that answered.
+    pub right: SideCounts,
+    /// Counted items of both sides.
+    pub items: u32,
+    /// Turns of both sides.
+    pub turns: u64,
+    /// The first row that is not authorised; None where there is none.
+    pub first: Option<RefusedRow>,
+}
+
 /// What a command did that came to its end. What it met on the way gives the status: the rows that were left out.
 #[derive(Debug, PartialEq, Eq, Drop)]
 pub enum Done {
@@ -41,6 +70,8 @@ pub enum Done {
     Joined(JoinCounts),
     /// An image was listed.
     Shown(ShowCounts),
+    /// Two stores met.
+    Met(MeetCounts),
     /// What was to be made is written; there is nothing to report.
     Made,
 }
@@ -75,6 +106,8 @@ pub enum Stop {
     Taken { name: String },
     /// What was to be made is not authorised.
     Refused(RowRefusal),
+    /// A session is refused before it begins, or two images are of different namespaces.
+    SessionRefused(HelloRefusal),
     /// No memory was found.
     NoMemory,
     /// A row that would be stored met a full log.

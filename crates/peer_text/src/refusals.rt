@@ -36,8 +36,8 @@ fn text_of(alloc: Global, refusal: RowRefusal) -> Result<String, NoMemory>
     Ok(String::from_str(alloc, name)?)
 }
 
-// The text of why a capability is not valid.
-fn chain_text(alloc: Global, refusal: ChainRefusal) -> Result<String, NoMemory>
+/// The text of why a capability is not valid.
+pub(crate) fn chain_text(alloc: Global, refusal: ChainRefusal) -> Result<String, NoMemory>
     ensures { IfOk result (λ text. string_bytes text ≡ chain_refusal_text refusal) }
 {
     match refusal {

@@ -1,13 +1,50 @@
 //! What options say of an area.
 
-ghost use Rattle.std.specs.Prelude.{List, MatchBool};
-ghost use Rattle.peer_words.specs.Areas.{HasArea, AreRising};
+ghost use Rattle.std.specs.Prelude.{◌≡◌, List, MatchBool, MatchOption, IfOk, true, false};
+ghost use Rattle.willow_area.specs.Times.{ends_by};
+ghost use Rattle.peer_words.specs.Areas.{HasArea, AreRising, Completes};
 ghost use Rattle.peer_words.specs.Words.{Reads};
 
 use crate::command::{AreaWords, Usage};
 use crate::options::Options;
 use std::alloc::Global;
-use willow_path::{End, Path, UserKey};
+use willow_area::{Area, TimeRange};
+use willow_path::{End, NoMemory, Path, UserKey};
+
+impl AreaWords {
+    /// The area of the words, where a field without a word is that of `area`, as a capability grants it. None comes
+    /// exactly where the times that are completed so are empty.
+    pub fn completed(&self, area: Area) -> Result<Option<Area>, NoMemory>
+        ensures { IfOk result (λ whole. Completes self.now area whole) }
+    {
+        let Area {
+            subspace,
+            path,
+            times,
+        } = area;
+        let start = self.from.unwrap_or(times.start());
+        let end = self.until.unwrap_or(times.end());
+        let Some(times) = times_of(start, end) else {
+            return Ok(None);
+        };
+        let path = match &self.under {
+            Some(path) => path.copy()?,
+            None => path,
+        };
+        Ok(Some(Area {
+            subspace: self.subspace.unwrap_or(subspace),
+            path,
+            times,
+        }))
+    }
+}
+
+// The times from a start up to an end, where there are some.
+fn times_of(start: u64, end: Option<u64>) -> Option<TimeRange>
+    ensures { MatchOption result (ends_by end start ≡ true) (λ times. (times ≡ record { start = start; end = end }) × (ends_by end start ≡ false)) }
+{
+    TimeRange::new(start, end)
+}
 
 // Whether an end that is a number is above the start, where both are given.
 fn are_rising(start: Option<u64>, end: Option<Option<u64>>) -> bool

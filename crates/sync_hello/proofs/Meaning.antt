@@ -16,7 +16,7 @@ use Rattle.mc_cap.specs.declared.check.ChainRefusal.{ChainRefusal}
 use Rattle.mc_cap.proofs.Causes.{if_false, unless_true, neither}
 use Rattle.mc_cap.proofs.Meaning.{valid_means}
 use Rattle.sync_hello.specs.declared.hello.Hello.{Hello}
-use Rattle.sync_hello.specs.declared.refusal.HelloRefusal.TheVariants.{VersionUnknown, WrongNamespace, Chain, AskOutsideGrant}
+use Rattle.session_end.specs.declared.refusal.HelloRefusal.TheVariants.{VersionUnknown, WrongNamespace, Chain, AskOutsideGrant}
 use Rattle.sync_hello.specs.Checked.{version_refusal, namespace_refusal, mode_refusal, capability_refusal, ask_refusal, claim_refusal, hello_refusal, Passes}
 
 reads : (mode : Mode) → mode_refusal mode ≡ None → mode ≡ Read

@@ -10,8 +10,8 @@ use Rattle.mc_cap.specs.declared.capability.Capability.{Capability}
 use Rattle.mc_cap.specs.declared.capability.Mode.{Mode}
 use Rattle.mc_cap.specs.declared.capability.Mode.TheVariants.{Read, Write}
 use Rattle.sync_hello.specs.declared.hello.Hello.{Hello}
-use Rattle.sync_hello.specs.declared.refusal.HelloRefusal.{HelloRefusal}
-use Rattle.sync_hello.specs.declared.refusal.HelloRefusal.TheVariants.{VersionUnknown, WrongNamespace, NotRead, Chain, AskOutsideGrant}
+use Rattle.session_end.specs.declared.refusal.HelloRefusal.{HelloRefusal}
+use Rattle.session_end.specs.declared.refusal.HelloRefusal.TheVariants.{VersionUnknown, WrongNamespace, NotRead, Chain, AskOutsideGrant}
 
 -- ---- the first condition that fails
 

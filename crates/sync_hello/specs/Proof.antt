@@ -6,8 +6,8 @@ use Rattle.mc_cap.specs.Grant.{receiver_of}
 use Rattle.sync_msg.specs.declared.role.Role.{Role}
 use Rattle.sync_msg.specs.declared.role.Role.TheVariants.{Caller, Answerer}
 use Rattle.sync_hello.specs.declared.hello.Hello.{Hello}
-use Rattle.sync_hello.specs.declared.refusal.HelloRefusal.{HelloRefusal}
-use Rattle.sync_hello.specs.declared.refusal.HelloRefusal.TheVariants.{BadProof}
+use Rattle.session_end.specs.declared.refusal.HelloRefusal.{HelloRefusal}
+use Rattle.session_end.specs.declared.refusal.HelloRefusal.TheVariants.{BadProof}
 use Rattle.sync_hello.specs.HelloForm.{hello_spelling}
 
 -- the byte of a side

@@ -6,9 +6,9 @@ ghost use Rattle.spelling.specs.declared.ending.End.TheVariants as ends;
 ghost use Rattle.sync_hello.specs.Checked.{ask_refusal, capability_refusal, claim_refusal, hello_refusal};
 
 use crate::hello::Hello;
-use crate::refusal::HelloRefusal;
 use mc_cap::{Capability, Mode};
 use scheme_core::Verify;
+use session_end::HelloRefusal;
 use spelling::End;
 use willow_path::NamespaceKey;
 

@@ -10,14 +10,13 @@ mod hello;
 pub mod laws;
 mod proof;
 mod read;
-mod refusal;
 
 pub use check::check_hello;
 pub use common::common_area;
 pub use hello::Hello;
 pub use proof::{check_proof, proof_message};
 pub use read::{HelloStep, read_hello};
-pub use refusal::HelloRefusal;
+pub use session_end::{HelloRefusal, SessionEnd};
 
 #[cfg(test)]
 mod tests;

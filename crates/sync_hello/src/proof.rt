@@ -7,8 +7,8 @@ ghost use Rattle.sync_hello.specs.HelloForm.{HasSpelling};
 ghost use Rattle.sync_hello.specs.Proof.{hello_of, proof_message, proof_refusal, role_byte};
 
 use crate::hello::Hello;
-use crate::refusal::HelloRefusal;
 use scheme_core::Verify;
+use session_end::HelloRefusal;
 use spelling::{End, NoMemory, put_byte};
 use std::alloc::Global;
 use sync_msg::Role;

@@ -1,4 +1,4 @@
-use Rattle.peer_report.proofs.Statuses.{joined_status, shown_status, made_status}
+use Rattle.peer_report.proofs.Statuses.{joined_status, shown_status, met_status, made_status}
 use Rattle.peer_report.proofs.report.done_status.Goals as goal
 
 pub returns-in-Joined : goal.returns-in-Joined
@@ -6,6 +6,9 @@ returns-in-Joined c = joined_status c.args.done.now c.in-Joined.counts c.refused
 
 pub returns-in-Shown : goal.returns-in-Shown
 returns-in-Shown c = shown_status c.args.done.now c.in-Shown.counts c.refused_status-in-Shown.result c.in-Shown.is c.refused_status-in-Shown.ensures
+
+pub returns-in-Met : goal.returns-in-Met
+returns-in-Met c = met_status c.args.done.now c.in-Met.counts c.first_status.result c.in-Met.is c.first_status.ensures
 
 pub returns-in-Made : goal.returns-in-Made
 returns-in-Made c = made_status c.args.done.now c.in-Made.is

@@ -1,0 +1,43 @@
+-- Images that a command reads, and the logs of their rows.
+use Rattle.std.specs.Prelude.{◌≡◌, ℕ, List, map, None, Result, Ok, Err}
+use Rattle.spelling.specs.declared.ending.End.{End}
+use Rattle.spelling.specs.declared.ending.End.TheVariants.{Refused, NoMemory}
+use Rattle.cap_codec.specs.Rows.{RawValue}
+use Rattle.auth_entry.specs.Authorised.{AuthorisedValue}
+use Rattle.peer_image.specs.ImageReading.{IsImage, IsWrong, IsMisordered, raw_rows}
+use Rattle.peer_image.specs.Order.{order_refusal}
+use Rattle.peer_image.specs.declared.read.Image.{Image}
+use Rattle.peer_image.specs.declared.refusal.ImageRefusal.TheVariants as refusal
+use Rattle.peer_stage.specs.declared.outcome.JoinCounts.{JoinCounts}
+use Rattle.peer_stage.specs.declared.outcome.Origin.{Origin}
+use Rattle.peer_stage.specs.declared.outcome.Stop.{Stop}
+use Rattle.peer_stage.specs.declared.outcome.Stop.TheVariants as stop
+use Rattle.peer_rows.specs.RowLogs.{LogRows, HasTaken}
+use Rattle.peer_rows.specs.Logged.{authorised_rows, entry_row, AreCounts, PassesLog}
+use Rattle.peer_rows.specs.declared.row_log.LogFull.{LogFull}
+
+-- the bytes are the image of these rows in order
+pub record IsImageInOrder (bytes namespace : List ℕ) (rows : List RawValue) : Type 0 where
+  pub is_image : IsImage bytes namespace rows
+  pub in_order : order_refusal (raw_rows rows) ≡ None
+
+-- the image that the bytes are, or why they are none, told of where they came from
+abbrev pub ReadsImageFrom : Origin → List ℕ → Result Image Stop → Type 0
+ReadsImageFrom origin bytes (Ok image) = IsImageInOrder bytes image.namespace image.rows.items
+ReadsImageFrom origin bytes (Err (stop.BadInput from at)) = IsWrong bytes at × (from ≡ origin)
+ReadsImageFrom origin bytes (Err (stop.NotRising from row)) = IsMisordered bytes (refusal.NotRising row) × (from ≡ origin)
+ReadsImageFrom origin bytes (Err (stop.Pruned from row by)) = IsMisordered bytes (refusal.Pruned row by) × (from ≡ origin)
+ReadsImageFrom origin bytes (Err stop.NoMemory) = Unit {0}
+ReadsImageFrom origin bytes (Err e) = ⊥
+
+-- the log of the authorised rows, with the numbers of all of them; or one too many would be stored
+abbrev pub LogsImage : List ℕ → List RawValue → Result (LogRows AuthorisedValue × JoinCounts) Stop → Type 0
+LogsImage namespace rows (Ok x) = HasTaken entry_row (authorised_rows namespace rows) x.0 × AreCounts namespace rows x.1
+LogsImage namespace rows (Err stop.LogFull) = PassesLog namespace rows
+LogsImage namespace rows (Err stop.NoMemory) = Unit {0}
+LogsImage namespace rows (Err e) = ⊥
+
+-- how a command stops where a row met a full log, or memory was wanting
+abbrev pub log_stop : End LogFull → Stop
+log_stop (Refused full) = stop.LogFull
+log_stop NoMemory = stop.NoMemory

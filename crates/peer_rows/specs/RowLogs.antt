@@ -1,0 +1,42 @@
+-- What a log holds of the rows that were offered to it.
+use Rattle.std.specs.Prelude.{◌≡◌, ℕ, ◌<◌, Bool, List, [], ◌∷◌, ◌++◌, length, map, Result, Ok, Err, if◌then◌else◌}
+use Rattle.spelling.specs.declared.ending.End.{End}
+use Rattle.spelling.specs.declared.ending.End.TheVariants.{Refused, NoMemory}
+use Rattle.willow_entry.specs.Row.{RowValue, live, new}
+use Rattle.peer_rows.specs.declared.row_log.LogFull.{LogFull}
+use Rattle.peer_rows.specs.declared.row_log.TheConstants.{LOG_LIMIT}
+
+-- the live rows, and how many of those offered were stored when they came
+pub record LogRows (R : Type 0) : Type 0 where
+  pub rows : List R
+  pub stored : ℕ
+
+-- These rows were offered, one after the other: of them what is live is held, and the new ones were stored.
+pub record HasTaken {R : Type 0} (value : R → RowValue) (seen : List RowValue) (log : LogRows R) : Type 0 where
+  pub held : map value log.rows ≡ live seen
+  pub stored : log.stored ≡ length (new seen)
+
+-- of these rows one too many would be stored
+abbrev pub ArePastLog : List RowValue → Type 0
+ArePastLog rows = LOG_LIMIT < length (new rows)
+
+-- what is new of some rows goes on by this one, if it is stored
+abbrev pub GoesOn : List RowValue → RowValue → Bool → Type 0
+GoesOn seen row stored = new (seen ++ row ∷ []) ≡ new seen ++ (if stored then row ∷ [] else [])
+
+-- a row was refused, and no memory was wanting
+abbrev pub IsRefusal : End LogFull → Type 0
+IsRefusal (Refused full) = Unit {0}
+IsRefusal NoMemory = ⊥
+
+-- how the offer of a row ends, behind those that were offered before
+abbrev pub OffersRow : {R : Type 0} → (R → RowValue) → List RowValue → RowValue → LogRows R → Result Bool (End LogFull) → Type 0
+OffersRow value seen row log (Ok stored) = HasTaken value (seen ++ row ∷ []) log × GoesOn seen row stored
+OffersRow value seen row log (Err (Refused full)) = ArePastLog (seen ++ row ∷ [])
+OffersRow value seen row log (Err NoMemory) = Unit {0}
+
+-- how the offer of several ends
+abbrev pub OffersRows : {R : Type 0} → (R → RowValue) → List RowValue → List RowValue → LogRows R → Result (Unit {0}) (End LogFull) → Type 0
+OffersRows value seen rows log (Ok u) = HasTaken value (seen ++ rows) log
+OffersRows value seen rows log (Err (Refused full)) = ArePastLog (seen ++ rows)
+OffersRows value seen rows log (Err NoMemory) = Unit {0}

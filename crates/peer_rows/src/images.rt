@@ -1,0 +1,62 @@
+//! Images that a command reads, be it from the input or from a name, and the logs of their rows.
+
+ghost use Rattle.std.specs.Prelude.{◌≡◌, ◌^◌, ◌<◌, length};
+ghost use Rattle.spelling.specs.declared.ending.End.TheVariants as ends;
+ghost use Rattle.peer_rows.specs.Images.{ReadsImageFrom, LogsImage, log_stop};
+
+use crate::log::Log;
+use crate::row_log::{LogFull, RowLog};
+use auth_entry::AuthorisedEntry;
+use lms_core::PeerScheme;
+use peer_image::{Image, ImageRefusal, read_image};
+use peer_stage::{JoinCounts, Origin, Stop};
+use spelling::End;
+use std::alloc::Global;
+
+/// A log of authorised rows.
+pub type EntryLog = RowLog<AuthorisedEntry<PeerScheme>>;
+
+/// The image that the bytes are. What is wrong with them is told of where they came from.
+pub fn image_from(alloc: Global, bytes: &[u8], origin: Origin) -> Result<Image, Stop>
+    ensures { ReadsImageFrom origin bytes.now result }
+{
+    match read_image(alloc, bytes) {
+        Ok(image) => Ok(image),
+        Err(End::Refused(ImageRefusal::BadImage { at })) => Err(Stop::BadInput { origin, at }),
+        Err(End::Refused(ImageRefusal::NotRising { at })) => {
+            Err(Stop::NotRising { origin, row: at })
+        }
+        Err(End::Refused(ImageRefusal::Pruned { at, by })) => Err(Stop::Pruned {
+            origin,
+            row: at,
+            by,
+        }),
+        Err(End::NoMemory) => Err(Stop::NoMemory),
+    }
+}
+
+/// The log of the authorised rows of an image, offered in order, and the numbers of all its rows.
+pub fn log_image(alloc: Global, image: Image) -> Result<(EntryLog, JoinCounts), Stop>
+    requires { length image.rows.items < 2 ^ 32 }
+    ensures { LogsImage image.namespace image.rows.items result }
+{
+    let Image { namespace, rows } = image;
+    let mut log = Log::new(alloc);
+    for row in rows {
+        match log.offer(alloc, &namespace, row) {
+            Ok(()) => {}
+            Err(end) => return Err(log_stop(end)),
+        }
+    }
+    Ok((log.kept, log.counts))
+}
+
+/// How a command stops where a row met a full log, or memory was wanting.
+pub fn log_stop(end: End<LogFull>) -> Stop
+    ensures { result ≡ log_stop end }
+{
+    match end {
+        End::Refused(LogFull) => Stop::LogFull,
+        End::NoMemory => Stop::NoMemory,
+    }
+}

@@ -1,0 +1,36 @@
+-- The first refused row of two images, counted over both.
+use Rattle.std.proofs.Common.{◌≡◌, ℕ, ◌+◌, List, [], ◌∷◌, ◌++◌, length, Option, Some, None, option_map, refl, sym, ap, ◌∙◌, arith}
+use Rattle.spelling.specs.Answers.{or_else, first_some}
+use Rattle.spelling.proofs.Causes.{first_some-append}
+use Rattle.lms_core.specs.Use.{peer_rules}
+use Rattle.cap_codec.specs.Rows.{RawValue}
+use Rattle.auth_entry.specs.Authorised.{row_refusal}
+use Rattle.mc_cap.specs.declared.refusal.RefusedRow.{RefusedRow}
+use Rattle.mc_cap.specs.declared.refusal.RowRefusal.{RowRefusal}
+use Rattle.peer_rows.specs.Logged.{numbered_refusal, first_refused}
+use Rattle.peer_run.specs.ImagesMet.{refused_behind}
+
+-- a refusal with its row's number
+abbrev number : ℕ → RowRefusal → RefusedRow
+number k refusal = record { row = k; refusal = refusal }
+
+-- rows that are counted up from later have later numbers
+shifted : (n : List ℕ) (k before : ℕ) (rows : List RawValue) → first_some (numbered_refusal n) (k + before) rows ≡ refused_behind before (first_some (numbered_refusal n) k rows)
+unfolding first_some
+shifted n k before [] = refl
+shifted n k before (r ∷ rows) = go (row_refusal peer_rules n r) where
+  same : (k + before) + 1 ≡ (k + 1) + before
+  same = omega arith
+
+  number_is : k + before ≡ before + k
+  number_is = omega arith
+
+  go : (o : Option RowRefusal)
+      → or_else (option_map (number (k + before)) o) (first_some (numbered_refusal n) ((k + before) + 1) rows) ≡ refused_behind before (or_else (option_map (number k) o) (first_some (numbered_refusal n) (k + 1) rows))
+  go (Some refusal) = ap (λ (m : ℕ). Some (number m refusal)) number_is
+  go None = ap (λ (m : ℕ). first_some (numbered_refusal n) m rows) same ∙ shifted n (k + 1) before rows
+
+pub first_behind : (n : List ℕ) (left right : List RawValue) (before : ℕ) → before ≡ length left → or_else (first_refused n left) (refused_behind before (first_refused n right)) ≡ first_refused n (left ++ right)
+first_behind n left right before is =
+    ap (λ (m : ℕ). or_else (first_refused n left) (refused_behind m (first_refused n right))) is
+    ∙ sym (first_some-append (numbered_refusal n) 1 left right ∙ ap (or_else (first_refused n left)) (shifted n 1 (length left) right))

@@ -1,0 +1,50 @@
+-- What holds of all rows of two stores holds of the rows that they exchange, and of what they then hold.
+use Rattle.std.proofs.Common.{◌≡◌, ℕ, Bool, true, false, cond, List, [], ◌∷◌, ◌++◌, map, filter, Option, Some, None, refl, sym, ap, subst, inl, inr}
+use Rattle.std.specs.List.{AllByRecursion, Contains}
+use Rattle.std.proofs.lemmas.List.Elements.{All-from_recursion}
+use Rattle.spelling.proofs.Lists.{All-append}
+use Rattle.willow_area.specs.Boxes.{Ranges}
+use Rattle.willow_entry.specs.Row.{RowValue, is_dominating, place_cmp, live}
+use Rattle.willow_entry.proofs.Members.{Member, member_from_contains, contains_from_member, filter_member}
+use Rattle.willow_entry.proofs.Pruning.{pruned_member}
+use Rattle.willow_entry.proofs.Rising.{all_member, all_from_members}
+use Rattle.willow_entry.proofs.RowLaws.{rows_prune}
+use Rattle.block_store.specs.BoxKinds.{IsOfOneNamespace}
+use Rattle.block_store.specs.InBox.{is_in, rows_in}
+use Rattle.exchange_rules.specs.Items.{to_left, to_right}
+use Rattle.exchange_rules.specs.Exchange.{exchange}
+use Rattle.exchange_rules.proofs.Converging.{left_only, right_only}
+use Rattle.sync_core.specs.SyncRules.{sync_rules}
+use Rattle.sync_core.proofs.Lawful.{deciding, disjoint}
+use Rattle.peer_run.specs.Exchanged.{met}
+
+-- a list holds each of its rows
+pub all_held : (rows : List RowValue) → AllByRecursion (Member rows) rows
+all_held rows = all_from_members place_cmp (Member rows) rows (λ r m. m)
+
+module _ (P : RowValue → Type 0) where
+  pub live_all : (rows : List RowValue) → AllByRecursion P rows → AllByRecursion P (live rows)
+  live_all rows all = all_from_members place_cmp P (live rows) (λ r m. all_member place_cmp P rows all r (pruned_member is_dominating place_cmp rows_prune rows r m).0)
+
+  -- rows that a list holds in a box
+  in_box : (area : Ranges) (rows sent : List RowValue) → AllByRecursion P rows → ((r : RowValue) → Contains sent r → Contains (rows_in area rows) r) → AllByRecursion P sent
+  in_box area rows sent all holds =
+      all_from_members place_cmp P sent (λ r m. all_member place_cmp P rows all r (filter_member (is_in area) rows r (member_from_contains (rows_in area rows) r (holds r (contains_from_member sent r m)))).0)
+
+  sent_left : (a b : List RowValue) (area : Option Ranges) → AllByRecursion P b → AllByRecursion P (to_left (exchange sync_rules a b area))
+  sent_left a b None all = tt
+  sent_left a b (Some area) all = in_box area b (to_left (exchange sync_rules a b (Some area))) all (left_only sync_rules deciding disjoint a b area)
+
+  sent_right : (a b : List RowValue) (area : Option Ranges) → AllByRecursion P a → AllByRecursion P (to_right (exchange sync_rules a b area))
+  sent_right a b None all = tt
+  sent_right a b (Some area) all = in_box area a (to_right (exchange sync_rules a b (Some area))) all (right_only sync_rules deciding disjoint a b area)
+
+  -- of the rows that two stores took, and those that came
+  pub all_left : (a b : List RowValue) (area : Option Ranges) → AllByRecursion P a → AllByRecursion P b → AllByRecursion P (a ++ to_left (met a b area))
+  all_left a b area one other = All-append P a (to_left (met a b area)) one (sent_left (live a) (live b) area (live_all b other))
+
+  pub all_right : (a b : List RowValue) (area : Option Ranges) → AllByRecursion P a → AllByRecursion P b → AllByRecursion P (b ++ to_right (met a b area))
+  all_right a b area one other = All-append P b (to_right (met a b area)) other (sent_right (live a) (live b) area (live_all a one))
+
+pub one_namespace : (n : List ℕ) (rows : List RowValue) → AllByRecursion (λ r. r.entry.namespace ≡ n) rows → IsOfOneNamespace rows
+one_namespace n rows all = (n, All-from_recursion (λ r. r.entry.namespace ≡ n) rows all)

@@ -1,0 +1,77 @@
+//! Two logs that exchange their rows.
+
+ghost use Rattle.std.specs.Prelude.{List, All};
+ghost use Rattle.block_store.specs.BoxKinds.{IsOfOneNamespace};
+ghost use Rattle.willow_entry.specs.Frame.{HasFrame};
+ghost use Rattle.willow_entry.specs.Row.{RowValue};
+ghost use Rattle.peer_rows.specs.RowLogs.{HasTaken};
+ghost use Rattle.peer_rows.specs.Logged.{entry_row, stored_rows};
+ghost use Rattle.peer_run.specs.Exchanged.{Exchanges, Takes, boxed};
+
+use auth_entry::AuthorisedEntry;
+use lms_core::PeerScheme;
+use peer_rows::{EntryLog, LogFull};
+use spelling::End;
+use std::alloc::Global;
+use sync_pair::{PairRun, meet_rows};
+use willow_area::Area;
+
+/// What became of the rows that came to a side.
+#[derive(Clone, Copy, Debug, PartialEq, Eq)]
+pub(crate) struct Came {
+    pub(crate) stored: u64,
+    pub(crate) kept: u64,
+}
+
+/// What two sides said, and what became of the rows that came to each.
+#[derive(Drop)]
+pub(crate) struct Exchanged {
+    pub(crate) turns: Vec<Vec<u8>>,
+    pub(crate) items: u32,
+    pub(crate) left: Came,
+    pub(crate) right: Came,
+}
+
+/// Lets two logs exchange rows over the area that both sides may read, the left one first, and take what comes.
+pub(crate) fn exchange(
+    alloc: Global,
+    left: &mut EntryLog,
+    right: &mut EntryLog,
+    area: &Option<Area>,
+) -> Result<Exchanged, End<LogFull>>
+    requires left_one { IsOfOneNamespace (stored_rows left.old.rows) }
+    requires right_one { IsOfOneNamespace (stored_rows right.old.rows) }
+    requires left_frames { All HasFrame (stored_rows left.old.rows) }
+    requires right_frames { All HasFrame (stored_rows right.old.rows) }
+    ensures { (a b : List RowValue) → HasTaken entry_row a left.old → HasTaken entry_row b right.old → Exchanges a b (boxed area.now) left.new right.new result }
+{
+    let run = meet_rows(alloc, &left.snapshot()?, &right.snapshot()?, area.as_ref())?;
+    let PairRun {
+        turns,
+        to_left,
+        to_right,
+        items,
+    } = run;
+    let left = take(left, to_left)?;
+    let right = take(right, to_right)?;
+    Ok(Exchanged {
+        turns,
+        items,
+        left,
+        right,
+    })
+}
+
+// Offers the rows that came to a log.
+fn take(log: &mut EntryLog, rows: Vec<AuthorisedEntry<PeerScheme>>) -> Result<Came, End<LogFull>>
+    ensures { (seen : List RowValue) → HasTaken entry_row seen log.old → Takes seen (stored_rows rows.items) log.new result }
+{
+    let count = rows.len() as u64;
+    let before = log.stored();
+    log.offer_all(rows)?;
+    let stored = log.stored() - before;
+    Ok(Came {
+        stored,
+        kept: count - stored,
+    })
+}
