@@ -1,5 +1,5 @@
 -- The first refused row of two images, counted over both.
-use Rattle.std.proofs.Common.{◌≡◌, ℕ, ◌+◌, List, [], ◌∷◌, ◌++◌, length, Option, Some, None, option_map, refl, sym, ap, ◌∙◌, arith}
+use Rattle.std.proofs.Common.{◌≡◌, ℕ, ◌+◌, ◌<◌, ◌≤◌, List, [], ◌∷◌, ◌++◌, length, Option, Some, None, option_map, refl, sym, ap, ◌∙◌, arith}
 use Rattle.spelling.specs.Answers.{or_else, first_some}
 use Rattle.spelling.proofs.Causes.{first_some-append}
 use Rattle.lms_core.specs.Use.{peer_rules}
@@ -34,3 +34,17 @@ pub first_behind : (n : List ℕ) (left right : List RawValue) (before : ℕ) �
 first_behind n left right before is =
     ap (λ (m : ℕ). or_else (first_refused n left) (refused_behind m (first_refused n right))) is
     ∙ sym (first_some-append (numbered_refusal n) 1 left right ∙ ap (or_else (first_refused n left)) (shifted n 1 (length left) right))
+
+-- a refused row has a number among those that are counted
+numbered_low : (n : List ℕ) (k : ℕ) (rows : List RawValue) (first : RefusedRow) → first_some (numbered_refusal n) k rows ≡ Some first → first.row < k + length rows
+unfolding first_some
+numbered_low n k [] first found = absurd cc
+numbered_low n k (r ∷ rows) first found = go (row_refusal peer_rules n r) found where
+  go : (o : Option RowRefusal) → or_else (option_map (number k) o) (first_some (numbered_refusal n) (k + 1) rows) ≡ Some first → first.row < k + length (r ∷ rows)
+  go (Some refusal) is =
+      let same : number k refusal ≡ first = cc in
+      omega (arith, ap (λ (f : RefusedRow). f.row) same)
+  go None is = omega (arith, numbered_low n (k + 1) rows first is)
+
+pub first_low : (n : List ℕ) (rows : List RawValue) (first : RefusedRow) → first_refused n rows ≡ Some first → first.row ≤ length rows
+first_low n rows first found = omega (arith, numbered_low n 1 rows first found)

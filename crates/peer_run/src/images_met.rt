@@ -1,6 +1,6 @@
 //! What comes of it when the rows of two images meet.
 
-ghost use Rattle.std.specs.Prelude.{◌≡◌, ◌≤◌};
+ghost use Rattle.std.specs.Prelude.{◌≡◌, ◌^◌, ◌<◌, ◌≤◌, IfSome};
 ghost use Rattle.peer_run.specs.ImagesMet.{IsImageOfRows, MeetsImages, first_of_both, meet_counts, side_counts};
 
 use crate::exchanging::{Came, Exchanged, exchange};
@@ -52,6 +52,8 @@ pub(crate) fn meet_images(
 fn counts_of(left: &JoinCounts, right: &JoinCounts, exchanged: &Exchanged) -> MeetCounts
     requires left_some { left.now.refused ≤ left.now.rows }
     requires right_some { right.now.refused ≤ right.now.rows }
+    requires left_few { left.now.rows < 2 ^ 32 }
+    requires right_few { IfSome right.now.first (λ first. first.row < 2 ^ 32) }
     ensures { result ≡ meet_counts left.now right.now exchanged.now }
 {
     MeetCounts {
@@ -77,6 +79,8 @@ fn side_counts(image: &JoinCounts, came: Came) -> SideCounts
 
 // The first refused row of both images, counted over the left one and then the right one.
 fn first_of_both(left: &JoinCounts, right: &JoinCounts) -> Option<RefusedRow>
+    requires left_few { left.now.rows < 2 ^ 32 }
+    requires right_few { IfSome right.now.first (λ first. first.row < 2 ^ 32) }
     ensures { result ≡ first_of_both left.now right.now }
 {
     match (left.first, right.first) {

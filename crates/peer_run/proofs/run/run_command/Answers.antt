@@ -20,3 +20,9 @@ returns-in-Write g c = rw c.in-Write.is (λ others. c.write.ensures (record othe
 
 pub returns-in-Gen : goal.returns-in-Gen
 returns-in-Gen g c = rw c.in-Gen.is (λ others. c.generate.ensures (record others { shelf = g.H.Shelf.facts c.args.shelf.now; input = g.I.Source.facts c.args.input.now; noise = g.N.Noise.facts c.args.noise.now }))
+
+pub returns-in-Drill : goal.returns-in-Drill
+returns-in-Drill g c = rw c.in-Drill.is (λ others. c.drill.ensures (record others { shelf = g.H.Shelf.facts c.args.shelf.now; input = g.I.Source.facts c.args.input.now; noise = g.N.Noise.facts c.args.noise.now }))
+
+pub returns-in-Meet : goal.returns-in-Meet
+returns-in-Meet g c = rw c.in-Meet.is (λ others. c.meet.ensures (record others { input = g.I.Source.facts c.args.input.now; noise = g.N.Noise.facts c.args.noise.now }))

@@ -1,0 +1,48 @@
+-- What two sides agree on, by the steps of the judging.
+use Rattle.std.proofs.Common.{◌≡◌, ℕ, Bool, true, false, not, List, replicate, Option, Some, None, refl, sym, ap, ◌∙◌}
+use Rattle.std.specs.Prelude.{Ok, Err}
+use Rattle.spelling.specs.Answers.{or_else, cause_if}
+use Rattle.willow_area.specs.declared.area.Area.{Area}
+use Rattle.willow_entry.specs.Entry.{same_bytes}
+use Rattle.mc_cap.specs.declared.capability.Capability.{Capability}
+use Rattle.session_end.specs.declared.refusal.HelloRefusal.{HelloRefusal}
+use Rattle.session_end.specs.declared.refusal.HelloRefusal.TheVariants.{WrongNamespace}
+use Rattle.sync_hello.specs.Common.{common_area}
+use Rattle.sync_hello.specs.declared.hello.Hello.{Hello}
+use Rattle.peer_words.specs.declared.command.AreaWords.{AreaWords}
+use Rattle.peer_stage.specs.declared.outcome.Stop.{Stop}
+use Rattle.peer_stage.specs.declared.outcome.Stop.TheVariants as stop
+use Rattle.peer_run.specs.Greeting.{Greets, own_refusal}
+use Rattle.peer_run.specs.Meet.{Agrees, agreed_area, meeting_refusal, side_hello}
+
+module _ (words : AreaWords) (n m : List ℕ) (c d : Capability) where
+  -- why either hello is refused
+  abbrev either : Option HelloRefusal
+  either = or_else (own_refusal n (side_hello words c)) (own_refusal n (side_hello words d))
+
+  pub other_namespace : same_bytes m n ≡ false → meeting_refusal words n m c d ≡ Some WrongNamespace
+  unfolding meeting_refusal
+  other_namespace other = ap (λ (b : Bool). or_else (cause_if (not b) WrongNamespace) either) other
+
+  module _ (same : same_bytes m n ≡ true) where
+    of_hellos : meeting_refusal words n m c d ≡ either
+    unfolding meeting_refusal
+    of_hellos = ap (λ (b : Bool). or_else (cause_if (not b) WrongNamespace) either) same
+
+    pub left_refused : (e : Stop) → Greets n words c (replicate 16 0) (Err e) → Agrees words n m c d (Err e)
+    left_refused (stop.SessionRefused refusal) greets = of_hellos ∙ ap (λ (o : Option HelloRefusal). or_else o (own_refusal n (side_hello words d))) greets
+    left_refused stop.NoMemory greets = tt
+    left_refused e greets = absurd greets
+
+    left_passes : (h : Hello) → Greets n words c (replicate 16 0) (Ok h) → own_refusal n (side_hello words c) ≡ None
+    left_passes h greets = sym (ap (own_refusal n) greets.0) ∙ greets.1
+
+    pub right_refused : (h : Hello) (e : Stop) → Greets n words c (replicate 16 0) (Ok h) → Greets n words d (replicate 16 0) (Err e) → Agrees words n m c d (Err e)
+    right_refused h (stop.SessionRefused refusal) one greets = of_hellos ∙ ap (λ (o : Option HelloRefusal). or_else o (own_refusal n (side_hello words d))) (left_passes h one) ∙ greets
+    right_refused h stop.NoMemory one greets = tt
+    right_refused h e one greets = absurd greets
+
+    pub agrees : (h k : Hello) (area : Option Area) → Greets n words c (replicate 16 0) (Ok h) → Greets n words d (replicate 16 0) (Ok k) → area ≡ common_area h k → Agrees words n m c d (Ok area)
+    agrees h k area one other is =
+        (of_hellos ∙ ap (λ (o : Option HelloRefusal). or_else o (own_refusal n (side_hello words d))) (left_passes h one) ∙ sym (ap (own_refusal n) other.0) ∙ other.1,
+        is ∙ ap (λ (g : Hello). common_area g k) one.0 ∙ ap (common_area (side_hello words c)) other.0)

@@ -1,0 +1,52 @@
+-- What a drill tells, from what both logs hold then.
+use Rattle.std.proofs.Common.{◌≡◌, ℕ, ◌/◌, List, length, map, Option, Some, refl, sym, ap, ◌∙◌, subst}
+use Rattle.std.specs.List.{All}
+use Rattle.std.proofs.lemmas.List.{length-map}
+use Rattle.std.proofs.lemmas.List.Elements.{All-from_recursion}
+use Rattle.willow_entry.specs.Frame.{HasFrame}
+use Rattle.willow_entry.specs.Row.{RowValue, join, live}
+use Rattle.block_store.specs.BoxKinds.{IsOfOneNamespace}
+use Rattle.auth_entry.specs.Authorised.{AuthorisedValue}
+use Rattle.exchange_rules.specs.Items.{to_left, to_right, counted}
+use Rattle.sync_pair.specs.Meeting.{turn_bytes}
+use Rattle.peer_listing.specs.Generator.{generator_namespace}
+use Rattle.peer_listing.specs.Summary.{drill_summary}
+use Rattle.peer_listing.specs.declared.summary.DrillCounts.{DrillCounts}
+use Rattle.peer_rows.specs.Drilled.{generated_rows}
+use Rattle.peer_rows.specs.Logged.{entry_row, stored_rows}
+use Rattle.peer_rows.specs.RowLogs.{LogRows, HasTaken}
+use Rattle.peer_run.specs.Drill.{drilled, drill_counts, drill_text, full_area}
+use Rattle.peer_run.specs.Exchanged.{boxed, AreMet}
+use Rattle.peer_run.specs.declared.exchanging.Exchanged.{Exchanged}
+use Rattle.peer_run.proofs.Drilling.{generated_framed, generated_own}
+use Rattle.peer_run.proofs.Members.{live_all, one_namespace}
+
+-- ---- what a log holds
+
+module _ (n : ℕ) (log : LogRows AuthorisedValue) (takes : HasTaken entry_row (generated_rows n) log) where
+  pub drilled_one : IsOfOneNamespace (stored_rows log.rows)
+  drilled_one = subst IsOfOneNamespace (sym takes.held) (one_namespace generator_namespace (live (generated_rows n)) (live_all (λ r. r.entry.namespace ≡ generator_namespace) (generated_rows n) (generated_own n)))
+
+  pub drilled_framed : All HasFrame (stored_rows log.rows)
+  drilled_framed = subst (All HasFrame) (sym takes.held) (All-from_recursion HasFrame (live (generated_rows n)) (live_all HasFrame (generated_rows n) (generated_framed n)))
+
+-- as many are held as are live of those offered
+held_count : (seen : List RowValue) (log : LogRows AuthorisedValue) (count : ℕ) → HasTaken entry_row seen log → count ≡ length log.rows → count ≡ length (live seen)
+held_count seen log count takes is = is ∙ sym (length-map entry_row log.rows) ∙ ap length takes.held
+
+-- ---- the text
+
+same_counts : (a b : DrillCounts) → a.rows ≡ b.rows → a.left ≡ b.left → a.right ≡ b.right → a.left_after ≡ b.left_after → a.right_after ≡ b.right_after → a.items ≡ b.items → a.turns ≡ b.turns → a ≡ b
+same_counts a b rows left right left_after right_after items turns = cc
+
+module _ (n : ℕ) (left right left' right' : LogRows AuthorisedValue) (x : Exchanged) (takes : HasTaken entry_row (generated_rows n) left) (takes_too : HasTaken entry_row (generated_rows (n / 2)) right)
+    (is : AreMet (generated_rows n) (generated_rows (n / 2)) (boxed (Some full_area)) left' right' x) where
+  pub is_drill_text : (counts : DrillCounts) (text : List ℕ) → counts.rows ≡ n → counts.left ≡ length left.rows → counts.right ≡ length right.rows → counts.left_after ≡ length left'.rows → counts.right_after ≡ length right'.rows
+      → counts.items ≡ x.items → counts.turns ≡ length x.turns.items → text ≡ drill_summary counts → text ≡ drill_text n
+  unfolding drill_text
+  is_drill_text counts text rows one other one_after other_after items turns text_is =
+      text_is
+      ∙ ap drill_summary
+      (same_counts counts (drill_counts n) rows (held_count (generated_rows n) left counts.left takes one) (held_count (generated_rows (n / 2)) right counts.right takes_too other)
+      (held_count _ left' counts.left_after is.left.taken one_after) (held_count _ right' counts.right_after is.right.taken other_after) (items ∙ is.items)
+      (turns ∙ sym (length-map (λ t. t.items) x.turns.items) ∙ ap length is.turns ∙ length-map turn_bytes (drilled n)))

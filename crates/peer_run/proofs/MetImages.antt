@@ -1,0 +1,113 @@
+-- What comes of two images when their rows have met.
+use Rattle.std.proofs.Common.{◌≡◌, ℕ, ◌+◌, ◌-◌, ◌<◌, ◌≤◌, ◌^◌, List, [], ◌∷◌, ◌++◌, length, map, Option, Some, None, inl, inr, refl, sym, ap, ◌∙◌, subst, arith}
+use Rattle.std.specs.Prelude.{Result, Ok, Err}
+use Rattle.std.specs.List.{All, AllByRecursion}
+use Rattle.std.proofs.lemmas.List.{length-map}
+use Rattle.std.proofs.lemmas.List.Elements.{All-from_recursion}
+use Rattle.spelling.specs.Answers.{or_else, first_some}
+use Rattle.spelling.specs.declared.ending.End.{End}
+use Rattle.spelling.specs.declared.ending.End.TheVariants.{Refused, NoMemory}
+use Rattle.willow_area.specs.Boxes.{Ranges}
+use Rattle.willow_area.specs.declared.area.Area.{Area}
+use Rattle.willow_entry.specs.Frame.{HasFrame}
+use Rattle.willow_entry.specs.Row.{RowValue, join, live}
+use Rattle.block_store.specs.BoxKinds.{IsOfOneNamespace}
+use Rattle.cap_codec.specs.Rows.{RawValue}
+use Rattle.auth_entry.specs.Authorised.{AuthorisedValue}
+use Rattle.exchange_rules.specs.Items.{to_left, to_right}
+use Rattle.sync_pair.specs.Meeting.{turn_bytes}
+use Rattle.peer_image.specs.Image.{image}
+use Rattle.peer_rows.specs.Images.{LogsImage, log_stop}
+use Rattle.peer_rows.specs.Logged.{authorised_rows, entry_row, stored_rows, first_refused, AreCounts}
+use Rattle.peer_rows.specs.RowLogs.{LogRows, HasTaken}
+use Rattle.peer_rows.specs.declared.row_log.LogFull.{LogFull}
+use Rattle.peer_stage.specs.declared.outcome.JoinCounts.{JoinCounts}
+use Rattle.peer_stage.specs.declared.outcome.Stop.{Stop}
+use Rattle.peer_stage.specs.declared.outcome.Stop.TheVariants as stop
+use Rattle.peer_run.specs.Exchanged.{boxed, met, AreMet, Exchanges, HasCome, HasTakenUp}
+use Rattle.peer_run.specs.ImagesMet.{IsImageOfRows, IsSide, AreMetCounts, IsMeeting, MeetsImages, meet_counts, refused_behind, side_counts, image_turns}
+use Rattle.peer_run.specs.Transcript.{transcript}
+use Rattle.peer_run.specs.declared.exchanging.Came.{Came}
+use Rattle.peer_run.specs.declared.exchanging.Exchanged.{Exchanged}
+use Rattle.peer_run.specs.declared.images_met.Met.{Met}
+use Rattle.peer_run.proofs.AuthorisedRows.{authorised_framed, of_namespace}
+use Rattle.peer_run.proofs.FirstOfBoth.{first_behind}
+use Rattle.peer_run.proofs.Members.{all_left, all_right, live_all, one_namespace}
+
+-- ---- what a log holds
+
+module _ (n : List ℕ) (rows : List RawValue) (log : LogRows AuthorisedValue) (takes : HasTaken entry_row (authorised_rows n rows) log) where
+  pub logged_one : IsOfOneNamespace (stored_rows log.rows)
+  logged_one = subst IsOfOneNamespace (sym takes.held) (one_namespace n (live (authorised_rows n rows)) (live_all (λ r. r.entry.namespace ≡ n) (authorised_rows n rows) (of_namespace n rows)))
+
+  pub logged_framed : IsImageOfRows rows → All HasFrame (stored_rows log.rows)
+  logged_framed is = subst (All HasFrame) (sym takes.held) (All-from_recursion HasFrame (live (authorised_rows n rows)) (live_all HasFrame (authorised_rows n rows) (authorised_framed n rows is.fit)))
+
+module _ (n : List ℕ) (left right : List RawValue) (area : Option Area) where
+  abbrev a : List RowValue
+  a = authorised_rows n left
+
+  abbrev b : List RowValue
+  b = authorised_rows n right
+
+  abbrev turns : List _
+  turns = image_turns n left right area
+
+  -- ---- stops
+
+  pub left_too_many : (e : Stop) → LogsImage n left (Err e) → MeetsImages n left right area (Err e)
+  left_too_many stop.LogFull logs = inl logs
+  left_too_many stop.NoMemory logs = tt
+  left_too_many e logs = absurd logs
+
+  pub right_too_many : (e : Stop) → LogsImage n right (Err e) → MeetsImages n left right area (Err e)
+  right_too_many stop.LogFull logs = inr (inl logs)
+  right_too_many stop.NoMemory logs = tt
+  right_too_many e logs = absurd logs
+
+  pub too_much_comes : (one other : LogRows AuthorisedValue) (e : End LogFull) → Exchanges a b (boxed area) one other (Err e) → MeetsImages n left right area (Err (log_stop e))
+  too_much_comes one other (Refused full) exchanges = inr (inr exchanges)
+  too_much_comes one other NoMemory exchanges = tt
+
+  -- ---- frames of what both hold then
+
+  pub left_framed : (log : LogRows AuthorisedValue) (came : Came) → IsImageOfRows left → IsImageOfRows right → HasTakenUp a (to_left turns) log came → AllByRecursion HasFrame (stored_rows log.rows)
+  left_framed log came one other takes =
+      subst (AllByRecursion HasFrame) (sym takes.taken.held) (live_all HasFrame (a ++ to_left turns) (all_left HasFrame a b (boxed area) (authorised_framed n left one.fit) (authorised_framed n right other.fit)))
+
+  pub right_framed : (log : LogRows AuthorisedValue) (came : Came) → IsImageOfRows left → IsImageOfRows right → HasTakenUp b (to_right turns) log came → AllByRecursion HasFrame (stored_rows log.rows)
+  right_framed log came one other takes =
+      subst (AllByRecursion HasFrame) (sym takes.taken.held) (live_all HasFrame (b ++ to_right turns) (all_right HasFrame a b (boxed area) (authorised_framed n left one.fit) (authorised_framed n right other.fit)))
+
+  -- ---- the numbers
+
+  is_side : (rows : List RawValue) (sent : List RowValue) (counts : JoinCounts) (came : Came) → AreCounts n rows counts → HasCome (authorised_rows n rows) sent came → IsSide (authorised_rows n rows) sent (side_counts counts came)
+  is_side rows sent counts came counted numbers = record { all = omega (arith, counted.all, counted.refused); came = numbers }
+
+  pub are_counts : (one other : LogRows AuthorisedValue) (x : Exchanged) (left_counts right_counts : JoinCounts) → AreCounts n left left_counts → AreCounts n right right_counts → AreMet a b (boxed area) one other x
+      → AreMetCounts n left right turns (meet_counts left_counts right_counts x)
+  are_counts one other x left_counts right_counts counted counted_too is =
+      record {
+        left_side = is_side left (to_left turns) left_counts x.left counted is.left.numbers;
+        right_side = is_side right (to_right turns) right_counts x.right counted_too is.right.numbers;
+        of_items = is.items;
+        of_turns = sym (length-map (λ t. t.items) x.turns.items) ∙ ap length is.turns ∙ length-map turn_bytes turns;
+        of_first =
+        ap (λ (first : Option _). or_else first (refused_behind left_counts.rows right_counts.first)) counted.first
+        ∙ ap (λ (first : Option _). or_else (first_refused n left) (refused_behind left_counts.rows first)) counted_too.first
+        ∙ first_behind n left right left_counts.rows counted.all;
+      }
+
+  -- ---- all of it
+
+  pub is_meeting : (one other : LogRows AuthorisedValue) (x : Exchanged) (left_counts right_counts : JoinCounts) (m : Met) → AreCounts n left left_counts → AreCounts n right right_counts → AreMet a b (boxed area) one other x
+      → m.left.items ≡ image n (stored_rows one.rows) → m.right.items ≡ image n (stored_rows other.rows) → m.transcript.items ≡ transcript (map (λ t. t.items) x.turns.items) → m.counts ≡ meet_counts left_counts right_counts x
+      → IsMeeting n left right area m
+  is_meeting one other x left_counts right_counts m counted counted_too is left_is right_is text_is counts_are =
+      record {
+        has_room = λ past. elim past [ inl passes ↦ is.left.room passes | inr passes ↦ is.right.room passes ];
+        left_image = left_is ∙ ap (image n) is.left.taken.held;
+        right_image = right_is ∙ ap (image n) is.right.taken.held;
+        told = text_is ∙ ap transcript is.turns;
+        numbers = subst (AreMetCounts n left right turns) (sym counts_are) (are_counts one other x left_counts right_counts counted counted_too is);
+      }
