@@ -1,6 +1,6 @@
 -- What holds of the rows that are authorised.
 use Rattle.std.proofs.Common.{◌≡◌, ◌≤◌, ℕ, Bool, true, false, cond, not, List, [], ◌∷◌, ◌++◌, length, map, filter, Option, Some, None, is_some, refl, ap, ◌∙◌, arith, Less}
-use Rattle.std.specs.List.{AllByRecursion}
+use Rattle.std.specs.List.{AllByRecursion, Contains}
 use Rattle.std.specs.List.Sorted.{IsStrictlySortedBy}
 use Rattle.std.proofs.lemmas.List.{map-append}
 use Rattle.std.proofs.lemmas.List.Elements.{filter-append}
@@ -85,6 +85,6 @@ module _ (n : List ℕ) where
   pub authorised_live : (rows : List RawValue) → order_refusal (raw_rows rows) ≡ None → live (authorised_rows n rows) ≡ authorised_rows n rows
   authorised_live rows order =
       let was : IsInOrder (raw_rows rows) = (order_decides (raw_rows rows)).0 order in
-      let held = λ r c. contains_from_member (raw_rows rows) r (all_member place_cmp (Member (raw_rows rows)) (authorised_rows n rows) (kept_all (Member (raw_rows rows)) rows (all_held (raw_rows rows))) r (member_from_contains (authorised_rows n rows) r c)) in
+      let held = λ (r : RowValue) (c : Contains (authorised_rows n rows) r). contains_from_member (raw_rows rows) r (all_member place_cmp (Member (raw_rows rows)) (authorised_rows n rows) (kept_all (Member (raw_rows rows)) rows (all_held (raw_rows rows))) r (member_from_contains (authorised_rows n rows) r c)) in
       (order_of_live n (authorised_rows n rows) (of_namespace rows)).0
       ((order_decides (authorised_rows n rows)).1 (record { rising = kept_rising rows was.rising; undominated = λ r s c d dominates. was.undominated r s (held r c) (held s d) dominates }))

@@ -18,7 +18,7 @@ use Rattle.peer_rows.specs.RowLogs.{LogRows, HasTaken}
 use Rattle.peer_run.specs.Drill.{drilled, drill_counts, drill_text, full_area}
 use Rattle.peer_run.specs.Exchanged.{boxed, AreMet}
 use Rattle.peer_run.specs.declared.exchanging.Exchanged.{Exchanged}
-use Rattle.peer_run.proofs.Drilling.{generated_framed, generated_own}
+use Rattle.peer_run.proofs.DrilledRows.{generated_framed, generated_own}
 use Rattle.peer_run.proofs.Members.{live_all, one_namespace}
 
 -- ---- what a log holds

@@ -20,13 +20,13 @@ module _ {X : Type 0} (p q : X → Bool) (goes : (x : X) → p x ≡ true → q 
     step false false on h = h
 
   more : (xs : List X) (x : X) → Member xs x → p x ≡ false → q x ≡ true → length (filter p xs) < length (filter q xs)
-  more [] x m no yes = absurd m
-  more (w ∷ ws) x (inl e) no yes = here (p w) (q w) (ap p e ∙ no) (ap q e ∙ yes) (no_fewer ws) where
+  more [] x m not_p is_q = absurd m
+  more (w ∷ ws) x (inl e) not_p is_q = here (p w) (q w) (ap p e ∙ not_p) (ap q e ∙ is_q) (no_fewer ws) where
     here : (b c : Bool) → b ≡ false → c ≡ true → length (filter p ws) ≤ length (filter q ws) → length (cond b (w ∷ filter p ws) (filter p ws)) < length (cond c (w ∷ filter q ws) (filter q ws))
     here true c b_no c_yes h = absurd (false≢true (sym b_no))
     here false true b_no c_yes h = omega (arith, h)
     here false false b_no c_yes h = absurd (false≢true c_yes)
-  more (w ∷ ws) x (inr m) no yes = there (p w) (q w) (goes w) (more ws x m no yes) where
+  more (w ∷ ws) x (inr m) not_p is_q = there (p w) (q w) (goes w) (more ws x m not_p is_q) where
     there : (b c : Bool) → (b ≡ true → c ≡ true) → length (filter p ws) < length (filter q ws) → length (cond b (w ∷ filter p ws) (filter p ws)) < length (cond c (w ∷ filter q ws) (filter q ws))
     there true true on h = omega (arith, h)
     there true false on h = absurd (false≢true (on refl))

@@ -18,17 +18,17 @@ number k refusal = record { row = k; refusal = refusal }
 shifted : (n : List ℕ) (k before : ℕ) (rows : List RawValue) → first_some (numbered_refusal n) (k + before) rows ≡ refused_behind before (first_some (numbered_refusal n) k rows)
 unfolding first_some
 shifted n k before [] = refl
-shifted n k before (r ∷ rows) = go (row_refusal peer_rules n r) where
+shifted n k before (r ∷ rows) = go (row_refusal peer_rules n r) (shifted n (k + 1) before rows) where
   same : (k + before) + 1 ≡ (k + 1) + before
   same = omega arith
 
   number_is : k + before ≡ before + k
   number_is = omega arith
 
-  go : (o : Option RowRefusal)
+  go : (o : Option RowRefusal) → first_some (numbered_refusal n) ((k + 1) + before) rows ≡ refused_behind before (first_some (numbered_refusal n) (k + 1) rows)
       → or_else (option_map (number (k + before)) o) (first_some (numbered_refusal n) ((k + before) + 1) rows) ≡ refused_behind before (or_else (option_map (number k) o) (first_some (numbered_refusal n) (k + 1) rows))
-  go (Some refusal) = ap (λ (m : ℕ). Some (number m refusal)) number_is
-  go None = ap (λ (m : ℕ). first_some (numbered_refusal n) m rows) same ∙ shifted n (k + 1) before rows
+  go (Some refusal) rest = ap (λ (m : ℕ). Some (number m refusal)) number_is
+  go None rest = ap (λ (m : ℕ). first_some (numbered_refusal n) m rows) same ∙ rest
 
 pub first_behind : (n : List ℕ) (left right : List RawValue) (before : ℕ) → before ≡ length left → or_else (first_refused n left) (refused_behind before (first_refused n right)) ≡ first_refused n (left ++ right)
 first_behind n left right before is =
@@ -39,12 +39,12 @@ first_behind n left right before is =
 numbered_low : (n : List ℕ) (k : ℕ) (rows : List RawValue) (first : RefusedRow) → first_some (numbered_refusal n) k rows ≡ Some first → first.row < k + length rows
 unfolding first_some
 numbered_low n k [] first found = absurd cc
-numbered_low n k (r ∷ rows) first found = go (row_refusal peer_rules n r) found where
-  go : (o : Option RowRefusal) → or_else (option_map (number k) o) (first_some (numbered_refusal n) (k + 1) rows) ≡ Some first → first.row < k + length (r ∷ rows)
-  go (Some refusal) is =
+numbered_low n k (r ∷ rows) first found = go (row_refusal peer_rules n r) (numbered_low n (k + 1) rows first) found where
+  go : (o : Option RowRefusal) → (first_some (numbered_refusal n) (k + 1) rows ≡ Some first → first.row < (k + 1) + length rows) → or_else (option_map (number k) o) (first_some (numbered_refusal n) (k + 1) rows) ≡ Some first → first.row < k + length (r ∷ rows)
+  go (Some refusal) rest is =
       let same : number k refusal ≡ first = cc in
       omega (arith, ap (λ (f : RefusedRow). f.row) same)
-  go None is = omega (arith, numbered_low n (k + 1) rows first is)
+  go None rest is = omega (arith, rest is)
 
 pub first_low : (n : List ℕ) (rows : List RawValue) (first : RefusedRow) → first_refused n rows ≡ Some first → first.row ≤ length rows
 first_low n rows first found = omega (arith, numbered_low n 1 rows first found)

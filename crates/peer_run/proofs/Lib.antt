@@ -1,9 +1,14 @@
 pub mod Members
 pub mod AuthorisedRows
 pub mod FewNew
-pub mod Drilling
+pub mod DrilledRows
+pub mod DrilledText
 pub mod FirstOfBoth
 pub mod Told
+pub mod TakenUp
+pub mod MetImages
+pub mod Hellos
+pub mod Agreed
 pub mod PairDeeds
 pub mod Laws
 pub mod Ends

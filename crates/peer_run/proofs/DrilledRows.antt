@@ -17,6 +17,7 @@ use Rattle.peer_listing.specs.Generator.{generated, generator_namespace}
 use Rattle.peer_listing.specs.declared.generator.TheConstants.{GENERATED_ROWS}
 use Rattle.peer_listing.proofs.Lengths.{generated_fits}
 use Rattle.peer_image.specs.Order.{AreOf}
+use Rattle.sync_core.specs.Flat.{TurnValue}
 use Rattle.peer_rows.specs.RowLogs.{ArePastLog}
 use Rattle.peer_rows.specs.Logged.{authorised_rows}
 use Rattle.peer_rows.specs.Drilled.{generated_rows}
@@ -57,15 +58,21 @@ front_held k n below =
     (subst (λ (rows : List RowValue). AllByRecursion (Member (generated_rows n)) rows) (front k n below) (all_held (generated_rows n)))
 
 -- both sides have room for what comes
-pub drill_fits : (n : ℕ) (area : Option Ranges) → n ≤ GENERATED_ROWS → IsPastOne (generated_rows n) (generated_rows (n / 2)) area → ⊥
-drill_fits n area few past = elim past [ inl left ↦ never (generated_rows n ++ to_left turns) held_left left | inr right ↦ never (generated_rows (n / 2) ++ to_right turns) held_right right ] where
+module _ (n : ℕ) (area : Option Ranges) where
+  abbrev turns : List TurnValue
   turns = met (generated_rows n) (generated_rows (n / 2)) area
 
+  half : AllByRecursion (Member (generated_rows n)) (generated_rows (n / 2))
   half = front_held (n / 2) n (omega arith)
 
+  held_left : AllByRecursion (Member (generated_rows n)) (generated_rows n ++ to_left turns)
   held_left = all_left (Member (generated_rows n)) (generated_rows n) (generated_rows (n / 2)) area (all_held (generated_rows n)) half
 
+  held_right : AllByRecursion (Member (generated_rows n)) (generated_rows (n / 2) ++ to_right turns)
   held_right = all_right (Member (generated_rows n)) (generated_rows n) (generated_rows (n / 2)) area (all_held (generated_rows n)) half
 
-  never : (rows : List RowValue) → AllByRecursion (Member (generated_rows n)) rows → ArePastLog rows → ⊥
-  never rows all past = absurd (omega (arith, few_new (generated_rows n) rows all, generated_few n, few, past))
+  never : (rows : List RowValue) → n ≤ GENERATED_ROWS → AllByRecursion (Member (generated_rows n)) rows → ArePastLog rows → ⊥
+  never rows few all past = absurd (omega (arith, few_new (generated_rows n) rows all, generated_few n, few, past))
+
+  pub drill_fits : n ≤ GENERATED_ROWS → IsPastOne (generated_rows n) (generated_rows (n / 2)) area → ⊥
+  drill_fits few past = elim past [ inl left ↦ never (generated_rows n ++ to_left turns) few held_left left | inr right ↦ never (generated_rows (n / 2) ++ to_right turns) few held_right right ]
