@@ -32,12 +32,20 @@ module _ (n : ℕ) (log : LogRows AuthorisedValue) (takes : HasTaken entry_row (
 
 -- as many are held as are live of those offered
 held_count : (seen : List RowValue) (log : LogRows AuthorisedValue) (count : ℕ) → HasTaken entry_row seen log → count ≡ length log.rows → count ≡ length (live seen)
-held_count seen log count takes is = is ∙ sym (length-map entry_row log.rows) ∙ ap length takes.held
+held_count seen log count takes is = is ∙ sym (length-map log.rows entry_row) ∙ ap length takes.held
 
 -- ---- the text
 
+counts_of : (rows left right left_after right_after items turns : ℕ) → DrillCounts
+counts_of rows left right left_after right_after items turns = record { rows = rows; left = left; right = right; left_after = left_after; right_after = right_after; items = items; turns = turns }
+
+same_numbers : (a b : DrillCounts) → a.rows ≡ b.rows → a.left ≡ b.left → a.right ≡ b.right → a.left_after ≡ b.left_after → a.right_after ≡ b.right_after → a.items ≡ b.items → a.turns ≡ b.turns
+    → counts_of a.rows a.left a.right a.left_after a.right_after a.items a.turns ≡ counts_of b.rows b.left b.right b.left_after b.right_after b.items b.turns
+same_numbers a b rows left right left_after right_after items turns = cc
+
 same_counts : (a b : DrillCounts) → a.rows ≡ b.rows → a.left ≡ b.left → a.right ≡ b.right → a.left_after ≡ b.left_after → a.right_after ≡ b.right_after → a.items ≡ b.items → a.turns ≡ b.turns → a ≡ b
-same_counts a b rows left right left_after right_after items turns = cc
+unfolding counts_of
+same_counts a b rows left right left_after right_after items turns = same_numbers a b rows left right left_after right_after items turns
 
 module _ (n : ℕ) (left right left' right' : LogRows AuthorisedValue) (x : Exchanged) (takes : HasTaken entry_row (generated_rows n) left) (takes_too : HasTaken entry_row (generated_rows (n / 2)) right)
     (is : AreMet (generated_rows n) (generated_rows (n / 2)) (boxed (Some full_area)) left' right' x) where
@@ -49,4 +57,4 @@ module _ (n : ℕ) (left right left' right' : LogRows AuthorisedValue) (x : Exch
       ∙ ap drill_summary
       (same_counts counts (drill_counts n) rows (held_count (generated_rows n) left counts.left takes one) (held_count (generated_rows (n / 2)) right counts.right takes_too other)
       (held_count _ left' counts.left_after is.left.taken one_after) (held_count _ right' counts.right_after is.right.taken other_after) (items ∙ is.items)
-      (turns ∙ sym (length-map (λ t. t.items) x.turns.items) ∙ ap length is.turns ∙ length-map turn_bytes (drilled n)))
+      (turns ∙ sym (length-map x.turns.items (λ t. t.items)) ∙ ap length is.turns ∙ length-map (drilled n) turn_bytes))

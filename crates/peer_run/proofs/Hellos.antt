@@ -48,7 +48,7 @@ module _ (n : List ℕ) (words : AreaWords) (c : Capability) (nonce : List ℕ) 
     is = h_is ∙ ap (λ (area : Area). hello_of c area nonce) ask_is
 
     go : (r : Result Hello Stop) → JudgesOwn n (own_hello words c nonce) r → Greets n words c nonce r
-    go (Ok hello) j = (j.0, ap (own_refusal n) j.0 ∙ with_times some ∙ sym (ap (hello_refusal peer_rules n) j.0) ∙ j.1)
+    go (Ok hello) j = (j.0, ap (own_refusal n) j.0 ∙ with_times some ∙ j.1)
     go (Err (stop.SessionRefused refusal)) j = with_times some ∙ j
     go (Err stop.NoMemory) j = tt
     go (Err e) j = absurd j
@@ -78,7 +78,7 @@ module _ (n : List ℕ) (words : AreaWords) (c : Capability) (nonce : List ℕ) 
       → JudgesOwn n h (Ok hello) → Greets n words c nonce (Err (stop.SessionRefused AskOutsideGrant))
   refuses_last area h hello none area_is h_is judges =
       let j = judges_all area h (Ok hello) area_is h_is judges in
-      without_times none ∙ passes_all (sym (ap (hello_refusal peer_rules n) j.0) ∙ j.1)
+      without_times none ∙ passes_all j.1
 
   pub refuses_first : (area : Area) (h : Hello) (e : Stop) → is_empty (completed words (granted c)) ≡ true → area ≡ granted c → h ≡ hello_of c area nonce
       → JudgesOwn n h (Err e) → Greets n words c nonce (Err e)

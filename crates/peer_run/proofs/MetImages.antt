@@ -15,6 +15,7 @@ use Rattle.block_store.specs.BoxKinds.{IsOfOneNamespace}
 use Rattle.cap_codec.specs.Rows.{RawValue}
 use Rattle.auth_entry.specs.Authorised.{AuthorisedValue}
 use Rattle.exchange_rules.specs.Items.{to_left, to_right}
+use Rattle.sync_core.specs.Flat.{TurnValue}
 use Rattle.sync_pair.specs.Meeting.{turn_bytes}
 use Rattle.peer_image.specs.Image.{image}
 use Rattle.peer_rows.specs.Images.{LogsImage, log_stop}
@@ -50,7 +51,7 @@ module _ (n : List ℕ) (left right : List RawValue) (area : Option Area) where
   abbrev b : List RowValue
   b = authorised_rows n right
 
-  abbrev turns : List _
+  abbrev turns : List TurnValue
   turns = image_turns n left right area
 
   -- ---- stops
@@ -91,7 +92,7 @@ module _ (n : List ℕ) (left right : List RawValue) (area : Option Area) where
         left_side = is_side left (to_left turns) left_counts x.left counted is.left.numbers;
         right_side = is_side right (to_right turns) right_counts x.right counted_too is.right.numbers;
         of_items = is.items;
-        of_turns = sym (length-map (λ t. t.items) x.turns.items) ∙ ap length is.turns ∙ length-map turn_bytes turns;
+        of_turns = sym (length-map x.turns.items (λ t. t.items)) ∙ ap length is.turns ∙ length-map turns turn_bytes;
         of_first =
         ap (λ (first : Option _). or_else first (refused_behind left_counts.rows right_counts.first)) counted.first
         ∙ ap (λ (first : Option _). or_else (first_refused n left) (refused_behind left_counts.rows first)) counted_too.first

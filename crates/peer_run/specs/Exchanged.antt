@@ -44,11 +44,11 @@ Takes seen rows log (Err (Refused full)) = ArePastLog (seen ++ rows)
 Takes seen rows log (Err NoMemory) = Unit {0}
 
 -- The turns in bytes are those of the exchange of two stores, so many items were counted, and each side took what came.
-pub record AreMet (a b : List RowValue) (area : Option Ranges) (left right : LogRows AuthorisedValue) (x : Exchanged) : Type 0 where
+pub record AreMet (a b : List RowValue) (area : Option Ranges) (left_log right_log : LogRows AuthorisedValue) (x : Exchanged) : Type 0 where
   pub turns : map (λ t. t.items) x.turns.items ≡ map turn_bytes (met a b area)
   pub items : x.items ≡ counted (met a b area)
-  pub left : HasTakenUp a (to_left (met a b area)) left x.left
-  pub right : HasTakenUp b (to_right (met a b area)) right x.right
+  pub left : HasTakenUp a (to_left (met a b area)) left_log x.left
+  pub right : HasTakenUp b (to_right (met a b area)) right_log x.right
 
 -- what comes to one of them is too much for its log
 abbrev pub IsPastOne : List RowValue → List RowValue → Option Ranges → Type 0
