@@ -5,7 +5,6 @@ pub mod DrilledRows
 pub mod DrilledText
 pub mod FirstOfBoth
 pub mod Told
-pub mod TakenUp
 pub mod MetImages
 pub mod Hellos
 pub mod Agreed

@@ -1,0 +1,35 @@
+use Rattle.std.proofs.Common.{◌/◌, Some, length, refl, ap, ◌∙◌, subst}
+use Rattle.willow_area.specs.declared.area.Area.{Area}
+use Rattle.peer_listing.specs.declared.summary.DrillCounts.{DrillCounts}
+use Rattle.peer_rows.specs.Drilled.{generated_rows}
+use Rattle.peer_run.specs.Exchanged.{boxed, AreMet}
+use Rattle.peer_run.proofs.DrilledRows.{drill_fits}
+use Rattle.peer_run.proofs.DrilledText.{drilled_one, drilled_framed, is_drill_text}
+use Rattle.peer_run.proofs.drilling.drill_text.Goals as goal
+
+pub exchange-requires-clause-left_one : goal.exchange-requires-clause-left_one
+exchange-requires-clause-left_one c = drilled_one c.args.rows c.in_ok-left.left c.in_ok-left.ensures.whole
+
+pub exchange-requires-clause-right_one : goal.exchange-requires-clause-right_one
+exchange-requires-clause-right_one c = drilled_one (c.args.rows / 2) c.in_ok-left.right c.in_ok-left.ensures.half
+
+pub exchange-requires-clause-left_frames : goal.exchange-requires-clause-left_frames
+exchange-requires-clause-left_frames c = drilled_framed c.args.rows c.in_ok-left.left c.in_ok-left.ensures.whole
+
+pub exchange-requires-clause-right_frames : goal.exchange-requires-clause-right_frames
+exchange-requires-clause-right_frames c = drilled_framed (c.args.rows / 2) c.in_ok-left.right c.in_ok-left.ensures.half
+
+pub unreachable-requires : goal.unreachable-requires
+unreachable-requires c =
+    let ends = rw c.in-Err-Refused.field-0-is at c.in-Err-Refused.ensures in
+    drill_fits c.args.rows (boxed (Some c.full.result)) c.requires (ends (generated_rows c.args.rows) (generated_rows (c.args.rows / 2)) c.in_ok-left.ensures.whole c.in_ok-left.ensures.half)
+
+pub returns : goal.returns
+returns c =
+    let n = c.args.rows in
+    let counts : DrillCounts = record { rows = n; left = c.len.result; right = c.len-2.result; left_after = c.len-3.result; right_after = c.len-4.result; items = c.in-Ok.exchanged.items; turns = c.len-5.result } in
+    let is = subst (λ (area : Area). AreMet (generated_rows n) (generated_rows (n / 2)) (boxed (Some area)) c.exchange.new.left c.exchange.new.right c.in-Ok.exchanged) c.full.ensures.full
+    (c.in-Ok.ensures (generated_rows n) (generated_rows (n / 2)) c.in_ok-left.ensures.whole c.in_ok-left.ensures.half) in
+    is_drill_text n c.in_ok-left.left c.in_ok-left.right c.exchange.new.left c.exchange.new.right c.in-Ok.exchanged c.in_ok-left.ensures.whole c.in_ok-left.ensures.half is counts c.drill_summary.new.out.items refl
+    (c.len.ensures ∙ ap length c.store.ensures) (c.len-2.ensures ∙ ap length c.store-2.ensures) (c.len-3.ensures ∙ ap length c.store-3.ensures) (c.len-4.ensures ∙ ap length c.store-4.ensures) refl (c.len-5.ensures ∙ c.in-Ok.exchanged.turns.ok.0)
+    c.in_ok-drill_summary.ensures.appended
