@@ -3,11 +3,15 @@ pub mod AuthorisedRows
 pub mod FewNew
 pub mod Drilling
 pub mod FirstOfBoth
+pub mod Agreed
 pub mod PairDeeds
 pub mod Laws
 pub mod Ends
 pub mod Causes
 pub mod WholeJoin
+pub mod Meetings
+pub mod Gathered
+pub mod WholeMeeting
 pub mod Complete
 pub mod Reported
 pub mod Keeps

@@ -14,6 +14,7 @@ use Rattle.peer_words.specs.declared.command.Command.{Command}
 use Rattle.peer_run.specs.Deeds.{deed_of}
 use Rattle.peer_run.specs.Run.{Run, RunsWords, before_report}
 use Rattle.peer_run.specs.Headline.{Headline}
+use Rattle.peer_run.specs.MeetHeadline.{MeetHeadline}
 
 -- ---- 0 and 1
 
@@ -117,6 +118,8 @@ pub record KeepsPromises (run : Run) : Type 0 where
   pub runs : RunsWords run
   -- a join leaves the join of all authorised entries
   pub joined : Headline run
+  -- a meeting leaves each side the join of its rows with what the other has in the area, and tells nothing else
+  pub met : MeetHeadline run
   -- 0 and 1: the command came to its end, and its lines are reported
   pub ended : run.status ≤ 1 → HasEnded run
   -- 2: the words are no command, or one that is not built yet
