@@ -32,16 +32,16 @@ same_leaves old new same = record { names = ap (λ (w : World). w.shelf.names) s
 -- ---- one name
 
 -- the names held the bytes that were got
-record WereHeld (name : String Global) (old new : World) (bytes : List ℕ) : Type 0 where
-  held : GetsName old.shelf.names (string_bytes name) (Some bytes)
-  leaves : LeavesAll old new
+pub record WereHeld (name : String Global) (old new : World) (bytes : List ℕ) : Type 0 where
+  pub held : GetsName old.shelf.names (string_bytes name) (Some bytes)
+  pub leaves : LeavesAll old new
 
 were_held : (name : String Global) (old new : World) (got : String Global × Vec ℕ) → OnShelf (GetsBytes name) old new (Ok got) → WereHeld name old new got.1.items
 were_held name old new got s = record { held = s.does.1.0; leaves = record { names = s.does.1.1; output = ap (λ (w : World). w.output) s.others } }
 
-record HadImage (name : String Global) (old new : World) (image : Image) : Type 0 where
-  has : HasImage old.shelf.names (string_bytes name) image.namespace image.rows.items
-  leaves : LeavesAll old new
+pub record HadImage (name : String Global) (old new : World) (image : Image) : Type 0 where
+  pub has : HasImage old.shelf.names (string_bytes name) image.namespace image.rows.items
+  pub leaves : LeavesAll old new
 
 had_image : (name : String Global) (old new : World) (image : Image) → GetsImage name old new (Ok image) → HadImage name old new image
 had_image name old new image p =
@@ -51,9 +51,9 @@ had_image name old new image p =
       leaves = leaves_both old p.between new got.leaves (same_leaves p.between new p.rest.1);
     }
 
-record HadCapability (name : String Global) (old new : World) (c : Capability) : Type 0 where
-  holds : HoldsCapability old.shelf.names (string_bytes name) c
-  leaves : LeavesAll old new
+pub record HadCapability (name : String Global) (old new : World) (c : Capability) : Type 0 where
+  pub holds : HoldsCapability old.shelf.names (string_bytes name) c
+  pub leaves : LeavesAll old new
 
 had_capability : (name : String Global) (old new : World) (c : Capability) → GetsCapability name old new (Ok c) → HadCapability name old new c
 had_capability name old new c p =

@@ -3,7 +3,7 @@ pub mod AuthorisedRows
 pub mod FewNew
 pub mod Drilling
 pub mod FirstOfBoth
-pub mod Agreed
+pub mod BothPass
 pub mod PairDeeds
 pub mod Laws
 pub mod Ends

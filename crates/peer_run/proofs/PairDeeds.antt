@@ -43,7 +43,7 @@ use Rattle.peer_run.specs.PairDeeds.{CanMeet, drill_deed, meet_deed}
 use Rattle.peer_run.specs.declared.images_met.Met.{Met}
 use Rattle.peer_run.specs.declared.meeting.MeetWords.{MeetWords}
 use Rattle.peer_run.specs.declared.meeting.Sides.{Sides}
-use Rattle.peer_run.proofs.Agreed.{none_against}
+use Rattle.peer_run.proofs.BothPass.{none_against}
 
 -- ---- drill
 

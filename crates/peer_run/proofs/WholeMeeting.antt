@@ -53,7 +53,7 @@ use Rattle.peer_run.specs.Transcript.{transcript}
 use Rattle.peer_run.specs.declared.images_met.Met.{Met}
 use Rattle.peer_run.specs.declared.meeting.MeetWords.{MeetWords}
 use Rattle.peer_run.specs.declared.meeting.Sides.{Sides}
-use Rattle.peer_run.proofs.Agreed.{agreed}
+use Rattle.peer_run.proofs.BothPass.{agreed}
 use Rattle.peer_run.proofs.AuthorisedRows.{authorised_live, of_namespace}
 use Rattle.peer_run.proofs.Gathered.{WereGot, gathered}
 use Rattle.peer_run.proofs.Meetings.{left_converges, right_converges, meet_alike}
@@ -61,23 +61,23 @@ use Rattle.peer_run.proofs.Meetings.{left_converges, right_converges, meet_alike
 -- ---- one meeting
 
 -- the same texts, and the same area
-record AreSameWords (words other : MeetWords) : Type 0 where
-  left : string_bytes words.left ≡ string_bytes other.left
-  right : string_bytes words.right ≡ string_bytes other.right
-  left_cap : string_bytes words.left_cap ≡ string_bytes other.left_cap
-  right_cap : string_bytes words.right_cap ≡ string_bytes other.right_cap
-  left_out : string_bytes words.left_out ≡ string_bytes other.left_out
-  right_out : string_bytes words.right_out ≡ string_bytes other.right_out
-  area : words.area ≡ other.area
+pub record AreSameWords (words other : MeetWords) : Type 0 where
+  pub left : string_bytes words.left ≡ string_bytes other.left
+  pub right : string_bytes words.right ≡ string_bytes other.right
+  pub left_cap : string_bytes words.left_cap ≡ string_bytes other.left_cap
+  pub right_cap : string_bytes words.right_cap ≡ string_bytes other.right_cap
+  pub left_out : string_bytes words.left_out ≡ string_bytes other.left_out
+  pub right_out : string_bytes words.right_out ≡ string_bytes other.right_out
+  pub area : words.area ≡ other.area
 
 abbrev command : MeetWords → Command
 command words = cmd.Meet words.left words.right words.left_cap words.right_cap words.left_out words.right_out words.area
 
 -- words that are a meeting are no other command, and no meeting with other words
-record IsSameMeeting (words : MeetWords) (c : Command) : Type 0 where
-  other : MeetWords
-  is : c ≡ command other
-  same : AreSameWords words other
+pub record IsSameMeeting (words : MeetWords) (c : Command) : Type 0 where
+  pub other : MeetWords
+  pub is : c ≡ command other
+  pub same : AreSameWords words other
 
 alike_is : (words : MeetWords) (c : Command) → AreAlike (command words) c → IsSameMeeting words c
 alike_is words (cmd.Meet a b c d e f g) same =
@@ -91,15 +91,15 @@ alike_is words c same = absurd same
 -- ---- what a meeting that came to its end did
 
 -- what was got, that nothing was against it, what came of it, and that this was put and written
-record HasCome (words : MeetWords) (old new : World) (d : Done) : Type 0 where
-  sides : Sides
-  got : WereGot words old.shelf.names sides
-  none_against : meeting_refusal words.area sides.left.namespace sides.right.namespace sides.left_cap sides.right_cap ≡ None
-  met : Met
-  is_meeting : IsMeeting sides.left.namespace sides.left.rows.items sides.right.rows.items (agreed_area words.area sides.left_cap sides.right_cap) met
-  put : new.shelf.names ≡ option_map (name_put (string_bytes words.right_out) met.right.items) (option_map (name_put (string_bytes words.left_out) met.left.items) old.shelf.names)
-  written : IsWritten old.output new.output met.transcript.items
-  done_is : d ≡ done.Met met.counts
+pub record HasCome (words : MeetWords) (old new : World) (d : Done) : Type 0 where
+  pub sides : Sides
+  pub got : WereGot words old.shelf.names sides
+  pub none_against : meeting_refusal words.area sides.left.namespace sides.right.namespace sides.left_cap sides.right_cap ≡ None
+  pub met : Met
+  pub is_meeting : IsMeeting sides.left.namespace sides.left.rows.items sides.right.rows.items (agreed_area words.area sides.left_cap sides.right_cap) met
+  pub put : new.shelf.names ≡ option_map (name_put (string_bytes words.right_out) met.right.items) (option_map (name_put (string_bytes words.left_out) met.left.items) old.shelf.names)
+  pub written : IsWritten old.output new.output met.transcript.items
+  pub done_is : d ≡ done.Met met.counts
 
 has_come : (words : MeetWords) (old new : World) (d : Done) → Meets words old new (Ok d) → HasCome words old new d
 has_come words old new d p =
@@ -224,12 +224,12 @@ module _ (words : MeetWords) (run : Run) (d : Done) (c : HasCome words run.old (
 -- ---- the end of a meeting
 
 -- the step does not stop so
-abbrev Never : {A : Type 0} → Step A → Stop → Type 0
-Never step e = (old new : World) → step old new (Err e) → ⊥
+pub record Never {A : Type 0} (step : Step A) (e : Stop) : Type 0 where
+  pub never : (old new : World) → step old new (Err e) → ⊥
 
 then_never : {A B : Type 0} (first : Step A) (next : A → Step B) (e : Stop) → Never first e → ((a : A) → Never (next a) e) → Never (Then first next) e
-then_never first next e no later old new (inl s) = no old new s
-then_never first next e no later old new (inr p) = later p.value p.between new p.rest
+then_never first next e front later =
+    record { never = λ old new end. elim end [ inl s ↦ front.never old new s | inr p ↦ (later p.value).never p.between new p.rest ] }
 
 -- what a meeting makes is never refused
 module _ (words : MeetWords) (refusal : RowRefusal) where
@@ -237,26 +237,28 @@ module _ (words : MeetWords) (refusal : RowRefusal) where
   refused = stop.Refused refusal
 
   no_image : (name : String Global) → Never (GetsImage name) refused
-  no_image name = then_never (OnShelf (GetsBytes name)) (λ got. Inside (ReadsImageFrom (origin.Name got.0) got.1.items)) refused (λ old new s. s.does) (λ got old new s. s.0)
+  no_image name = then_never _ _ refused (record { never = λ old new s. s.does }) (λ got. record { never = λ old new s. s.0 })
 
   no_capability : (name : String Global) → Never (GetsCapability name) refused
-  no_capability name = then_never (OnShelf (GetsBytes name)) (λ got. Inside (ReadsCapabilityFrom (origin.Name got.0) got.1.items)) refused (λ old new s. s.does) (λ got old new s. s.0)
+  no_capability name = then_never _ _ refused (record { never = λ old new s. s.does }) (λ got. record { never = λ old new s. s.0 })
 
   none_gathered : Never (Gathers words.left words.right words.left_cap words.right_cap) refused
   none_gathered =
-      then_never (GetsImage words.left) _ refused (no_image words.left) (λ a.
-      then_never (GetsImage words.right) _ refused (no_image words.right) (λ b.
-      then_never (GetsCapability words.left_cap) _ refused (no_capability words.left_cap) (λ c.
-      then_never (GetsCapability words.right_cap) _ refused (no_capability words.right_cap) (λ d old new s. s.0))))
+      then_never _ _ refused (no_image words.left) (λ a.
+      then_never _ _ refused (no_image words.right) (λ b.
+      then_never _ _ refused (no_capability words.left_cap) (λ c.
+      then_never _ _ refused (no_capability words.right_cap) (λ d. record { never = λ old new s. s.0 }))))
 
   none_put : (met : Met) → Never (Puts words.left_out words.right_out met) refused
-  none_put met = then_never _ _ refused (λ old new s. s.does) (λ left. then_never _ _ refused (λ old new s. s.does) (λ right old new s. s.does))
+  none_put met =
+      then_never _ _ refused (record { never = λ old new s. s.does }) (λ left.
+      then_never _ _ refused (record { never = λ old new s. s.does }) (λ right. record { never = λ old new s. s.does }))
 
   never_refused : Never (Meets words) refused
   never_refused =
-      then_never (Gathers words.left words.right words.left_cap words.right_cap) _ refused none_gathered (λ s.
-      then_never _ _ refused (λ old new h. h.0) (λ area.
-      then_never _ _ refused (λ old new h. h.0) (λ met. none_put met)))
+      then_never _ _ refused none_gathered (λ s.
+      then_never _ _ refused (record { never = λ old new h. h.0 }) (λ area.
+      then_never _ _ refused (record { never = λ old new h. h.0 }) (λ met. none_put met)))
 
 pub whole_meeting : (run : Run) (words : MeetWords) → HasEnded run → IsWords run.words (command words) → IsWholeMeeting words run
 whole_meeting run words ended is_meet = go ended.end meets ended.is_end ended.reported ended.status_is where
@@ -268,5 +270,5 @@ whole_meeting run words ended is_meet = go ended.end meets ended.is_end ended.re
 
   go : (end : Result Done Stop) → Meets found.other run.old (before_report run) end → IsEnd end → IsWritten run.old.report run.new.report (report_of end) → run.status ≡ status_of end → IsWholeMeeting words run
   go (Ok d) came is_end reported status_is = whole words run d (as_told words found.other run.old (before_report run) d found.same (has_come found.other run.old (before_report run) d came)) reported status_is
-  go (Err (stop.Refused refusal)) came is_end reported status_is = absurd (never_refused found.other refusal run.old (before_report run) came)
+  go (Err (stop.Refused refusal)) came is_end reported status_is = absurd ((never_refused found.other refusal).never run.old (before_report run) came)
   go (Err e) came is_end reported status_is = absurd is_end

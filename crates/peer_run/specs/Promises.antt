@@ -118,7 +118,7 @@ pub record KeepsPromises (run : Run) : Type 0 where
   pub runs : RunsWords run
   -- a join leaves the join of all authorised entries
   pub joined : Headline run
-  -- a meeting leaves each side the join of its rows with what the other has in the area, and tells nothing else
+  -- a meeting leaves each side the join of its rows with those sent to it, which the rows in the area alone decide
   pub met : MeetHeadline run
   -- 0 and 1: the command came to its end, and its lines are reported
   pub ended : run.status ≤ 1 → HasEnded run
