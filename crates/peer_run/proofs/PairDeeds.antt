@@ -1,5 +1,5 @@
 -- The laws of the commands in which two stores meet.
-use Rattle.std.proofs.Common.{◌≡◌, ◌∙◌, ℕ, ◌⊎◌, inl, inr, List, Option, Some, None, refl, sym, ap, subst}
+use Rattle.std.proofs.Common.{◌≡◌, ◌∙◌, ℕ, ◌⊎◌, inl, inr, List, Option, Some, None, sym, ap, subst}
 use Rattle.std.specs.Prelude.{Result, Ok, Err}
 use Rattle.std.specs.Global.{Vec}
 use Rattle.std.specs.String.{string_bytes}
@@ -10,8 +10,7 @@ use Rattle.willow_outside.specs.Facts.{Names, ShelfFacts}
 use Rattle.willow_area.specs.declared.area.Area.{Area}
 use Rattle.cap_codec.specs.Rows.{RawValue}
 use Rattle.mc_cap.specs.declared.capability.Capability.{Capability}
-use Rattle.session_end.specs.declared.refusal.HelloRefusal.{HelloRefusal}
-use Rattle.peer_image.specs.ImageReading.{IsImage, IsWrong, IsMisordered, raw_rows}
+use Rattle.peer_image.specs.ImageReading.{IsMisordered, raw_rows}
 use Rattle.peer_image.specs.Order.{order_refusal}
 use Rattle.peer_image.specs.declared.read.Image.{Image}
 use Rattle.peer_image.specs.declared.refusal.ImageRefusal.{ImageRefusal}
@@ -26,7 +25,6 @@ use Rattle.peer_stage.specs.World.{World}
 use Rattle.peer_stage.specs.Deed.{IsLawful}
 use Rattle.peer_stage.specs.Shelves.{GetsBytes, PutsBytes}
 use Rattle.peer_stage.specs.Steps.{Then, Inside, OnShelf}
-use Rattle.peer_stage.specs.declared.outcome.Done.{Done}
 use Rattle.peer_stage.specs.declared.outcome.Done.TheVariants as done
 use Rattle.peer_stage.specs.declared.outcome.Origin.{Origin}
 use Rattle.peer_stage.specs.declared.outcome.Origin.TheVariants as origin
@@ -34,7 +32,6 @@ use Rattle.peer_stage.specs.declared.outcome.Stop.{Stop}
 use Rattle.peer_stage.specs.declared.outcome.Stop.TheVariants as stop
 use Rattle.peer_stage.proofs.Ends.{IsCondition}
 use Rattle.peer_stage.proofs.Owing.{Owes, IsLasting, then_owes, writes_owe, inside_counts, shelf_counts, inside_unfailed, shelf_unfailed, rose_behind, lawful}
-use Rattle.peer_words.specs.declared.command.AreaWords.{AreaWords}
 use Rattle.peer_run.specs.Drill.{drill_text}
 use Rattle.peer_run.specs.Getting.{GetsImage, GetsCapability}
 use Rattle.peer_run.specs.ImagesMet.{MeetFullLog, MeetsImages}
@@ -223,8 +220,8 @@ module _ (words : MeetWords) where
       let left_cap = has.so_far.left_cap in
       record {
         agreed = rw (left.of_namespace, right.of_namespace, left_cap, has.right_cap) (
-          none_against words.area can.given.namespace can.given.left_cap can.given.right_cap can.are_given.left_passes can.are_given.right_passes
-        );
+            none_against words.area can.given.namespace can.given.left_cap can.given.right_cap can.are_given.left_passes can.are_given.right_passes
+            );
         room = rw (left.of_namespace, left.of_rows, right.of_rows, left_cap, has.right_cap) can.room;
       }
 

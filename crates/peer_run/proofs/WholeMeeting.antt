@@ -1,5 +1,5 @@
 -- A run of a meeting with status 0 or 1 is a whole meeting.
-use Rattle.std.proofs.Common.{◌≡◌, ℕ, ◌≤◌, inl, inr, List, ◌++◌, map, Option, Some, None, refl, sym, ap, ap₂, ◌∙◌, subst, arith}
+use Rattle.std.proofs.Common.{◌≡◌, ℕ, inl, inr, List, map, Option, Some, None, refl, sym, ap, ap₂, ◌∙◌, subst, arith}
 use Rattle.std.specs.Prelude.{Result, Ok, Err, IsNone, IsSome}
 use Rattle.std.specs.Option.{option_map}
 use Rattle.std.specs.String.{string_bytes}
@@ -20,17 +20,13 @@ use Rattle.sync_pair.specs.Stores.{AreStores, IsStoreOf}
 use Rattle.peer_image.specs.Image.{image}
 use Rattle.peer_image.specs.ImageReading.{raw_rows}
 use Rattle.peer_image.specs.Order.{order_refusal}
-use Rattle.peer_make.specs.Reading.{ReadsCapabilityFrom}
-use Rattle.peer_rows.specs.Images.{ReadsImageFrom}
 use Rattle.peer_rows.specs.Logged.{authorised_rows}
-use Rattle.peer_stage.specs.Shelves.{GetsBytes}
 use Rattle.peer_stage.specs.Stages.{IsWritten}
 use Rattle.peer_stage.specs.Status.{status_of, first_status}
-use Rattle.peer_stage.specs.Steps.{Step, Then, Inside, OnShelf}
+use Rattle.peer_stage.specs.Steps.{Step, Then}
 use Rattle.peer_stage.specs.World.{World}
 use Rattle.peer_stage.specs.declared.outcome.Done.{Done}
 use Rattle.peer_stage.specs.declared.outcome.Done.TheVariants as done
-use Rattle.peer_stage.specs.declared.outcome.Origin.TheVariants as origin
 use Rattle.peer_stage.specs.declared.outcome.Stop.{Stop}
 use Rattle.peer_stage.specs.declared.outcome.Stop.TheVariants as stop
 use Rattle.peer_stage.proofs.Ends.{first_only}

@@ -1,12 +1,11 @@
--- The headline of a meeting. Each side has then the join of its own rows and those that it was sent. Where fingerprints
--- tell rows apart, that is the join with all that the other has in the area. And the rows in the area alone decide what is
+-- The headline of a meeting. Each side then has the join of its own rows and those that it was sent. Where fingerprints
+-- tell rows apart, that is the join with all that the other has in the area. The rows in the area alone decide what is
 -- said and sent.
-use Rattle.std.specs.Prelude.{◌≡◌, ℕ, ◌≤◌, List, ◌++◌, map, Option, Some, None, IsNone, IsSome}
+use Rattle.std.specs.Prelude.{◌≡◌, ℕ, ◌≤◌, List, ◌++◌, map, Option, Some, IsNone, IsSome}
 use Rattle.std.specs.Option.{option_map}
 use Rattle.std.specs.String.{string_bytes}
 use Rattle.willow_area.specs.Boxes.{Ranges}
 use Rattle.willow_entry.specs.Row.{RowValue, join}
-use Rattle.willow_outside.specs.Facts.{Names}
 use Rattle.willow_outside.specs.Names.{name_put}
 use Rattle.exchange_rules.specs.Items.{to_left, to_right}
 use Rattle.exchange_rules.specs.Exchange.{Apart}
@@ -54,17 +53,18 @@ turns_of s = meeting s.left s.right s.area
 abbrev pub said : Stores → List ℕ
 said s = transcript (map turn_bytes (turns_of s))
 
--- Fingerprints tell their rows apart: where equal ones are told of a box in the area, the rows there are equal.
+-- Fingerprints tell their rows apart: where both have the same one for a box that is asked for, both have the same rows
+-- there.
 abbrev pub FingerprintsTell : Stores → Type 0
 FingerprintsTell s = (box : Ranges) → s.area ≡ Some box → Apart sync_rules s.left s.right box
 
--- they have the same area, and in it the left ones the same rows and the right ones too
+-- the area is the same, and in it both left sides have the same rows, and both right sides
 pub record HaveSameInArea (s t : Stores) : Type 0 where
   pub area : s.area ≡ t.area
   pub left : rows_of_area s.area s.left ≡ rows_of_area t.area t.left
   pub right : rows_of_area s.area s.right ≡ rows_of_area t.area t.right
 
--- they say the same, and send the same rows to either side
+-- they say the same, and the same rows are sent to either side
 pub record MeetAlike (s t : Stores) : Type 0 where
   pub said : said s ≡ said t
   pub to_left : to_left (turns_of s) ≡ to_left (turns_of t)
@@ -83,18 +83,19 @@ pub record HaveMet (words : MeetWords) (run : Run) (n : List ℕ) (s : Stores) :
   pub joined : ArePut words run n (left_after s.left s.right s.area) (right_after s.left s.right s.area)
   -- where fingerprints tell rows apart, these are the joins with all that the other side has in the area
   pub converged : FingerprintsTell s → ArePut words run n (join s.left (rows_of_area s.area s.right)) (join s.right (rows_of_area s.area s.left))
-  -- what was said is written
+  -- the output grew by what was said
   pub written : IsWritten run.old.output run.new.output (said s)
-  -- and the rows in the area alone decide it, and what is sent, whatever the sides hold elsewhere
+  -- the rows in the area alone decide what is said and sent, whatever the sides hold elsewhere
   pub alike : (others : Stores) → HaveSameInArea s others → MeetAlike s others
 
+-- a run in which what stood under the names of the words met, and its numbers were reported
 pub record IsWholeMeeting (words : MeetWords) (run : Run) : Type 0 where
   -- the names held what the meeting goes by
   pub given : Given
   pub are_given : AreGiven words run.old.shelf.names given
   -- the stores met
   pub met : HaveMet words run given.namespace (stores_of words given)
-  -- their numbers are reported, with the first row of the images that is not authorised
+  -- the report grew by the numbers of it, and the line of the first row of the images that is not authorised, if one is
   pub counts : MeetCounts
   pub counted : AreMetCounts given.namespace given.left given.right (turns_of (stores_of words given)) counts
   pub reported : IsWritten run.old.report run.new.report (met_lines counts ++ first_line counts.first)

@@ -1,7 +1,7 @@
 -- What every run keeps: the headline, why each status comes, and that a command that is ready comes to its end.
 use Rattle.std.specs.Prelude.{◌≡◌, ◌≢◌, ℕ, ◌≤◌, ◌⊎◌, List, Result, Ok, Err}
 use Rattle.willow_outside.specs.Counts.{Rose}
-use Rattle.peer_stage.specs.World.{World, NeverFall, Unfailed}
+use Rattle.peer_stage.specs.World.{NeverFall, Unfailed}
 use Rattle.peer_stage.specs.Status.{status_of}
 use Rattle.peer_stage.specs.Stages.{IsWritten, IsPartlyWritten}
 use Rattle.willow_outside.specs.Facts.{SinkFacts}
