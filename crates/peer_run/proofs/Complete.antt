@@ -1,5 +1,5 @@
 -- A command that nothing is against comes to its end.
-use Rattle.std.proofs.Common.{◌≡◌, ◌≢◌, ℕ, ◌≤◌, inl, inr, arith}
+use Rattle.std.proofs.Common.{◌≢◌, ℕ, ◌≤◌, inl, inr, arith}
 use Rattle.std.specs.Prelude.{Result}
 use Rattle.willow_outside.specs.Counts.{Rose}
 use Rattle.willow_outside.specs.Facts.{SinkFacts}

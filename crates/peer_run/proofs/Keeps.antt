@@ -5,6 +5,7 @@ use Rattle.peer_run.specs.Promises.{KeepsPromises}
 use Rattle.peer_run.proofs.Causes.{ended, usage, is_command, read_fault, write_fault, bad_input, refused, log_full, key_spent, statuses}
 use Rattle.peer_run.proofs.Complete.{complete}
 use Rattle.peer_run.proofs.WholeJoin.{whole_join}
+use Rattle.peer_run.proofs.WholeMeeting.{whole_meeting}
 use Rattle.peer_run.proofs.Reported.{counts_stand, none_passed_over, report_stood}
 
 pub keeps : (run : Run) → RunsWords run → run.old.report.faults ≤ run.new.report.faults → KeepsPromises run
@@ -12,6 +13,7 @@ keeps run runs faults =
     record {
       runs = runs;
       joined = λ namespace is_join small. whole_join run namespace (ended run runs small) is_join;
+      met = λ words is_meet small. whole_meeting run words (ended run runs small) is_meet;
       ended = ended run runs;
       usage = λ is. (usage run runs is).0;
       untouched = λ is. (usage run runs is).1;

@@ -8,11 +8,15 @@ pub mod Told
 pub mod MetImages
 pub mod Hellos
 pub mod Agreed
+pub mod BothPass
 pub mod PairDeeds
 pub mod Laws
 pub mod Ends
 pub mod Causes
 pub mod WholeJoin
+pub mod Meetings
+pub mod Gathered
+pub mod WholeMeeting
 pub mod Complete
 pub mod Reported
 pub mod Keeps

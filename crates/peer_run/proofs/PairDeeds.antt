@@ -1,5 +1,5 @@
 -- The laws of the commands in which two stores meet.
-use Rattle.std.proofs.Common.{◌≡◌, ◌∙◌, ℕ, ◌⊎◌, inl, inr, List, Option, Some, None, refl, sym, ap, subst}
+use Rattle.std.proofs.Common.{◌≡◌, ◌∙◌, ℕ, ◌⊎◌, inl, inr, List, Option, Some, None, sym, ap, subst}
 use Rattle.std.specs.Prelude.{Result, Ok, Err}
 use Rattle.std.specs.Global.{Vec}
 use Rattle.std.specs.String.{string_bytes}
@@ -10,8 +10,7 @@ use Rattle.willow_outside.specs.Facts.{Names, ShelfFacts}
 use Rattle.willow_area.specs.declared.area.Area.{Area}
 use Rattle.cap_codec.specs.Rows.{RawValue}
 use Rattle.mc_cap.specs.declared.capability.Capability.{Capability}
-use Rattle.session_end.specs.declared.refusal.HelloRefusal.{HelloRefusal}
-use Rattle.peer_image.specs.ImageReading.{IsImage, IsWrong, IsMisordered, raw_rows}
+use Rattle.peer_image.specs.ImageReading.{IsMisordered, raw_rows}
 use Rattle.peer_image.specs.Order.{order_refusal}
 use Rattle.peer_image.specs.declared.read.Image.{Image}
 use Rattle.peer_image.specs.declared.refusal.ImageRefusal.{ImageRefusal}
@@ -26,7 +25,6 @@ use Rattle.peer_stage.specs.World.{World}
 use Rattle.peer_stage.specs.Deed.{IsLawful}
 use Rattle.peer_stage.specs.Shelves.{GetsBytes, PutsBytes}
 use Rattle.peer_stage.specs.Steps.{Then, Inside, OnShelf}
-use Rattle.peer_stage.specs.declared.outcome.Done.{Done}
 use Rattle.peer_stage.specs.declared.outcome.Done.TheVariants as done
 use Rattle.peer_stage.specs.declared.outcome.Origin.{Origin}
 use Rattle.peer_stage.specs.declared.outcome.Origin.TheVariants as origin
@@ -34,7 +32,6 @@ use Rattle.peer_stage.specs.declared.outcome.Stop.{Stop}
 use Rattle.peer_stage.specs.declared.outcome.Stop.TheVariants as stop
 use Rattle.peer_stage.proofs.Ends.{IsCondition}
 use Rattle.peer_stage.proofs.Owing.{Owes, IsLasting, then_owes, writes_owe, inside_counts, shelf_counts, inside_unfailed, shelf_unfailed, rose_behind, lawful}
-use Rattle.peer_words.specs.declared.command.AreaWords.{AreaWords}
 use Rattle.peer_run.specs.Drill.{drill_text}
 use Rattle.peer_run.specs.Getting.{GetsImage, GetsCapability}
 use Rattle.peer_run.specs.ImagesMet.{MeetFullLog, MeetsImages}
@@ -43,6 +40,7 @@ use Rattle.peer_run.specs.PairDeeds.{CanMeet, drill_deed, meet_deed}
 use Rattle.peer_run.specs.declared.images_met.Met.{Met}
 use Rattle.peer_run.specs.declared.meeting.MeetWords.{MeetWords}
 use Rattle.peer_run.specs.declared.meeting.Sides.{Sides}
+use Rattle.peer_run.proofs.BothPass.{none_against}
 
 -- ---- drill
 
@@ -167,19 +165,19 @@ capability_fits from bytes c e is condition h = h
 module _ (words : MeetWords) where
   pub record HasLeft (a : Image) (told : Option Names) : Type 0 where
     pub can : CanMeet words told
-    pub left : IsRead can.left_namespace can.left_rows a
+    pub left : IsRead can.given.namespace can.given.left a
 
   pub record HasRight (a b : Image) (told : Option Names) : Type 0 where
     pub so_far : HasLeft a told
-    pub right : IsRead so_far.can.right_namespace so_far.can.right_rows b
+    pub right : IsRead so_far.can.given.namespace so_far.can.given.right b
 
   pub record HasLeftCap (a b : Image) (c : Capability) (told : Option Names) : Type 0 where
     pub so_far : HasRight a b told
-    pub left_cap : c ≡ so_far.so_far.can.left_capability
+    pub left_cap : c ≡ so_far.so_far.can.given.left_cap
 
   pub record HasAll (a b : Image) (c d : Capability) (told : Option Names) : Type 0 where
     pub so_far : HasLeftCap a b c told
-    pub right_cap : d ≡ so_far.so_far.so_far.can.right_capability
+    pub right_cap : d ≡ so_far.so_far.so_far.can.given.right_cap
 
   -- nothing is against the meeting, and the logs have room
   pub record CanGoOn (s : Sides) : Type 0 where
@@ -188,30 +186,30 @@ module _ (words : MeetWords) where
 
   got_left : Owes Reads Wrote (λ w. CanMeet words w.shelf.names) (λ a w. HasLeft a w.shelf.names) (GetsImage words.left)
   got_left =
-      reading_owes {Q = CanMeet words} words.left (λ told can. can.left.bytes) (λ told can. (can.names, can.are_told, can.left.held)) ReadsImageFrom HasLeft (λ from bytes h. h) (λ from bytes h. h) (λ from bytes h. h)
-      (λ from told can e condition h. image_fits from can.left.bytes can.left_namespace can.left_rows e can.left.is_image condition h)
-      (λ from told can a h. record { can = can; left = image_reads from can.left.bytes can.left_namespace can.left_rows a can.left.is_image h })
+      reading_owes {Q = CanMeet words} words.left (λ told can. can.are_given.left.bytes) (λ told can. (can.names, can.are_told, can.are_given.left.held)) ReadsImageFrom HasLeft (λ from bytes h. h) (λ from bytes h. h) (λ from bytes h. h)
+      (λ from told can e condition h. image_fits from can.are_given.left.bytes can.given.namespace can.given.left e can.are_given.left.is_image condition h)
+      (λ from told can a h. record { can = can; left = image_reads from can.are_given.left.bytes can.given.namespace can.given.left a can.are_given.left.is_image h })
 
   got_right : (a : Image) → Owes Reads Wrote (λ w. HasLeft a w.shelf.names) (λ b w. HasRight a b w.shelf.names) (GetsImage words.right)
   got_right a =
-      reading_owes {Q = HasLeft a} words.right (λ told has. has.can.right.bytes) (λ told has. (has.can.names, has.can.are_told, has.can.right.held)) ReadsImageFrom (HasRight a) (λ from bytes h. h) (λ from bytes h. h) (λ from bytes h. h)
-      (λ from told has e condition h. image_fits from has.can.right.bytes has.can.right_namespace has.can.right_rows e has.can.right.is_image condition h)
-      (λ from told has b h. record { so_far = has; right = image_reads from has.can.right.bytes has.can.right_namespace has.can.right_rows b has.can.right.is_image h })
+      reading_owes {Q = HasLeft a} words.right (λ told has. has.can.are_given.right.bytes) (λ told has. (has.can.names, has.can.are_told, has.can.are_given.right.held)) ReadsImageFrom (HasRight a) (λ from bytes h. h) (λ from bytes h. h) (λ from bytes h. h)
+      (λ from told has e condition h. image_fits from has.can.are_given.right.bytes has.can.given.namespace has.can.given.right e has.can.are_given.right.is_image condition h)
+      (λ from told has b h. record { so_far = has; right = image_reads from has.can.are_given.right.bytes has.can.given.namespace has.can.given.right b has.can.are_given.right.is_image h })
 
   got_left_cap : (a b : Image) → Owes Reads Wrote (λ w. HasRight a b w.shelf.names) (λ c w. HasLeftCap a b c w.shelf.names) (GetsCapability words.left_cap)
   got_left_cap a b =
-      reading_owes {Q = HasRight a b} words.left_cap (λ told has. has.so_far.can.left_cap.bytes) (λ told has. (has.so_far.can.names, has.so_far.can.are_told, has.so_far.can.left_cap.held)) ReadsCapabilityFrom (HasLeftCap a b)
+      reading_owes {Q = HasRight a b} words.left_cap (λ told has. has.so_far.can.are_given.left_cap.bytes) (λ told has. (has.so_far.can.names, has.so_far.can.are_told, has.so_far.can.are_given.left_cap.held)) ReadsCapabilityFrom (HasLeftCap a b)
       (λ from bytes h. h) (λ from bytes h. h) (λ from bytes h. h)
-      (λ from told has e condition h. capability_fits from has.so_far.can.left_cap.bytes has.so_far.can.left_capability e has.so_far.can.left_cap.spelled condition h)
-      (λ from told has c h. record { so_far = has; left_cap = same_capability has.so_far.can.left_cap.bytes c has.so_far.can.left_capability h has.so_far.can.left_cap.spelled })
+      (λ from told has e condition h. capability_fits from has.so_far.can.are_given.left_cap.bytes has.so_far.can.given.left_cap e has.so_far.can.are_given.left_cap.spelled condition h)
+      (λ from told has c h. record { so_far = has; left_cap = same_capability has.so_far.can.are_given.left_cap.bytes c has.so_far.can.given.left_cap h has.so_far.can.are_given.left_cap.spelled })
 
   got_right_cap : (a b : Image) (c : Capability) → Owes Reads Wrote (λ w. HasLeftCap a b c w.shelf.names) (λ d w. HasAll a b c d w.shelf.names) (GetsCapability words.right_cap)
   got_right_cap a b c =
-      reading_owes {Q = HasLeftCap a b c} words.right_cap (λ told has. has.so_far.so_far.can.right_cap.bytes)
-      (λ told has. (has.so_far.so_far.can.names, has.so_far.so_far.can.are_told, has.so_far.so_far.can.right_cap.held)) ReadsCapabilityFrom (HasAll a b c)
+      reading_owes {Q = HasLeftCap a b c} words.right_cap (λ told has. has.so_far.so_far.can.are_given.right_cap.bytes)
+      (λ told has. (has.so_far.so_far.can.names, has.so_far.so_far.can.are_told, has.so_far.so_far.can.are_given.right_cap.held)) ReadsCapabilityFrom (HasAll a b c)
       (λ from bytes h. h) (λ from bytes h. h) (λ from bytes h. h)
-      (λ from told has e condition h. capability_fits from has.so_far.so_far.can.right_cap.bytes has.so_far.so_far.can.right_capability e has.so_far.so_far.can.right_cap.spelled condition h)
-      (λ from told has d h. record { so_far = has; right_cap = same_capability has.so_far.so_far.can.right_cap.bytes d has.so_far.so_far.can.right_capability h has.so_far.so_far.can.right_cap.spelled })
+      (λ from told has e condition h. capability_fits from has.so_far.so_far.can.are_given.right_cap.bytes has.so_far.so_far.can.given.right_cap e has.so_far.so_far.can.are_given.right_cap.spelled condition h)
+      (λ from told has d h. record { so_far = has; right_cap = same_capability has.so_far.so_far.can.are_given.right_cap.bytes d has.so_far.so_far.can.given.right_cap h has.so_far.so_far.can.are_given.right_cap.spelled })
 
   -- what was got is what can meet
   goes_on : (a b : Image) (c d : Capability) (told : Option Names) → HasAll a b c d told → CanGoOn (record { left = a; right = b; left_cap = c; right_cap = d })
@@ -221,7 +219,9 @@ module _ (words : MeetWords) where
       let right = has.so_far.so_far.right in
       let left_cap = has.so_far.left_cap in
       record {
-        agreed = rw (left.of_namespace, right.of_namespace, left_cap, has.right_cap) can.agreed;
+        agreed = rw (left.of_namespace, right.of_namespace, left_cap, has.right_cap) (
+            none_against words.area can.given.namespace can.given.left_cap can.given.right_cap can.are_given.left_passes can.are_given.right_passes
+            );
         room = rw (left.of_namespace, left.of_rows, right.of_rows, left_cap, has.right_cap) can.room;
       }
 

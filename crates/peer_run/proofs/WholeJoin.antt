@@ -19,7 +19,7 @@ use Rattle.peer_words.specs.declared.command.Command.TheVariants as cmd
 use Rattle.peer_words.proofs.OneCommand.{at_most_one}
 use Rattle.peer_run.specs.Deeds.{deed_of}
 use Rattle.peer_run.specs.Run.{Run, before_report}
-use Rattle.peer_run.specs.Headline.{IsWholeJoin, Headline}
+use Rattle.peer_run.specs.Headline.{IsWholeJoin}
 use Rattle.peer_run.specs.Promises.{HasEnded, IsEnd}
 use Rattle.peer_stage.proofs.Ends.{refused_only, refused_none, refused_some}
 

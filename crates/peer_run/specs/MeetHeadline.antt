@@ -1,89 +1,109 @@
--- The headline of a meeting: each side comes away with the join of its own rows and of those that the exchange brought
--- to it.
-use Rattle.std.specs.Prelude.{◌≡◌, ℕ, ◌≤◌, List, ◌++◌, map, Option, Some, None}
+-- The headline of a meeting. Each side then has the join of its own rows and those that it was sent. Where fingerprints
+-- tell rows apart, that is the join with all that the other has in the area. The rows in the area alone decide what is
+-- said and sent.
+use Rattle.std.specs.Prelude.{◌≡◌, ℕ, ◌≤◌, List, ◌++◌, map, Option, Some, IsNone, IsSome}
 use Rattle.std.specs.Option.{option_map}
 use Rattle.std.specs.String.{string_bytes}
-use Rattle.willow_outside.specs.Facts.{Names}
-use Rattle.willow_outside.specs.Names.{GetsName, name_put}
-use Rattle.cap_codec.specs.Rows.{RawValue}
-use Rattle.mc_cap.specs.declared.capability.Capability.{Capability}
-use Rattle.exchange_rules.specs.Items.{to_left, to_right}
-use Rattle.exchange_rules.specs.Exchange.{exchange}
-use Rattle.sync_core.specs.Flat.{TurnValue}
-use Rattle.sync_core.specs.SyncRules.{sync_rules}
-use Rattle.sync_pair.specs.Meeting.{turn_bytes}
+use Rattle.willow_area.specs.Boxes.{Ranges}
 use Rattle.willow_entry.specs.Row.{RowValue, join}
+use Rattle.willow_outside.specs.Names.{name_put}
+use Rattle.exchange_rules.specs.Items.{to_left, to_right}
+use Rattle.exchange_rules.specs.Exchange.{Apart}
+use Rattle.sync_core.specs.Flat.{TurnValue}
+use Rattle.sync_core.specs.Place.{rows_of_area}
+use Rattle.sync_core.specs.SyncRules.{sync_rules}
+use Rattle.sync_pair.specs.Agreement.{left_after, right_after}
+use Rattle.sync_pair.specs.Meeting.{meeting, turn_bytes}
 use Rattle.peer_image.specs.Image.{image}
-use Rattle.peer_make.specs.Reading.{IsSpelled}
 use Rattle.peer_report.specs.Report.{met_lines, first_line}
-use Rattle.peer_rows.specs.Images.{IsImageInOrder}
-use Rattle.peer_rows.specs.Logged.{authorised_rows, first_refused}
+use Rattle.peer_rows.specs.Logged.{authorised_rows}
 use Rattle.peer_stage.specs.Stages.{IsWritten}
 use Rattle.peer_stage.specs.declared.outcome.MeetCounts.{MeetCounts}
 use Rattle.peer_words.specs.Commands.{IsWords}
 use Rattle.peer_words.specs.declared.command.Command.TheVariants as cmd
 use Rattle.peer_run.specs.Exchanged.{boxed}
 use Rattle.peer_run.specs.ImagesMet.{AreMetCounts}
-use Rattle.peer_run.specs.Meet.{agreed_area, meeting_refusal}
+use Rattle.peer_run.specs.Meet.{agreed_area}
+use Rattle.peer_run.specs.PairDeeds.{Given, AreGiven}
 use Rattle.peer_run.specs.Run.{Run}
 use Rattle.peer_run.specs.Transcript.{transcript}
 use Rattle.peer_run.specs.declared.meeting.MeetWords.{MeetWords}
 
--- what a run was given: under the names of the words, two images of one namespace with their rows in order, and two
--- capabilities
-pub record Given : Type 0 where
-  pub namespace : List ℕ
-  pub left : List RawValue
-  pub right : List RawValue
-  pub left_cap : Capability
-  pub right_cap : Capability
+-- ---- two stores that meet
 
--- the name held such an image
-abbrev pub HadImage : Option Names → List ℕ → List ℕ → List RawValue → Type 0
-HadImage names name namespace rows = (bytes : List ℕ) × GetsName names name (Some bytes) × IsImageInOrder bytes namespace rows
+-- the rows of both, and the box of the area that both sides may read, where there is one
+pub record Stores : Type 0 where
+  pub left : List RowValue
+  pub right : List RowValue
+  pub area : Option Ranges
 
--- the name held such a capability
-abbrev pub HadCapability : Option Names → List ℕ → Capability → Type 0
-HadCapability names name c = (bytes : List ℕ) × GetsName names name (Some bytes) × IsSpelled bytes c
+-- those of a meeting: the authorised rows of its images, and the area that its words and capabilities agree on
+abbrev pub stores_of : MeetWords → Given → Stores
+stores_of words g =
+    record {
+      left = authorised_rows g.namespace g.left;
+      right = authorised_rows g.namespace g.right;
+      area = boxed (agreed_area words.area g.left_cap g.right_cap);
+    }
 
--- all of it was there, and nothing is against the meeting
-pub record WasGiven (words : MeetWords) (names : Option Names) (g : Given) : Type 0 where
-  pub left : HadImage names (string_bytes words.left) g.namespace g.left
-  pub right : HadImage names (string_bytes words.right) g.namespace g.right
-  pub left_cap : HadCapability names (string_bytes words.left_cap) g.left_cap
-  pub right_cap : HadCapability names (string_bytes words.right_cap) g.right_cap
-  pub agreed : meeting_refusal words.area g.namespace g.namespace g.left_cap g.right_cap ≡ None
+-- the turns that they take, the left one first, and what is said in them, as bytes
+abbrev pub turns_of : Stores → List TurnValue
+turns_of s = meeting s.left s.right s.area
 
--- the authorised rows of the images
-abbrev pub left_of : Given → List RowValue
-left_of g = authorised_rows g.namespace g.left
+abbrev pub said : Stores → List ℕ
+said s = transcript (map turn_bytes (turns_of s))
 
-abbrev pub right_of : Given → List RowValue
-right_of g = authorised_rows g.namespace g.right
+-- Fingerprints tell their rows apart: where both have the same one for a box that is asked for, both have the same rows
+-- there.
+abbrev pub FingerprintsTell : Stores → Type 0
+FingerprintsTell s = (box : Ranges) → s.area ≡ Some box → Apart sync_rules s.left s.right box
 
--- the turns of the exchange of these rows over the area that both sides may read
-abbrev pub turns_of : MeetWords → Given → List TurnValue
-turns_of words g = exchange sync_rules (left_of g) (right_of g) (boxed (agreed_area words.area g.left_cap g.right_cap))
+-- the area is the same, and in it both left sides have the same rows, and both right sides
+pub record HaveSameInArea (s t : Stores) : Type 0 where
+  pub area : s.area ≡ t.area
+  pub left : rows_of_area s.area s.left ≡ rows_of_area t.area t.left
+  pub right : rows_of_area s.area s.right ≡ rows_of_area t.area t.right
 
--- the names with both images put, the left one first
-abbrev pub names_after : MeetWords → Option Names → List ℕ → List ℕ → Option Names
-names_after words names left right = option_map (name_put (string_bytes words.right_out) right) (option_map (name_put (string_bytes words.left_out) left) names)
+-- they say the same, and the same rows are sent to either side
+pub record MeetAlike (s t : Stores) : Type 0 where
+  pub said : said s ≡ said t
+  pub to_left : to_left (turns_of s) ≡ to_left (turns_of t)
+  pub to_right : to_right (turns_of s) ≡ to_right (turns_of t)
 
--- The names held what was given. Both sides have the images put of the join of their rows with those that came, the
--- output grew by the transcript, and the report by the numbers and the first refused row.
+-- ---- a run of `meet`
+
+-- the images of these rows were put under the names for the two sides, the left one first, and no other name changed
+abbrev pub ArePut : MeetWords → Run → List ℕ → List RowValue → List RowValue → Type 0
+ArePut words run n left right =
+    run.new.shelf.names ≡ option_map (name_put (string_bytes words.right_out) (image n right)) (option_map (name_put (string_bytes words.left_out) (image n left)) run.old.shelf.names)
+
+-- the three sentences, of stores in a namespace
+pub record HaveMet (words : MeetWords) (run : Run) (n : List ℕ) (s : Stores) : Type 0 where
+  -- each side joined its rows with those that it was sent, and the images of that are put
+  pub joined : ArePut words run n (left_after s.left s.right s.area) (right_after s.left s.right s.area)
+  -- where fingerprints tell rows apart, these are the joins with all that the other side has in the area
+  pub converged : FingerprintsTell s → ArePut words run n (join s.left (rows_of_area s.area s.right)) (join s.right (rows_of_area s.area s.left))
+  -- the output grew by what was said
+  pub written : IsWritten run.old.output run.new.output (said s)
+  -- the rows in the area alone decide what is said and sent, whatever the sides hold elsewhere
+  pub alike : (others : Stores) → HaveSameInArea s others → MeetAlike s others
+
+-- a run in which what stood under the names of the words met, and its numbers were reported
 pub record IsWholeMeeting (words : MeetWords) (run : Run) : Type 0 where
+  -- the names held what the meeting goes by
   pub given : Given
-  pub was_given : WasGiven words run.old.shelf.names given
-  pub put : run.new.shelf.names ≡ names_after words run.old.shelf.names
-      (image given.namespace (join (left_of given) (to_left (turns_of words given))))
-      (image given.namespace (join (right_of given) (to_right (turns_of words given))))
-  pub written : IsWritten run.old.output run.new.output (transcript (map turn_bytes (turns_of words given)))
+  pub are_given : AreGiven words run.old.shelf.names given
+  -- the stores met
+  pub met : HaveMet words run given.namespace (stores_of words given)
+  -- the report grew by the numbers of it, and the line of the first row of the images that is not authorised, if one is
   pub counts : MeetCounts
-  pub numbers : AreMetCounts given.namespace given.left given.right (turns_of words given) counts
+  pub counted : AreMetCounts given.namespace given.left given.right (turns_of (stores_of words given)) counts
   pub reported : IsWritten run.old.report run.new.report (met_lines counts ++ first_line counts.first)
-  pub all_authorised : run.status ≡ 0 → counts.first ≡ None
-  pub some_refused : run.status ≡ 1 → counts.first ≡ None → ⊥
+  pub all_authorised : run.status ≡ 0 → IsNone counts.first
+  pub some_refused : run.status ≡ 1 → IsSome counts.first
 
+-- A `meet` that ends with status 0 or 1 is such a meeting.
 abbrev pub MeetHeadline : Run → Type 0
 MeetHeadline run =
-    (words : MeetWords) → IsWords run.words (cmd.Meet words.left words.right words.left_cap words.right_cap words.left_out words.right_out words.area) → run.status ≤ 1 → IsWholeMeeting words run
+    (words : MeetWords) → IsWords run.words (cmd.Meet words.left words.right words.left_cap words.right_cap words.left_out words.right_out words.area)
+    → run.status ≤ 1 → IsWholeMeeting words run

@@ -3,14 +3,16 @@ use Rattle.std.specs.Prelude.{◌≡◌, ℕ, ◌⊎◌, List, Option, Some, Non
 use Rattle.std.specs.String.{string_bytes}
 use Rattle.willow_outside.specs.Counts.{Rose}
 use Rattle.willow_outside.specs.Facts.{Names}
+use Rattle.willow_outside.specs.Names.{GetsName}
 use Rattle.cap_codec.specs.Rows.{RawValue}
 use Rattle.mc_cap.specs.declared.capability.Capability.{Capability}
 use Rattle.peer_make.specs.Reading.{IsSpelled}
 use Rattle.peer_rows.specs.Images.{IsImageInOrder}
 use Rattle.peer_stage.specs.Deed.{Deed}
 use Rattle.peer_run.specs.Drill.{Drills}
+use Rattle.peer_run.specs.Greeting.{own_refusal}
 use Rattle.peer_run.specs.ImagesMet.{MeetFullLog}
-use Rattle.peer_run.specs.Meet.{Meets, meeting_refusal, agreed_area}
+use Rattle.peer_run.specs.Meet.{Meets, agreed_area, side_hello}
 use Rattle.peer_run.specs.declared.meeting.MeetWords.{MeetWords}
 
 -- ---- drill
@@ -27,35 +29,42 @@ drill_deed rows =
 
 -- ---- meet
 
--- the name holds the image of these rows in order
-pub record HasImage (names : Names) (name namespace : List ℕ) (rows : List RawValue) : Type 0 where
+-- the name holds the image of these rows in order, as far as the shelf tells
+pub record HasImage (told : Option Names) (name namespace : List ℕ) (rows : List RawValue) : Type 0 where
   pub bytes : List ℕ
-  pub held : names name ≡ Some bytes
+  pub held : GetsName told name (Some bytes)
   pub is_image : IsImageInOrder bytes namespace rows
 
--- the name holds the capability
-pub record HoldsCapability (names : Names) (name : List ℕ) (c : Capability) : Type 0 where
+-- the name holds the capability, as far as the shelf tells
+pub record HoldsCapability (told : Option Names) (name : List ℕ) (c : Capability) : Type 0 where
   pub bytes : List ℕ
-  pub held : names name ≡ Some bytes
+  pub held : GetsName told name (Some bytes)
   pub spelled : IsSpelled bytes c
 
--- The shelf tells that the names hold images in order and capabilities, nothing is against the meeting, and the logs
--- have room.
+-- what a meeting goes by: two images of one namespace, with their rows in order, and two capabilities
+pub record Given : Type 0 where
+  pub namespace : List ℕ
+  pub left : List RawValue
+  pub right : List RawValue
+  pub left_cap : Capability
+  pub right_cap : Capability
+
+-- the names of the words hold it, and nothing is against the hello of either side
+pub record AreGiven (words : MeetWords) (told : Option Names) (g : Given) : Type 0 where
+  pub left : HasImage told (string_bytes words.left) g.namespace g.left
+  pub right : HasImage told (string_bytes words.right) g.namespace g.right
+  pub left_cap : HoldsCapability told (string_bytes words.left_cap) g.left_cap
+  pub right_cap : HoldsCapability told (string_bytes words.right_cap) g.right_cap
+  pub left_passes : own_refusal g.namespace (side_hello words.area g.left_cap) ≡ None
+  pub right_passes : own_refusal g.namespace (side_hello words.area g.right_cap) ≡ None
+
+-- the shelf tells that the names hold what a meeting goes by, and the logs have room
 pub record CanMeet (words : MeetWords) (told : Option Names) : Type 0 where
   pub names : Names
   pub are_told : told ≡ Some names
-  pub left_namespace : List ℕ
-  pub left_rows : List RawValue
-  pub left : HasImage names (string_bytes words.left) left_namespace left_rows
-  pub right_namespace : List ℕ
-  pub right_rows : List RawValue
-  pub right : HasImage names (string_bytes words.right) right_namespace right_rows
-  pub left_capability : Capability
-  pub left_cap : HoldsCapability names (string_bytes words.left_cap) left_capability
-  pub right_capability : Capability
-  pub right_cap : HoldsCapability names (string_bytes words.right_cap) right_capability
-  pub agreed : meeting_refusal words.area left_namespace right_namespace left_capability right_capability ≡ None
-  pub room : MeetFullLog left_namespace left_rows right_rows (agreed_area words.area left_capability right_capability) → ⊥
+  pub given : Given
+  pub are_given : AreGiven words (Some names) given
+  pub room : MeetFullLog given.namespace given.left given.right (agreed_area words.area given.left_cap given.right_cap) → ⊥
 
 abbrev pub meet_deed : MeetWords → Deed
 meet_deed words =

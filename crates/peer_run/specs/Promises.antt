@@ -1,7 +1,7 @@
 -- What every run keeps: the headline, why each status comes, and that a command that is ready comes to its end.
 use Rattle.std.specs.Prelude.{◌≡◌, ◌≢◌, ℕ, ◌≤◌, ◌⊎◌, List, Result, Ok, Err}
 use Rattle.willow_outside.specs.Counts.{Rose}
-use Rattle.peer_stage.specs.World.{World, NeverFall, Unfailed}
+use Rattle.peer_stage.specs.World.{NeverFall, Unfailed}
 use Rattle.peer_stage.specs.Status.{status_of}
 use Rattle.peer_stage.specs.Stages.{IsWritten, IsPartlyWritten}
 use Rattle.willow_outside.specs.Facts.{SinkFacts}
@@ -14,6 +14,7 @@ use Rattle.peer_words.specs.declared.command.Command.{Command}
 use Rattle.peer_run.specs.Deeds.{deed_of}
 use Rattle.peer_run.specs.Run.{Run, RunsWords, before_report}
 use Rattle.peer_run.specs.Headline.{Headline}
+use Rattle.peer_run.specs.MeetHeadline.{MeetHeadline}
 
 -- ---- 0 and 1
 
@@ -117,6 +118,8 @@ pub record KeepsPromises (run : Run) : Type 0 where
   pub runs : RunsWords run
   -- a join leaves the join of all authorised entries
   pub joined : Headline run
+  -- a meeting leaves each side the join of its rows with those sent to it, which the rows in the area alone decide
+  pub met : MeetHeadline run
   -- 0 and 1: the command came to its end, and its lines are reported
   pub ended : run.status ≤ 1 → HasEnded run
   -- 2: the words are no command, or one that is not built yet
