@@ -1,11 +1,14 @@
 pub mod NewRows
 pub mod Firsts
 pub mod Logged
-pub mod Streams
+pub mod Offered
+pub mod RawStreams
+pub mod Taken
+pub mod ReadLog
+pub mod Imaged
 pub mod Keeping
 pub mod Framed
 pub mod Joined
 pub mod Listed
 pub mod Generated
 pub mod Deeds
-pub mod Reading

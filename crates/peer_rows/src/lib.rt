@@ -4,9 +4,11 @@
 #![tactic(auto)]
 
 mod generating;
+mod imaging;
 mod joining;
 mod laws;
 mod log;
+mod offering;
 mod showing;
 
 pub use generating::generate;
