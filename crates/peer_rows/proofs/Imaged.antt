@@ -10,7 +10,7 @@ use Rattle.peer_rows.specs.Logged.{IsLogOf, Offers, PassesLog, stored_rows}
 use Rattle.peer_rows.specs.Images.{LogsImage, log_stop}
 use Rattle.peer_rows.specs.declared.log.Log.{Log}
 use Rattle.peer_rows.specs.declared.row_log.LogFull.{LogFull}
-use Rattle.peer_rows.proofs.Streams.{PassesLog-longer, IsLogOf-start, no_counts}
+use Rattle.peer_rows.proofs.Offered.{PassesLog-longer, IsLogOf-start, no_counts}
 
 -- of all rows these were offered, and these are left
 pub record HasLogged (namespace : List ℕ) (all seen left : List RawValue) (log : Log) : Type 0 where

@@ -1,11 +1,11 @@
 -- What `join` does: the image of the live rows among the authorised rows of the input.
-use Rattle.std.specs.Prelude.{◌≡◌, ℕ, ◌<◌, ◌≤◌, List, [], length, Result, Ok, Err}
-use Rattle.std.specs.Global.{Vec}
+use Rattle.std.specs.Prelude.{◌≡◌, ℕ, ◌<◌, ◌≤◌, ◌⊎◌, List, ◌++◌, length, Result, Ok, Err}
 use Rattle.std.specs.Io.KnownBytes.{Consumes}
 use Rattle.willow_outside.specs.Facts.{SourceFacts}
 use Rattle.willow_entry.specs.Row.{live}
 use Rattle.cap_codec.specs.Rows.{RawValue, AreFrames}
 use Rattle.cap_codec.specs.Streams.{FramesStopAt, AreAllFrames}
+use Rattle.row_stream.specs.Places.{IsUnfinished}
 use Rattle.peer_image.specs.Image.{image}
 use Rattle.peer_rows.specs.Logged.{authorised_rows, AreCounts, FitsLog, PassesLog}
 use Rattle.peer_stage.specs.Steps.{Step, Then, OnInput, OnOutput}
@@ -31,17 +31,9 @@ pub record IsJoinOf (namespace bytes written : List ℕ) (counts : JoinCounts) :
   pub counted : AreCounts namespace rows counts
   pub is_image : written ≡ joined namespace rows
 
--- the bytes are the frames of rows of which one too many would be stored
-abbrev pub IsTooFull : List ℕ → List ℕ → Type 0
-IsTooFull namespace bytes = (rows : List RawValue) × AreFrames bytes rows × PassesLog namespace rows
-
--- how a join of bytes ends
-abbrev pub JoinsBytes : List ℕ → List ℕ → Result (Vec ℕ × JoinCounts) Stop → Type 0
-JoinsBytes namespace bytes (Ok x) = IsJoinOf namespace bytes x.0.items x.1
-JoinsBytes namespace bytes (Err (stop.BadInput origin at)) = FramesStopAt bytes at × IsInput origin
-JoinsBytes namespace bytes (Err stop.LogFull) = IsTooFull namespace bytes
-JoinsBytes namespace bytes (Err stop.NoMemory) = Unit {0}
-JoinsBytes namespace bytes (Err e) = ⊥
+-- whatever comes behind these bytes, they are the frames of no rows
+abbrev pub BeginNoFrames : List ℕ → Type 0
+BeginNoFrames bytes = (more : List ℕ) (rows : List RawValue) → AreFrames (bytes ++ more) rows → ⊥
 
 -- ---- over the bytes taken of the input
 
@@ -58,8 +50,8 @@ pub record IsBadStream (i i' : SourceFacts) (at : ℕ) : Type 0 where
   pub taken : Consumes i.left i'.left bytes
   pub too_long : INPUT_LIMIT < length bytes → at ≡ INPUT_LIMIT
   pub wrong : length bytes ≤ INPUT_LIMIT → FramesStopAt bytes at
-  -- they are judged when all is read
-  pub read : length bytes ≤ INPUT_LIMIT → IsReadWhole INPUT_LIMIT i i' bytes
+  -- the input ends there, or is wrong whatever comes behind
+  pub cause : length bytes ≤ INPUT_LIMIT → IsReadWhole INPUT_LIMIT i i' bytes ⊎ BeginNoFrames bytes
 
 -- Of the whole rows among the bytes taken one too many would be stored.
 pub record IsFullStream (namespace : List ℕ) (i i' : SourceFacts) : Type 0 where
@@ -69,13 +61,12 @@ pub record IsFullStream (namespace : List ℕ) (i i' : SourceFacts) : Type 0 whe
   pub left : List ℕ
   pub frames : AreAllFrames bytes rows left
   pub passes : PassesLog namespace rows
-  -- the log is told as full when all is read
-  pub read : IsReadWhole INPUT_LIMIT i i' bytes
-  pub nothing_left : left ≡ []
+  -- what is left is not wrong: that would be told before
+  pub not_wrong : IsUnfinished left
 
 -- how the reading and joining of an input ends, with the image and the numbers
-abbrev pub JoinsInput : List ℕ → SourceFacts → SourceFacts → Result (Vec ℕ × JoinCounts) Stop → Type 0
-JoinsInput namespace i i' (Ok x) = IsJoinRead namespace i i' x.0.items x.1
+abbrev pub JoinsInput : List ℕ → SourceFacts → SourceFacts → Result (List ℕ × JoinCounts) Stop → Type 0
+JoinsInput namespace i i' (Ok x) = IsJoinRead namespace i i' x.0 x.1
 JoinsInput namespace i i' (Err stop.ReadFault) = (bytes : List ℕ) × IsReadToFault INPUT_LIMIT i i' bytes
 JoinsInput namespace i i' (Err (stop.BadInput origin at)) = IsBadStream i i' at × IsInput origin
 JoinsInput namespace i i' (Err stop.LogFull) = IsFullStream namespace i i'
@@ -88,4 +79,4 @@ JoinsInput namespace i i' (Err e) = ⊥
 abbrev pub Joins : List ℕ → Step Done
 Joins namespace =
     Then (OnInput (JoinsInput namespace)) (λ x.
-    OnOutput (Writes x.0.items (done.Joined x.1)))
+    OnOutput (Writes x.0 (done.Joined x.1)))
