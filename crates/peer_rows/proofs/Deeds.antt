@@ -1,5 +1,5 @@
 -- The laws of the commands over rows.
-use Rattle.std.proofs.Common.{◌≡◌, ℕ, ◌≤◌, inl, inr, List, ◌++◌, length, Option, Some, None, sym, ap, ◌∙◌, subst, append_assoc, arith}
+use Rattle.std.proofs.Common.{◌≡◌, ℕ, inl, inr, List, ◌++◌, Option, Some, None, sym, ap, ◌∙◌, subst, append_assoc, arith}
 use Rattle.std.specs.List.{flat_map}
 use Rattle.std.specs.Prelude.{Err}
 use Rattle.std.specs.Io.KnownBytes.{Consumes}
@@ -22,10 +22,10 @@ use Rattle.peer_stage.specs.declared.outcome.Done.TheVariants as done
 use Rattle.peer_stage.specs.declared.outcome.Stop.{Stop}
 use Rattle.peer_stage.specs.declared.outcome.Stop.TheVariants as stop
 use Rattle.peer_stage.proofs.Ends.{IsCondition}
-use Rattle.peer_stage.proofs.Inputs.{few_taken, not_too_far, is_all}
+use Rattle.peer_stage.proofs.Inputs.{not_too_far, is_all}
 use Rattle.peer_stage.proofs.Owing.{Owes, then_owes, writes_owe, input_counts, input_unfailed, input_lasts, output_lasts, lawful, not_built_is_lawful}
 use Rattle.peer_rows.specs.Logged.{PassesLog}
-use Rattle.peer_rows.specs.Join.{BeginNoFrames, JoinsInput, IsBadStream, IsFullStream}
+use Rattle.peer_rows.specs.Join.{BeginNoFrames, JoinsInput, IsBadStream, IsWrongStream, IsFullStream}
 use Rattle.peer_rows.specs.Show.{ShowsInput, IsBadImage, IsReadMisordered}
 use Rattle.peer_rows.specs.Deeds.{CanJoin, CanShow, join_deed, show_deed, gen_deed}
 use Rattle.peer_rows.proofs.Offered.{PassesLog-longer}
@@ -48,22 +48,29 @@ front_taken (Some xs) (Some ys) had taken told is =
 front_taken (Some xs) None had taken told is = absurd is
 front_taken None left' had taken told is = absurd cc
 
-no_bad_stream : (n : List ℕ) (i i' : SourceFacts) (at : ℕ) → CanJoin n i → IsBadStream i i' at → ⊥
-no_bad_stream n i i' at can bad = let few = few_taken i i' can.had bad.bytes can.input bad.taken in elim (bad.cause few) [ inl whole ↦ ends few whole | inr begin ↦ begins begin ]
+no_wrong_stream : (n : List ℕ) (i i' : SourceFacts) (at : ℕ) → CanJoin n i → IsWrongStream i i' at → ⊥
+no_wrong_stream n i i' at can bad = elim bad.cause [ inl whole ↦ ends whole | inr begin ↦ begins begin ]
   where
-    ends : length bad.bytes ≤ INPUT_LIMIT → IsReadWhole INPUT_LIMIT i i' bad.bytes → ⊥
-    ends few whole = never_both can.had at can.rows (subst (λ (b : List ℕ). FramesStopAt b at) (is_all i i' can.had bad.bytes can.input whole) (bad.wrong few)) can.frames
+    ends : IsReadWhole INPUT_LIMIT i i' bad.bytes → ⊥
+    ends whole = never_both can.had at can.rows (subst (λ (b : List ℕ). FramesStopAt b at) (is_all i i' can.had bad.bytes can.input whole) bad.wrong) can.frames
+
     begins : BeginNoFrames bad.bytes → ⊥
     begins begin =
         let front = front_taken i.left i'.left can.had bad.bytes can.input.told bad.taken in
         begin front.0 can.rows (subst (λ (b : List ℕ). AreFrames b can.rows) (sym front.1) can.frames)
 
+no_bad_stream : (n : List ℕ) (i i' : SourceFacts) (at : ℕ) → CanJoin n i → IsBadStream n i i' at → ⊥
+no_bad_stream n i i' at can (inl long) = not_too_far i i' can.had long.0.bytes can.input long.0.too_far
+no_bad_stream n i i' at can (inr wrong) = no_wrong_stream n i i' at can wrong
+
 no_full : (n : List ℕ) (i i' : SourceFacts) → CanJoin n i → IsFullStream n i i' → ⊥
 no_full n i i' can full =
+    let frames = full.not_wrong.frames in
+    let left = full.not_wrong.left in
     let front = front_taken i.left i'.left can.had full.bytes can.input.told full.taken in
-    let parts = sym (append_assoc (flat_map frame full.rows) full.left front.0) ∙ ap (λ (l : List ℕ). l ++ front.0) (sym full.frames.parts) ∙ front.1 ∙ can.frames.spelled in
-    let more = rows_in_front full.rows can.rows (full.left ++ front.0) full.frames.fit can.frames.fit parts in
-    let passes = subst (λ (rows : List RawValue). PassesLog n rows) (sym more.1) (PassesLog-longer n full.rows more.0 full.passes) in
+    let parts = sym (append_assoc (flat_map frame full.rows) left front.0) ∙ ap (λ (l : List ℕ). l ++ front.0) (sym frames.parts) ∙ front.1 ∙ can.frames.spelled in
+    let more = rows_in_front full.rows can.rows (left ++ front.0) frames.fit can.frames.fit parts in
+    let passes = subst (λ (rows : List RawValue). PassesLog n rows) more.1 (PassesLog-longer n full.rows more.0 full.passes) in
     omega (arith, passes, can.fits_log)
 
 join_stops : (n : List ℕ) (i i' : SourceFacts) (e : Stop) → CanJoin n i → IsCondition e → JoinsInput n i i' (Err e) → ⊥

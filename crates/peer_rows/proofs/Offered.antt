@@ -1,6 +1,6 @@
 -- A log to which nothing was offered, and how a log goes on by several rows.
-use Rattle.std.proofs.Common.{◌≡◌, ℕ, ◌+◌, ◌≤◌, List, [], ◌∷◌, ◌++◌, length, map, filter, None, Result, refl, sym, ap, subst, ◌∙◌, append_assoc, arith}
-use Rattle.std.proofs.lemmas.List.{append-nil, map-append, take-append-drop}
+use Rattle.std.proofs.Common.{◌≡◌, ℕ, ◌≤◌, List, [], ◌∷◌, ◌++◌, map, filter, None, Result, refl, sym, ap, subst, ◌∙◌, append_assoc}
+use Rattle.std.proofs.lemmas.List.{append-nil, map-append}
 use Rattle.std.proofs.lemmas.List.Elements.{filter-append}
 use Rattle.spelling.specs.Answers.{first_some}
 use Rattle.willow_entry.specs.Pruning.{pruned, new_after}
@@ -74,6 +74,7 @@ offers_fail namespace rows offered rest row before log log' e result so_far all 
   where
     whole : ((seen ++ offered) ++ row ∷ []) ++ rest ≡ seen ++ rows
     whole = append_assoc (seen ++ offered) (row ∷ []) rest ∙ append_assoc seen offered (row ∷ rest) ∙ ap (λ (l : List RawValue). seen ++ l) (sym all)
+
     told : (d : End LogFull) → Offers namespace (seen ++ offered) row (held_of log') log'.counts (Err d) → OffersAll namespace seen rows log' (Err d)
     told (Refused full) passes = subst (PassesLog namespace) whole (PassesLog-longer namespace ((seen ++ offered) ++ row ∷ []) rest passes)
     told NoMemory h = tt

@@ -1,5 +1,5 @@
 -- How the rows of an input go on by one piece.
-use Rattle.std.proofs.Common.{◌≡◌, ℕ, ◌+◌, ◌*◌, ◌<◌, ◌≤◌, List, [], ◌∷◌, ◌++◌, length, map, Option, Some, None, refl, sym, ap, subst, ◌∙◌, append_assoc, arith, inl, inr}
+use Rattle.std.proofs.Common.{◌≡◌, ℕ, ◌+◌, ◌*◌, ◌≤◌, List, [], ◌∷◌, ◌++◌, length, map, Option, Some, None, refl, sym, ap, subst, arith, inl, inr}
 use Rattle.std.specs.List.{AllByRecursion, flat_map}
 use Rattle.std.proofs.lemmas.List.{length-append}
 use Rattle.spelling.proofs.Lists.{All-append}
@@ -23,7 +23,7 @@ use Rattle.peer_rows.specs.declared.row_log.LogFull.{LogFull}
 use Rattle.peer_rows.specs.declared.log.Log.{Log}
 use Rattle.peer_rows.specs.declared.row_log.TheConstants.{LOG_LIMIT}
 use Rattle.peer_rows.proofs.Offered.{no_counts, IsLogOf-start}
-use Rattle.peer_rows.proofs.RawStreams.{framed_rows, all_frames, more_rows, frames_same, wrong_stops, wrong_begins}
+use Rattle.peer_rows.proofs.RawStreams.{framed_rows, more_rows, frames_same, right_so_far, wrong_there}
 
 -- ---- nothing is read yet
 
@@ -92,10 +92,8 @@ module _ (namespace bytes : List ℕ) (state : StreamState) (log : Log) (h : Has
         pub past_log : PassesLog namespace (h.seen ++ rows) → IsPastLog namespace (bytes ++ piece)
         past_log passes = record {
           rows = h.seen ++ rows;
-          left = state'.begun;
-          frames = all_frames 0 (bytes ++ piece) (h.seen ++ rows) state'.begun None fit_goes stream_goes;
+          not_wrong = right_so_far 0 (bytes ++ piece) (h.seen ++ rows) state'.begun fit_goes stream_goes;
           passes = passes;
-          not_wrong = stream_goes.judged;
         }
 
 -- ---- a piece that goes wrong
@@ -112,7 +110,7 @@ pub piece_wrong : (namespace bytes piece : List ℕ) (state state' : StreamState
     → s ≡ stop.BadInput origin.Input (offset_of refusal) → TakesPiece namespace (bytes ++ piece) state' log' (Err s)
 piece_wrong namespace bytes piece state state' log log' refusal s h b is =
     let wrong = goes_wrong namespace bytes state log h state' piece refusal b in
-    subst (λ (e : Stop). TakesPiece namespace (bytes ++ piece) state' log' (Err e)) (sym is) (wrong_stops (bytes ++ piece) refusal wrong, (wrong_begins (bytes ++ piece) refusal wrong, tt))
+    subst (λ (e : Stop). TakesPiece namespace (bytes ++ piece) state' log' (Err e)) (sym is) (wrong_there (bytes ++ piece) refusal wrong, tt)
 
 -- where a row met a full log, one of all was one too many
 pub offer_passes : (namespace : List ℕ) (seen rows : List RawValue) (log : Log) (e : End LogFull) (full : LogFull) → e ≡ Refused full → OffersAll namespace seen rows log (Err e) → PassesLog namespace (seen ++ rows)

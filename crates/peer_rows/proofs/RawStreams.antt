@@ -1,9 +1,8 @@
 -- A stream of rows with their tokens read out, as frames and as a stream of any grammar.
-use Rattle.std.proofs.Common.{◌≡◌, ℕ, ◌+◌, ◌<◌, ◌≤◌, List, [], ◌∷◌, ◌++◌, length, map, Option, Some, None, refl, sym, ap, subst, ◌∙◌, append_assoc, arith}
+use Rattle.std.proofs.Common.{◌≡◌, ℕ, ◌+◌, ◌<◌, List, [], ◌∷◌, ◌++◌, length, map, Option, Some, None, refl, sym, ap, subst, ◌∙◌, append_assoc, arith}
 use Rattle.std.specs.List.{AllByRecursion, flat_map}
 use Rattle.std.proofs.lemmas.List.{append-nil, length-append, map-append}
 use Rattle.std.proofs.lemmas.List.Concat.{flat_map-cons}
-use Rattle.spelling.proofs.Lists.{All-append}
 use Rattle.willow_entry.specs.Row.{RowValue}
 use Rattle.willow_entry.specs.RowBody.{row_body}
 use Rattle.willow_entry.specs.Frame.{row_frame}
@@ -13,12 +12,11 @@ use Rattle.cap_codec.proofs.Frames.{frame_long, frame_form}
 use Rattle.cap_codec.proofs.RowReads.{frame_same, body_short}
 use Rattle.row_stream.specs.declared.refusal.StreamRefusal.{StreamRefusal}
 use Rattle.row_stream.specs.declared.refusal.StreamRefusal.TheVariants.{BadFrame, FrameTooLong, CutShort}
-use Rattle.row_stream.specs.Places.{IsUnfinished}
 use Rattle.row_stream.specs.Streams.{frames_of, IsStreamRow, IsJudged, IsStream, GoesWrong}
 use Rattle.row_stream.proofs.OneReading.{no_frame, one_reading}
 use Rattle.row_stream.proofs.Longer.{stream_more}
-use Rattle.peer_rows.specs.Join.{BeginNoFrames}
-use Rattle.peer_rows.specs.Stored.{offset_of}
+use Rattle.peer_rows.specs.Join.{BeginNoFrames, AreRightSoFar}
+use Rattle.peer_rows.specs.Stored.{offset_of, AreWrong}
 
 -- ---- rows
 
@@ -28,7 +26,7 @@ stream_row r fits = record {
   framed = body_short r fits;
 }
 
-pub stream_rows : (rows : List RawValue) → AllByRecursion FitsFrame rows → AllByRecursion (IsStreamRow IsRawRow) (map row_of rows)
+stream_rows : (rows : List RawValue) → AllByRecursion FitsFrame rows → AllByRecursion (IsStreamRow IsRawRow) (map row_of rows)
 stream_rows [] fit = tt
 stream_rows (r ∷ rows) fit = (stream_row r fit.0, stream_rows rows fit.1)
 
@@ -66,7 +64,7 @@ read_out_one v s =
     let is : IsRaw r = record { entry_fits = s.fits.entry_fits; token_fits = s.fits.token_fits } in
     (r, framed_row r is (subst (IsStreamRow IsRawRow) (sym same) s), same)
 
-pub read_out : (values : List RowValue) → AllByRecursion (IsStreamRow IsRawRow) values → ReadOut values
+read_out : (values : List RowValue) → AllByRecursion (IsStreamRow IsRawRow) values → ReadOut values
 read_out [] fit = record { rows = []; fit = tt; same = refl }
 read_out (v ∷ values) fit =
     let one = read_out_one v fit.0 in
@@ -75,15 +73,27 @@ read_out (v ∷ values) fit =
 
 -- ---- what is left
 
-pub nothing_in_front : (here : ℕ) (left : List ℕ) (why : Option StreamRefusal) → IsJudged IsRawRow here left why → HasNoFrame left
+nothing_in_front : (here : ℕ) (left : List ℕ) (why : Option StreamRefusal) → IsJudged IsRawRow here left why → HasNoFrame left
 nothing_in_front here left why judged r rest fits e =
     no_frame IsRawRow (λ v f. f.entry_fits) here (row_of r) rest left why (stream_row r fits) (e ∙ ap (λ (l : List ℕ). l ++ rest) (sym (frame_same r))) judged
 
-pub all_frames : (from : ℕ) (bytes : List ℕ) (rows : List RawValue) (left : List ℕ) (why : Option StreamRefusal) → AllByRecursion FitsFrame rows → IsStream IsRawRow from bytes (map row_of rows) left why → AreAllFrames bytes rows left
+all_frames : (from : ℕ) (bytes : List ℕ) (rows : List RawValue) (left : List ℕ) (why : Option StreamRefusal) → AllByRecursion FitsFrame rows → IsStream IsRawRow from bytes (map row_of rows) left why → AreAllFrames bytes rows left
 all_frames from bytes rows left why fit s = record {
   fit = fit;
   parts = s.parts ∙ ap (λ (l : List ℕ). l ++ left) (frames_same rows);
   no_frame = nothing_in_front (from + length (frames_of (map row_of rows))) left why s.judged;
+}
+
+-- ---- a stream in which nothing is wrong
+
+pub right_so_far : (from : ℕ) (bytes : List ℕ) (rows : List RawValue) (left : List ℕ) → AllByRecursion FitsFrame rows → IsStream IsRawRow from bytes (map row_of rows) left None → AreRightSoFar bytes rows
+right_so_far from bytes rows left fit s = record { left = left; frames = all_frames from bytes rows left None fit s; unfinished = s.judged }
+
+right_stream : (bytes : List ℕ) (rows : List RawValue) → (r : AreRightSoFar bytes rows) → IsStream IsRawRow 0 bytes (map row_of rows) r.left None
+right_stream bytes rows r = record {
+  fit = stream_rows rows r.frames.fit;
+  parts = r.frames.parts ∙ ap (λ (l : List ℕ). l ++ r.left) (sym (frames_same rows));
+  judged = r.unfinished;
 }
 
 -- ---- how a stream ends
@@ -118,7 +128,7 @@ some_left here left (FrameTooLong at) j = (omega (arith, j.0.field_there), j.1)
 some_left here left (CutShort at) j = absurd j
 
 -- what is refused
-pub wrong_stops : (bytes : List ℕ) (refusal : StreamRefusal) → GoesWrong IsRawRow 0 bytes refusal → FramesStopAt bytes (offset_of refusal)
+wrong_stops : (bytes : List ℕ) (refusal : StreamRefusal) → GoesWrong IsRawRow 0 bytes refusal → FramesStopAt bytes (offset_of refusal)
 wrong_stops bytes refusal w =
     let out = read_out w.rows w.stream.fit in
     let stream : IsStream IsRawRow 0 bytes (map row_of out.rows) w.left (Some refusal) = subst (λ (xs : List RowValue). IsStream IsRawRow 0 bytes xs w.left (Some refusal)) (sym out.same) w.stream in
@@ -131,13 +141,25 @@ wrong_stops bytes refusal w =
       more = there.0;
     }
 
+some_is_none : {A : Type 0} (x : A) → Some x ≡ None → ⊥
+some_is_none x e = cc
+
+one_verdict : (bytes : List ℕ) (rows others : List RowValue) (left rest : List ℕ) (refusal : StreamRefusal) → IsStream IsRawRow 0 bytes rows left (Some refusal) → IsStream IsRawRow 0 bytes others rest None → ⊥
+one_verdict bytes rows others left rest refusal s t =
+    some_is_none refusal (one_reading IsRawRow (λ v f. f.entry_fits) 0 bytes rows others left rest (Some refusal) None s t).2
+
 -- and nothing that comes behind mends it
-pub wrong_begins : (bytes : List ℕ) (refusal : StreamRefusal) → GoesWrong IsRawRow 0 bytes refusal → BeginNoFrames bytes
+wrong_begins : (bytes : List ℕ) (refusal : StreamRefusal) → GoesWrong IsRawRow 0 bytes refusal → BeginNoFrames bytes
 wrong_begins bytes refusal w more rows are =
-    let one = one_reading IsRawRow (λ v f. f.entry_fits) 0 (bytes ++ more) w.rows (map row_of rows) (w.left ++ more) [] (Some refusal) None
-    (stream_more IsRawRow 0 bytes w.rows w.left more refusal w.stream) (whole_stream (bytes ++ more) rows are) in
-    let none : Some refusal ≡ None = one.2 in
-    absurd cc
+    one_verdict (bytes ++ more) w.rows (map row_of rows) (w.left ++ more) [] refusal
+    (stream_more IsRawRow 0 bytes w.rows w.left more refusal w.stream) (whole_stream (bytes ++ more) rows are)
+
+pub wrong_there : (bytes : List ℕ) (refusal : StreamRefusal) → GoesWrong IsRawRow 0 bytes refusal → AreWrong bytes (offset_of refusal)
+wrong_there bytes refusal w = record {
+  wrong = wrong_stops bytes refusal w;
+  cause = wrong_begins bytes refusal w;
+  judged = λ rows r. one_verdict bytes w.rows (map row_of rows) w.left r.left refusal w.stream (right_stream bytes rows r);
+}
 
 -- ---- frames in front
 

@@ -6,19 +6,17 @@ use Rattle.spelling.specs.declared.ending.End.TheVariants as ends
 use Rattle.willow_outside.specs.Facts.{SourceFacts}
 use Rattle.willow_entry.specs.Row.{RowValue}
 use Rattle.cap_codec.specs.Rows.{RawValue, row_of, IsRawRow, FitsFrame, AreFrames}
-use Rattle.cap_codec.specs.Streams.{FramesStopAt, AreAllFrames}
+use Rattle.cap_codec.specs.Streams.{FramesStopAt}
 use Rattle.row_stream.specs.Streams.{IsStream}
 use Rattle.row_stream.specs.Feeding.{StreamState, Finishes}
-use Rattle.row_stream.specs.Places.{IsUnfinished}
 use Rattle.row_stream.specs.declared.refusal.StreamRefusal.{StreamRefusal}
 use Rattle.row_stream.specs.declared.refusal.StreamRefusal.TheVariants.{BadFrame, FrameTooLong, CutShort}
 use Rattle.peer_stage.specs.Stages.{IsInput, IsReadWhole}
 use Rattle.peer_stage.specs.declared.stage.TheConstants.{INPUT_LIMIT}
-use Rattle.peer_stage.specs.declared.outcome.JoinCounts.{JoinCounts}
 use Rattle.peer_stage.specs.declared.outcome.Stop.{Stop}
 use Rattle.peer_stage.specs.declared.outcome.Stop.TheVariants as stop
 use Rattle.peer_rows.specs.Logged.{stored_rows, IsLogOf, FitsLog, PassesLog}
-use Rattle.peer_rows.specs.Join.{JoinsInput, BeginNoFrames}
+use Rattle.peer_rows.specs.Join.{JoinsInput, BeginNoFrames, AreRightSoFar}
 use Rattle.peer_rows.specs.declared.log.Log.{Log}
 use Rattle.peer_rows.specs.declared.row_log.LogFull.{LogFull}
 use Rattle.peer_rows.specs.declared.row_log.TheConstants.{LOG_LIMIT}
@@ -45,18 +43,22 @@ pub record HasSeen (namespace bytes : List ℕ) (state : StreamState) (log : Log
   pub is_log : IsLogOf namespace seen (held_of log) log.counts
   pub fits : log.counts.stored ≤ LOG_LIMIT
 
--- of the whole rows of the bytes one too many would be stored
+-- the bytes stop at this place to be frames of rows, and what stands there is wrong whatever comes behind
+pub record AreWrong (bytes : List ℕ) (at : ℕ) : Type 0 where
+  pub wrong : FramesStopAt bytes at
+  pub cause : BeginNoFrames bytes
+  pub judged : (rows : List RawValue) → AreRightSoFar bytes rows → ⊥
+
+-- of the whole rows of the bytes one too many would be stored, and nothing in them is wrong
 pub record IsPastLog (namespace bytes : List ℕ) : Type 0 where
   pub rows : List RawValue
-  pub left : List ℕ
-  pub frames : AreAllFrames bytes rows left
+  pub not_wrong : AreRightSoFar bytes rows
   pub passes : PassesLog namespace rows
-  pub not_wrong : IsUnfinished left
 
 -- how the taking of a piece ends, where the bytes are all with this piece
 abbrev pub TakesPiece : List ℕ → List ℕ → StreamState → Log → Result (Unit {0}) Stop → Type 0
 TakesPiece namespace bytes state log (Ok u) = HasSeen namespace bytes state log
-TakesPiece namespace bytes state log (Err (stop.BadInput origin at)) = FramesStopAt bytes at × (BeginNoFrames bytes × IsInput origin)
+TakesPiece namespace bytes state log (Err (stop.BadInput origin at)) = AreWrong bytes at × IsInput origin
 TakesPiece namespace bytes state log (Err stop.LogFull) = IsPastLog namespace bytes
 TakesPiece namespace bytes state log (Err stop.NoMemory) = Unit {0}
 TakesPiece namespace bytes state log (Err e) = ⊥

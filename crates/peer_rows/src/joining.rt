@@ -51,18 +51,20 @@ fn read_log<I: Source>(alloc: Global, namespace: &NamespaceKey, input: &mut I) -
     let mut log = Log::new(alloc);
     let mut stream = RowStream::<RawRows>::new(alloc);
     let mut piece = room(alloc)?;
-    let mut taken: u64 = 0;
+    let mut left = INPUT_LIMIT;
     'pieces: loop {
+        // Behind the last byte that may be taken one more tells that the input goes on.
+        piece.truncate(left.max(1) as usize);
         match input.read(&mut piece) {
             Ok(0) => {
                 end_stream(&stream)?;
                 return Ok(log);
             }
             Ok(n) => {
-                if INPUT_LIMIT.saturating_sub(taken) < n as u64 {
+                if left == 0 {
                     return Err(Stop::bad_input(INPUT_LIMIT));
                 }
-                taken += n as u64;
+                left -= n as u64;
                 take_piece(alloc, namespace, &mut stream, &mut log, &piece[..n])?;
             }
             Err(Fault::Failed) => return Err(Stop::ReadFault),

@@ -1,4 +1,4 @@
-use Rattle.std.proofs.Common.{◌≡◌, ◌++◌, length, map}
+use Rattle.std.proofs.Common.{◌++◌, length, map}
 use Rattle.std.specs.List.{AllByRecursion, flat_map}
 use Rattle.willow_entry.specs.Frame.{row_frame, HasFrame}
 use Rattle.peer_image.specs.Image.{image, trailer}
