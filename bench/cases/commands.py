@@ -10,7 +10,7 @@ from octets import NotSpelled, whole
 from outside import Fault, Objects
 from report import (BAD_INPUT, KEY_SPENT, LOG_FULL, MISSING, NOT_RISING, PRUNED, READ_FAULT, REFUSED, TAKEN, USAGE,
                     SESSION_REFUSED, WRITE_FAULT, Stop, first_refused)
-from rows import OWNED, BadBytes, NotRising, Pruned, Row, generated, image, read_image, read_rows
+from rows import OWNED, BadBytes, Frames, NotRising, Pruned, Row, generated, image, read_image
 from grammar import NONE, ANY, Usage, read_words
 
 LOG_LIMIT = 65_536
@@ -55,19 +55,29 @@ def take(store: Store, rows: list) -> None:
         store.take(row)
 
 
+def input_rows(objects: Objects):
+    """The rows of each piece of the input."""
+    frames = Frames()
+    while piece := taken(objects.input.read):
+        yield frames.feed(piece)
+    frames.finish()
+
+
 def join(objects: Objects, namespace: bytes) -> End:
-    data = taken(objects.input.read_all)
+    store, count, authorised, refusals = Store(), 0, [], []
     try:
-        rows = read_rows(data)
+        for rows in input_rows(objects):
+            good, bad = judged(rows, namespace)
+            refusals += [(count + at, refusal) for at, refusal in bad]
+            authorised += good
+            count += len(rows)
+            take(store, good)
     except BadBytes as bad:
         raise Stop(BAD_INPUT, name=INPUT, offset=bad.offset) from None
-    authorised, refusals = judged(rows, namespace)
-    store = Store()
-    take(store, authorised)
     kept = store.live()
     assert len(authorised) > SMALL or kept == live(authorised)
     given(lambda: objects.output.write_whole(image(namespace, kept)))
-    counts = f"rows {len(rows)} stored {store.stored} kept {store.kept} refused {len(refusals)}\n"
+    counts = f"rows {count} stored {store.stored} kept {store.kept} refused {len(refusals)}\n"
     return End(counts + first_refused(refusals), bool(refusals))
 
 

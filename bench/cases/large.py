@@ -5,7 +5,8 @@ from outcome import Outcome
 from rows import OWNED
 from situations import D_WORD, U, open_signer, words_of
 
-FEW, FULL = 20_000, 65_536
+FEW, FULL, AGAIN = 20_000, 65_536, 300  # so many rows again are more than what one read gives
+WRONG = bytes(4)  # a frame without a body
 JOIN = words_of("join", namespace=OWNED)
 
 
@@ -29,7 +30,7 @@ def further_row() -> bytes:
 def lines() -> str:
     few, full = generated(FEW), generated(FULL)
     rows, row = full.output, further_row()
-    first = generated(1).output
+    first, first_rows = generated(1).output, generated(AGAIN).output
     return "".join((
         told("gen of 20000 rows", few),
         told("join of these", Outcome(JOIN, few.output)),
@@ -37,5 +38,7 @@ def lines() -> str:
         told("join of these", Outcome(JOIN, rows)),
         told("join of these and of the first one again", Outcome(JOIN, rows + first)),
         told("join of these and of a row of another author", Outcome(JOIN, rows + row)),
-        told("join of these, of that row and of a byte that is no frame", Outcome(JOIN, rows + row + bytes(1))),
+        told("join of these, of that row and of a wrong frame", Outcome(JOIN, rows + row + WRONG)),
+        told("join of these, of that row, of 300 of them again and of a wrong frame",
+             Outcome(JOIN, rows + row + first_rows + WRONG)),
     ))

@@ -6,6 +6,10 @@ the put of a shelf, which leaves the new bytes.
 
 INPUT_PIECE, OUTPUT_PIECE, REPORT_PIECE = 100, 100, 7  # the most bytes a call
 
+# How much room each read of the input offers is not part of what a run must do: it is taken from the program. The cases
+# in which a call of the input fails rest on it, and those of `join` in which rows stand behind what stops it.
+ROOM = 65_536
+
 
 class Fault(Exception):
     """A call failed."""
@@ -23,21 +27,20 @@ class Counted:
 
 
 class Source(Counted):
-    def __init__(self, data: bytes, fails=()):
+    def __init__(self, data: bytes, fails=(), most: int = INPUT_PIECE):
         super().__init__(fails)
         self.data = data
         self.taken = 0
+        self.most = min(most, ROOM)
 
     def read(self) -> bytes:
         if self.call():
             raise Fault
-        piece = self.data[self.taken:self.taken + INPUT_PIECE]
+        piece = self.data[self.taken:self.taken + self.most]
         self.taken += len(piece)
         return piece
 
     def read_all(self) -> bytes:
-        # That each call of `read` offers room for as much as a call may give is not part of what a run must do: it is
-        # taken from the program, and only the cases in which a call of the input fails rest on it.
         pieces = []
         while piece := self.read():
             pieces.append(piece)
@@ -87,9 +90,9 @@ class Noise(Counted):
 class Objects:
     """All of them. `fails` has the numbers of the calls that fail, by the object's letter."""
 
-    def __init__(self, names: dict, draws, given: bytes, fails: dict):
+    def __init__(self, names: dict, draws, given: bytes, fails: dict, piece: int = INPUT_PIECE):
         self.shelf = Shelf(names, fails.get("s", ()))
         self.noise = Noise(draws, fails.get("n", ()))
-        self.input = Source(given, fails.get("i", ()))
+        self.input = Source(given, fails.get("i", ()), piece)
         self.output = Sink(OUTPUT_PIECE, fails.get("o", ()))
         self.report = Sink(REPORT_PIECE, fails.get("r", ()))

@@ -80,12 +80,36 @@ def frame_at(reader: Reader) -> Row:
         raise BadBytes(offset) from None
 
 
-def read_rows(data: bytes) -> list:
-    """The rows of a stream of frames."""
-    reader, rows = Reader(data), []
-    while reader.left() > 0:
-        rows.append(frame_at(reader))
-    return rows
+class Frames:
+    """A stream of frames that comes in pieces."""
+
+    def __init__(self):
+        self.begun = b""  # the frame that is not whole
+        self.offset = 0  # its place in the stream
+
+    def feed(self, piece: bytes) -> list:
+        """The rows of the frames that are whole with this piece."""
+        reader, rows = Reader(self.begun + piece), []
+        begin = 0
+        while self.is_whole(reader):
+            try:
+                rows.append(read_frame(reader))
+            except WrongFrame:
+                raise BadBytes(self.offset + begin) from None
+            begin = reader.taken
+        self.begun = reader.data[begin:]
+        self.offset += begin
+        return rows
+
+    @staticmethod
+    def is_whole(reader: Reader) -> bool:
+        """Whether a frame is whole, or its length is one that no frame has."""
+        length = int.from_bytes(reader.data[reader.taken:reader.taken + 4], "big")
+        return reader.left() >= 4 and (length > LONGEST_BODY or reader.left() >= 4 + length)
+
+    def finish(self) -> None:
+        if self.begun:
+            raise BadBytes(self.offset)
 
 
 def image(namespace: bytes, rows: list) -> bytes:

@@ -1,11 +1,9 @@
 -- Images: all rows of a store as one file.
-use Rattle.std.specs.Prelude.{ℕ, ◌≤◌, List, [], ◌∷◌, ◌++◌, length}
+use Rattle.std.specs.Prelude.{ℕ, List, [], ◌∷◌, ◌++◌, length}
 use Rattle.std.specs.List.{flat_map}
 use Rattle.std.specs.Int.{w32, to_be_bytes}
 use Rattle.willow_entry.specs.Row.{RowValue}
-use Rattle.willow_entry.specs.RowBody.{row_body}
 use Rattle.willow_entry.specs.Frame.{row_frame}
-use Rattle.willow_entry.specs.declared.frame.TheConstants.{MAX_FRAME}
 
 -- the text WIM1
 abbrev pub magic : List ℕ

@@ -11,6 +11,12 @@ use std::alloc::Global;
 use willow_entry::{Row, encode_row_frame};
 use willow_path::NamespaceKey;
 
+/// How many bytes an image has besides its frames.
+const AROUND: usize = 45;
+
+/// How many bytes stand in front of the body in a frame.
+const LENGTH: usize = 4;
+
 /// The image of the rows in their order: the text WIM1 and the namespace key, each row's frame, four bytes 00
 /// and the number of rows. A row's bytes are written as it keeps them. Bodies have at most `MAX_FRAME` bytes.
 #[tactic(auto, unfolding(crate::specs::Image::image))]
@@ -23,7 +29,7 @@ pub fn write_rows<R: Row>(
     requires count { length rows.now < 2 ^ 32 }
     ensures { IfOk result (λ v. v.items ≡ image namespace.now (map R.value rows.now)) }
 {
-    let mut out = begun(alloc, namespace)?;
+    let mut out = begun(alloc, namespace, 0)?;
     for row in rows {
         encode_row_frame(row, &mut out)?;
     }
@@ -40,7 +46,8 @@ pub fn write_image<R: Row>(
     requires { AllByRecursion HasFrame (map R.value snapshot.now) }
     ensures { IfOk result (λ v. v.items ≡ image namespace.now (map R.value snapshot.now)) }
 {
-    image_of(alloc, namespace, snapshot.rows(), snapshot.len())
+    let room = size_of_frames(snapshot.rows());
+    image_of(alloc, namespace, snapshot.rows(), snapshot.len(), room)
 }
 
 /// The image of a store's rows, as `write_rows` makes it. No snapshot is taken, so no row is hashed.
@@ -52,22 +59,24 @@ pub fn write_store_image<R: Row>(
     requires { AllByRecursion HasFrame (map R.value store.now) }
     ensures { IfOk result (λ v. v.items ≡ image namespace.now (map R.value store.now)) }
 {
-    image_of(alloc, namespace, store.rows(), store.len())
+    let room = size_of_frames(store.rows());
+    image_of(alloc, namespace, store.rows(), store.len(), room)
 }
 
-// The image of so many rows.
+// The image of so many rows, whose frames have so many bytes.
 #[tactic(auto, unfolding(crate::specs::Image::image))]
 fn image_of<R: Row>(
     alloc: Global,
     namespace: &NamespaceKey,
     rows: Rows<'_, R>,
     count: u32,
+    room: usize,
 ) -> Result<Vec<u8>, NoMemory>
     requires frames { AllByRecursion HasFrame (map R.value rows) }
     requires all { count ≡ length rows }
     ensures { IfOk result (λ v. v.items ≡ image namespace.now (map R.value rows.entry)) }
 {
-    let mut out = begun(alloc, namespace)?;
+    let mut out = begun(alloc, namespace, room)?;
     put_frames(&mut out, rows)?;
     put_trailer(&mut out, count)?;
     Ok(out)
@@ -85,20 +94,47 @@ fn put_frames<R: Row>(out: &mut Vec<u8>, rows: Rows<'_, R>) -> Result<(), NoMemo
     Ok(())
 }
 
-// The text WIM1 and the namespace key.
-fn begun(alloc: Global, namespace: &NamespaceKey) -> Result<Vec<u8>, NoMemory>
+// The text WIM1 and the namespace key, with room for what else an image has besides frames of so many bytes.
+fn begun(alloc: Global, namespace: &NamespaceKey, frames: usize) -> Result<Vec<u8>, NoMemory>
     ensures { IfOk result (λ v. v.items ≡ magic ++ namespace.now) }
 {
-    let mut out = Vec::new(alloc);
-    put_bytes(&mut out, b"WIM1")?;
-    put_bytes(&mut out, &namespace.to_bytes())?;
+    let mut out = Vec::with_capacity(alloc, frames.saturating_add(AROUND))?;
+    put_head(&mut out, namespace)?;
     Ok(out)
 }
 
-// Appends four bytes 00 and the count.
-fn put_trailer(out: &mut Vec<u8>, count: u32) -> Result<(), NoMemory>
+/// Appends what an image begins with: the text WIM1 and the namespace key. Without memory a front of it was appended.
+pub fn put_head(out: &mut Vec<u8>, namespace: &NamespaceKey) -> Result<(), NoMemory>
+    ensures { OnOk result (out.new.items ≡ out.old.items ++ (magic ++ namespace.now)) }
+{
+    put_bytes(out, b"WIM1")?;
+    put_bytes(out, &namespace.to_bytes())
+}
+
+/// Appends what an image of so many rows ends with: four bytes 00 and the count. Without memory a front of it was
+/// appended.
+pub fn put_trailer(out: &mut Vec<u8>, count: u32) -> Result<(), NoMemory>
     ensures { OnOk result (out.new.items ≡ out.old.items ++ trailer count) }
 {
     put_u32(out, 0)?;
     put_u32(out, count)
+}
+
+// How many bytes the frames have: only a measure of the room, so a sum that would not fit stays at the greatest number.
+fn size_of_frames<R: Row>(rows: Rows<'_, R>) -> usize {
+    let mut size: usize = 0;
+    let mut left = rows;
+    while let Some(row) = left.next() {
+        size = size.saturating_add(size_of_frame(row));
+    }
+    size
+}
+
+// How many bytes a row's frame has.
+fn size_of_frame<R: Row>(row: &R) -> usize {
+    let body = row
+        .entry_bytes()
+        .len()
+        .saturating_add(row.token_bytes().len());
+    body.saturating_add(LENGTH)
 }

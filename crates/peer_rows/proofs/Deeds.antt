@@ -1,13 +1,13 @@
 -- The laws of the commands over rows.
-use Rattle.std.proofs.Common.{◌≡◌, ℕ, inl, inr, List, ◌++◌, Option, Some, None, sym, ap, ◌∙◌, subst, arith}
+use Rattle.std.proofs.Common.{◌≡◌, ℕ, inl, inr, List, ◌++◌, Option, Some, None, sym, ap, ◌∙◌, subst, append_assoc, arith}
 use Rattle.std.specs.List.{flat_map}
 use Rattle.std.specs.Prelude.{Err}
-use Rattle.std.proofs.lemmas.List.{append-nil}
+use Rattle.std.specs.Io.KnownBytes.{Consumes}
 use Rattle.willow_outside.specs.Counts.{Rose}
 use Rattle.willow_outside.specs.Facts.{SourceFacts}
-use Rattle.cap_codec.specs.Rows.{RawValue, frame}
+use Rattle.cap_codec.specs.Rows.{RawValue, frame, AreFrames}
 use Rattle.cap_codec.specs.Streams.{FramesStopAt}
-use Rattle.cap_codec.proofs.Frames.{same_rows, never_both}
+use Rattle.cap_codec.proofs.Frames.{never_both}
 use Rattle.peer_image.specs.ImageReading.{IsImage, IsWrong, raw_rows}
 use Rattle.peer_image.specs.Order.{order_refusal}
 use Rattle.peer_image.specs.declared.refusal.ImageRefusal.{ImageRefusal}
@@ -15,17 +15,21 @@ use Rattle.peer_image.proofs.Stops.{one_image}
 use Rattle.peer_image.proofs.Stops as images
 use Rattle.peer_stage.specs.World.{World}
 use Rattle.peer_stage.specs.Deed.{IsLawful}
+use Rattle.peer_stage.specs.Stages.{IsReadWhole}
 use Rattle.peer_stage.specs.Steps.{OnInput}
+use Rattle.peer_stage.specs.declared.stage.TheConstants.{INPUT_LIMIT}
 use Rattle.peer_stage.specs.declared.outcome.Done.TheVariants as done
 use Rattle.peer_stage.specs.declared.outcome.Stop.{Stop}
 use Rattle.peer_stage.specs.declared.outcome.Stop.TheVariants as stop
 use Rattle.peer_stage.proofs.Ends.{IsCondition}
-use Rattle.peer_stage.proofs.Inputs.{few_taken, not_too_far, is_all}
+use Rattle.peer_stage.proofs.Inputs.{not_too_far, is_all}
 use Rattle.peer_stage.proofs.Owing.{Owes, then_owes, writes_owe, input_counts, input_unfailed, input_lasts, output_lasts, lawful, not_built_is_lawful}
 use Rattle.peer_rows.specs.Logged.{PassesLog}
-use Rattle.peer_rows.specs.Join.{JoinsInput, IsBadStream, IsFullStream}
+use Rattle.peer_rows.specs.Join.{BeginNoFrames, JoinsInput, IsBadStream, IsWrongStream, IsFullStream}
 use Rattle.peer_rows.specs.Show.{ShowsInput, IsBadImage, IsReadMisordered}
 use Rattle.peer_rows.specs.Deeds.{CanJoin, CanShow, join_deed, show_deed, gen_deed}
+use Rattle.peer_rows.proofs.Offered.{PassesLog-longer}
+use Rattle.peer_rows.proofs.RawStreams.{rows_in_front}
 
 -- a read or a write failed
 abbrev Reads : World → World → Type 0
@@ -36,17 +40,37 @@ Wrote old new = Rose old.output.faults new.output.faults
 
 -- ---- join
 
-no_bad_stream : (n : List ℕ) (i i' : SourceFacts) (at : ℕ) → CanJoin n i → IsBadStream i i' at → ⊥
-no_bad_stream n i i' at can bad =
-    let few = few_taken i i' can.had bad.bytes can.input bad.taken in
-    never_both can.had at can.rows (subst (λ (b : List ℕ). FramesStopAt b at) (is_all i i' can.had bad.bytes can.input (bad.read few)) (bad.wrong few)) can.frames
+-- what is taken of an input that tells its bytes is a front of them
+front_taken : (left left' : Option (List ℕ)) (had taken : List ℕ) → left ≡ Some had → Consumes left left' taken → (behind : List ℕ) × (taken ++ behind ≡ had)
+front_taken (Some xs) (Some ys) had taken told is =
+    let same : xs ≡ had = cc in
+    (ys, sym is ∙ same)
+front_taken (Some xs) None had taken told is = absurd is
+front_taken None left' had taken told is = absurd cc
+
+no_wrong_stream : (n : List ℕ) (i i' : SourceFacts) (at : ℕ) → CanJoin n i → IsWrongStream i i' at → ⊥
+no_wrong_stream n i i' at can bad = elim bad.cause [ inl whole ↦ ends whole | inr begin ↦ begins begin ]
+  where
+    ends : IsReadWhole INPUT_LIMIT i i' bad.bytes → ⊥
+    ends whole = never_both can.had at can.rows (subst (λ (b : List ℕ). FramesStopAt b at) (is_all i i' can.had bad.bytes can.input whole) bad.wrong) can.frames
+
+    begins : BeginNoFrames bad.bytes → ⊥
+    begins begin =
+        let front = front_taken i.left i'.left can.had bad.bytes can.input.told bad.taken in
+        begin front.0 can.rows (subst (λ (b : List ℕ). AreFrames b can.rows) (sym front.1) can.frames)
+
+no_bad_stream : (n : List ℕ) (i i' : SourceFacts) (at : ℕ) → CanJoin n i → IsBadStream n i i' at → ⊥
+no_bad_stream n i i' at can (inl long) = not_too_far i i' can.had long.0.bytes can.input long.0.too_far
+no_bad_stream n i i' at can (inr wrong) = no_wrong_stream n i i' at can wrong
 
 no_full : (n : List ℕ) (i i' : SourceFacts) → CanJoin n i → IsFullStream n i i' → ⊥
 no_full n i i' can full =
-    let all = is_all i i' can.had full.bytes can.input full.read in
-    let whole = sym (append-nil (flat_map frame full.rows)) ∙ ap (λ (l : List ℕ). flat_map frame full.rows ++ l) (sym full.nothing_left) ∙ sym full.frames.parts in
-    let same = same_rows full.rows can.rows full.frames.fit can.frames.fit (whole ∙ all ∙ can.frames.spelled) in
-    let passes = subst (λ (rows : List RawValue). PassesLog n rows) same full.passes in
+    let frames = full.not_wrong.frames in
+    let left = full.not_wrong.left in
+    let front = front_taken i.left i'.left can.had full.bytes can.input.told full.taken in
+    let parts = sym (append_assoc (flat_map frame full.rows) left front.0) ∙ ap (λ (l : List ℕ). l ++ front.0) (sym frames.parts) ∙ front.1 ∙ can.frames.spelled in
+    let more = rows_in_front full.rows can.rows (left ++ front.0) frames.fit can.frames.fit parts in
+    let passes = subst (λ (rows : List RawValue). PassesLog n rows) more.1 (PassesLog-longer n full.rows more.0 full.passes) in
     omega (arith, passes, can.fits_log)
 
 join_stops : (n : List ℕ) (i i' : SourceFacts) (e : Stop) → CanJoin n i → IsCondition e → JoinsInput n i i' (Err e) → ⊥
@@ -72,7 +96,7 @@ pub join_is_lawful : (n : List ℕ) → IsLawful (join_deed n)
 join_is_lawful n =
     lawful (join_deed n) (λ old. CanJoin n old.input) (λ d new. Unit {0}) (λ unbuilt. unbuilt) (λ old new ready. ready)
     (then_owes Reads Wrote (λ old. CanJoin n old.input) (λ x new. Unit {0}) (λ d new. Unit {0}) _ _ input_lasts output_lasts (joining_owes n)
-    (λ x. writes_owe Reads Wrote (λ old. Unit {0}) x.0.items (done.Joined x.1) (λ old new rose. rose)))
+    (λ x. writes_owe Reads Wrote (λ old. Unit {0}) x.0 (done.Joined x.1) (λ old new rose. rose)))
 
 -- ---- show
 

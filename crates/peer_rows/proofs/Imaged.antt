@@ -1,5 +1,5 @@
 -- The rows of an image, while a log takes them in.
-use Rattle.std.proofs.Common.{◌≡◌, ℕ, ◌+◌, ◌<◌, ◌≤◌, ◌^◌, List, [], ◌∷◌, ◌++◌, length, refl, sym, ap, ◌∙◌, subst, append_assoc, arith, length-append}
+use Rattle.std.proofs.Common.{◌≡◌, ℕ, ◌<◌, ◌^◌, List, [], ◌∷◌, ◌++◌, length, sym, ap, ◌∙◌, subst, append_assoc, arith, length-append}
 use Rattle.std.specs.Prelude.{Err}
 use Rattle.spelling.specs.declared.ending.End.{End}
 use Rattle.spelling.specs.declared.ending.End.TheVariants.{Refused, NoMemory}
@@ -10,7 +10,7 @@ use Rattle.peer_rows.specs.Logged.{IsLogOf, Offers, PassesLog, stored_rows}
 use Rattle.peer_rows.specs.Images.{LogsImage, log_stop}
 use Rattle.peer_rows.specs.declared.log.Log.{Log}
 use Rattle.peer_rows.specs.declared.row_log.LogFull.{LogFull}
-use Rattle.peer_rows.proofs.Streams.{PassesLog-longer, IsLogOf-start, no_counts}
+use Rattle.peer_rows.proofs.Offered.{PassesLog-longer, IsLogOf-start, no_counts}
 
 -- of all rows these were offered, and these are left
 pub record HasLogged (namespace : List ℕ) (all seen left : List RawValue) (log : Log) : Type 0 where

@@ -2,7 +2,11 @@ pub mod NewRows
 pub mod Firsts
 pub mod Taken
 pub mod Logged
-pub mod Streams
+pub mod Offered
+pub mod RawStreams
+pub mod Pieces
+pub mod ReadLog
+pub mod Writing
 pub mod Framed
 pub mod Joined
 pub mod Imaged
@@ -10,4 +14,3 @@ pub mod Listed
 pub mod Generated
 pub mod DrilledRows
 pub mod Deeds
-pub mod Reading

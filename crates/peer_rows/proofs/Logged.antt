@@ -1,13 +1,8 @@
 -- How a log goes on by one row.
-use Rattle.std.proofs.Common.{◌≡◌, ℕ, ◌+◌, Bool, true, false, cond, not, List, [], ◌∷◌, ◌++◌, length, map, filter, Option, Some, None, is_some, option_map, refl, sym, ap, ◌∙◌, subst, arith, inl, inr, length-append}
-use Rattle.std.specs.List.{list_any}
+use Rattle.std.proofs.Common.{◌≡◌, ℕ, ◌+◌, Bool, true, false, cond, not, List, [], ◌∷◌, ◌++◌, length, map, filter, Option, Some, None, is_some, option_map, refl, sym, ap, ◌∙◌, subst, arith, length-append}
 use Rattle.std.proofs.lemmas.List.{append-nil, map-append}
 use Rattle.std.proofs.lemmas.List.Elements.{filter-append}
-use Rattle.willow_entry.specs.Row.{RowValue, is_dominating, place_cmp, live, new, is_covering, HasCovering}
-use Rattle.willow_entry.proofs.RowLaws.{covering_means, covered_from_covering, covering_from_covered, rows_prune}
-use Rattle.willow_entry.proofs.Members.{Member, member_from_contains, contains_from_member, true_of_any, any_false}
-use Rattle.willow_entry.proofs.Pruning.{IsCovered, covers_all_chain, covers_pruned, pruned_covers}
-use Rattle.willow_entry.proofs.Live.{live_early_left}
+use Rattle.willow_entry.specs.Row.{RowValue, live, new}
 use Rattle.lms_core.specs.Use.{peer_rules}
 use Rattle.cap_codec.specs.Rows.{RawValue, row_of}
 use Rattle.auth_entry.specs.Authorised.{AuthorisedValue, row_refusal, is_authorised}
@@ -22,7 +17,6 @@ use Rattle.peer_rows.specs.RowLogs.{LogRows, HasTaken, ArePastLog, GoesOn, Offer
 use Rattle.peer_rows.specs.declared.row_log.LogFull.{LogFull}
 use Rattle.peer_rows.specs.Logged.{authorised_rows, entry_row, stored_rows, numbered_refusal, first_refused, AreCounts, IsLogOf, Offers, with_refused, with_offered}
 use Rattle.peer_rows.proofs.Firsts.{first_some-snoc, or_else-none}
-use Rattle.peer_rows.proofs.NewRows.{unless, new_after-snoc}
 
 pub authorised_none : (n : List ℕ) (r : RawValue) → row_refusal peer_rules n r ≡ None → is_authorised peer_rules n r ≡ true
 unfolding is_authorised

@@ -1,5 +1,5 @@
 -- Images that a command reads, and the logs of their rows.
-use Rattle.std.specs.Prelude.{◌≡◌, ℕ, List, map, None, Result, Ok, Err}
+use Rattle.std.specs.Prelude.{◌≡◌, ℕ, List, None, Result, Ok, Err}
 use Rattle.spelling.specs.declared.ending.End.{End}
 use Rattle.spelling.specs.declared.ending.End.TheVariants.{Refused, NoMemory}
 use Rattle.cap_codec.specs.Rows.{RawValue}

@@ -1,15 +1,15 @@
 -- What `join` does: the image of the live rows among the authorised rows of the input.
-use Rattle.std.specs.Prelude.{◌≡◌, ℕ, ◌<◌, ◌≤◌, List, [], length, Result, Ok, Err}
-use Rattle.std.specs.Global.{Vec}
+use Rattle.std.specs.Prelude.{◌≡◌, ℕ, ◌≤◌, ◌⊎◌, List, ◌++◌, length, take, Result, Ok, Err}
 use Rattle.std.specs.Io.KnownBytes.{Consumes}
 use Rattle.willow_outside.specs.Facts.{SourceFacts}
 use Rattle.willow_entry.specs.Row.{live}
 use Rattle.cap_codec.specs.Rows.{RawValue, AreFrames}
 use Rattle.cap_codec.specs.Streams.{FramesStopAt, AreAllFrames}
+use Rattle.row_stream.specs.Places.{IsUnfinished}
 use Rattle.peer_image.specs.Image.{image}
 use Rattle.peer_rows.specs.Logged.{authorised_rows, AreCounts, FitsLog, PassesLog}
 use Rattle.peer_stage.specs.Steps.{Step, Then, OnInput, OnOutput}
-use Rattle.peer_stage.specs.Stages.{IsInput, IsReadWhole, IsReadToFault, IsReadSomewhat, Writes}
+use Rattle.peer_stage.specs.Stages.{IsInput, IsReadWhole, IsReadTooFar, IsReadToFault, IsReadSomewhat, Writes}
 use Rattle.peer_stage.specs.declared.stage.TheConstants.{INPUT_LIMIT}
 use Rattle.peer_stage.specs.declared.outcome.JoinCounts.{JoinCounts}
 use Rattle.peer_stage.specs.declared.outcome.Done.{Done}
@@ -31,17 +31,16 @@ pub record IsJoinOf (namespace bytes written : List ℕ) (counts : JoinCounts) :
   pub counted : AreCounts namespace rows counts
   pub is_image : written ≡ joined namespace rows
 
--- the bytes are the frames of rows of which one too many would be stored
-abbrev pub IsTooFull : List ℕ → List ℕ → Type 0
-IsTooFull namespace bytes = (rows : List RawValue) × AreFrames bytes rows × PassesLog namespace rows
+-- whatever comes behind these bytes, they are the frames of no rows
+abbrev pub BeginNoFrames : List ℕ → Type 0
+BeginNoFrames bytes = (more : List ℕ) (rows : List RawValue) → AreFrames (bytes ++ more) rows → ⊥
 
--- how a join of bytes ends
-abbrev pub JoinsBytes : List ℕ → List ℕ → Result (Vec ℕ × JoinCounts) Stop → Type 0
-JoinsBytes namespace bytes (Ok x) = IsJoinOf namespace bytes x.0.items x.1
-JoinsBytes namespace bytes (Err (stop.BadInput origin at)) = FramesStopAt bytes at × IsInput origin
-JoinsBytes namespace bytes (Err stop.LogFull) = IsTooFull namespace bytes
-JoinsBytes namespace bytes (Err stop.NoMemory) = Unit {0}
-JoinsBytes namespace bytes (Err e) = ⊥
+-- Nothing is wrong in these bytes: they are the frames of these rows, and behind them stands nothing, or a frame that is
+-- not whole.
+pub record AreRightSoFar (bytes : List ℕ) (rows : List RawValue) : Type 0 where
+  pub left : List ℕ
+  pub frames : AreAllFrames bytes rows left
+  pub unfinished : IsUnfinished left
 
 -- ---- over the bytes taken of the input
 
@@ -51,33 +50,46 @@ pub record IsJoinRead (namespace : List ℕ) (i i' : SourceFacts) (written : Lis
   pub read : IsReadWhole INPUT_LIMIT i i' bytes
   pub join : IsJoinOf namespace bytes written counts
 
--- The bytes taken pass the limit, which is told as their place; or they go wrong at this place, where they are no
--- frames of rows, be it that the input ends inside a frame.
-pub record IsBadStream (i i' : SourceFacts) (at : ℕ) : Type 0 where
+-- The bytes taken pass the limit. Below it nothing is wrong, and each row that would be stored finds room: else that is
+-- told before.
+pub record IsLongStream (namespace : List ℕ) (i i' : SourceFacts) : Type 0 where
+  pub bytes : List ℕ
+  pub too_far : IsReadTooFar INPUT_LIMIT i i' bytes
+  pub rows : List RawValue
+  pub not_wrong : AreRightSoFar (take INPUT_LIMIT bytes) rows
+  pub fits_log : FitsLog namespace rows
+
+-- The bytes taken are within the limit, and stop at this place to be frames of rows.
+pub record IsWrongStream (i i' : SourceFacts) (at : ℕ) : Type 0 where
   pub bytes : List ℕ
   pub taken : Consumes i.left i'.left bytes
-  pub too_long : INPUT_LIMIT < length bytes → at ≡ INPUT_LIMIT
-  pub wrong : length bytes ≤ INPUT_LIMIT → FramesStopAt bytes at
-  -- they are judged when all is read
-  pub read : length bytes ≤ INPUT_LIMIT → IsReadWhole INPUT_LIMIT i i' bytes
+  pub within : length bytes ≤ INPUT_LIMIT
+  pub wrong : FramesStopAt bytes at
+  -- the input ends there, or is wrong whatever comes behind
+  pub cause : IsReadWhole INPUT_LIMIT i i' bytes ⊎ BeginNoFrames bytes
+  -- a frame that is not whole is told where the input ends, and not before
+  pub not_early : (rows : List RawValue) → AreRightSoFar bytes rows → IsReadWhole INPUT_LIMIT i i' bytes
 
--- Of the whole rows among the bytes taken one too many would be stored.
+-- the input is too long, which is told at the limit, or goes wrong at this place
+abbrev pub IsBadStream : List ℕ → SourceFacts → SourceFacts → ℕ → Type 0
+IsBadStream namespace i i' at = (IsLongStream namespace i i' × (at ≡ INPUT_LIMIT)) ⊎ IsWrongStream i i' at
+
+-- Of the whole rows among the bytes taken one too many would be stored. They are within the limit, the end was not met,
+-- and nothing in them is wrong: else that is told before.
 pub record IsFullStream (namespace : List ℕ) (i i' : SourceFacts) : Type 0 where
   pub bytes : List ℕ
   pub taken : Consumes i.left i'.left bytes
+  pub within : length bytes ≤ INPUT_LIMIT
+  pub not_ended : i'.ends ≡ i.ends
   pub rows : List RawValue
-  pub left : List ℕ
-  pub frames : AreAllFrames bytes rows left
+  pub not_wrong : AreRightSoFar bytes rows
   pub passes : PassesLog namespace rows
-  -- the log is told as full when all is read
-  pub read : IsReadWhole INPUT_LIMIT i i' bytes
-  pub nothing_left : left ≡ []
 
 -- how the reading and joining of an input ends, with the image and the numbers
-abbrev pub JoinsInput : List ℕ → SourceFacts → SourceFacts → Result (Vec ℕ × JoinCounts) Stop → Type 0
-JoinsInput namespace i i' (Ok x) = IsJoinRead namespace i i' x.0.items x.1
+abbrev pub JoinsInput : List ℕ → SourceFacts → SourceFacts → Result (List ℕ × JoinCounts) Stop → Type 0
+JoinsInput namespace i i' (Ok x) = IsJoinRead namespace i i' x.0 x.1
 JoinsInput namespace i i' (Err stop.ReadFault) = (bytes : List ℕ) × IsReadToFault INPUT_LIMIT i i' bytes
-JoinsInput namespace i i' (Err (stop.BadInput origin at)) = IsBadStream i i' at × IsInput origin
+JoinsInput namespace i i' (Err (stop.BadInput origin at)) = IsBadStream namespace i i' at × IsInput origin
 JoinsInput namespace i i' (Err stop.LogFull) = IsFullStream namespace i i'
 JoinsInput namespace i i' (Err stop.NoMemory) = IsReadSomewhat i i'
 JoinsInput namespace i i' (Err e) = ⊥
@@ -88,4 +100,4 @@ JoinsInput namespace i i' (Err e) = ⊥
 abbrev pub Joins : List ℕ → Step Done
 Joins namespace =
     Then (OnInput (JoinsInput namespace)) (λ x.
-    OnOutput (Writes x.0.items (done.Joined x.1)))
+    OnOutput (Writes x.0 (done.Joined x.1)))

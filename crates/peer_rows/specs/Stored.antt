@@ -1,31 +1,94 @@
--- The log of the rows whose frames some bytes are.
-use Rattle.std.specs.Prelude.{◌≡◌, ℕ, ◌+◌, List, Result, Ok, Err}
-use Rattle.cap_codec.specs.Rows.{RawValue, AreFrames}
+-- The log of the rows of a stream that is read in pieces.
+use Rattle.std.specs.Prelude.{◌≡◌, ℕ, ◌+◌, ◌≤◌, List, ◌++◌, length, map, None, Result, Ok, Err}
+use Rattle.std.specs.List.{AllByRecursion}
+use Rattle.spelling.specs.declared.ending.End.{End}
+use Rattle.spelling.specs.declared.ending.End.TheVariants as ends
+use Rattle.willow_outside.specs.Facts.{SourceFacts}
+use Rattle.willow_entry.specs.Row.{RowValue}
+use Rattle.cap_codec.specs.Rows.{RawValue, row_of, IsRawRow, FitsFrame, AreFrames}
 use Rattle.cap_codec.specs.Streams.{FramesStopAt}
-use Rattle.peer_stage.specs.Stages.{IsInput}
+use Rattle.row_stream.specs.Streams.{IsStream}
+use Rattle.row_stream.specs.Feeding.{StreamState, Finishes}
+use Rattle.row_stream.specs.declared.refusal.StreamRefusal.{StreamRefusal}
+use Rattle.row_stream.specs.declared.refusal.StreamRefusal.TheVariants.{BadFrame, FrameTooLong, CutShort}
+use Rattle.peer_stage.specs.Stages.{IsInput, IsReadWhole}
+use Rattle.peer_stage.specs.declared.stage.TheConstants.{INPUT_LIMIT}
 use Rattle.peer_stage.specs.declared.outcome.Stop.{Stop}
 use Rattle.peer_stage.specs.declared.outcome.Stop.TheVariants as stop
-use Rattle.peer_rows.specs.Logged.{stored_rows, IsLogOf, FitsLog}
-use Rattle.peer_rows.specs.Join.{IsTooFull}
+use Rattle.peer_rows.specs.Logged.{stored_rows, IsLogOf, FitsLog, PassesLog}
+use Rattle.peer_rows.specs.Join.{JoinsInput, BeginNoFrames, AreRightSoFar}
 use Rattle.peer_rows.specs.declared.log.Log.{Log}
+use Rattle.peer_rows.specs.declared.row_log.LogFull.{LogFull}
+use Rattle.peer_rows.specs.declared.row_log.TheConstants.{LOG_LIMIT}
+
+-- the rows that a log holds, as a store sees them
+abbrev pub held_of : Log → List RowValue
+held_of log = stored_rows log.kept.rows
+
+-- how the offers of rows end, over the rows seen before them: the log is that of all of them, or one of them is one
+-- too many
+abbrev pub OffersAll : List ℕ → List RawValue → List RawValue → Log → Result (Unit {0}) (End LogFull) → Type 0
+OffersAll namespace seen rows log (Ok u) = IsLogOf namespace (seen ++ rows) (held_of log) log.counts
+OffersAll namespace seen rows log (Err (ends.Refused full)) = PassesLog namespace (seen ++ rows)
+OffersAll namespace seen rows log (Err ends.NoMemory) = Unit {0}
+
+-- these bytes were fed to the stream, and the rows that became whole are those of the log, each that would be stored
+-- with room
+pub record HasSeen (namespace bytes : List ℕ) (state : StreamState) (log : Log) : Type 0 where
+  pub seen : List RawValue
+  pub fit : AllByRecursion FitsFrame seen
+  pub unrefused : state.refusal ≡ None
+  pub stream : IsStream IsRawRow 0 bytes (map row_of seen) state.begun None
+  pub all_fed : state.at + length state.begun ≡ length bytes
+  pub is_log : IsLogOf namespace seen (held_of log) log.counts
+  pub fits : log.counts.stored ≤ LOG_LIMIT
+
+-- the bytes stop at this place to be frames of rows, and what stands there is wrong whatever comes behind
+pub record AreWrong (bytes : List ℕ) (at : ℕ) : Type 0 where
+  pub wrong : FramesStopAt bytes at
+  pub cause : BeginNoFrames bytes
+  pub judged : (rows : List RawValue) → AreRightSoFar bytes rows → ⊥
+
+-- of the whole rows of the bytes one too many would be stored, and nothing in them is wrong
+pub record IsPastLog (namespace bytes : List ℕ) : Type 0 where
+  pub rows : List RawValue
+  pub not_wrong : AreRightSoFar bytes rows
+  pub passes : PassesLog namespace rows
+
+-- how the taking of a piece ends, where the bytes are all with this piece
+abbrev pub TakesPiece : List ℕ → List ℕ → StreamState → Log → Result (Unit {0}) Stop → Type 0
+TakesPiece namespace bytes state log (Ok u) = HasSeen namespace bytes state log
+TakesPiece namespace bytes state log (Err (stop.BadInput origin at)) = AreWrong bytes at × IsInput origin
+TakesPiece namespace bytes state log (Err stop.LogFull) = IsPastLog namespace bytes
+TakesPiece namespace bytes state log (Err stop.NoMemory) = Unit {0}
+TakesPiece namespace bytes state log (Err e) = ⊥
+
+-- the offset that a refusal tells
+abbrev pub offset_of : StreamRefusal → ℕ
+offset_of (BadFrame at) = at
+offset_of (FrameTooLong at) = at
+offset_of (CutShort at) = at
+
+-- how the stream ends behind its last piece: a refusal is told as bad input at its offset
+abbrev pub EndsStream : StreamState → Result (Unit {0}) Stop → Type 0
+EndsStream state (Ok u) = Finishes state (Ok u)
+EndsStream state (Err (stop.BadInput origin at)) = ((refusal : StreamRefusal) × Finishes state (Err refusal) × (at ≡ offset_of refusal)) × IsInput origin
+EndsStream state (Err e) = ⊥
 
 -- a log of just these rows, each that would be stored with room
 pub record IsWholeLog (namespace : List ℕ) (rows : List RawValue) (log : Log) : Type 0 where
-  pub is_log : IsLogOf namespace rows (stored_rows log.kept.rows) log.counts
+  pub is_log : IsLogOf namespace rows (held_of log) log.counts
   pub fits_log : FitsLog namespace rows
 
--- how the storing of a stream ends
-abbrev pub LogsBytes : List ℕ → List ℕ → Result Log Stop → Type 0
-LogsBytes namespace bytes (Ok log) = (rows : List RawValue) × AreFrames bytes rows × IsWholeLog namespace rows log
-LogsBytes namespace bytes (Err (stop.BadInput origin at)) = FramesStopAt bytes at × IsInput origin
-LogsBytes namespace bytes (Err stop.LogFull) = IsTooFull namespace bytes
-LogsBytes namespace bytes (Err stop.NoMemory) = Unit {0}
-LogsBytes namespace bytes (Err e) = ⊥
+-- the input was read whole and is the frames of rows, whose log this is
+pub record IsLogRead (namespace : List ℕ) (i i' : SourceFacts) (log : Log) : Type 0 where
+  pub bytes : List ℕ
+  pub read : IsReadWhole INPUT_LIMIT i i' bytes
+  pub rows : List RawValue
+  pub frames : AreFrames bytes rows
+  pub whole : IsWholeLog namespace rows log
 
--- why a stream stops of which a row met a full log, where these bytes stand behind that row: they are frames of
--- rows, or are not from a place on, before which `before` bytes more stand in the stream
-abbrev pub StopsFull : ℕ → List ℕ → Stop → Type 0
-StopsFull before behind stop.LogFull = (rows : List RawValue) × AreFrames behind rows
-StopsFull before behind (stop.BadInput origin at) = (place : ℕ) × FramesStopAt behind place × (at ≡ before + place) × IsInput origin
-StopsFull before behind stop.NoMemory = Unit {0}
-StopsFull before behind e = ⊥
+-- how the reading of an input into a log ends
+abbrev pub LogsInput : List ℕ → SourceFacts → SourceFacts → Result Log Stop → Type 0
+LogsInput namespace i i' (Ok log) = IsLogRead namespace i i' log
+LogsInput namespace i i' (Err e) = JoinsInput namespace i i' (Err e)

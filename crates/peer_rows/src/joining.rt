@@ -1,23 +1,32 @@
 //! `join`: the image of the live rows among the authorised rows of the input.
 
-ghost use Rattle.std.specs.Prelude.{◌≡◌, ◌+◌, ◌^◌, ◌<◌, ◌≤◌, length};
+ghost use Rattle.std.specs.Prelude.{◌≡◌, ℕ, List, ◌+◌, ◌≤◌, ◌++◌, length, IfOk};
+ghost use Rattle.std.specs.List.{AllByRecursion};
+ghost use Rattle.cap_codec.specs.Rows.{IsRaw};
 ghost use Rattle.peer_stage.specs.World.{World};
 ghost use Rattle.peer_stage.specs.Faults.{CountsStep};
-ghost use Rattle.peer_rows.specs.Join.{Joins, JoinsInput, JoinsBytes};
-ghost use Rattle.peer_rows.specs.Stored.{LogsBytes, StopsFull};
+ghost use Rattle.peer_stage.specs.declared.outcome.Origin.TheVariants as origin;
+ghost use Rattle.peer_stage.specs.declared.outcome.Stop.TheVariants as stop;
+ghost use Rattle.peer_rows.specs.Join.{Joins};
+ghost use Rattle.peer_rows.specs.Stored.{EndsStream, HasSeen, LogsInput, TakesPiece, offset_of};
 
+use crate::imaging::write_image_of;
 use crate::log::Log;
+use crate::offering::offer_all;
 use crate::row_log::LogFull;
-use cap_codec::{BadFrames, behind, decode_frame, read_frames};
-use peer_image::write_store_image;
-use peer_stage::{Done, INPUT_LIMIT, JoinCounts, Stop, read_input, write_output};
-use spelling::{End, NotHere};
+use cap_codec::{RawRow, RawRows};
+use peer_stage::{Done, INPUT_LIMIT, Stop};
+use row_stream::{RowStream, StreamRefusal};
+use spelling::{End, NoMemory};
 use std::alloc::Global;
-use willow_outside::{Sink, Source};
+use willow_outside::{Fault, Sink, Source};
 use willow_path::NamespaceKey;
 
+/// How many bytes are asked for in one read.
+const PIECE: usize = 65_536;
+
 /// Reads row frames from the input, keeps the live rows of those that are authorised in the namespace, and
-/// writes their image.
+/// writes their image. Neither all of the input nor all of the image stands in memory.
 pub fn join<I: Source, O: Sink>(
     alloc: Global,
     namespace: &NamespaceKey,
@@ -28,73 +37,101 @@ pub fn join<I: Source, O: Sink>(
         (record others { input = I.facts input.old; output = O.facts output.old })
         (record others { input = I.facts input.new; output = O.facts output.new }) result }
 {
-    let (image, counts) = join_input(alloc, namespace, input)?;
-    write_output(output, &image)?;
-    Ok(Done::Joined(counts))
+    let log = read_log(alloc, namespace, input)?;
+    write_image_of(alloc, namespace, log.kept.store(), output)?;
+    Ok(Done::Joined(log.counts))
 }
 
-// The image and the numbers of the rows of the input.
-fn join_input<I: Source>(
-    alloc: Global,
-    namespace: &NamespaceKey,
-    input: &mut I,
-) -> Result<(Vec<u8>, JoinCounts), Stop>
-    ensures joins { JoinsInput namespace.now (I.facts input.old) (I.facts input.new) result }
+// The log of the rows of the input, read a piece at a time. What goes wrong in a piece stops the reading.
+fn read_log<I: Source>(alloc: Global, namespace: &NamespaceKey, input: &mut I) -> Result<Log, Stop>
+    ensures logs { LogsInput namespace.now (I.facts input.old) (I.facts input.new) result }
     ensures faults { CountsStep (I.facts input.old).faults (I.facts input.new).faults result }
     ensures ends { (I.facts input.old).ends ≤ (I.facts input.new).ends }
 {
-    let bytes = read_input(alloc, input, INPUT_LIMIT)?;
-    join_bytes(alloc, namespace, &bytes)
-}
-
-// The image and the numbers of a stream of rows.
-fn join_bytes(
-    alloc: Global,
-    namespace: &NamespaceKey,
-    bytes: &[u8],
-) -> Result<(Vec<u8>, JoinCounts), Stop>
-    ensures { JoinsBytes namespace.now bytes.now result }
-{
-    let log = log_of(alloc, namespace, bytes)?;
-    let image = write_store_image(alloc, namespace, log.kept.store())?;
-    Ok((image, log.counts))
-}
-
-// The log of the rows whose frames the bytes are. Each row is offered as soon as it is read, so that none waits
-// in memory for those behind it.
-fn log_of(alloc: Global, namespace: &NamespaceKey, bytes: &[u8]) -> Result<Log, Stop>
-    ensures { LogsBytes namespace.now bytes.now result }
-{
-    let whole = bytes.len();
     let mut log = Log::new(alloc);
-    let mut left = bytes;
-    'frames: while left.len() > 0 {
-        let (row, taken) = match decode_frame(alloc, left) {
-            Ok(read) => read,
-            Err(End::Refused(NotHere)) => return Err(Stop::bad_input((whole - left.len()) as u64)),
-            Err(End::NoMemory) => return Err(Stop::NoMemory),
-        };
-        left = behind(left, taken);
-        match log.offer(alloc, namespace, row) {
-            Ok(()) => {}
-            Err(End::Refused(LogFull)) => {
-                return Err(full_stop(alloc, left, whole - left.len()));
+    let mut stream = RowStream::<RawRows>::new(alloc);
+    let mut piece = room(alloc)?;
+    let mut left = INPUT_LIMIT;
+    'pieces: loop {
+        // Behind the last byte that may be taken one more tells that the input goes on.
+        piece.truncate(left.max(1) as usize);
+        match input.read(&mut piece) {
+            Ok(0) => {
+                end_stream(&stream)?;
+                return Ok(log);
             }
-            Err(End::NoMemory) => return Err(Stop::NoMemory),
+            Ok(n) => {
+                if left == 0 {
+                    return Err(Stop::bad_input(INPUT_LIMIT));
+                }
+                left -= n as u64;
+                take_piece(alloc, namespace, &mut stream, &mut log, &piece[..n])?;
+            }
+            Err(Fault::Failed) => return Err(Stop::ReadFault),
+            Err(Fault::NoMemory) => return Err(Stop::NoMemory),
         }
     }
-    Ok(log)
 }
 
-// Why a stream stops of which a row met a full log: bytes behind that row that are no frames go first. So many
-// bytes stand before them.
-fn full_stop(alloc: Global, behind: &[u8], before: usize) -> Stop
-    requires { before + length behind.now < 2 ^ 64 }
-    ensures { StopsFull before behind.now result }
+// Room for one read.
+fn room(alloc: Global) -> Result<Vec<u8>, NoMemory>
+    ensures { IfOk result (λ v. length v.items ≡ PIECE) }
 {
-    match read_frames(alloc, behind) {
-        Ok(_) => Stop::LogFull,
-        Err(End::Refused(BadFrames { at })) => Stop::bad_input((before + at) as u64),
-        Err(End::NoMemory) => Stop::NoMemory,
+    Ok(vec![in alloc; 0u8; PIECE]?)
+}
+
+// Takes a piece in: the rows that become whole with it are offered to the log. Bytes that are wrong go before a row that
+// meets a full log.
+fn take_piece(
+    alloc: Global,
+    namespace: &NamespaceKey,
+    stream: &mut RowStream<RawRows>,
+    log: &mut Log,
+    piece: &[u8],
+) -> Result<(), Stop>
+    requires { (bytes : List ℕ) × HasSeen namespace.now bytes stream.old log.old × (length bytes + length piece.now ≤ INPUT_LIMIT) }
+    ensures { (bytes : List ℕ) → HasSeen namespace.now bytes stream.old log.old
+        → TakesPiece namespace.now (bytes ++ piece.now) stream.new log.new result }
+{
+    let rows = match stream.feed(piece) {
+        Ok(rows) => rows,
+        Err(End::Refused(refusal)) => return Err(stop_of(refusal)),
+        Err(End::NoMemory) => return Err(Stop::NoMemory),
+    };
+    known_rows(&rows);
+    match offer_all(alloc, namespace, log, rows) {
+        Ok(()) => Ok(()),
+        Err(End::Refused(LogFull)) => Err(Stop::LogFull),
+        Err(End::NoMemory) => Err(Stop::NoMemory),
+    }
+}
+
+// Ends the stream where the input ended.
+fn end_stream(stream: &RowStream<RawRows>) -> Result<(), Stop>
+    ensures { EndsStream stream.now result }
+{
+    match stream.finish() {
+        Ok(()) => Ok(()),
+        Err(refusal) => Err(stop_of(refusal)),
+    }
+}
+
+// The input goes wrong where its stream of rows does.
+fn stop_of(refusal: StreamRefusal) -> Stop
+    ensures { result ≡ stop.BadInput origin.Input (offset_of refusal) }
+{
+    match refusal {
+        StreamRefusal::BadFrame { at }
+        | StreamRefusal::FrameTooLong { at }
+        | StreamRefusal::CutShort { at } => Stop::bad_input(at),
+    }
+}
+
+// Does nothing: it is called for its clause, that the rows are within their limits.
+fn known_rows(rows: &[RawRow])
+    ensures { AllByRecursion IsRaw rows.now }
+{
+    for row in rows {
+        row.known();
     }
 }

@@ -6,9 +6,11 @@
 mod drilled;
 mod generating;
 mod images;
+mod imaging;
 mod joining;
 mod laws;
 mod log;
+mod offering;
 mod row_log;
 mod showing;
 

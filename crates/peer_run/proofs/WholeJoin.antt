@@ -39,14 +39,14 @@ whole run n d meets reported status_is =
     let status : run.status ≡ refused_status x.1.refused = status_is ∙ ap (λ (e : Done). status_of (Ok e)) is ∙ refused_only x.1.refused in
     let input : meets.between.input ≡ run.new.input = sym (ap (λ (w : World). w.input) meets.rest.others) in
     let output : meets.between.output ≡ run.old.output = ap (λ (w : World). w.output) meets.given.others in
-    let read = subst (λ (i : SourceFacts). IsJoinRead n run.old.input i x.0.items x.1) input meets.given.does in
+    let read = subst (λ (i : SourceFacts). IsJoinRead n run.old.input i x.0 x.1) input meets.given.does in
     record {
       bytes = read.bytes;
       read = read.read;
       rows = read.join.rows;
       frames = read.join.frames;
       fits_log = read.join.fits_log;
-      written = subst (λ (text : List ℕ). IsWritten run.old.output run.new.output text) read.join.is_image (subst (λ (o : SinkFacts). IsWritten o run.new.output x.0.items) output meets.rest.does.0);
+      written = subst (λ (text : List ℕ). IsWritten run.old.output run.new.output text) read.join.is_image (subst (λ (o : SinkFacts). IsWritten o run.new.output x.0) output meets.rest.does.0);
       counts = x.1;
       counted = read.join.counted;
       reported = subst (λ (e : Done). IsWritten run.old.report run.new.report (report_of (Ok e))) is reported;

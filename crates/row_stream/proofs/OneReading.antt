@@ -21,7 +21,7 @@ behind_same front a b e = sym (drop_at front a (length front) refl) ∙ ap (drop
 
 module _ (IsRow : RowValue → Type 0) (fit : (r : RowValue) → IsRow r → IsEntry r.entry) where
   -- where a row's frame stands, nothing else is judged
-  no_frame : (here : ℕ) (r : RowValue) (rest left : List ℕ) (why : Option StreamRefusal) → IsStreamRow IsRow r → left ≡ row_frame r ++ rest → IsJudged IsRow here left why → ⊥
+  pub no_frame : (here : ℕ) (r : RowValue) (rest left : List ℕ) (why : Option StreamRefusal) → IsStreamRow IsRow r → left ≡ row_frame r ++ rest → IsJudged IsRow here left why → ⊥
   no_frame here r rest left None f is late =
       let told : length_told left ≡ length (row_body r) = ap length_told is ∙ told_back r f.framed rest in
       let long : length left ≡ length (row_frame r) + length rest = ap length is ∙ length-append (row_frame r) rest in

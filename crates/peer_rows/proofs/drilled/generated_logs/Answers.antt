@@ -1,4 +1,4 @@
-use Rattle.std.proofs.Common.{ap, ◌≤◌, subst, sym, arith}
+use Rattle.std.proofs.Common.{arith}
 use Rattle.peer_rows.proofs.DrilledRows.{drilled_none}
 use Rattle.peer_rows.proofs.drilled.generated_logs.Goals as goal
 

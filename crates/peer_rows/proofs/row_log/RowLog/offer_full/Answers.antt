@@ -1,5 +1,5 @@
 use Rattle.std.proofs.Common.{map, refl, subst}
-use Rattle.willow_entry.specs.Row.{RowValue, HasCovering}
+use Rattle.willow_entry.specs.Row.{HasCovering}
 use Rattle.willow_entry.proofs.Between.{covering_from_at}
 use Rattle.peer_rows.specs.RowLogs.{LogRows}
 use Rattle.peer_rows.proofs.Taken.{left_out, one_too_many}

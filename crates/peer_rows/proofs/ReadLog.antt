@@ -1,0 +1,165 @@
+-- How the reading of an input into a log goes on by a piece, and how it ends.
+use Rattle.std.proofs.Common.{◌≡◌, ℕ, ◌+◌, ◌-◌, ◌<◌, ◌≤◌, List, [], ◌++◌, length, take, Some, refl, sym, ap, subst, ◌∙◌, append-nil, arith, inl, inr}
+use Rattle.std.specs.Prelude.{Ok, Err}
+use Rattle.std.specs.Io.KnownBytes.{Consumes, Keeps, IsAtEnd}
+use Rattle.std.proofs.KnownBytes.{Consumes-nil, Consumes-trans, Consumes-kept}
+use Rattle.std.proofs.lemmas.List.{length-append}
+use Rattle.std.proofs.Math.Seq.{take-append_seam}
+use Rattle.willow_outside.specs.Counts.{Rose}
+use Rattle.willow_outside.specs.Facts.{SourceFacts}
+use Rattle.cap_codec.specs.Streams.{FramesStopAt}
+use Rattle.row_stream.specs.Feeding.{StreamState, Finishes}
+use Rattle.row_stream.specs.declared.refusal.StreamRefusal.{StreamRefusal}
+use Rattle.peer_stage.specs.Stages.{IsReadWhole, IsReadToFault, IsReadSomewhat}
+use Rattle.peer_stage.specs.declared.outcome.Stop.{Stop}
+use Rattle.peer_stage.specs.declared.outcome.Stop.TheVariants as stop
+use Rattle.peer_stage.specs.declared.stage.TheConstants.{INPUT_LIMIT}
+use Rattle.peer_rows.specs.Logged.{FitsLog}
+use Rattle.peer_rows.specs.Join.{AreRightSoFar, IsLongStream, IsWrongStream, JoinsInput}
+use Rattle.peer_rows.specs.Stored.{offset_of, HasSeen, AreWrong, TakesPiece, EndsStream, IsLogRead}
+use Rattle.peer_rows.specs.declared.log.Log.{Log}
+use Rattle.peer_rows.proofs.RawStreams.{whole_frames, cut_stops, right_so_far}
+
+-- a buffer that was filled whole holds what was given
+pub buffer_given : (size : ℕ) (given rest buffer : List ℕ) → buffer ≡ take size (given ++ rest) → length given ≡ size → buffer ≡ given
+buffer_given size given rest buffer is whole = is ∙ ap (λ (n : ℕ). take n (given ++ rest)) (sym whole) ∙ take-append_seam given rest
+
+-- bytes were read, without a fault or the end, and taken in; so many may follow
+pub record HasRead (namespace : List ℕ) (old now : SourceFacts) (left : ℕ) (stream : StreamState) (log : Log) : Type 0 where
+  pub bytes : List ℕ
+  pub consumed : Consumes old.left now.left bytes
+  pub seen : HasSeen namespace bytes stream log
+  pub count : length bytes + left ≡ INPUT_LIMIT
+  pub not_ended : now.ends ≡ old.ends
+  pub no_fault : now.faults ≡ old.faults
+
+pub nothing_read : (namespace : List ℕ) (input : SourceFacts) (stream : StreamState) (log : Log) → HasSeen namespace [] stream log → HasRead namespace input input INPUT_LIMIT stream log
+nothing_read namespace input stream log seen = record {
+  bytes = [];
+  consumed = Consumes-nil input.left;
+  seen = seen;
+  count = refl;
+  not_ended = refl;
+  no_fault = refl;
+}
+
+module _ (namespace : List ℕ) (old now new : SourceFacts) (left : ℕ) (stream : StreamState) (log : Log) (h : HasRead namespace old now left stream log) where
+  fits_all : FitsLog namespace h.seen.seen
+  fits_all = omega (arith, h.seen.fits, h.seen.is_log.counted.stored)
+
+  -- ---- a piece
+
+  module _ (piece : List ℕ) (consumed : Consumes now.left new.left piece) where
+    taken_on : Consumes old.left new.left (h.bytes ++ piece)
+    taken_on = Consumes-trans old.left now.left new.left h.bytes piece h.consumed consumed
+
+    many : length piece ≤ left → length (h.bytes ++ piece) + (left - length piece) ≡ INPUT_LIMIT
+    many few = omega (arith, few, h.count, length-append h.bytes piece)
+
+    within : length piece ≤ left → length (h.bytes ++ piece) ≤ INPUT_LIMIT
+    within few = omega (arith, many few)
+
+    module _ (few : length piece ≤ left) (ends : new.ends ≡ now.ends) where
+      pub has_read_on : (n : ℕ) (stream' : StreamState) (log' : Log) → n ≡ left - length piece → HasSeen namespace (h.bytes ++ piece) stream' log' → new.faults ≡ now.faults → HasRead namespace old new n stream' log'
+      has_read_on n stream' log' is seen faults = record {
+        bytes = h.bytes ++ piece;
+        consumed = taken_on;
+        seen = seen;
+        count = ap (λ (k : ℕ). length (h.bytes ++ piece) + k) is ∙ many few;
+        not_ended = ends ∙ h.not_ended;
+        no_fault = faults ∙ h.no_fault;
+      }
+
+      wrong_bytes : (at : ℕ) → AreWrong (h.bytes ++ piece) at → IsWrongStream old new at
+      wrong_bytes at w = record {
+        bytes = h.bytes ++ piece;
+        taken = taken_on;
+        within = within few;
+        wrong = w.wrong;
+        cause = inr w.cause;
+        not_early = λ rows right. absurd (w.judged rows right);
+      }
+
+      pub piece_stops : (e : Stop) (stream' : StreamState) (log' : Log) → TakesPiece namespace (h.bytes ++ piece) stream' log' (Err e) → JoinsInput namespace old new (Err e)
+      piece_stops (stop.BadInput from at) stream' log' t = (inr (wrong_bytes at t.0), t.1)
+      piece_stops stop.LogFull stream' log' t = record {
+        bytes = h.bytes ++ piece;
+        taken = taken_on;
+        within = within few;
+        not_ended = ends ∙ h.not_ended;
+        rows = t.rows;
+        not_wrong = t.not_wrong;
+        passes = t.passes;
+      }
+      piece_stops stop.NoMemory stream' log' t = (h.bytes ++ piece, taken_on)
+      piece_stops e stream' log' t = absurd t
+
+    -- a byte came behind the last that may be taken
+    pub read_too_far : left ≡ 0 → 0 < length piece → IsLongStream namespace old new
+    read_too_far none some =
+        let all : length h.bytes ≡ INPUT_LIMIT = omega (arith, none, h.count) in
+        let below : take INPUT_LIMIT (h.bytes ++ piece) ≡ h.bytes = ap (λ (n : ℕ). take n (h.bytes ++ piece)) (sym all) ∙ take-append_seam h.bytes piece in
+        record {
+          bytes = h.bytes ++ piece;
+          too_far = record { taken = taken_on; beyond = omega (arith, all, some, length-append h.bytes piece) };
+          rows = h.seen.seen;
+          not_wrong = subst (λ (bytes : List ℕ). AreRightSoFar bytes h.seen.seen) (sym below) (right_so_far 0 h.bytes h.seen.seen stream.begun h.seen.fit h.seen.stream);
+          fits_log = fits_all;
+        }
+
+  -- ---- no piece
+
+  pub read_failed : Keeps now.left new.left → new.ends ≡ now.ends → Rose now.faults new.faults → (bytes : List ℕ) × IsReadToFault INPUT_LIMIT old new bytes
+  read_failed keeps ends rose = (
+    h.bytes,
+    record {
+      taken = Consumes-kept old.left now.left new.left h.bytes h.consumed keeps;
+      within = omega (arith, h.count);
+      not_ended = ends ∙ h.not_ended;
+      fault = subst (λ (count : ℕ). Rose count new.faults) h.no_fault rose;
+    },
+  )
+
+  pub read_unpaid : Keeps now.left new.left → IsReadSomewhat old new
+  read_unpaid keeps = (h.bytes, Consumes-kept old.left now.left new.left h.bytes h.consumed keeps)
+
+  -- ---- the end
+
+  module _ (consumed : Consumes now.left new.left []) (at_end : IsAtEnd new.left) (rose : Rose now.ends new.ends) where
+    read_whole : IsReadWhole INPUT_LIMIT old new h.bytes
+    read_whole = record {
+      taken = subst (Consumes old.left new.left) (append-nil h.bytes) (taken_on [] consumed);
+      at_end = at_end;
+      ended = subst (λ (count : ℕ). Rose count new.ends) h.not_ended rose;
+      within = omega (arith, h.count);
+    }
+
+    pub log_read : Finishes stream (Ok tt) → IsLogRead namespace old new log
+    log_read finishes = record {
+      bytes = h.bytes;
+      read = read_whole;
+      rows = h.seen.seen;
+      frames = whole_frames h.bytes h.seen.seen stream.begun finishes.1 h.seen.fit h.seen.stream;
+      whole = record { is_log = h.seen.is_log; fits_log = fits_all };
+    }
+
+    cut : (at : ℕ) (refusal : StreamRefusal) → Finishes stream (Err refusal) → at ≡ offset_of refusal → FramesStopAt h.bytes at
+    cut at refusal (inl was) is = absurd (unrefused refusal was) where
+      unrefused : (r : StreamRefusal) → stream.refusal ≡ Some r → ⊥
+      unrefused r was = cc
+    cut at refusal (inr inside) is =
+        cut_stops h.bytes h.seen.seen stream.begun at h.seen.fit h.seen.stream inside.some_begun (omega (arith, is, ap offset_of inside.told, h.seen.all_fed))
+
+    pub end_stops : (e : Stop) → EndsStream stream (Err e) → JoinsInput namespace old new (Err e)
+    end_stops (stop.BadInput from at) t = (
+      inr (record {
+        bytes = h.bytes;
+        taken = read_whole.taken;
+        within = read_whole.within;
+        wrong = cut at t.0.0 t.0.1 t.0.2;
+        cause = inl read_whole;
+        not_early = λ rows right. read_whole;
+      }),
+      t.1,
+    )
+    end_stops e t = absurd t
