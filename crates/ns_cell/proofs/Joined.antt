@@ -1,5 +1,5 @@
 -- One seat that took in those of several passes, and what its turn tells of them.
-use Rattle.std.proofs.Common.{◌≡◌, ◌⊎◌, ℕ, zero, suc, ◌+◌, ◌<◌, ◌≤◌, Bool, true, false, cond, eqb, ltb, List, [], ◌∷◌, ◌++◌, length, All, Contains, count_by, sym, refl, ap, ap₂, ◌∙◌, subst, inl, inr, ⊎_elim, arith, append_assoc, length-append, get_or}
+use Rattle.std.proofs.Common.{◌≡◌, ◌⊎◌, ℕ, zero, suc, ◌+◌, ◌<◌, Bool, true, false, cond, eqb, ltb, List, [], ◌∷◌, ◌++◌, length, All, Contains, count_by, sym, refl, ap, ap₂, ◌∙◌, subst, inl, inr, ⊎_elim, arith, append_assoc, length-append, get_or}
 use Rattle.std.specs.List.{AllByRecursion}
 use Rattle.std.proofs.lemmas.List.Elements.{All-from_recursion}
 use Rattle.std.proofs.lemmas.List.Sums.{sum_by_push, sum_by-cons}
@@ -17,7 +17,7 @@ use Rattle.log_rule.specs.Steps.{longer, joined_view, TakesTurn}
 use Rattle.log_rule.proofs.Sums.{one_if, equal}
 use Rattle.ns_cell.specs.Passes.{CellValue, PassValue}
 use Rattle.ns_cell.specs.Closed.{IsClosed}
-use Rattle.ns_cell.specs.Seats.{content, facts_of}
+use Rattle.ns_cell.specs.Seats.{content}
 use Rattle.ns_cell.specs.Joined.{joined_books, IsJoined}
 
 module _ {R : Type 0} where

@@ -1,19 +1,18 @@
 -- The passes of a new cell.
-use Rattle.std.proofs.Common.{◌≡◌, ◌≢◌, ℕ, zero, suc, ◌+◌, ◌-◌, ◌<◌, ◌≤◌, List, [], ◌∷◌, ◌++◌, length, insert, sym, refl, ap, ap₂, ◌∙◌, subst, arith, All}
+use Rattle.std.proofs.Common.{◌≡◌, ℕ, zero, suc, ◌+◌, ◌<◌, List, [], ◌∷◌, ◌++◌, length, sym, refl, ap, ap₂, ◌∙◌, subst, arith, All}
 use Rattle.std.specs.List.{AllByRecursion}
 use Rattle.std.proofs.lemmas.List.Elements.{All-from_recursion}
 use Rattle.atomic_table.specs.Seated.{TableId}
 use Rattle.willow_entry.specs.Row.{RowValue}
 use Rattle.willow_entry.specs.declared.row.LogRow.{LogRow}
-use Rattle.ns_state.specs.Log.{StateValue, IsLog}
+use Rattle.ns_state.specs.Log.{IsLog}
 use Rattle.log_rule.specs.declared.view.CellFacts.{CellFacts}
 use Rattle.log_rule.specs.declared.view.View.{View}
 use Rattle.log_rule.specs.declared.view.Book.{Book}
-use Rattle.log_rule.specs.declared.view.Role.TheVariants.{Idle}
 use Rattle.log_rule.specs.Views.{rows_of_pass, AreOf}
 use Rattle.log_rule.specs.Steps.{first_view, made_view}
 use Rattle.log_rule.proofs.Books.{rows_of_pass-own, rows_of_pass-other}
-use Rattle.ns_cell.specs.Passes.{CellValue, PassValue, IsPassOf, opening_rows, new_pass, new_passes}
+use Rattle.ns_cell.specs.Passes.{CellValue, PassValue, IsPassOf, new_pass, new_passes}
 use Rattle.ns_cell.specs.Seats.{Place, own_of, cell_at, pass_of, IsAtRest}
 
 module _ {R : Type 0} (value : R → RowValue) (cell : CellFacts) (log : List (LogRow R)) where

@@ -1,13 +1,10 @@
 -- What an offer in a cell says of the pass that made it.
-use Rattle.std.proofs.Common.{◌≡◌, ℕ, zero, suc, ◌+◌, ◌≤◌, List, [], ◌∷◌, ◌++◌, length, take, slice_get, Result, Ok, Err, Some, sym, refl, ap, ◌∙◌, subst, arith, append-nil, length-append}
-use mathlib.Core.List.{IsPrefix}
-use Rattle.spelling.specs.declared.ending.End.{End}
+use Rattle.std.proofs.Common.{◌≡◌, ℕ, ◌+◌, ◌≤◌, List, [], ◌∷◌, ◌++◌, length, take, slice_get, Ok, Err, Some, sym, refl, ap, ◌∙◌, subst, arith, append-nil, length-append}
 use Rattle.spelling.specs.declared.ending.End.TheVariants.{Refused, NoMemory}
 use Rattle.willow_entry.specs.Row.{RowValue, HasCovering, IsCoveringAt}
 use Rattle.ns_state.specs.Log.{values}
 use Rattle.ns_state.specs.Answer.{IsFull}
 use Rattle.ns_state.specs.declared.state.LogFull.{LogFull}
-use Rattle.ns_state.specs.declared.state.Told.{Told}
 use Rattle.ns_state.specs.declared.state.Told.TheVariants.{Stored, Kept}
 use Rattle.log_rule.proofs.Prefixes.{prefix_length}
 use Rattle.ns_cell.specs.Passes.{PassValue, IsLater}

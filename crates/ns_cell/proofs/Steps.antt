@@ -1,5 +1,5 @@
 -- What the steps of a turn tell, put together.
-use Rattle.std.proofs.Common.{◌≡◌, ◌≢◌, ℕ, ◌+◌, ◌%◌, ◌^◌, ◌<◌, List, [], ◌∷◌, ◌++◌, sym, refl, ap, ap₂, ◌∙◌, subst, Option, Some, None}
+use Rattle.std.proofs.Common.{◌≡◌, ◌≢◌, ℕ, ◌+◌, ◌%◌, ◌^◌, ◌<◌, List, [], ◌∷◌, ◌++◌, sym, refl, ap, ap₂, ◌∙◌, subst, Option, Some}
 use mathlib.Core.Option.{none}
 use Rattle.atomic_table.specs.Table.{Step, step, Allows, rest}
 use Rattle.willow_entry.specs.declared.row.LogRow.{LogRow}
@@ -10,7 +10,7 @@ use Rattle.log_rule.specs.declared.view.View.{View}
 use Rattle.log_rule.specs.declared.view.Book.{Book}
 use Rattle.log_rule.specs.declared.view.Role.{Role}
 use Rattle.log_rule.specs.declared.view.Role.TheVariants.{Idle, Waits, Holds}
-use Rattle.log_rule.specs.Views.{AreOf, AreKept, ArePrefixes}
+use Rattle.log_rule.specs.Views.{AreOf}
 use Rattle.log_rule.specs.Steps.{ticket_of, Draws, TakesTurn, MeetsTicket, Looks, HandsOn}
 use Rattle.log_rule.proofs.Turns.{hands_on}
 use Rattle.ns_cell.specs.Seats.{Place, content, CellRule, IsWaiting}

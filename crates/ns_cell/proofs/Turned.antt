@@ -4,9 +4,9 @@ use mathlib.Core.List.{IsPrefix}
 use Rattle.atomic_table.specs.Seated.{TableId}
 use Rattle.spelling.specs.declared.ending.End.{End}
 use Rattle.spelling.specs.declared.ending.End.TheVariants.{Refused, NoMemory}
-use Rattle.willow_entry.specs.Row.{RowValue, IsCoveringAt}
+use Rattle.willow_entry.specs.Row.{RowValue}
 use Rattle.willow_entry.specs.declared.row.LogRow.{LogRow}
-use Rattle.ns_state.specs.Log.{StateValue, values, IsLog}
+use Rattle.ns_state.specs.Log.{StateValue, IsLog}
 use Rattle.ns_state.specs.Answer.{IsAnswer}
 use Rattle.ns_state.specs.declared.state.LogFull.{LogFull}
 use Rattle.ns_state.specs.declared.state.Told.{Told}
@@ -19,7 +19,7 @@ use Rattle.log_rule.specs.Views.{rows_of_pass, AreOf, AreKept}
 use Rattle.log_rule.specs.Steps.{ticket_of, with_rows, after_turn, TakesTurn}
 use Rattle.log_rule.proofs.Prefixes.{prefix_more, drop-prefix}
 use Rattle.log_rule.proofs.Books.{rows_of_pass-append, rows_of_pass-own}
-use Rattle.ns_cell.specs.Passes.{CellValue, PassValue, IsLater}
+use Rattle.ns_cell.specs.Passes.{CellValue, IsLater}
 use Rattle.ns_cell.specs.Answers.{stored}
 use Rattle.ns_cell.specs.Seats.{Place, content, own_of, pass_of, IsAtRest, IsTurned}
 

@@ -1,4 +1,4 @@
-use Rattle.std.proofs.Common.{◌≡◌, ◌<◌, ◌∷◌, ◌++◌, [], length, arith, sym, ap, ◌∙◌, subst}
+use Rattle.std.proofs.Common.{◌∷◌, arith, sym, ap, ◌∙◌, subst}
 use Rattle.ns_state.specs.Log.{IsLog}
 use Rattle.log_rule.proofs.Seats.{joins}
 use Rattle.ns_cell.specs.Passes.{IsPassOf}

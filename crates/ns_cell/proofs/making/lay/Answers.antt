@@ -1,4 +1,4 @@
-use Rattle.std.proofs.Common.{◌≡◌, ◌<◌, [], ◌∷◌, ◌++◌, List, Option, Some, sym, ap, ◌∙◌, subst, refl, arith}
+use Rattle.std.proofs.Common.{◌≡◌, [], ◌∷◌, ◌++◌, List, Option, Some, sym, ap, ◌∙◌, subst, refl, arith}
 use Rattle.atomic_table.specs.Table.{opening}
 use Rattle.ns_state.specs.Log.{StateValue, IsLog}
 use Rattle.log_rule.specs.Steps.{first_view}

@@ -1,4 +1,4 @@
-use Rattle.std.proofs.Common.{◌≡◌, ◌+◌, ◌-◌, ◌<◌, ◌≤◌, ◌++◌, ◌∷◌, [], length, arith, sym, ap, ap₂, ◌∙◌, subst, refl, length-append}
+use Rattle.std.proofs.Common.{◌≡◌, ◌+◌, ◌-◌, ◌++◌, ◌∷◌, [], length, arith, sym, ap, ap₂, ◌∙◌, length-append}
 use Rattle.ns_state.specs.Log.{IsLog}
 use Rattle.log_rule.specs.Steps.{after_making}
 use Rattle.log_rule.proofs.Seats.{makes}

@@ -1,4 +1,4 @@
-use Rattle.std.proofs.Common.{◌≡◌, ◌<◌, ◌∷◌, ◌++◌, [], length, arith, sym, ap, ◌∙◌, subst, refl}
+use Rattle.std.proofs.Common.{arith, ap, ◌∙◌}
 use Rattle.ns_state.specs.Log.{IsLog}
 use Rattle.log_rule.proofs.Turns.{looks}
 use Rattle.log_rule.proofs.Seats.{lends, joins}

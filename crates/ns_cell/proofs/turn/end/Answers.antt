@@ -1,4 +1,4 @@
-use Rattle.std.proofs.Common.{◌≡◌, [], ◌∷◌, None, Some, rules, arith, sym, ap, ◌∙◌, subst, refl}
+use Rattle.std.proofs.Common.{[], ◌∷◌, None, Some, arith, sym, ap, ◌∙◌}
 use Rattle.atomic_table.specs.Table.{rest}
 use Rattle.log_rule.specs.Steps.{ticket_of, after_turn}
 use Rattle.ns_cell.proofs.Steps.{may_hand_on}

@@ -1,10 +1,10 @@
-use Rattle.std.proofs.Common.{◌≡◌, ◌<◌, [], ◌∷◌, None, Some, rules, arith, sym, ap, ◌∙◌}
+use Rattle.std.proofs.Common.{[], ◌∷◌, Some, rules, arith, sym, ap, ◌∙◌}
 use mathlib.Core.Option.{none}
 use Rattle.atomic_table.specs.Table.{step, rest}
 use Rattle.ns_state.specs.Log.{IsLog}
 use Rattle.log_rule.proofs.Turns.{looks}
 use Rattle.ns_cell.specs.Seats.{content}
-use Rattle.ns_cell.proofs.Steps.{looked_hit, looked_miss, out_of}
+use Rattle.ns_cell.proofs.Steps.{looked_hit, out_of}
 use Rattle.ns_cell.proofs.turn.take.Goals as goal
 
 pub load-requires : goal.load-requires

@@ -1,4 +1,4 @@
-use Rattle.std.proofs.Common.{◌≡◌, ◌∙◌, sym, ap, subst, List}
+use Rattle.std.proofs.Common.{◌∙◌, sym, ap, subst}
 use Rattle.willow_entry.specs.LogRow.{log_value}
 use Rattle.willow_entry.specs.declared.row.LogRow.{LogRow}
 use Rattle.ns_state.specs.Log.{IsLog, logged}

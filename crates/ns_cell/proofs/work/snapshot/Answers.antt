@@ -1,4 +1,4 @@
-use Rattle.std.proofs.Common.{◌≡◌, ◌∙◌, [], append-nil}
+use Rattle.std.proofs.Common.{◌∙◌, [], append-nil}
 use Rattle.ns_cell.specs.Seats.{IsTurned}
 use Rattle.ns_cell.proofs.Turned.{turned_alike, no_further_rows}
 use Rattle.ns_cell.proofs.work.snapshot.Goals as goal

@@ -1,6 +1,5 @@
 use Rattle.std.proofs.Common.{◌≡◌, ◌∙◌, sym, ap, subst, arith, length}
 use Rattle.ns_state.specs.Log.{IsLog}
-use Rattle.ns_cell.specs.Seats.{cell_at}
 use Rattle.ns_cell.proofs.Joined.{closes, closed_log}
 use Rattle.ns_cell.proofs.cell.NsCell.close.Goals as goal
 

@@ -1,5 +1,5 @@
 use Rattle.std.proofs.Common.{◌≡◌, ◌∙◌, All, length, sym, ap, subst, arith}
-use Rattle.ns_cell.specs.Passes.{CellValue, IsPassOf}
+use Rattle.ns_cell.specs.Passes.{IsPassOf}
 use Rattle.ns_cell.specs.Seats.{cell_at}
 use Rattle.ns_cell.proofs.NewPasses.{length-new_passes, all_of_cell}
 use Rattle.ns_cell.proofs.cell.NsCell.new.Goals as goal
