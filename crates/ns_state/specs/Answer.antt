@@ -12,33 +12,33 @@ use Rattle.ns_state.specs.declared.state.TheConstants.{LOG_LIMIT}
 use Rattle.ns_state.specs.Log.{values}
 use Rattle.ns_state.specs.Machine.{Reply, StoredAt, Covered, Full, Offer, next, reply}
 
-module _ {R : Type 0} (value : R → RowValue) where
-  -- no row of the log covers the new one, the log has room, and the new one is its last now, at the position told
-  pub record IsStored (log : List (LogRow R)) (offered : LogRow R) (at : ℕ) (log' : List (LogRow R)) : Type 0 where
-    pub uncovered : HasCovering (values value log) (value offered.row) → ⊥
-    pub room : length log < LOG_LIMIT
-    pub at_is : at ≡ length log
-    pub log_is : log' ≡ log ++ offered ∷ []
+-- no row of the log covers the new one, the log has room, and the new one is its last now, at the position told
+pub record IsStored {R : Type 0} (value : R → RowValue) (log : List (LogRow R)) (offered : LogRow R) (at : ℕ) (log' : List (LogRow R)) : Type 0 where
+  pub uncovered : HasCovering (values value log) (value offered.row) → ⊥
+  pub room : length log < LOG_LIMIT
+  pub at_is : at ≡ length log
+  pub log_is : log' ≡ log ++ offered ∷ []
 
-  -- the row of the log at the position told is the new one or dominates it, and the log is the same
-  pub record IsKept (log : List (LogRow R)) (offered : LogRow R) (at : ℕ) (log' : List (LogRow R)) : Type 0 where
-    pub covers : IsCoveringAt (values value log) at (value offered.row)
-    pub log_is : log' ≡ log
+-- the row of the log at the position told is the new one or dominates it, and the log is the same
+pub record IsKept {R : Type 0} (value : R → RowValue) (log : List (LogRow R)) (offered : LogRow R) (at : ℕ) (log' : List (LogRow R)) : Type 0 where
+  pub covers : IsCoveringAt (values value log) at (value offered.row)
+  pub log_is : log' ≡ log
 
-  -- no row of the log covers the new one, and the log is full: as long as is told, which is the limit
-  pub record IsFull (log : List (LogRow R)) (row : R) (front : ℕ) : Type 0 where
-    pub uncovered : HasCovering (values value log) (value row) → ⊥
-    pub length_is : length log ≡ LOG_LIMIT
-    pub front_is : front ≡ LOG_LIMIT
+-- no row of the log covers the new one, and the log is full: as long as is told, which is the limit
+pub record IsFull {R : Type 0} (value : R → RowValue) (log : List (LogRow R)) (row : R) (front : ℕ) : Type 0 where
+  pub uncovered : HasCovering (values value log) (value row) → ⊥
+  pub length_is : length log ≡ LOG_LIMIT
+  pub front_is : front ≡ LOG_LIMIT
 
-  -- What is answered to the offer of a row, and which log there is then. Without memory the log is the same.
-  abbrev pub IsAnswer : List (LogRow R) → LogRow R → List (LogRow R) → Result Told (End LogFull) → Type 0
-  IsAnswer log offered log' (Ok (Stored at)) = IsStored log offered at log'
-  IsAnswer log offered log' (Ok (Kept at)) = IsKept log offered at log'
-  IsAnswer log offered log' (Err (Refused full)) = IsFull log offered.row full.front × (log' ≡ log)
-  IsAnswer log offered log' (Err NoMemory) = log' ≡ log
+-- What is answered to the offer of a row, and which log there is then. Without memory the log is the same.
+abbrev pub IsAnswer : {R : Type 0} → (R → RowValue) → List (LogRow R) → LogRow R → List (LogRow R) → Result Told (End LogFull) → Type 0
+IsAnswer value log offered log' (Ok (Stored at)) = IsStored value log offered at log'
+IsAnswer value log offered log' (Ok (Kept at)) = IsKept value log offered at log'
+IsAnswer value log offered log' (Err (Refused full)) = IsFull value log offered.row full.front × (log' ≡ log)
+IsAnswer value log offered log' (Err NoMemory) = log' ≡ log
 
--- the answer tells what the machine of a log replies, but for want of memory
+-- The answer tells what the machine of a log replies, but for want of memory. Which row covers the new one, where one
+-- does, the machine leaves open; `IsKept` says it of the position told.
 abbrev pub Tells : Result Told (End LogFull) → Reply → Type 0
 Tells (Ok (Stored at)) r = r ≡ StoredAt at
 Tells (Ok (Kept at)) r = r ≡ Covered

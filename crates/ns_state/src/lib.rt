@@ -9,3 +9,6 @@ mod log;
 mod state;
 
 pub use state::{LOG_LIMIT, LogFull, NsState, Told};
+
+#[cfg(test)]
+mod tests;

@@ -161,7 +161,7 @@ impl Recency {
         Ok(())
     }
 
-    /// Removes the item in this subspace at this path, and answers whether it was there. It may ask for memory.
+    /// Removes the item in this subspace at this path, and answers whether it was there. It may answer want of memory.
     pub fn remove(&mut self, subspace: &UserKey, path: &Path) -> Result<bool, NoMemory>
         ensures was { IfOk result (λ was. was ≡ has_at subspace.now path.now self.old.items) }
         ensures items { OnOk result (self.new.items ≡ without_at subspace.now path.now self.old.items) }

@@ -1,0 +1,5 @@
+pub mod Steps
+pub mod Turned
+pub mod NewPasses
+pub mod Joined
+pub mod Offers

@@ -1,0 +1,5 @@
+pub mod Passes
+pub mod Answers
+pub mod Closed
+pub mod Seats
+pub mod Joined

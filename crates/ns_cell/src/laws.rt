@@ -1,0 +1,53 @@
+//! What follows from the contracts of a cell's calls, each the contract of a function that does nothing.
+
+ghost use Rattle.std.specs.Prelude.{◌≡◌, ℕ, ◌+◌, ◌≤◌, ◌++◌, [], ◌∷◌, length, take, slice_get, Result, Ok, Err, Some};
+ghost use Rattle.spelling.specs.declared.ending.End.{End};
+ghost use Rattle.spelling.specs.declared.ending.End.TheVariants.{Refused, NoMemory};
+ghost use Rattle.willow_entry.specs.Row.{HasCovering, IsCoveringAt};
+ghost use Rattle.ns_state.specs.Log.{values};
+ghost use Rattle.ns_state.specs.Answer.{IsFull};
+ghost use Rattle.ns_state.specs.declared.state.LogFull.{LogFull};
+ghost use Rattle.ns_state.specs.declared.state.Told.{Told};
+ghost use Rattle.ns_state.specs.declared.state.Told.TheVariants.{Stored, Kept};
+ghost use Rattle.ns_cell.specs.declared.limits.TheConstants.{PASS_LIMIT};
+ghost use Rattle.ns_cell.specs.Passes.{PassValue, IsLater};
+ghost use Rattle.ns_cell.specs.Answers.{IsOffered, Call, Makes, offered, place};
+
+use willow_entry::Row;
+
+/// A cell has at most 65,536 passes.
+pub fn limits()
+    ensures { PASS_LIMIT ≡ 65536 }
+{}
+
+/// What each answer to an offer says of what the pass has then seen. Stored: the row stands at the position told, under
+/// the number of the pass, it is the last, and no row before it covers it. Kept: the row at the position told is the row
+/// or dominates it. LogFull: as many rows as a log may have were seen, and none covers the row. But where it was stored
+/// the own list stays.
+pub fn answers<R: Row>()
+    ensures stored { (before after : PassValue R) (row : R) (at : ℕ)
+        → IsOffered R.value before row after (Ok (Stored at))
+        → (slice_get after.seen at ≡ Some (offered before row)) × (length after.seen ≡ at + 1)
+        × (HasCovering (values R.value (take at after.seen)) (R.value row) → ⊥)
+        × (after.own ≡ before.own ++ offered before row ∷ []) }
+    ensures kept { (before after : PassValue R) (row : R) (at : ℕ)
+        → IsOffered R.value before row after (Ok (Kept at))
+        → IsCoveringAt (values R.value after.seen) at (R.value row) × (after.own ≡ before.own) }
+    ensures full { (before after : PassValue R) (row : R) (full : LogFull)
+        → IsOffered R.value before row after (Err (Refused full))
+        → IsFull R.value after.seen row full.front × (after.own ≡ before.own) }
+    ensures no_memory { (before after : PassValue R) (row : R)
+        → IsOffered R.value before row after (Err NoMemory)
+        → after.own ≡ before.own }
+{}
+
+/// Each call of a pass has its place in the one log between what the pass had seen before it and what it has seen after
+/// it, and the places of one pass never fall, whatever it did between two calls.
+pub fn places<R: Row>()
+    ensures between { (before after : PassValue R) (call : Call R)
+        → Makes R.value before call after
+        → (length before.seen ≤ place call after) × (place call after ≤ length after.seen) }
+    ensures rise { (first then next last : PassValue R) (call later_call : Call R)
+        → Makes R.value first call then → IsLater then next → Makes R.value next later_call last
+        → place call then ≤ place later_call last }
+{}
