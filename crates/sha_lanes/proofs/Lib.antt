@@ -1,0 +1,4 @@
+mod OfLanes
+mod OfBytes
+mod ChMaj
+mod Rotations
