@@ -1,4 +1,6 @@
 mod OfLanes
 mod OfBytes
+mod OfSteps
+mod OfChains
 mod ChMaj
 mod Rotations

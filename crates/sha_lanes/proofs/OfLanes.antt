@@ -1,5 +1,5 @@
 -- Operations on vectors, lane by lane.
-use Rattle.std.proofs.Common.{[], ◌≡◌, ℕ, zero, suc, ◌<◌, ◌^◌, List, length, slice_index, get_or, replicate, w32, Fits, ◌∙◌, ap, sym, arith}
+use Rattle.std.proofs.Common.{◌≡◌, ℕ, zero, suc, ◌<◌, ◌^◌, List, length, slice_index, get_or, replicate, w32, Fits, ◌∙◌, ap, sym, arith}
 use Rattle.std.proofs.lemmas.Simd.{get_or-zip2, length-zip2, get_or-replicate, length-replicate, Each1-get_or}
 use Rattle.std.specs.Simd.Lanes.{zip2, Each1}
 use Rattle.std.proofs.lemmas.List.{get_or-map}

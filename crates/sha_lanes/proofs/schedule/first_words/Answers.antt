@@ -1,8 +1,6 @@
-use Rattle.std.proofs.Common.{rules, ◌≡◌, ℕ, [], ◌*◌, arith, inl, inr, sym, subst, get_or}
+use Rattle.std.proofs.Common.{rules, ◌≡◌, [], arith, inl, inr}
 use Rattle.std.proofs.lemmas.List.{get_or-set_same, get_or-set_other}
 use Rattle.std.proofs.lemmas.Bool.{cases_lt}
-use Rattle.sha2.specs.Sha256.{word_at}
-use Rattle.sha_lanes.specs.Lanes.{HasLanes, one_of}
 use Rattle.sha_lanes.proofs.OfBytes.{IsBlock-words}
 use Rattle.sha_lanes.proofs.schedule.first_words.Goals as goal
 
