@@ -2,5 +2,7 @@ mod OfLanes
 mod OfBytes
 mod OfSteps
 mod OfChains
+mod OfMessages
+mod OfWindows
 mod ChMaj
 mod Rotations

@@ -6,6 +6,8 @@ mod compression;
 mod constants;
 mod functions;
 mod loading;
+mod message;
+mod messages;
 mod running;
 mod schedule;
 mod step;
@@ -13,4 +15,6 @@ mod storing;
 mod vectors;
 
 pub use chain::Chain;
+pub use message::Message;
+pub use messages::{sha256_all, sha256_four};
 pub use running::run_chains;

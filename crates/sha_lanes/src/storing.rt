@@ -1,8 +1,8 @@
 //! Digests out of lanes.
 
-ghost use Rattle.std.specs.Prelude.{◌≡◌, ℕ, ◌<◌};
+ghost use Rattle.std.specs.Prelude.{◌≡◌, ◌∷◌, [], ◌<◌};
 ghost use Rattle.sha2.specs.Sha256.{digest_bytes};
-ghost use Rattle.sha_lanes.specs.Lanes.{hash_in, row};
+ghost use Rattle.sha_lanes.specs.Lanes.{hash_in};
 
 use crate::compression::State;
 use std::simd::prelude::*;
@@ -31,7 +31,8 @@ fn digest_in(state: &State, lane: usize) -> [u8; 32]
 
 /// The digests, lane by lane.
 pub(crate) fn digests(state: &State) -> [[u8; 32]; 4]
-    ensures { (l : ℕ) → l < 4 → row result l ≡ digest_bytes (hash_in state.now l) 8 }
+    ensures { result ≡ digest_bytes (hash_in state.now 0) 8 ∷ digest_bytes (hash_in state.now 1) 8
+        ∷ digest_bytes (hash_in state.now 2) 8 ∷ digest_bytes (hash_in state.now 3) 8 ∷ [] }
 {
     [
         digest_in(state, 0),
