@@ -13,6 +13,16 @@ AreAlike-four a b c d eb ec ed = λ i j none low lt.
     let same = in_lanes (λ l. block_count (bytes_of (slice_index_or (a ∷ b ∷ c ∷ d ∷ []) l none)) ≡ block_count (bytes_of a)) refl eb ec ed in
     same i (omega (arith, low, lt)) ∙ sym (same j lt)
 
+pub AreAlike-counts : (messages : List Message) → length messages ≡ 4 → block_count (bytes_of (message_at messages 1)) ≡ block_count (bytes_of (message_at messages 0))
+    → block_count (bytes_of (message_at messages 2)) ≡ block_count (bytes_of (message_at messages 0))
+    → block_count (bytes_of (message_at messages 3)) ≡ block_count (bytes_of (message_at messages 0)) → AreAlike messages
+AreAlike-counts (a ∷ b ∷ c ∷ d ∷ []) long eb ec ed = AreAlike-four a b c d eb ec ed
+AreAlike-counts [] long eb ec ed = absurd (omega (arith, long))
+AreAlike-counts (a ∷ []) long eb ec ed = absurd (omega (arith, long))
+AreAlike-counts (a ∷ b ∷ []) long eb ec ed = absurd (omega (arith, long))
+AreAlike-counts (a ∷ b ∷ c ∷ []) long eb ec ed = absurd (omega (arith, long))
+AreAlike-counts (a ∷ b ∷ c ∷ d ∷ e ∷ more) long eb ec ed = absurd (omega (arith, long))
+
 -- a digest is written
 pub IsHashed-set : (messages : List Message) (digests : List (List ℕ)) (i k : ℕ) (digest : List ℕ) → i < length digests → digest ≡ digest_of (message_at messages i)
     → IsHashed messages digests k → IsHashed messages (slice_set digests i digest) k
