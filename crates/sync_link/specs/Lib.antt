@@ -1,0 +1,4 @@
+pub mod Readers
+pub mod Greetings
+pub mod Places
+pub mod Sessions

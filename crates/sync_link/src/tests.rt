@@ -1,0 +1,4 @@
+#[test]
+fn the_laws_can_be_called() {
+    crate::laws::grows();
+}
