@@ -1,4 +1,5 @@
 #[test]
 fn the_laws_can_be_called() {
+    crate::laws::pieces();
     crate::laws::grows();
 }
