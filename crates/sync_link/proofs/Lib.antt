@@ -1,2 +1,4 @@
 pub mod Seen
 pub mod Spellings
+pub mod Cases
+pub mod Own
