@@ -2,3 +2,4 @@ pub mod Seen
 pub mod Spellings
 pub mod Cases
 pub mod Own
+pub mod Grants

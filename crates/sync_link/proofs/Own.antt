@@ -1,7 +1,7 @@
 -- A side tells only rows that it began with.
 use Rattle.std.proofs.Common.{◌≡◌, ℕ, zero, suc, ◌+◌, ◌-◌, Bool, true, false, cond, not, List, [], ◌∷◌, ◌++◌, map, filter, flat_map, length, get_or, Contains, Option, Some, None, Result, Ok, Err, refl, sym, ap, ◌∙◌, subst}
 use Rattle.std.specs.List.{AllByRecursion, list_any}
-use Rattle.std.proofs.lemmas.List.Elements.{Contains-get_or, recursion_from_All}
+use Rattle.std.proofs.lemmas.List.Elements.{All-contains_itself, recursion_from_All}
 use Rattle.spelling.proofs.Lists.{All-append}
 use Rattle.spelling.specs.Answers.{cause_if}
 use Rattle.willow_area.specs.Boxes.{Ranges}
@@ -54,7 +54,7 @@ all_kept P keep (x ∷ xs) h = by_test (keep x) (all_kept P keep xs h.1)
     by_test false rest = rest
 
 pub all_within : (rows : List RowValue) → AllByRecursion (Contains rows) rows
-all_within rows = recursion_from_All (Contains rows) rows (λ k d within. Contains-get_or rows k d within)
+all_within rows = recursion_from_All (Contains rows) rows (All-contains_itself rows)
 
 -- ---- the items of a turn
 

@@ -68,8 +68,7 @@ module _ (bytes : List ℕ) (h : Hello) (d : Draft) (fits : IsDraft d) (spelled 
         ask_fits = fits.ask_fits;
         capability_fits = t.fits;
         short = subst (λ l. length l ≤ MAX_FRAME) text fits.text_fits.0;
-      } in
-      (
+      } in (
         subst IsHello same made,
         spelled ∙ ap (λ l. draft_spelling (record d { text = l })) text ∙ ap hello_spelling same,
       )

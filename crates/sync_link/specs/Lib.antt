@@ -2,3 +2,4 @@ pub mod Readers
 pub mod Greetings
 pub mod Places
 pub mod Sessions
+pub mod Granting

@@ -1,5 +1,5 @@
 -- The session of a store as a function of its rows and of the bytes that it reads.
-use Rattle.std.specs.Prelude.{ℕ, List}
+use Rattle.std.specs.Prelude.{ℕ, List, Option}
 use Rattle.scheme_core.specs.Rules.{Rules}
 use Rattle.willow_area.specs.Boxes.{Ranges}
 use Rattle.willow_entry.specs.Row.{RowValue}
@@ -11,8 +11,8 @@ use Rattle.sync_hello.specs.declared.hello.Hello.{Hello}
 use Rattle.sync_core.specs.Place.{Place}
 use Rattle.session_rules.specs.Machine.{Machine}
 use Rattle.session_rules.specs.Reading as reading
-use Rattle.session_rules.specs.Greeting.{Own}
-use Rattle.session_rules.specs.Session.{Message, Stage, Cause, session}
+use Rattle.session_rules.specs.Greeting.{Own, common_box}
+use Rattle.session_rules.specs.Session.{Message, Stage, Cause, common_rows, session, SameInCommon}
 use Rattle.sync_link.specs.Greetings.{side_of, greeting}
 use Rattle.sync_link.specs.Places.{places}
 
@@ -65,3 +65,17 @@ got p rows bytes = reading.got (session_of p rows) bytes
 -- begins at an offset; else more is due
 abbrev pub ending : Party → List RowValue → List ℕ → reading.Ending SessionCause
 ending p rows bytes = reading.ending (session_of p rows) bytes
+
+-- ---- what both may read
+
+-- the box of the area that it and one that said this hello have in common, if there is one
+abbrev pub box_with : Party → Hello → Option Ranges
+box_with p hello = common_box (greeting p.rules p.namespace) (own_part p) hello
+
+-- the rows in it
+abbrev pub rows_with : Party → Hello → List RowValue → List RowValue
+rows_with p hello rows = common_rows (greeting p.rules p.namespace) places (own_part p) rows hello
+
+-- by whatever hello passes in front of the bytes, two lists have the same rows in it
+abbrev pub AreSameInCommon : Party → List ℕ → List RowValue → List RowValue → Type 0
+AreSameInCommon p bytes rows others = SameInCommon (greeting p.rules p.namespace) places (own_part p) bytes rows others

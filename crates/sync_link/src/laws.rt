@@ -1,10 +1,17 @@
 //! What holds of sessions. These functions do nothing: each is called, if at all, for its clauses.
 
-ghost use Rattle.std.specs.Prelude.{◌≡◌, ℕ, List, ◌++◌};
+ghost use Rattle.std.specs.Prelude.{◌≡◌, ℕ, List, ◌++◌, All, Contains};
+ghost use Rattle.spelling.specs.Form.{AreBytes};
+ghost use Rattle.willow_area.specs.Area.{IsArea};
+ghost use Rattle.willow_entry.specs.EntryForm.{IsEntry};
 ghost use Rattle.willow_entry.specs.Row.{RowValue};
+ghost use Rattle.sync_msg.specs.Items.{ItemValue};
+ghost use Rattle.sync_msg.specs.declared.item.Item.TheVariants.{Row};
 ghost use Rattle.session_rules.specs.Reading.{start, read, then};
 ghost use Rattle.session_rules.specs.Rounds.{IsFront, IsOver};
-ghost use Rattle.sync_link.specs.Sessions.{Party, session_of, ending, got, out};
+ghost use Rattle.session_rules.specs.Session.{Item};
+ghost use Rattle.sync_link.specs.Sessions.{Party, AreSameInCommon, session_of, ending, got, out, said};
+ghost use Rattle.sync_link.specs.Granting.{IsGranted, GrantsRow};
 
 /// In whatever pieces bytes come, the same comes of them.
 #[tactic(auto, using(session_rules::proofs::Runs::run_append))]
@@ -22,4 +29,23 @@ pub fn grows()
     ensures out_over { (p : Party) (rows : List RowValue) (bytes more : List ℕ) → IsOver (ending p rows bytes) → out p rows (bytes ++ more) ≡ out p rows bytes }
     ensures got_over { (p : Party) (rows : List RowValue) (bytes more : List ℕ) → IsOver (ending p rows bytes) → got p rows (bytes ++ more) ≡ got p rows bytes }
     ensures ending_over { (p : Party) (rows : List RowValue) (bytes more : List ℕ) → IsOver (ending p rows bytes) → ending p rows (bytes ++ more) ≡ ending p rows bytes }
+{}
+
+/// Where a side says an item, be it a row or a fingerprint, what it read begins with the other side's hello and proof: the
+/// hello passes, and the proof is accepted for the receiver of the hello's capability. Each row that it says is one of
+/// those that it has, and what that capability grants includes it.
+pub fn granted()
+    ensures items { (p : Party) (rows : List RowValue) (bytes : List ℕ) (item : ItemValue)
+        → AreBytes bytes → Contains (said p rows bytes) (Item item) → IsGranted p bytes }
+    ensures rows { (p : Party) (rows : List RowValue) (bytes : List ℕ) (row : RowValue)
+        → AreBytes bytes → IsArea p.hello.ask → All (λ r. IsEntry r.entry) rows → Contains (said p rows bytes) (Item (Row row))
+        → (granted : IsGranted p bytes) × (Contains rows row × GrantsRow granted.hello row) }
+{}
+
+/// What a side writes and takes and how it ends is a function of its rows in the area that both may read, of what it brings
+/// besides, and of the bytes that it reads: rows elsewhere change nothing.
+pub fn worlds()
+    ensures out { (p : Party) (rows others : List RowValue) (bytes : List ℕ) → AreSameInCommon p bytes rows others → out p rows bytes ≡ out p others bytes }
+    ensures got { (p : Party) (rows others : List RowValue) (bytes : List ℕ) → AreSameInCommon p bytes rows others → got p rows bytes ≡ got p others bytes }
+    ensures ending { (p : Party) (rows others : List RowValue) (bytes : List ℕ) → AreSameInCommon p bytes rows others → ending p rows bytes ≡ ending p others bytes }
 {}

@@ -2,4 +2,6 @@
 fn the_laws_can_be_called() {
     crate::laws::pieces();
     crate::laws::grows();
+    crate::laws::granted();
+    crate::laws::worlds();
 }
