@@ -3,3 +3,5 @@ pub mod Spellings
 pub mod Cases
 pub mod Own
 pub mod Grants
+pub mod Speaking
+pub mod Heard
