@@ -5,3 +5,4 @@ pub mod Own
 pub mod Grants
 pub mod Speaking
 pub mod Heard
+pub mod TakingTurns
