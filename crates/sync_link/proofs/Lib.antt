@@ -6,3 +6,5 @@ pub mod Grants
 pub mod Speaking
 pub mod Heard
 pub mod TakingTurns
+pub mod Digests
+pub mod ReadingTurns
