@@ -8,3 +8,4 @@ pub mod Heard
 pub mod TakingTurns
 pub mod Digests
 pub mod ReadingTurns
+pub mod CanRead

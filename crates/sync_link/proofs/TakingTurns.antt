@@ -91,22 +91,22 @@ waits_for : (asks : List AskValue) → next_asks (waiting asks) ≡ Some asks
 waits_for [] = refl
 waits_for (ask ∷ asks) = refl
 
-not_finished : (asks : List AskValue) → has_finished (waiting asks) ≡ false
+pub not_finished : (asks : List AskValue) → has_finished (waiting asks) ≡ false
 not_finished [] = refl
 not_finished (ask ∷ asks) = refl
 
 -- ---- a turn that is heard
 
 module _ (role : talk.Role) (begun : List RowValue) (box : Option Ranges) where
-  abbrev hear : Stand Place CoreRefusal → List ItemValue → Move Place ItemValue RowValue CoreRefusal
+  abbrev pub hear : Stand Place CoreRefusal → List ItemValue → Move Place ItemValue RowValue CoreRefusal
   hear q items = run (taken (side role begun box) item_spelling) q items
 
-  hears_some : (place last : Place) (at : ℕ) (items : List ItemValue) → 0 < length items → hears place items ≡ Ok last
+  pub hears_some : (place last : Place) (at : ℕ) (items : List ItemValue) → 0 < length items → hears place items ≡ Ok last
       → (end : ℕ) × (hear (Waits place at []) items ≡ answers_to end last (rows_told items))
   hears_some place last at [] some e = absurd (omega arith)
   hears_some place last at (item ∷ items) some e = hears_all role begun box place last at item items e
 
-  some_items : (t : TurnValue) → 0 < length (turn_items t)
+  pub some_items : (t : TurnValue) → 0 < length (turn_items t)
   some_items t = omega (arith, length-append (flat_map items_of t.items) (cond t.ends_with_bye Bye EndTurn ∷ []))
 
   module _ (rows : List RowValue) (rise : IsStrictlySortedBy inner_place_cmp rows) (place : Place) (at : ℕ) (t : TurnValue) (told : IsToldTurn t) (same : place.rows ≡ rows) where

@@ -3,3 +3,4 @@ pub mod Greetings
 pub mod Places
 pub mod Sessions
 pub mod Granting
+pub mod Settling
