@@ -1,5 +1,5 @@
 -- Each side of an exchange can read the items of the other's turns.
-use Rattle.std.proofs.Common.{◌≡◌, ℕ, zero, suc, ◌≤◌, Bool, true, false, cond, List, [], ◌∷◌, ◌++◌, length, flat_map, Option, Some, None, refl, sym, ap, ◌∙◌, subst, arith}
+use Rattle.std.proofs.Common.{◌≡◌, ℕ, ◌≤◌, Bool, true, false, cond, List, [], ◌∷◌, ◌++◌, length, flat_map, Option, Some, None, refl, sym, ap, ◌∙◌, subst}
 use Rattle.std.specs.List.{AllByRecursion}
 use Rattle.std.specs.List.Sorted.{IsStrictlySortedBy}
 use Rattle.willow_area.specs.Boxes.{Ranges}
@@ -18,7 +18,7 @@ use Rattle.sync_core.specs.Runs.{says_all, SayTurns}
 use Rattle.sync_core.proofs.OneByOne.{says_nothing, says_turn_first}
 use Rattle.sync_core.proofs.TwoSides.{says_whole, say_exchange}
 use Rattle.session_rules.specs.Machine.{Machine}
-use Rattle.session_rules.specs.Reading.{Stand, Waits, Over, Move, run, stepped}
+use Rattle.session_rules.specs.Reading.{Stand, Waits, Over, run, stepped}
 use Rattle.session_rules.specs.Messages.{taken, CanReadAll}
 use Rattle.session_rules.specs.Talk as talk
 use Rattle.session_rules.specs.Talk.{answered}
@@ -26,7 +26,7 @@ use Rattle.session_rules.specs.Turns.{CanReadTurns}
 use Rattle.sync_link.specs.Places.{has_finished, places}
 use Rattle.sync_link.proofs.Speaking.{spoken_as}
 use Rattle.sync_link.proofs.Heard.{rows_told, side, reads_all}
-use Rattle.sync_link.proofs.TakingTurns.{by_items, hears_some, some_items, not_finished}
+use Rattle.sync_link.proofs.TakingTurns.{by_items, hears_some, some_items}
 use Rattle.sync_link.proofs.ReadingTurns.{IsSendable, AreReadableTurns, readable_exchange}
 
 abbrev Side : Type 0
@@ -108,7 +108,7 @@ module _ (rows others : List RowValue) (up : IsStrictlySortedBy inner_place_cmp 
       let reads = read_turns ts (record { role = talk.Caller; rows = rows; box = box }) (record { role = talk.Answerer; rows = others; box = box }) caller answerer
       (say_exchange rows others up down few few' box) (readable_exchange rows others few few' fit fit' box) in
       let begins : stands_at 0 (says_all caller).1 ≡ Waits (talk.spoken places caller).1 0 [] =
-          ap (λ b. cond b Over (Waits (says_all caller).1 0 [])) (goes_on_from box) ∙ ap (λ s. Waits s.1 0 []) (sym (spoken_as caller)) in
+      ap (λ b. cond b Over (Waits (says_all caller).1 0 [])) (goes_on_from box) ∙ ap (λ s. Waits s.1 0 []) (sym (spoken_as caller)) in
       let awaits : Waits answerer 0 [] ≡ Waits (talk.spoken places answerer).1 0 [] = ap (λ s. Waits s.1 0 []) (sym (spoken_as answerer ∙ says_nothing answerer (λ e. cc))) in
       record {
         caller_can = subst (λ q. CanReadAll (side talk.Caller rows box) item_spelling q (flat (answerer_turns ts))) begins (reads.saying 0);

@@ -1,5 +1,5 @@
 -- The cases of an item that a side reads.
-use Rattle.std.proofs.Common.{◌≡◌, ℕ, ◌+◌, ◌-◌, Bool, true, false, cond, nat_le, List, [], ◌∷◌, ◌++◌, Option, Some, None, Result, Ok, Err, refl, ap}
+use Rattle.std.proofs.Common.{◌≡◌, ℕ, ◌+◌, Bool, true, false, cond, nat_le, List, [], ◌∷◌, Option, Some, None, Result, Ok, Err, refl}
 use Rattle.willow_area.specs.Boxes.{Ranges}
 use Rattle.willow_area.specs.declared.cut.CutAt.{CutAt}
 use Rattle.willow_entry.specs.Row.{RowValue}
@@ -10,7 +10,7 @@ use Rattle.sync_msg.specs.declared.refusal.CoreRefusal.{CoreRefusal}
 use Rattle.sync_msg.specs.declared.refusal.CoreRefusal.TheVariants.{BadCut, ItemMismatch, EntryOutside, RowsOutOfOrder, TooManyItems}
 use Rattle.sync_core.specs.Flat.{AskValue}
 use Rattle.sync_core.specs.Place.{Doing, Saying, Replying, Beginning, Hearing, HearingRows, Parting, Finished, Refused, Place, most_items, answering}
-use Rattle.sync_core.specs.Steps.{count_one, hearing_rows, row_heard, cut_heard, head_heard, end_heard, turn_heard, first_heard, due_heard, bye_heard, next_heard, items_with, heard_within, heard}
+use Rattle.sync_core.specs.Steps.{count_one, hearing_rows, row_heard, cut_heard, head_heard, end_heard, first_heard, due_heard, bye_heard, next_heard, items_with, heard_within, heard}
 
 -- what is owed of each item that may come, and of one that may not
 pub record AreCases (area : Option Ranges) (rows : List RowValue) (P : Doing → ItemValue → Result Doing CoreRefusal → Type 0) : Type 0 where

@@ -1,10 +1,9 @@
 -- A side tells anything of its rows only to one that may read them.
-use Rattle.std.proofs.Common.{◌≡◌, ℕ, Bool, true, false, List, ◌++◌, All, Contains, Option, Some, None, option_map, filter, append_assoc, refl, sym, ap, ◌∙◌, subst}
+use Rattle.std.proofs.Common.{◌≡◌, ℕ, Bool, true, List, ◌++◌, All, Contains, Option, Some, None, option_map, filter, refl, ap, ◌∙◌, subst}
 use Rattle.std.specs.Prelude.{IsTrue}
 use Rattle.std.proofs.lemmas.List.Elements.{All-contains}
 use Rattle.spelling.specs.Form.{AreBytes}
 use Rattle.spelling.proofs.Lists.{All-left, All-right}
-use Rattle.scheme_core.specs.Rules.{Rules}
 use Rattle.willow_area.specs.Area.{IsArea, IsTriple, in_area, meet_area}
 use Rattle.willow_area.specs.AreaBox.{area_box}
 use Rattle.willow_area.specs.Boxes.{Ranges}
@@ -14,9 +13,8 @@ use Rattle.willow_area.proofs.Meeting.{meet_area-some, meet_area-fits}
 use Rattle.willow_entry.specs.EntryForm.{IsEntry}
 use Rattle.willow_entry.specs.Row.{RowValue}
 use Rattle.willow_entry.proofs.Members.{contains_from_member, member_from_contains, filter_member}
-use Rattle.block_store.specs.InBox.{is_in, rows_in}
-use Rattle.mc_cap.specs.Grant.{granted, receiver_of}
-use Rattle.mc_cap.specs.Signature.{signature_spelling}
+use Rattle.block_store.specs.InBox.{is_in}
+use Rattle.mc_cap.specs.Grant.{receiver_of}
 use Rattle.sync_msg.specs.Items.{ItemValue}
 use Rattle.sync_msg.specs.declared.item.Item.TheVariants.{Row}
 use Rattle.sync_msg.specs.declared.role.Role.{Role}
@@ -30,7 +28,7 @@ use Rattle.sync_hello.proofs.Meaning.{passes}
 use Rattle.sync_hello.proofs.Granting.{asks_within}
 use Rattle.sync_core.proofs.Telling.{no_cause}
 use Rattle.session_rules.specs.Greeting.{IsGreeted, other_refusal, common_box, caller_of, answerer_of}
-use Rattle.session_rules.specs.Session.{Item, common_rows, exchange_with}
+use Rattle.session_rules.specs.Session.{Item, common_rows}
 use Rattle.session_rules.specs.Talk as talk
 use Rattle.session_rules.proofs.Members.{none_in}
 use Rattle.session_rules.proofs.Sessions.{items_granted}
@@ -91,7 +89,7 @@ kept_from keep rows row c =
     let m = filter_member keep rows row (member_from_contains (filter keep rows) row c) in
     (contains_from_member rows row m.0, m.1)
 
-in_rows : (rows : List RowValue) (box : Option Ranges) (row : RowValue) → Contains (talk.rows_in places box rows) row → Contains rows row
+pub in_rows : (rows : List RowValue) (box : Option Ranges) (row : RowValue) → Contains (talk.rows_in places box rows) row → Contains rows row
 in_rows rows None row c = absurd (none_in row c)
 in_rows rows (Some box) row c = (kept_from (is_in box) rows row c).0
 

@@ -1,12 +1,11 @@
 -- What comes of items that a side of a session hears, one after the other.
-use Rattle.std.proofs.Common.{◌≡◌, ℕ, ◌+◌, Bool, true, false, cond, List, [], ◌∷◌, ◌++◌, length, filter_map, append-nil, Option, Some, None, Result, Ok, Err, option_to_list, refl, sym, ap, ◌∙◌, subst}
+use Rattle.std.proofs.Common.{◌≡◌, ℕ, ◌+◌, Bool, true, false, List, [], ◌∷◌, ◌++◌, length, filter_map, append-nil, Option, Some, None, Result, Ok, Err, option_to_list, refl, sym, ap, ◌∙◌, subst}
 use Rattle.std.specs.Prelude.{IsOk}
 use Rattle.std.specs.List.{AllByRecursion, cons_option}
 use Rattle.willow_area.specs.Boxes.{Ranges}
 use Rattle.willow_entry.specs.Frame.{HasFrame}
 use Rattle.willow_entry.specs.Row.{RowValue}
 use Rattle.cap_codec.specs.Rows.{IsRawRow}
-use Rattle.exchange_rules.specs.Items as rules
 use Rattle.sync_msg.specs.Items.{ItemValue, IsHead, item_spelling}
 use Rattle.sync_msg.specs.declared.item.Item.TheVariants.{First, Agree, Split, Entries, Rest, Row, EndTurn, Bye}
 use Rattle.sync_msg.specs.declared.refusal.CoreRefusal.{CoreRefusal}
@@ -18,7 +17,7 @@ use Rattle.sync_core.specs.Steps.{heard}
 use Rattle.sync_core.specs.Runs.{heard_from, hears, says_all}
 use Rattle.sync_core.proofs.OneByOne.{says_nothing, hears_first_item, reads_to_hear}
 use Rattle.session_rules.specs.Machine.{Machine}
-use Rattle.session_rules.specs.Reading.{Stand, Waits, Over, Move, stay, then, stepped, run}
+use Rattle.session_rules.specs.Reading.{Stand, Waits, Move, stay, then, stepped, run}
 use Rattle.session_rules.specs.Messages.{IsReadAs, taken, CanReadAll}
 use Rattle.session_rules.specs.Talk as talk
 use Rattle.session_rules.specs.Talk.{Role, answered, item_heard}
@@ -163,11 +162,10 @@ module _ (role : Role) (begun : List RowValue) (box : Option Ranges) where
   unfolding run hears
   hears_all place last at item [] e =
       let end = at + length (item_spelling item) in
-      let m = taken side item_spelling (Waits place at []) item in
-      (
+      let m = taken side item_spelling (Waits place at []) item in (
         end,
         alone m ∙ one_heard place last at item (only_one place last item (heard place item) refl e)
-        ∙ ap (λ l. answers_to end last l) (sym (append-nil (option_to_list (row_in item))) ∙ first_told (row_in item) []),
+            ∙ ap (λ l. answers_to end last l) (sym (append-nil (option_to_list (row_in item))) ∙ first_told (row_in item) []),
       )
   hears_all place last at item (other ∷ items) e =
       let first = hears_first_item place item (other ∷ items) (subst IsOk (sym e) refl) in
@@ -176,12 +174,11 @@ module _ (role : Role) (begun : List RowValue) (box : Option Ranges) where
       let second = hears_first_item next other items (subst IsOk (sym rest) refl) in
       let reads = reads_to_hear next other (subst IsOk (sym second.first) refl) in
       let on = on_heard place next at item first.first reads in
-      let later = hears_all next last (at + length (item_spelling item)) other items rest in
-      (
+      let later = hears_all next last (at + length (item_spelling item)) other items rest in (
         later.0,
         ap (λ m. then m (hear m.stand (other ∷ items))) on
-        ∙ ap (then (record { stand = Waits next (at + length (item_spelling item)) []; says = []; rows = option_to_list (row_in item) })) later.1
-        ∙ told_behind later.0 (has_finished (says_all last).1.doing) (says_all last) (row_in item) (rows_told (other ∷ items)) (Waits next (at + length (item_spelling item)) []),
+            ∙ ap (then (record { stand = Waits next (at + length (item_spelling item)) []; says = []; rows = option_to_list (row_in item) })) later.1
+            ∙ told_behind later.0 (has_finished (says_all last).1.doing) (says_all last) (row_in item) (rows_told (other ∷ items)) (Waits next (at + length (item_spelling item)) []),
       )
 
   -- and each of them is read
@@ -195,8 +192,7 @@ module _ (role : Role) (begun : List RowValue) (box : Option Ranges) where
       let rest : hears next (other ∷ items) ≡ Ok last = sym first.rest ∙ e in
       let second = hears_first_item next other items (subst IsOk (sym rest) refl) in
       let reads = reads_to_hear next other (subst IsOk (sym second.first) refl) in
-      let on = on_heard place next at item first.first reads in
-      (
+      let on = on_heard place next at item first.first reads in (
         reads_it place next item first.first f.0,
         subst (λ m. CanReadAll side item_spelling m.stand (other ∷ items)) (sym on) (reads_all next last (at + length (item_spelling item)) (other ∷ items) rest f.1),
       )

@@ -9,3 +9,4 @@ pub mod TakingTurns
 pub mod Digests
 pub mod ReadingTurns
 pub mod CanRead
+pub mod Settled

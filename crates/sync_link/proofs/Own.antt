@@ -1,5 +1,5 @@
 -- A side tells only rows that it began with.
-use Rattle.std.proofs.Common.{◌≡◌, ℕ, zero, suc, ◌+◌, ◌-◌, Bool, true, false, cond, not, List, [], ◌∷◌, ◌++◌, map, filter, flat_map, length, get_or, Contains, Option, Some, None, Result, Ok, Err, refl, sym, ap, ◌∙◌, subst}
+use Rattle.std.proofs.Common.{◌≡◌, ℕ, zero, suc, ◌+◌, ◌-◌, Bool, true, false, cond, not, List, [], ◌∷◌, ◌++◌, map, filter, flat_map, Contains, Option, Some, None, Result, Ok, Err, refl, sym, ap, subst}
 use Rattle.std.specs.List.{AllByRecursion, list_any}
 use Rattle.std.proofs.lemmas.List.Elements.{All-contains_itself, recursion_from_All}
 use Rattle.spelling.proofs.Lists.{All-append}
@@ -10,25 +10,23 @@ use Rattle.willow_area.specs.declared.cut.CutAt.{CutAt}
 use Rattle.willow_entry.specs.Row.{RowValue, same_row}
 use Rattle.block_store.specs.InBox.{is_in, rows_in}
 use Rattle.exchange_rules.specs.Items as rules
-use Rattle.exchange_rules.specs.Answer.{lacking, reply, turn, opened}
-use Rattle.exchange_rules.specs.Exchange.{first_turn}
+use Rattle.exchange_rules.specs.Answer.{lacking, reply, turn}
 use Rattle.exchange_rules.proofs.Replies.{reply_cases}
 use Rattle.sync_msg.specs.Items.{ItemValue}
-use Rattle.sync_msg.specs.declared.item.Item.TheVariants.{First, Agree, Split, Entries, Rest, Row, EndTurn, Bye}
+use Rattle.sync_msg.specs.declared.item.Item.TheVariants.{Row, EndTurn, Bye}
 use Rattle.sync_msg.specs.declared.refusal.CoreRefusal.{CoreRefusal}
 use Rattle.sync_msg.specs.declared.refusal.CoreRefusal.TheVariants.{BadCut, ItemMismatch}
 use Rattle.sync_core.specs.SyncRules.{sync_rules}
 use Rattle.sync_core.specs.Flat.{AskValue, TurnValue, split_items, items_of, turn_items}
-use Rattle.sync_core.specs.Place.{Doing, Saying, Replying, Beginning, Hearing, HearingRows, Parting, Finished, Refused, Place, answering, saying, first_doing}
+use Rattle.sync_core.specs.Place.{Doing, Saying, Replying, Beginning, Hearing, HearingRows, Parting, Finished, Refused, Place, answering, first_doing}
 use Rattle.sync_core.specs.Steps.{count_one, hearing_rows, remembered, box_of, row_cause, unless, waiting, going_on, next_said, said_at, said, next_heard, heard}
-use Rattle.session_rules.specs.Talk as talk
 use Rattle.session_rules.specs.Talk.{TellsOwn}
 use Rattle.session_rules.proofs.Holding.{IsOwn, own_told}
 use Rattle.sync_msg.specs.declared.role.Role.{Role}
 use Rattle.sync_msg.specs.declared.role.Role.TheVariants.{Caller, Answerer}
 use Rattle.sync_link.specs.Greetings.{role_of}
 use Rattle.sync_link.specs.Places.{places}
-use Rattle.sync_link.proofs.Cases.{AreCases, by_cases, IsHeardTo, heard_as}
+use Rattle.sync_link.proofs.Cases.{AreCases, by_cases, heard_as}
 
 -- ---- small steps
 

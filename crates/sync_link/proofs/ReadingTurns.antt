@@ -1,10 +1,9 @@
 -- The items of the turns of an exchange are read as what they are.
-use Rattle.std.proofs.Common.{◌≡◌, ℕ, zero, suc, ◌+◌, ◌/◌, ◌≤◌, ◌<◌, Bool, true, false, cond, not, List, [], ◌∷◌, ◌++◌, map, filter, flat_map, length, get_or, Contains, All, append_assoc, Option, Some, None, Result, Ok, Err, refl, sym, ap, ◌∙◌, subst, arith}
-use Rattle.std.specs.Prelude.{option_map, IsOkAnd}
+use Rattle.std.proofs.Common.{◌≡◌, ℕ, zero, suc, ◌/◌, ◌≤◌, Bool, true, false, cond, not, List, [], ◌∷◌, map, flat_map, length, get_or, Option, Some, None, refl, subst, arith}
+use Rattle.std.specs.Prelude.{option_map}
 use Rattle.std.specs.Option.{option_map_or}
 use Rattle.std.specs.Ordering.{is_gt}
 use Rattle.std.specs.List.{AllByRecursion, list_any}
-use Rattle.std.specs.List.Sorted.{IsStrictlySortedBy}
 use Rattle.std.proofs.lemmas.List.Elements.{All-contains, All-from_recursion}
 use Rattle.spelling.specs.Spelling.{AreSoManyBytes}
 use Rattle.spelling.proofs.Lists.{All-append}
@@ -13,7 +12,7 @@ use Rattle.willow_area.specs.Boxes.{Ranges}
 use Rattle.willow_area.specs.declared.cut.CutAt.{CutAt}
 use Rattle.willow_entry.specs.Entry.{bytes_cmp}
 use Rattle.willow_entry.specs.Frame.{HasFrame}
-use Rattle.willow_entry.specs.Row.{RowValue, inner_place_cmp, same_row}
+use Rattle.willow_entry.specs.Row.{RowValue, same_row}
 use Rattle.cap_codec.specs.Rows.{IsRawRow}
 use Rattle.block_store.specs.InBox.{is_in, rows_in}
 use Rattle.range_split.specs.Points.{Points, by_subspace, by_path, cuts_at}
@@ -26,10 +25,8 @@ use Rattle.exchange_rules.specs.Items.{caller_turns, answerer_turns}
 use Rattle.exchange_rules.specs.Answer.{lacking, reply, turn, opened}
 use Rattle.exchange_rules.specs.Exchange.{turns, enough, exchange, first_asks}
 use Rattle.exchange_rules.proofs.Replies.{reply_cases}
-use Rattle.exchange_rules.proofs.Potentials.{caller_turns-cons}
-use Rattle.sync_msg.specs.Items.{ItemValue, IsCut, item_spelling}
+use Rattle.sync_msg.specs.Items.{ItemValue, IsCut}
 use Rattle.sync_msg.specs.declared.item.Item.TheVariants.{Row, EndTurn, Bye}
-use Rattle.sync_msg.specs.declared.refusal.CoreRefusal.{CoreRefusal}
 use Rattle.sync_core.specs.declared.stage.TheConstants.{SNAPSHOT_MAX}
 use Rattle.sync_core.specs.SyncRules.{sync_rules}
 use Rattle.sync_core.specs.Flat.{AskValue, TurnValue, split_items, items_of, turn_items}

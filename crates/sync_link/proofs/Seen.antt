@@ -1,5 +1,5 @@
 -- What bytes are by readers that go by spellings.
-use Rattle.std.proofs.Common.{◌≡◌, ℕ, ◌<◌, List, [], ◌∷◌, ◌++◌, length, append-nil, Option, Some, None, refl, sym, ap, ◌∙◌, arith}
+use Rattle.std.proofs.Common.{◌≡◌, ℕ, ◌<◌, List, [], ◌∷◌, ◌++◌, length, append-nil, Option, Some, None, refl, sym, ap, ◌∙◌}
 use Rattle.spelling.specs.Front.{Front}
 use Rattle.spelling.specs.Front as front
 use Rattle.spelling.specs.Form.{AreBytes}

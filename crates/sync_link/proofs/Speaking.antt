@@ -1,5 +1,5 @@
 -- What a side says until it reads: it is all that there is to say.
-use Rattle.std.proofs.Common.{◌≡◌, ℕ, zero, suc, ◌+◌, List, [], Option, Some, None, refl, sym, ap, ◌∙◌, subst, arith}
+use Rattle.std.proofs.Common.{◌≡◌, ℕ, zero, suc, [], Option, Some, None, refl, ap, ◌∙◌, arith}
 use Rattle.sync_msg.specs.Items.{ItemValue}
 use Rattle.sync_core.specs.Place.{Place}
 use Rattle.sync_core.specs.Steps.{said}

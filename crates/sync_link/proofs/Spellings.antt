@@ -1,14 +1,13 @@
 -- Hellos, proofs and items are read as what they spell, and bytes that are one spell it.
-use Rattle.std.proofs.Common.{◌≡◌, ℕ, ◌+◌, ◌≤◌, ◌<◌, List, [], ◌∷◌, ◌++◌, length, append-nil, Option, Some, None, refl, sym, ap, ◌∙◌, subst, arith, length-append}
+use Rattle.std.proofs.Common.{◌≡◌, ℕ, ◌≤◌, ◌<◌, List, [], ◌∷◌, ◌++◌, length, append-nil, Option, Some, None, refl, sym, ap, ◌∙◌, subst, arith, length-append}
 use Rattle.std.specs.Prelude.{option_map}
 use Rattle.std.specs.Int.{w16, w32, to_be_bytes}
 use Rattle.spelling.specs.Front.{Front}
 use Rattle.spelling.specs.Front as front
 use Rattle.spelling.specs.Form.{AreBytes}
-use Rattle.spelling.specs.Spelling.{text_spelling}
 use Rattle.spelling.proofs.Joining.{alone}
 use Rattle.spelling.proofs.Fields.{wide16, wide32}
-use Rattle.mc_cap.specs.Forms.{capability_spelling, IsCapability}
+use Rattle.mc_cap.specs.Forms.{capability_spelling}
 use Rattle.mc_cap.specs.Signature.{signature_spelling, IsSignature}
 use Rattle.mc_cap.specs.declared.capability.Capability.{Capability}
 use Rattle.willow_entry.specs.EntryForm.{entry_spelling}
@@ -16,22 +15,20 @@ use Rattle.willow_entry.specs.Frame.{row_frame, HasFrame}
 use Rattle.willow_entry.specs.declared.frame.TheConstants.{MAX_FRAME}
 use Rattle.willow_entry.specs.Row.{RowValue}
 use Rattle.willow_entry.specs.RowBody.{row_body}
-use Rattle.cap_codec.specs.Reading.{capability_at, signature_at, raw_at}
-use Rattle.cap_codec.specs.Rows.{RawValue, IsRaw, IsRawRow, raw_spelling, row_of}
+use Rattle.cap_codec.specs.Reading.{capability_at}
+use Rattle.cap_codec.specs.Rows.{RawValue, IsRawRow, row_of}
 use Rattle.cap_codec.proofs.CapReads.{capability-reads}
 use Rattle.cap_codec.proofs.FormReads.{signature-reads}
 use Rattle.cap_codec.proofs.RowReads.{raw-reads}
-use Rattle.sync_msg.specs.Items.{ItemValue, item_spelling, IsHead, IsRowItem}
-use Rattle.sync_msg.specs.ItemReading.{body_at}
+use Rattle.sync_msg.specs.Items.{ItemValue, item_spelling, IsHead}
 use Rattle.sync_msg.specs.declared.item.Item.TheVariants.{First, Agree, Split, Entries, Rest, Row, EndTurn, Bye}
 use Rattle.sync_msg.proofs.HeadReads.{head-reads}
 use Rattle.sync_hello.specs.HelloForm.{Draft, IsDraft, draft_of, draft_spelling, hello_spelling, IsHello}
-use Rattle.sync_hello.specs.HelloReading.{draft_at}
 use Rattle.sync_hello.specs.declared.hello.Hello.{Hello}
 use Rattle.sync_hello.proofs.HelloReads.{IsLoose, loose-reads, draft-reads, short-reads}
 use Rattle.session_rules.specs.Machine.{Whole}
 use Rattle.session_rules.specs.Messages.{IsReadAs}
-use Rattle.sync_link.specs.Readers.{all_seen, all_read, judged_whole, hello_with, hello_drafted, hello_seen, proof_seen, row_spelled, row_seen, head_seen, item_seen}
+use Rattle.sync_link.specs.Readers.{all_read, hello_with, hello_drafted, hello_seen, proof_seen, row_spelled, row_seen, head_seen}
 use Rattle.sync_link.proofs.Seen.{read_as, read_back, judged_as, judged_back}
 
 -- ---- what all of some bytes spell

@@ -1,10 +1,10 @@
 -- Two sides of sessions take the turns of the exchange of their rows.
-use Rattle.std.proofs.Common.{◌≡◌, ℕ, zero, suc, ◌+◌, ◌*◌, ◌≤◌, ◌<◌, max, Bool, true, false, cond, List, [], ◌∷◌, ◌++◌, length, flat_map, filter_map, length-append, Option, Some, None, Result, Ok, Err, refl, sym, ap, ap₂, ◌∙◌, subst, arith}
+use Rattle.std.proofs.Common.{◌≡◌, ℕ, ◌+◌, ◌≤◌, ◌<◌, true, false, cond, List, [], ◌∷◌, length, flat_map, length-append, Option, Some, None, Ok, refl, sym, ap, ◌∙◌, subst, arith}
 use Rattle.std.specs.List.Sorted.{IsStrictlySortedBy}
 use Rattle.willow_area.specs.Boxes.{Ranges}
 use Rattle.willow_area.specs.declared.cut.CutAt.{CutAt}
 use Rattle.willow_entry.specs.Row.{RowValue, inner_place_cmp}
-use Rattle.exchange_rules.specs.Items.{bye, rows_of_turn, counted as count_of_items}
+use Rattle.exchange_rules.specs.Items.{bye, counted as count_of_items}
 use Rattle.exchange_rules.specs.Answer.{turn, opened}
 use Rattle.exchange_rules.specs.Exchange.{exchange, first_turn, first_asks}
 use Rattle.exchange_rules.proofs.Meeting.{read_turn}
@@ -14,13 +14,11 @@ use Rattle.sync_msg.specs.declared.item.Item.TheVariants.{EndTurn, Bye}
 use Rattle.sync_msg.specs.declared.role.Role.TheVariants as roles
 use Rattle.sync_msg.specs.declared.refusal.CoreRefusal.{CoreRefusal}
 use Rattle.sync_core.specs.declared.stage.TheConstants.{SNAPSHOT_MAX}
-use Rattle.sync_core.specs.declared.stage.Stage.TheVariants as stage
 use Rattle.sync_core.specs.SyncRules.{sync_rules}
 use Rattle.sync_core.specs.Flat.{AskValue, TurnValue, items_of, turn_items, IsToldTurn}
-use Rattle.sync_core.specs.Place.{Doing, Saying, Replying, Beginning, Hearing, HearingRows, Parting, Finished, Refused, Place, most_items, saying, answering, first_place, stage_of}
+use Rattle.sync_core.specs.Place.{Doing, Saying, Replying, Beginning, Hearing, HearingRows, Parting, Finished, Refused, Place, most_items, saying, answering, first_place}
 use Rattle.sync_core.specs.Steps.{waiting}
-use Rattle.sync_core.specs.Held.{to_count}
-use Rattle.sync_core.specs.Runs.{says, says_all, hears, HasRoom, place_after, place_behind, replying}
+use Rattle.sync_core.specs.Runs.{hears, HasRoom, place_after, place_behind}
 use Rattle.sync_core.proofs.Lawful.{disjoint, can_cut_rows, can_send}
 use Rattle.sync_core.proofs.OneByOne.{says_nothing}
 use Rattle.sync_core.proofs.SpelledTurns.{told_turn}
@@ -28,12 +26,12 @@ use Rattle.sync_core.proofs.Telling.{rows_in-le}
 use Rattle.sync_core.proofs.TurnItems.{rows_in_turn, turn_count}
 use Rattle.sync_core.proofs.TurnsCounted.{hears_turn, hears_first, hears_first_bye, hears_last_bye}
 use Rattle.sync_core.proofs.TwoSides.{says_whole, says_bye}
-use Rattle.session_rules.specs.Reading.{Stand, Waits, Over, Move, stay, stepped, run, start}
+use Rattle.session_rules.specs.Reading.{Stand, Waits, Over, Move, stay, stepped, run}
 use Rattle.session_rules.specs.Messages.{taken}
 use Rattle.session_rules.specs.Talk as talk
 use Rattle.session_rules.specs.Talk.{answered}
-use Rattle.session_rules.specs.Turns.{View, Hearing as IsHearing, HearingAt, Answered, Replies, GoesOn, opening_turn, opening_asks, Begins, Awaits, TakeTurns}
-use Rattle.sync_link.specs.Places.{has_finished, places}
+use Rattle.session_rules.specs.Turns.{View, Hearing as IsHearing, HearingAt, Replies, GoesOn, opening_turn, opening_asks, Begins, Awaits, TakeTurns}
+use Rattle.sync_link.specs.Places.{has_finished}
 use Rattle.sync_link.proofs.Speaking.{spoken_as}
 use Rattle.sync_link.proofs.Heard.{rows_told, answers_to, side, hears_all}
 
@@ -120,7 +118,7 @@ module _ (role : talk.Role) (begun : List RowValue) (box : Option Ranges) where
         let behind = place_behind place t [] in
         let said = says_bye behind refl in
         let all : told_items ≡ stepped end (answered true (Bye ∷ [], record behind { sent = behind.sent + 0; doing = Finished }) (rows_told (turn_items t))) =
-            is ∙ ap (λ s. stepped end (answered (has_finished s.1.doing) s (rows_told (turn_items t)))) said in
+        is ∙ ap (λ s. stepped end (answered (has_finished s.1.doing) s (rows_told (turn_items t)))) said in
         record { says = ap (λ m. m.says) all; takes = ap (λ m. m.rows) all ∙ rows_in_turn t; stands = ap (λ m. m.stand) all }
     reply_by (ask ∷ asks) end is =
         let opens : List AskValue = ask ∷ asks in
@@ -130,11 +128,11 @@ module _ (role : talk.Role) (begun : List RowValue) (box : Option Ranges) where
         let doing : behind.doing ≡ saying own next = ap (λ l. answering l opens) same in
         let after = place_after behind own next in
         let all : told_items ≡ stepped end (answered false (turn_items own, after) (rows_told (turn_items t))) =
-            is
-            ∙ ap (λ s. stepped end (answered (has_finished s.1.doing) s (rows_told (turn_items t)))) (says_whole behind own next doing)
-            ∙ ap (λ b. stepped end (answered b (turn_items own, after) (rows_told (turn_items t)))) (not_finished next) in
+        is
+        ∙ ap (λ s. stepped end (answered (has_finished s.1.doing) s (rows_told (turn_items t)))) (says_whole behind own next doing)
+        ∙ ap (λ b. stepped end (answered b (turn_items own, after) (rows_told (turn_items t)))) (not_finished next) in
         let now : IsHearing by_items rows next (place.sent + place.read + length t.items + length own.items) (most_items place.area place.rows) after =
-            record { has = same; hears = waits_for next; so_many = omega (arith, turn_count t told, turn_count own (told_turn rows rise opens)); so_many_may = refl } in
+        record { has = same; hears = waits_for next; so_many = omega (arith, turn_count t told, turn_count own (told_turn rows rise opens)); so_many_may = refl } in
         let P : Move Place ItemValue RowValue CoreRefusal → Type 0 = λ m. HearingAt by_items rows next (place.sent + place.read + length t.items + length own.items) (most_items place.area place.rows) m.stand in
         record { says = ap (λ m. m.says) all; takes = ap (λ m. m.rows) all ∙ rows_in_turn t; stands = subst P (sym all) now }
 
@@ -195,8 +193,8 @@ module _ (rows others : List RowValue) (up : IsStrictlySortedBy inner_place_cmp 
       let place = first_place roles.Answerer others box in
       let said = spoken_as place ∙ says_nothing place (λ e. cc) in
       let P : List ItemValue × Place → Type 0 = λ s.
-          Replies by_items sync_rules others (opening_turn sync_rules rows box) (opening_asks sync_rules rows box) 0 (most_items box others)
-          (run (taken (side talk.Answerer others box) item_spelling) (Waits s.1 0 []) (turn_items (opening_turn sync_rules rows box))) in
+      Replies by_items sync_rules others (opening_turn sync_rules rows box) (opening_asks sync_rules rows box) 0 (most_items box others)
+      (run (taken (side talk.Answerer others box) item_spelling) (Waits s.1 0 []) (turn_items (opening_turn sync_rules rows box))) in
       record { silent = ap (λ s. s.0) said; replies = subst P (sym said) (first_replies box) }
     where
       first_replies : (box : Option Ranges)

@@ -1,17 +1,22 @@
 //! What holds of sessions. These functions do nothing: each is called, if at all, for its clauses.
 
-ghost use Rattle.std.specs.Prelude.{◌≡◌, ℕ, List, ◌++◌, All, Contains};
+ghost use Rattle.std.specs.Prelude.{◌≡◌, ℕ, List, ◌++◌, All, Contains, None};
 ghost use Rattle.spelling.specs.Form.{AreBytes};
 ghost use Rattle.willow_area.specs.Area.{IsArea};
 ghost use Rattle.willow_entry.specs.EntryForm.{IsEntry};
-ghost use Rattle.willow_entry.specs.Row.{RowValue};
+ghost use Rattle.willow_entry.specs.Row.{RowValue, HasCovering, join};
 ghost use Rattle.sync_msg.specs.Items.{ItemValue};
 ghost use Rattle.sync_msg.specs.declared.item.Item.TheVariants.{Row};
+ghost use Rattle.sync_core.specs.Place.{Place, rows_of_area};
+ghost use Rattle.sync_core.specs.Steps.{said as next_item};
 ghost use Rattle.session_rules.specs.Reading.{start, read, then};
-ghost use Rattle.session_rules.specs.Rounds.{IsFront, IsOver};
+ghost use Rattle.session_rules.specs.Rounds.{IsFront, IsOver, Meet};
 ghost use Rattle.session_rules.specs.Session.{Item};
-ghost use Rattle.sync_link.specs.Sessions.{Party, AreSameInCommon, session_of, ending, got, out, said};
+ghost use Rattle.session_rules.specs.Talk.{spoken};
+ghost use Rattle.sync_link.specs.Places.{places};
+ghost use Rattle.sync_link.specs.Sessions.{Party, AreSameInCommon, box_with, session_of, ending, got, out, said};
 ghost use Rattle.sync_link.specs.Granting.{IsGranted, GrantsRow};
+ghost use Rattle.sync_link.specs.Settling.{AreApartIn, AreDone, CanMeet, IsOpening};
 
 /// In whatever pieces bytes come, the same comes of them.
 #[tactic(auto, using(session_rules::proofs::Runs::run_append))]
@@ -48,4 +53,28 @@ pub fn worlds()
     ensures out { (p : Party) (rows others : List RowValue) (bytes : List ℕ) → AreSameInCommon p bytes rows others → out p rows bytes ≡ out p others bytes }
     ensures got { (p : Party) (rows others : List RowValue) (bytes : List ℕ) → AreSameInCommon p bytes rows others → got p rows bytes ≡ got p others bytes }
     ensures ending { (p : Party) (rows others : List RowValue) (bytes : List ℕ) → AreSameInCommon p bytes rows others → ending p rows bytes ≡ ending p others bytes }
+{}
+
+/// A side says all that there is to say before it reads: where it has spoken, there is no next item.
+#[tactic(auto, using(crate::proofs::Speaking::all_spoken))]
+pub fn speaks_to_the_end()
+    ensures { (place : Place) → next_item (spoken places place).1 ≡ None }
+{}
+
+/// A caller and an answerer by one scheme and in one namespace, each of which accepts the other's hello and proof and
+/// reads what the other writes: both come to the end, and each is sent the rows that the exchange of their rows in the
+/// area that both may read sends it. Where the fingerprints of that exchange tell rows apart, each covers, with the rows
+/// that it was sent, all that the other has there.
+pub fn settles()
+    ensures done { (p q : Party) (rows others : List RowValue) (left right : List ℕ)
+        → CanMeet p q → IsOpening p.namespace rows → IsOpening p.namespace others
+        → Meet (out p rows) (out q others) left right → AreDone p q rows others left right }
+    ensures caller_covers { (p q : Party) (rows others : List RowValue) (left right : List ℕ)
+        → CanMeet p q → IsOpening p.namespace rows → IsOpening p.namespace others
+        → Meet (out p rows) (out q others) left right → AreApartIn (box_with p q.hello) rows others
+        → All (HasCovering (join rows (got p rows right))) (rows_of_area (box_with p q.hello) others) }
+    ensures answerer_covers { (p q : Party) (rows others : List RowValue) (left right : List ℕ)
+        → CanMeet p q → IsOpening p.namespace rows → IsOpening p.namespace others
+        → Meet (out p rows) (out q others) left right → AreApartIn (box_with p q.hello) rows others
+        → All (HasCovering (join others (got q others left))) (rows_of_area (box_with p q.hello) rows) }
 {}

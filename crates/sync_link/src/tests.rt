@@ -4,4 +4,6 @@ fn the_laws_can_be_called() {
     crate::laws::grows();
     crate::laws::granted();
     crate::laws::worlds();
+    crate::laws::speaks_to_the_end();
+    crate::laws::settles();
 }
