@@ -14,6 +14,7 @@ pub mod Running
 pub mod HeardTurns
 pub mod TurnsCounted
 pub mod SpelledTurns
+pub mod TurnItems
 pub mod TwoSides
 pub mod Rising
 pub mod OneByOne

@@ -84,10 +84,10 @@ none_chosen : (o : Option Points) → option_map cuts_at o ≡ None → o ≡ No
 none_chosen None e = refl
 none_chosen (Some points) e = absurd cc
 
-few_chosen : (rows : List RowValue) → option_map cuts_at (choice rows) ≡ None → length rows ≤ MAX_ENTRIES
+pub few_chosen : (rows : List RowValue) → option_map cuts_at (choice rows) ≡ None → length rows ≤ MAX_ENTRIES
 few_chosen rows e = (choice_none rows).0 (none_chosen (choice rows) e)
 
-filter_few : (keep : RowValue → Bool) (rows : List RowValue) → length (filter keep rows) ≤ length rows
+pub filter_few : (keep : RowValue → Bool) (rows : List RowValue) → length (filter keep rows) ≤ length rows
 filter_few keep rows = omega (arith, length-filter keep rows, count_by-le-length keep rows)
 
 module _ (rows : List RowValue) (rise : IsStrictlySortedBy inner_place_cmp rows) (few : length rows ≤ SNAPSHOT_MAX) (framed : AllByRecursion HasFrame rows) where

@@ -34,11 +34,11 @@ use Rattle.sync_core.proofs.Lawful.{disjoint, can_cut_rows, can_send}
 -- ---- a turn
 
 -- a side that begins to say a turn says all of it
-says_whole : (place : Place) (t : TurnValue) (asks : List AskValue) → place.doing ≡ saying t asks → says_all place ≡ (turn_items t, place_after place t asks)
+pub says_whole : (place : Place) (t : TurnValue) (asks : List AskValue) → place.doing ≡ saying t asks → says_all place ≡ (turn_items t, place_after place t asks)
 says_whole place t asks is = ap (λ d. says (left_to_say d) place) is ∙ says_turn place t asks is
 
 -- one that replies says farewell
-says_bye : (place : Place) → place.doing ≡ Replying → says_all place ≡ (Bye ∷ [], record place { sent = place.sent + 0; doing = Finished })
+pub says_bye : (place : Place) → place.doing ≡ Replying → says_all place ≡ (Bye ∷ [], record place { sent = place.sent + 0; doing = Finished })
 unfolding says said
 says_bye place is = ap (λ d. says (left_to_say d) place) is ∙ ap (λ d. said_from (says 0) place (said_at place (next_said d))) is
 

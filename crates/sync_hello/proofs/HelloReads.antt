@@ -42,10 +42,10 @@ text_again x rest short =
     ∙ bytes_again x rest
 
 -- few enough numbers, of which it is not asked that they are bytes
-abbrev IsShort : List ℕ → Type 0
+abbrev pub IsShort : List ℕ → Type 0
 IsShort text = length text ≤ MAX_FRAME
 
-short-reads : Reads body_at (text_spelling (to_be_bytes w32)) IsShort
+pub short-reads : Reads body_at (text_spelling (to_be_bytes w32)) IsShort
 short-reads = record {
   takes = λ bytes x rest are e. let t = body-reads.takes bytes x rest are e in record { fits = t.fits.0; parts = t.parts; rest_are = t.rest_are };
   again = text_again;

@@ -1,0 +1,12 @@
+pub mod Seen
+pub mod Spellings
+pub mod Cases
+pub mod Own
+pub mod Grants
+pub mod Speaking
+pub mod Heard
+pub mod TakingTurns
+pub mod Digests
+pub mod ReadingTurns
+pub mod CanRead
+pub mod Settled

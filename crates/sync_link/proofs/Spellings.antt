@@ -1,0 +1,122 @@
+-- Hellos, proofs and items are read as what they spell, and bytes that are one spell it.
+use Rattle.std.proofs.Common.{◌≡◌, ℕ, ◌≤◌, ◌<◌, List, [], ◌∷◌, ◌++◌, length, append-nil, Option, Some, None, refl, sym, ap, ◌∙◌, subst, arith, length-append}
+use Rattle.std.specs.Prelude.{option_map}
+use Rattle.std.specs.Int.{w16, w32, to_be_bytes}
+use Rattle.spelling.specs.Front.{Front}
+use Rattle.spelling.specs.Front as front
+use Rattle.spelling.specs.Form.{AreBytes}
+use Rattle.spelling.proofs.Joining.{alone}
+use Rattle.spelling.proofs.Fields.{wide16, wide32}
+use Rattle.mc_cap.specs.Forms.{capability_spelling}
+use Rattle.mc_cap.specs.Signature.{signature_spelling, IsSignature}
+use Rattle.mc_cap.specs.declared.capability.Capability.{Capability}
+use Rattle.willow_entry.specs.EntryForm.{entry_spelling}
+use Rattle.willow_entry.specs.Frame.{row_frame, HasFrame}
+use Rattle.willow_entry.specs.declared.frame.TheConstants.{MAX_FRAME}
+use Rattle.willow_entry.specs.Row.{RowValue}
+use Rattle.willow_entry.specs.RowBody.{row_body}
+use Rattle.cap_codec.specs.Reading.{capability_at}
+use Rattle.cap_codec.specs.Rows.{RawValue, IsRawRow, row_of}
+use Rattle.cap_codec.proofs.CapReads.{capability-reads}
+use Rattle.cap_codec.proofs.FormReads.{signature-reads}
+use Rattle.cap_codec.proofs.RowReads.{raw-reads}
+use Rattle.sync_msg.specs.Items.{ItemValue, item_spelling, IsHead}
+use Rattle.sync_msg.specs.declared.item.Item.TheVariants.{First, Agree, Split, Entries, Rest, Row, EndTurn, Bye}
+use Rattle.sync_msg.proofs.HeadReads.{head-reads}
+use Rattle.sync_hello.specs.HelloForm.{Draft, IsDraft, draft_of, draft_spelling, hello_spelling, IsHello}
+use Rattle.sync_hello.specs.declared.hello.Hello.{Hello}
+use Rattle.sync_hello.proofs.HelloReads.{IsLoose, loose-reads, draft-reads, short-reads}
+use Rattle.session_rules.specs.Machine.{Whole}
+use Rattle.session_rules.specs.Messages.{IsReadAs}
+use Rattle.sync_link.specs.Readers.{all_read, hello_with, hello_drafted, hello_seen, proof_seen, row_spelled, row_seen, head_seen}
+use Rattle.sync_link.proofs.Seen.{read_as, read_back, judged_as, judged_back}
+
+-- ---- what all of some bytes spell
+
+all_front : {A : Type 0} (f : Front A) (x : A) → all_read f ≡ Some x → f ≡ front.Whole x []
+all_front (front.Whole y []) x e =
+    let same : y ≡ x = cc in
+    ap (λ z. front.Whole z []) same
+all_front (front.Whole y (byte ∷ behind)) x e = absurd cc
+all_front front.Part x e = absurd cc
+all_front front.Wrong x e = absurd cc
+
+-- ---- hellos
+
+loose_draft : (h : Hello) → IsHello h → IsLoose (draft_of h)
+loose_draft h f = record { version_fits = f.version_fits; nonce_fits = f.nonce_fits; ask_fits = f.ask_fits; short = f.short }
+
+drafted : (h : Hello) → IsHello h → hello_drafted (draft_of h) ≡ Some h
+drafted h f = ap (λ o. option_map (hello_with (draft_of h)) (all_read o)) (alone capability-reads h.capability f.capability_fits)
+
+pub hello_as : (h : Hello) → IsHello h → IsReadAs hello_seen (hello_spelling h) h
+unfolding hello_seen hello_spelling
+hello_as h f = judged_as loose-reads hello_drafted (draft_of h) h (loose_draft h f) (drafted h f) (omega arith)
+
+module _ (bytes : List ℕ) (h : Hello) (d : Draft) (fits : IsDraft d) (spelled : bytes ≡ draft_spelling d) where
+  with_capability : (c : Capability) → all_read (capability_at d.text) ≡ Some c → hello_with d c ≡ h → IsHello h × (bytes ≡ hello_spelling h)
+  unfolding hello_spelling
+  with_capability c is same =
+      let t = capability-reads.takes d.text c [] fits.text_fits.1 (all_front (capability_at d.text) c is) in
+      let text : d.text ≡ capability_spelling c = t.parts ∙ append-nil (capability_spelling c) in
+      let made : IsHello (hello_with d c) = record {
+        version_fits = fits.version_fits;
+        nonce_fits = fits.nonce_fits;
+        ask_fits = fits.ask_fits;
+        capability_fits = t.fits;
+        short = subst (λ l. length l ≤ MAX_FRAME) text fits.text_fits.0;
+      } in (
+        subst IsHello same made,
+        spelled ∙ ap (λ l. draft_spelling (record d { text = l })) text ∙ ap hello_spelling same,
+      )
+
+  by_capability : (o : Option Capability) → all_read (capability_at d.text) ≡ o → option_map (hello_with d) o ≡ Some h → IsHello h × (bytes ≡ hello_spelling h)
+  by_capability None is e = absurd cc
+  by_capability (Some c) is e = with_capability c is cc
+
+pub hello_back : (bytes : List ℕ) (h : Hello) → AreBytes bytes → hello_seen bytes ≡ Whole h → IsHello h × (bytes ≡ hello_spelling h)
+unfolding hello_seen
+hello_back bytes h are e =
+    let b = judged_back draft-reads hello_drafted bytes h are e in
+    by_capability bytes h b.0 b.1 b.2 (all_read (capability_at b.0.text)) refl b.3
+
+-- ---- proofs
+
+pub proof_as : (signature : List ℕ) → IsSignature signature → IsReadAs proof_seen (signature_spelling signature) signature
+unfolding proof_seen
+proof_as signature f = read_as signature-reads signature f (omega (arith, length-append (to_be_bytes w16 (length signature)) signature, wide16.len (length signature)))
+
+pub proof_back : (bytes signature : List ℕ) → AreBytes bytes → proof_seen bytes ≡ Whole signature → IsSignature signature × (bytes ≡ signature_spelling signature)
+unfolding proof_seen
+proof_back bytes signature are e = read_back signature-reads bytes signature are e
+
+-- ---- items
+
+some_head : (item : ItemValue) → IsHead item → 0 < length (item_spelling item)
+some_head (First print) f = omega arith
+some_head Agree f = omega arith
+some_head (Split at lower upper) f = omega arith
+some_head (Entries count) f = omega arith
+some_head (Rest count) f = omega arith
+some_head (Row row) f = absurd f
+some_head EndTurn f = omega arith
+some_head Bye f = omega arith
+
+pub head_as : (item : ItemValue) → IsHead item → IsReadAs head_seen (item_spelling item) item
+unfolding head_seen
+head_as item f = read_as head-reads item f (some_head item f)
+
+body_spelled : (row : RowValue) → IsRawRow row → row_spelled (row_body row) ≡ Some (Row row)
+unfolding row_body
+body_spelled row f =
+    let raw : RawValue = record { entry = row.entry; token = f.read_out } in
+    let whole = alone raw-reads raw (record { entry_fits = f.entry_fits; token_fits = f.token_fits }) in
+    ap (λ token. row_spelled (entry_spelling row.entry ++ token)) f.spelled
+    ∙ ap (λ o. option_map (λ r. Row (row_of r)) (all_read o)) whole
+    ∙ ap (λ token. Some (Row (record row { token = token }))) (sym f.spelled)
+
+pub row_as : (row : RowValue) → IsRawRow row → HasFrame row → IsReadAs row_seen (row_frame row) (Row row)
+unfolding row_seen
+row_as row f framed =
+    judged_as short-reads row_spelled (row_body row) (Row row) framed (body_spelled row f)
+    (omega (arith, length-append (to_be_bytes w32 (length (row_body row))) (row_body row), wide32.len (length (row_body row))))

@@ -1,0 +1,6 @@
+pub mod Readers
+pub mod Greetings
+pub mod Places
+pub mod Sessions
+pub mod Granting
+pub mod Settling
