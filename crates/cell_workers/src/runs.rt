@@ -36,7 +36,11 @@ fn jobs_of(
 }
 
 // The passes of jobs that are done.
-fn passes_of(alloc: Global, cell: &NsCell<BareRow>, all: Vec<Done<BareRow>>) -> Option<Vec<Pass<BareRow>>>
+fn passes_of(
+    alloc: Global,
+    cell: &NsCell<BareRow>,
+    all: Vec<Done<BareRow>>,
+) -> Option<Vec<Pass<BareRow>>>
     requires was { All (λ done. IsPassOf cell.now done.was.value) all.items }
     requires served { All (λ done. IsServed done.was.value done.pass) all.items }
     ensures passes { IfSome result (λ passes. All (IsPassOf cell.now) passes.items) }

@@ -43,6 +43,7 @@ module _ (words : AreaWords) (n m : List ℕ) (c d : Capability) where
     right_refused h e one greets = absurd greets
 
     pub agrees : (h k : Hello) (area : Option Area) → Greets n words c (replicate 16 0) (Ok h) → Greets n words d (replicate 16 0) (Ok k) → area ≡ common_area h k → Agrees words n m c d (Ok area)
-    agrees h k area one other is =
-        (of_hellos ∙ ap (λ (o : Option HelloRefusal). or_else o (own_refusal n (side_hello words d))) (left_passes h one) ∙ sym (ap (own_refusal n) other.0) ∙ other.1,
-        is ∙ ap (λ (g : Hello). common_area g k) one.0 ∙ ap (common_area (side_hello words c)) other.0)
+    agrees h k area one other is = (
+      of_hellos ∙ ap (λ (o : Option HelloRefusal). or_else o (own_refusal n (side_hello words d))) (left_passes h one) ∙ sym (ap (own_refusal n) other.0) ∙ other.1,
+      is ∙ ap (λ (g : Hello). common_area g k) one.0 ∙ ap (common_area (side_hello words c)) other.0,
+    )

@@ -94,9 +94,9 @@ module _ (n : List ℕ) (left right : List RawValue) (area : Option Area) where
         of_items = is.items;
         of_turns = sym (length-map x.turns.items (λ t. t.items)) ∙ ap length is.turns ∙ length-map turns turn_bytes;
         of_first =
-        ap (λ (first : Option _). or_else first (refused_behind left_counts.rows right_counts.first)) counted.first
-        ∙ ap (λ (first : Option _). or_else (first_refused n left) (refused_behind left_counts.rows first)) counted_too.first
-        ∙ first_behind n left right left_counts.rows counted.all;
+            ap (λ (first : Option _). or_else first (refused_behind left_counts.rows right_counts.first)) counted.first
+            ∙ ap (λ (first : Option _). or_else (first_refused n left) (refused_behind left_counts.rows first)) counted_too.first
+            ∙ first_behind n left right left_counts.rows counted.all;
       }
 
   -- ---- all of it
