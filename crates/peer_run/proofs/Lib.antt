@@ -8,6 +8,7 @@ pub mod Told
 pub mod MetImages
 pub mod Hellos
 pub mod Agreed
+pub mod Gathered
 pub mod PairDeeds
 pub mod Laws
 pub mod Ends
