@@ -1,5 +1,5 @@
 -- What two sides agree on, by the steps of the judging.
-use Rattle.std.proofs.Common.{◌≡◌, ℕ, Bool, true, false, not, List, replicate, Option, Some, None, refl, sym, ap, ◌∙◌}
+use Rattle.std.proofs.Common.{◌≡◌, ℕ, Bool, true, false, not, List, replicate, Option, Some, None, sym, ap, ◌∙◌}
 use Rattle.std.specs.Prelude.{Ok, Err}
 use Rattle.std.specs.Cmp.Lexicographic.{bytes_decides}
 use Rattle.spelling.specs.Answers.{or_else, cause_if}
@@ -51,6 +51,7 @@ module _ (words : AreaWords) (n m : List ℕ) (c d : Capability) where
     right_refused h e one greets = absurd greets
 
     pub agrees : (h k : Hello) (area : Option Area) → Greets n words c (replicate 16 0) (Ok h) → Greets n words d (replicate 16 0) (Ok k) → area ≡ common_area h k → Agrees words n m c d (Ok area)
-    agrees h k area one other is =
-        (of_hellos ∙ ap (λ (o : Option HelloRefusal). or_else o (own_refusal n (side_hello words d))) (left_passes h one) ∙ sym (ap (own_refusal n) other.0) ∙ other.1,
-        is ∙ ap (λ (g : Hello). common_area g k) one.0 ∙ ap (common_area (side_hello words c)) other.0)
+    agrees h k area one other is = (
+      of_hellos ∙ ap (λ (o : Option HelloRefusal). or_else o (own_refusal n (side_hello words d))) (left_passes h one) ∙ sym (ap (own_refusal n) other.0) ∙ other.1,
+      is ∙ ap (λ (g : Hello). common_area g k) one.0 ∙ ap (common_area (side_hello words c)) other.0,
+    )

@@ -1,9 +1,8 @@
 -- What is known of the images that a meeting got.
-use Rattle.std.proofs.Common.{◌≡◌, ℕ, List, None, sym, ap, ◌∙◌, subst}
-use Rattle.std.specs.Prelude.{Result, Ok, Err}
+use Rattle.std.proofs.Common.{None, sym, ap, subst}
+use Rattle.std.specs.Prelude.{Ok}
 use Rattle.std.specs.declared.string.String.{String}
 use Rattle.std.specs.declared.alloc.Global.{Global}
-use Rattle.cap_codec.specs.Rows.{RawValue}
 use Rattle.peer_image.specs.declared.read.Image.{Image}
 use Rattle.peer_stage.specs.World.{World}
 use Rattle.peer_run.specs.Getting.{GetsImage}

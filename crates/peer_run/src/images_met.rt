@@ -7,7 +7,7 @@ use crate::exchanging::{Came, Exchanged, exchange};
 use crate::transcript::transcript_of;
 use mc_cap::RefusedRow;
 use peer_image::{Image, write_store_image};
-use peer_rows::{log_stop, log_image};
+use peer_rows::{log_image, log_stop};
 use peer_stage::{JoinCounts, MeetCounts, SideCounts, Stop};
 use std::alloc::Global;
 use willow_area::Area;

@@ -1,4 +1,4 @@
-use Rattle.std.proofs.Common.{◌≡◌, ℕ, List, map, ◌∙◌, sym, ap, subst}
+use Rattle.std.proofs.Common.{ℕ, List, map, ◌∙◌, sym, ap, subst}
 use Rattle.std.specs.List.{AllByRecursion}
 use Rattle.willow_entry.specs.Frame.{HasFrame}
 use Rattle.auth_entry.specs.Authorised.{AuthorisedValue}
