@@ -1,10 +1,13 @@
 -- What two sides agree on, by the steps of the judging.
-use Rattle.std.proofs.Common.{◌≡◌, ℕ, Bool, true, false, not, List, replicate, Option, Some, None, refl, sym, ap, ◌∙◌}
+use Rattle.std.proofs.Common.{◌≡◌, ℕ, Bool, true, false, not, List, replicate, Option, Some, None, sym, ap, ◌∙◌}
 use Rattle.std.specs.Prelude.{Ok, Err}
+use Rattle.std.specs.Cmp.Lexicographic.{bytes_decides}
 use Rattle.spelling.specs.Answers.{or_else, cause_if}
+use Rattle.spelling.proofs.Causes.{or_else_both}
 use Rattle.willow_area.specs.declared.area.Area.{Area}
 use Rattle.willow_entry.specs.Entry.{same_bytes}
 use Rattle.mc_cap.specs.declared.capability.Capability.{Capability}
+use Rattle.mc_cap.proofs.Causes.{unless_true}
 use Rattle.session_end.specs.declared.refusal.HelloRefusal.{HelloRefusal}
 use Rattle.session_end.specs.declared.refusal.HelloRefusal.TheVariants.{WrongNamespace}
 use Rattle.sync_hello.specs.Common.{common_area}
@@ -13,21 +16,26 @@ use Rattle.peer_words.specs.declared.command.AreaWords.{AreaWords}
 use Rattle.peer_stage.specs.declared.outcome.Stop.{Stop}
 use Rattle.peer_stage.specs.declared.outcome.Stop.TheVariants as stop
 use Rattle.peer_run.specs.Greeting.{Greets, own_refusal}
-use Rattle.peer_run.specs.Meet.{Agrees, agreed_area, meeting_refusal, side_hello}
+use Rattle.peer_run.specs.Meet.{Agrees, meeting_refusal, namespaces_refusal, side_hello}
 
 module _ (words : AreaWords) (n m : List ℕ) (c d : Capability) where
   -- why either hello is refused
   abbrev either : Option HelloRefusal
   either = or_else (own_refusal n (side_hello words c)) (own_refusal n (side_hello words d))
 
-  pub other_namespace : same_bytes m n ≡ false → meeting_refusal words n m c d ≡ Some WrongNamespace
+  pub other_namespace : not (same_bytes m n) ≡ true → meeting_refusal words n m c d ≡ Some WrongNamespace
   unfolding meeting_refusal
-  other_namespace other = ap (λ (b : Bool). or_else (cause_if (not b) WrongNamespace) either) other
+  other_namespace differs = ap (λ (test : Bool). or_else (cause_if test WrongNamespace) either) differs
 
-  module _ (same : same_bytes m n ≡ true) where
+  -- where two sides agree, their images are of one namespace
+  pub one_namespace : meeting_refusal words n m c d ≡ None → m ≡ n
+  unfolding meeting_refusal
+  one_namespace none = (bytes_decides m n).0 ((unless_true (same_bytes m n) WrongNamespace).0 (or_else_both (namespaces_refusal n m) either none).0)
+
+  module _ (same : not (same_bytes m n) ≡ false) where
     of_hellos : meeting_refusal words n m c d ≡ either
     unfolding meeting_refusal
-    of_hellos = ap (λ (b : Bool). or_else (cause_if (not b) WrongNamespace) either) same
+    of_hellos = ap (λ (test : Bool). or_else (cause_if test WrongNamespace) either) same
 
     pub left_refused : (e : Stop) → Greets n words c (replicate 16 0) (Err e) → Agrees words n m c d (Err e)
     left_refused (stop.SessionRefused refusal) greets = of_hellos ∙ ap (λ (o : Option HelloRefusal). or_else o (own_refusal n (side_hello words d))) greets

@@ -6,7 +6,7 @@ use Rattle.std.proofs.lemmas.List.FromFn.{length-map-range_with_len, take-map-ra
 use Rattle.spelling.proofs.Lists.{All-left}
 use Rattle.willow_area.specs.Boxes.{Ranges}
 use Rattle.willow_entry.specs.Frame.{HasFrame}
-use Rattle.willow_entry.specs.Row.{RowValue, new}
+use Rattle.willow_entry.specs.Row.{RowValue}
 use Rattle.willow_entry.proofs.Members.{Member}
 use Rattle.cap_codec.specs.Rows.{RawValue, row_of}
 use Rattle.lms_core.specs.Use.{peer_rules}

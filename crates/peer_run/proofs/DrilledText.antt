@@ -1,13 +1,12 @@
 -- What a drill tells, from what both logs hold then.
-use Rattle.std.proofs.Common.{◌≡◌, ℕ, ◌/◌, List, length, map, Option, Some, refl, sym, ap, ◌∙◌, subst}
+use Rattle.std.proofs.Common.{◌≡◌, ℕ, ◌/◌, List, length, Some, sym, ap, ◌∙◌, subst}
 use Rattle.std.specs.List.{All}
 use Rattle.std.proofs.lemmas.List.{length-map}
 use Rattle.std.proofs.lemmas.List.Elements.{All-from_recursion}
 use Rattle.willow_entry.specs.Frame.{HasFrame}
-use Rattle.willow_entry.specs.Row.{RowValue, join, live}
+use Rattle.willow_entry.specs.Row.{RowValue, live}
 use Rattle.block_store.specs.BoxKinds.{IsOfOneNamespace}
 use Rattle.auth_entry.specs.Authorised.{AuthorisedValue}
-use Rattle.exchange_rules.specs.Items.{to_left, to_right, counted}
 use Rattle.sync_pair.specs.Meeting.{turn_bytes}
 use Rattle.peer_listing.specs.Generator.{generator_namespace}
 use Rattle.peer_listing.specs.Summary.{drill_summary}

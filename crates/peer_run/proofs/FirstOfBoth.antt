@@ -1,5 +1,6 @@
 -- The first refused row of two images, counted over both.
-use Rattle.std.proofs.Common.{◌≡◌, ℕ, ◌+◌, ◌<◌, ◌≤◌, List, [], ◌∷◌, ◌++◌, length, Option, Some, None, option_map, refl, sym, ap, ◌∙◌, arith}
+use Rattle.std.proofs.Common.{◌≡◌, ℕ, ◌+◌, ◌<◌, ◌≤◌, ◌^◌, List, [], ◌∷◌, ◌++◌, length, Option, Some, None, option_map, refl, sym, ap, ◌∙◌, arith}
+use Rattle.std.specs.Prelude.{IfSome}
 use Rattle.spelling.specs.Answers.{or_else, first_some}
 use Rattle.spelling.proofs.Causes.{first_some-append}
 use Rattle.lms_core.specs.Use.{peer_rules}
@@ -48,3 +49,8 @@ numbered_low n k (r ∷ rows) first found = go (row_refusal peer_rules n r) (num
 
 pub first_low : (n : List ℕ) (rows : List RawValue) (first : RefusedRow) → first_refused n rows ≡ Some first → first.row ≤ length rows
 first_low n rows first found = omega (arith, numbered_low n 1 rows first found)
+
+-- of rows fewer than four bytes can tell the first refused one, where there is one, has a number below that too
+pub first_few : (n : List ℕ) (rows : List RawValue) (o : Option RefusedRow) → o ≡ first_refused n rows → length rows < 2 ^ 32 → IfSome o (λ first. first.row < 2 ^ 32)
+first_few n rows None is few = tt
+first_few n rows (Some first) is few = omega (arith, first_low n rows first (sym is), few)

@@ -1,5 +1,5 @@
 -- Why the own hello of a side is refused, by the steps of the check.
-use Rattle.std.proofs.Common.{◌≡◌, ℕ, Bool, true, false, cond, not, List, Option, Some, None, refl, sym, ap, ◌∙◌, subst}
+use Rattle.std.proofs.Common.{◌≡◌, ℕ, Bool, true, false, cond, not, List, Option, Some, None, ap, ◌∙◌, subst}
 use Rattle.std.specs.Prelude.{Result, Ok, Err}
 use Rattle.spelling.specs.Answers.{or_else, cause_if}
 use Rattle.spelling.proofs.Causes.{or_else_both}

@@ -8,6 +8,7 @@ pub mod Told
 pub mod MetImages
 pub mod Hellos
 pub mod Agreed
+pub mod GotImages
 pub mod BothPass
 pub mod PairDeeds
 pub mod Laws

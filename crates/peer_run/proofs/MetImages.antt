@@ -1,16 +1,15 @@
 -- What comes of two images when their rows have met.
-use Rattle.std.proofs.Common.{◌≡◌, ℕ, ◌+◌, ◌-◌, ◌<◌, ◌≤◌, ◌^◌, List, [], ◌∷◌, ◌++◌, length, map, Option, Some, None, inl, inr, refl, sym, ap, ◌∙◌, subst, arith}
-use Rattle.std.specs.Prelude.{Result, Ok, Err}
+use Rattle.std.proofs.Common.{◌≡◌, ℕ, List, ◌++◌, length, map, Option, inl, inr, sym, ap, ◌∙◌, subst, arith}
+use Rattle.std.specs.Prelude.{Err}
 use Rattle.std.specs.List.{All, AllByRecursion}
 use Rattle.std.proofs.lemmas.List.{length-map}
 use Rattle.std.proofs.lemmas.List.Elements.{All-from_recursion}
-use Rattle.spelling.specs.Answers.{or_else, first_some}
+use Rattle.spelling.specs.Answers.{or_else}
 use Rattle.spelling.specs.declared.ending.End.{End}
 use Rattle.spelling.specs.declared.ending.End.TheVariants.{Refused, NoMemory}
-use Rattle.willow_area.specs.Boxes.{Ranges}
 use Rattle.willow_area.specs.declared.area.Area.{Area}
 use Rattle.willow_entry.specs.Frame.{HasFrame}
-use Rattle.willow_entry.specs.Row.{RowValue, join, live}
+use Rattle.willow_entry.specs.Row.{RowValue, live}
 use Rattle.block_store.specs.BoxKinds.{IsOfOneNamespace}
 use Rattle.cap_codec.specs.Rows.{RawValue}
 use Rattle.auth_entry.specs.Authorised.{AuthorisedValue}
@@ -25,7 +24,7 @@ use Rattle.peer_rows.specs.declared.row_log.LogFull.{LogFull}
 use Rattle.peer_stage.specs.declared.outcome.JoinCounts.{JoinCounts}
 use Rattle.peer_stage.specs.declared.outcome.Stop.{Stop}
 use Rattle.peer_stage.specs.declared.outcome.Stop.TheVariants as stop
-use Rattle.peer_run.specs.Exchanged.{boxed, met, AreMet, Exchanges, HasCome, HasTakenUp}
+use Rattle.peer_run.specs.Exchanged.{boxed, AreMet, Exchanges, HasCome, HasTakenUp}
 use Rattle.peer_run.specs.ImagesMet.{IsImageOfRows, IsSide, AreMetCounts, IsMeeting, MeetsImages, meet_counts, refused_behind, side_counts, image_turns}
 use Rattle.peer_run.specs.Transcript.{transcript}
 use Rattle.peer_run.specs.declared.exchanging.Came.{Came}

@@ -1,6 +1,5 @@
 -- What `drill` does: two stores of generated rows meet, and how that went is written.
-use Rattle.std.specs.Prelude.{ℕ, ◌/◌, List, [], length, Option, Some, None}
-use Rattle.willow_area.specs.Boxes.{Ranges}
+use Rattle.std.specs.Prelude.{ℕ, ◌/◌, List, [], length, Some, None}
 use Rattle.willow_area.specs.declared.area.Area.{Area}
 use Rattle.willow_entry.specs.Row.{live, join}
 use Rattle.exchange_rules.specs.Items.{to_left, to_right, counted}

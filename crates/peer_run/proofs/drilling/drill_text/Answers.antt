@@ -1,5 +1,6 @@
-use Rattle.std.proofs.Common.{◌/◌, Some, length, refl, ap, ◌∙◌, subst}
+use Rattle.std.proofs.Common.{ℕ, ◌/◌, List, ◌++◌, Some, length, refl, ap, ◌∙◌, subst}
 use Rattle.willow_area.specs.declared.area.Area.{Area}
+use Rattle.peer_listing.specs.Summary.{drill_summary}
 use Rattle.peer_listing.specs.declared.summary.DrillCounts.{DrillCounts}
 use Rattle.peer_rows.specs.Drilled.{generated_rows}
 use Rattle.peer_run.specs.Exchanged.{boxed, AreMet}
@@ -32,4 +33,4 @@ returns c =
     (c.in-Ok.ensures (generated_rows n) (generated_rows (n / 2)) c.in_ok-left.ensures.whole c.in_ok-left.ensures.half) in
     is_drill_text n c.in_ok-left.left c.in_ok-left.right c.exchange.new.left c.exchange.new.right c.in-Ok.exchanged c.in_ok-left.ensures.whole c.in_ok-left.ensures.half is counts c.drill_summary.new.out.items refl
     (c.len.ensures ∙ ap length c.store.ensures) (c.len-2.ensures ∙ ap length c.store-2.ensures) (c.len-3.ensures ∙ ap length c.store-3.ensures) (c.len-4.ensures ∙ ap length c.store-4.ensures) refl (c.len-5.ensures ∙ c.in-Ok.exchanged.turns.ok.0)
-    c.in_ok-drill_summary.ensures.appended
+    (c.in_ok-drill_summary.ensures.appended ∙ ap (λ (front : List ℕ). front ++ drill_summary counts) c.new-text.ensures.items)

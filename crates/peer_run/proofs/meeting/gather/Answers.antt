@@ -1,6 +1,5 @@
 use Rattle.std.proofs.Common.{Ok, Err, inl, refl}
 use Rattle.std.proofs.lemmas.Result.{err_from_is_err_and}
-use Rattle.peer_stage.specs.World.{World}
 use Rattle.peer_stage.proofs.Steps.{passes}
 use Rattle.peer_run.specs.Getting.{GetsImage, GetsCapability}
 use Rattle.peer_run.specs.declared.meeting.Sides.{Sides}
