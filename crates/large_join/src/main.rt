@@ -22,6 +22,9 @@ const SIGNER: &str = "open:55555555555555555555555555555555555555555555555555555
 
 const DIGEST: &str = "1111111111111111111111111111111111111111111111111111111111111111";
 
+// A frame without a body.
+const WRONG: [u8; 4] = [0; 4];
+
 /// Status, length and digest of a run's output, and the report.
 fn lines_of(alloc: Global, outcome: &Outcome) -> Result<String, AllocError> {
     let output = outcome.output.held();
@@ -89,6 +92,11 @@ fn main(rt: HostRuntime) -> io::Result<()> {
         "join of these and of a row of another author: {}",
         joined(alloc, rows, &[row])?
     )?;
-    let behind = joined(alloc, rows, &[row, &[0]])?;
-    print!(rt; "join of these, of that row and of a byte that is no frame: {behind}")
+    print!(rt;
+        "join of these, of that row and of a wrong frame: {}",
+        joined(alloc, rows, &[row, &WRONG])?
+    )?;
+    let again = generated(alloc, "300")?;
+    let behind = joined(alloc, rows, &[row, again.output.held(), &WRONG])?;
+    print!(rt; "join of these, of that row, of 300 of them again and of a wrong frame: {behind}")
 }
