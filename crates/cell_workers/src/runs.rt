@@ -36,7 +36,11 @@ fn jobs_of(
 }
 
 // The passes of jobs that are done.
-fn passes_of(alloc: Global, cell: &NsCell<BareRow>, all: Vec<Done<BareRow>>) -> Option<Vec<Pass<BareRow>>>
+fn passes_of(
+    alloc: Global,
+    cell: &NsCell<BareRow>,
+    all: Vec<Done<BareRow>>,
+) -> Option<Vec<Pass<BareRow>>>
     requires was { All (λ done. IsPassOf cell.now done.was.value) all.items }
     requires served { All (λ done. IsServed done.was.value done.pass) all.items }
     ensures passes { IfSome result (λ passes. All (IsPassOf cell.now) passes.items) }
@@ -44,11 +48,7 @@ fn passes_of(alloc: Global, cell: &NsCell<BareRow>, all: Vec<Done<BareRow>>) -> 
 {
     let mut passes = Vec::new(alloc);
     for done in all {
-        let Done {
-            was: _,
-            pass,
-            stored: _,
-        } = done;
+        let Done { was: _, pass } = done;
         passes.push(pass).ok()?;
     }
     Some(passes)
@@ -78,7 +78,7 @@ fn offer_all(state: &mut NsState<BareRow>, number: u32, mut rows: Vec<BareRow>)
     ensures { state.new.namespace ≡ state.old.namespace }
 {
     while let Some(row) = rows.pop() {
-        let _told = state.ingest(number, row);
+        let _answer = state.ingest(number, row);
     }
 }
 
@@ -105,7 +105,7 @@ pub fn only_made(alloc: Global, authors: u32, count: u32) -> Option<u32> {
     let mut made = 0u32;
     for author in 0..authors {
         let rows = rows(alloc, &namespace, author, count)?;
-        made = made.saturating_add(rows.len() as u32);
+        made = made.checked_add(u32::try_from(rows.len()).ok()?)?;
         all.push(rows).ok()?;
     }
     Some(made)
