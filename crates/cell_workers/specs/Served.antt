@@ -21,7 +21,7 @@ module _ {R : Type 0} where
   -- a worker that runs promised to serve the pass, and one that ran served it
   abbrev pub KeepsTo : PassValue R → Worker R → Type 0
   KeepsTo pass (Runs handle) = handle.promise.pass.value ≡ pass
-  KeepsTo pass (Ran done) = IsDone pass done
+  KeepsTo pass (Ran after) = IsServed pass after
 
   abbrev pub Keeps : Started R → Type 0
   Keeps started = KeepsTo started.was.value started.worker

@@ -48,11 +48,7 @@ fn passes_of(
 {
     let mut passes = Vec::new(alloc);
     for done in all {
-        let Done {
-            was: _,
-            pass,
-            stored: _,
-        } = done;
+        let Done { was: _, pass } = done;
         passes.push(pass).ok()?;
     }
     Some(passes)
@@ -82,7 +78,7 @@ fn offer_all(state: &mut NsState<BareRow>, number: u32, mut rows: Vec<BareRow>)
     ensures { state.new.namespace ≡ state.old.namespace }
 {
     while let Some(row) = rows.pop() {
-        let _told = state.ingest(number, row);
+        let _answer = state.ingest(number, row);
     }
 }
 
@@ -109,7 +105,7 @@ pub fn only_made(alloc: Global, authors: u32, count: u32) -> Option<u32> {
     let mut made = 0u32;
     for author in 0..authors {
         let rows = rows(alloc, &namespace, author, count)?;
-        made = made.saturating_add(rows.len() as u32);
+        made = made.checked_add(u32::try_from(rows.len()).ok()?)?;
         all.push(rows).ok()?;
     }
     Some(made)

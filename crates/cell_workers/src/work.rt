@@ -6,7 +6,7 @@ ghost use Rattle.ns_cell.specs.Passes.{IsPassOf};
 ghost use Rattle.cell_workers.specs.Jobs.{IsJobOf};
 ghost use Rattle.cell_workers.specs.Served.{IsServed, IsDone, Keeps};
 
-use ns_cell::{NsCell, Pass, Told};
+use ns_cell::{NsCell, Pass};
 use std::alloc::Global;
 use std::snapshot::Snapshot;
 use std::sync::Wait;
@@ -21,29 +21,21 @@ pub struct Job<R: Row> {
     pub rows: Vec<R>,
 }
 
-/// The pass as it was and as it is, and how many rows were stored.
-#[derive(Drop)]
-pub struct Done<R: Row> {
-    pub was: Snapshot<Pass<R>>,
-    pub pass: Pass<R>,
-    pub stored: u32,
-}
-
-/// What a worker promises of the pass that it takes.
+/// What a worker promises of the pass that it takes and hands back.
 #[derive(Drop)]
 pub struct Serves<R: Row> {
     pub pass: Snapshot<Pass<R>>,
 }
 
-impl<R: Row> Promise<Done<R>> for Serves<R> {
-    ghost kept_by = { λ p done. IsDone p.pass.value done };
+impl<R: Row> Promise<Pass<R>> for Serves<R> {
+    ghost kept_by = { λ promise pass. IsServed promise.pass.value pass };
 }
 
-/// A worker that runs on a thread, or one that ran in place, since no thread started.
+/// A worker that runs on a thread, or the pass of one that ran in place, since no thread started.
 #[derive(Drop)]
 pub enum Worker<R: Row> {
-    Runs(PromisedHandle<Done<R>, Serves<R>>),
-    Ran(Done<R>),
+    Runs(PromisedHandle<Pass<R>, Serves<R>>),
+    Ran(Pass<R>),
 }
 
 /// A worker, with the pass as it was.
@@ -53,20 +45,23 @@ pub struct Started<R: Row> {
     pub worker: Worker<R>,
 }
 
-// Offers the rows.
-fn serve<R: Row, W: Wait>(rt: &W, cell: &NsCell<R>, job: Job<R>) -> Done<R>
+/// A pass as it was before its job, and as it is.
+#[derive(Drop)]
+pub struct Done<R: Row> {
+    pub was: Snapshot<Pass<R>>,
+    pub pass: Pass<R>,
+}
+
+// Offers the rows, and hands the pass back.
+fn serve<R: Row, W: Wait>(rt: &W, cell: &NsCell<R>, job: Job<R>) -> Pass<R>
     requires { IsJobOf R.value cell.now job }
-    ensures { IsDone job.pass result }
+    ensures { IsServed job.pass result }
 {
-    let was = Snapshot::of(&job.pass);
     let Job { mut pass, mut rows } = job;
-    let mut stored = 0u32;
     while let Some(row) = rows.pop() {
-        if let Ok(Told::Stored { at: _ }) = cell.ingest(rt, &mut pass, row) {
-            stored = stored.saturating_add(1);
-        }
+        let _answer = cell.ingest(rt, &mut pass, row);
     }
-    Done { was, pass, stored }
+    pass
 }
 
 // Starts a worker on a thread of the scope, or lets it run in place where no thread starts.
@@ -86,9 +81,9 @@ fn start<'s, E, R: SharedRow + 's, W: Threads + Wait + Sync>(
     };
     match threads.spawn_with(
         promise,
-        move || -> Done<R>
+        move || -> Pass<R>
             requires { IsJobOf R.value cell.now job }
-            ensures { IsDone job.pass result }
+            ensures { IsServed job.pass result }
         { serve(rt, cell, job) },
     ) {
         Ok(handle) => Started {
@@ -126,11 +121,12 @@ fn finish<R: Row, W: Threads>(rt: &W, started: Started<R>) -> Done<R>
     requires { Keeps started }
     ensures { IsDone started.was.value result }
 {
-    let Started { was: _, worker } = started;
-    match worker {
+    let Started { was, worker } = started;
+    let pass = match worker {
         Worker::Runs(handle) => handle.join(rt),
-        Worker::Ran(done) => done,
-    }
+        Worker::Ran(pass) => pass,
+    };
+    Done { was, pass }
 }
 
 // Waits for all of them.
