@@ -1,4 +1,5 @@
-"""Times the executables `hash_bench` and `willow_peer`, and prints a table in Markdown.
+"""Times the executables `hash_bench` and `willow_peer`, and prints tables in Markdown; with one word, the executable
+`hash_bench`, those of its digests and keys alone.
 
 Each figure is the best of ROUNDS runs; the runs of all commands take turns, so that what else the machine does
 falls on all of them alike. A hash is one block of SHA-256, that is one call of its compression function: a message
@@ -36,6 +37,12 @@ TREE = 32 * (CHAINS * (1 + 255) * STEP + ONE_TIME_KEY + LEAF) + 31 * INNER
 MAKE = TREE + PUBLIC
 # The leaf that signs is hashed once, and its values are taken on the way.
 SIGN = TREE + RANDOMIZER + MESSAGE_HASH
+
+# What is hashed side by side: a leaf's chains without their starts, and a list of 64 messages of 154 and 68 bytes.
+LEAVES = 200
+LEAF_CHAINS = CHAINS * 255 * STEP
+LISTS = 6_000
+LIST = 32 * (3 + 2)
 
 # A row of the generator: 33 + 35 bytes for the grant, 33 + 1 + 120 (or 118) for the entry.
 ROW = 2 + 3
@@ -94,7 +101,40 @@ def best(commands):
     return {name: min(found) for name, found in times.items()}
 
 
-def show(hash_bench, peer, folder):
+def show_digests(hash_bench):
+    took = best({
+        "blocks": ([hash_bench, "blocks", str(BLOCKS)], None),
+        "rows": ([hash_bench, "rows", str(ROWS)], None),
+        "chains": ([hash_bench, "chains", str(LEAVES)], None),
+        "lists": ([hash_bench, "lists", str(LISTS)], None),
+        "make": ([hash_bench, "make", str(KEYS)], None),
+        "sign": ([hash_bench, "sign", str(KEYS)], None),
+        "verify": ([hash_bench, "verify", str(CHECKS)], None),
+        "verify nothing": ([hash_bench, "verify", "0"], None),
+    })
+    plain = BLOCKS / took["blocks"]
+    alone = ROWS * ROW / took["rows"]
+    print("| Digests | hashes each | hashes per second | one by one | times |")
+    print("|---|---|---|---|---|")
+    for name, speed, one, hashes in (
+        ("34 chains of 255 steps", LEAVES * LEAF_CHAINS / took["chains"], plain, LEAF_CHAINS),
+        ("64 messages of two and three blocks", LISTS * LIST / took["lists"], alone, LIST),
+    ):
+        print(f"| {name} | {hashes:,} | {speed:,.0f} | {one:,.0f} | {speed / one:.2f} |")
+    print()
+    print("| Keys of height 5 | hashes each | seconds each | hashes per second | of the plain loop |")
+    print("|---|---|---|---|---|")
+    print(f"| plain loop over one block | 1 | | {plain:,.0f} | 1.00 |")
+    for name, hashes, count, seconds in (
+        ("make a key", MAKE, KEYS, took["make"]),
+        ("sign", SIGN, KEYS, took["sign"]),
+        ("verify", verify_blocks(), CHECKS, took["verify"] - took["verify nothing"]),
+    ):
+        speed = hashes * count / seconds
+        print(f"| {name} | {hashes:,} | {seconds / count:.5f} | {speed:,.0f} | {speed / plain:.2f} |")
+
+
+def show_rows(hash_bench, peer, folder):
     names = ("rows", "image", "listing", "placed", "covered")
     rows, image, listing, placed, covered = (os.path.join(folder, name) for name in names)
     run([peer, "gen", "--rows", str(ROWS)], made=rows)
@@ -109,11 +149,6 @@ def show(hash_bench, peer, folder):
     with open(listing, encoding="ascii") as lines:
         kept = int(lines.readline().split()[-1])
     took = best({
-        "blocks": ([hash_bench, "blocks", str(BLOCKS)], None),
-        "make": ([hash_bench, "make", str(KEYS)], None),
-        "sign": ([hash_bench, "sign", str(KEYS)], None),
-        "verify": ([hash_bench, "verify", str(CHECKS)], None),
-        "verify nothing": ([hash_bench, "verify", "0"], None),
         "rows": ([hash_bench, "rows", str(ROWS)], None),
         "kept rows": ([hash_bench, "rows", str(kept)], None),
         "gen": ([peer, "gen", "--rows", str(ROWS)], None),
@@ -122,18 +157,6 @@ def show(hash_bench, peer, folder):
         "join of covered rows": ([peer, "join", "--namespace", NAMESPACE], covered),
         "show": ([peer, "show"], image),
     })
-    plain = BLOCKS / took["blocks"]
-    print("| Keys of height 5 | hashes each | seconds each | hashes per second | of the plain loop |")
-    print("|---|---|---|---|---|")
-    print(f"| plain loop over one block | 1 | | {plain:,.0f} | 1.00 |")
-    for name, hashes, count, seconds in (
-        ("make a key", MAKE, KEYS, took["make"]),
-        ("sign", SIGN, KEYS, took["sign"]),
-        ("verify", verify_blocks(), CHECKS, took["verify"] - took["verify nothing"]),
-    ):
-        speed = hashes * count / seconds
-        print(f"| {name} | {hashes:,} | {seconds / count:.5f} | {speed:,.0f} | {speed / plain:.2f} |")
-    print()
     print("| Rows | rows | hashes | seconds | seconds of SHA-256 alone | times that |")
     print("|---|---|---|---|---|---|")
     for name, count, alone in (
@@ -154,5 +177,8 @@ def show(hash_bench, peer, folder):
 
 
 if __name__ == "__main__":
-    with tempfile.TemporaryDirectory() as temporary:
-        show(os.path.abspath(sys.argv[1]), os.path.abspath(sys.argv[2]), temporary)
+    show_digests(os.path.abspath(sys.argv[1]))
+    if len(sys.argv) > 2:
+        print()
+        with tempfile.TemporaryDirectory() as temporary:
+            show_rows(os.path.abspath(sys.argv[1]), os.path.abspath(sys.argv[2]), temporary)

@@ -5,6 +5,7 @@
 
 mod digests;
 mod keys;
+mod lanes;
 
 use std::alloc::Global;
 use std::process::ExitCode;
@@ -22,6 +23,8 @@ fn run(alloc: Global, mode: &str, rounds: u32) -> Option<u64> {
     match mode {
         "blocks" => Some(front_of(&digests::blocks(rounds))),
         "rows" => Some(front_of(&digests::rows(rounds))),
+        "chains" => Some(front_of(&lanes::chains(rounds))),
+        "lists" => Some(front_of(&lanes::lists(rounds))),
         "make" => Some(keys::make(rounds)),
         "sign" => keys::sign(alloc, rounds),
         "verify" => keys::verify(alloc, rounds),
@@ -55,7 +58,7 @@ fn main(rt: HostRuntime) -> io::Result<ExitCode> {
             Ok(ExitCode::from(0))
         }
         None => {
-            println!(rt; "usage: blocks, rows, make, sign or verify, and a number")?;
+            println!(rt; "usage: blocks, rows, chains, lists, make, sign or verify, and a number")?;
             Ok(ExitCode::from(2))
         }
     }
