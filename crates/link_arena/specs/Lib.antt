@@ -1,0 +1,4 @@
+pub mod Slots
+pub mod Tree
+pub mod Put
+pub mod Chain
