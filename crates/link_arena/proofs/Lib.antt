@@ -6,3 +6,5 @@ pub mod Parts
 pub mod Chains
 pub mod Turns
 pub mod Puts
+pub mod Takes
+pub mod Walks

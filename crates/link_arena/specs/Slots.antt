@@ -86,6 +86,11 @@ module _ {T : Type 0} where
   slot_cmp cmp (Some a) None = Equal
   slot_cmp cmp (Some a) (Some b) = cmp a b
 
+  -- there is a value, and it ties with the probe
+  abbrev pub IsTied : (T → T → Ordering) → T → Option T → Type 0
+  IsTied cmp probe None = ⊥
+  IsTied cmp probe (Some value) = cmp probe value ≡ Equal
+
   -- the first slot's value stands before the second's
   abbrev pub Precedes : (T → T → Ordering) → List (Slot T) → ℕ → ℕ → Type 0
   Precedes cmp slots s u = slot_cmp cmp (value_at slots s) (value_at slots u) ≡ Less

@@ -3,9 +3,12 @@
 //! Two height-balanced trees and two doubly linked lists run through the slots by index.
 #![tactic(auto)]
 
+mod chain;
+mod find;
 mod join;
 mod put;
 mod slot;
+mod take;
 mod twice;
 
 pub use twice::{Order, Twice};
