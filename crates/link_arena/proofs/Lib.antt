@@ -8,3 +8,4 @@ pub mod Turns
 pub mod Puts
 pub mod Takes
 pub mod Walks
+pub mod Kept

@@ -72,13 +72,16 @@ module _ {T : Type 0} where
 
   -- ---- values
 
+  abbrev pub content_at : List (Slot T) → ℕ → Content T
+  content_at slots s = (slot_at slots s).content
+
   abbrev pub value_in : Content T → Option T
   value_in (Value value) = Some value
   value_in (Vacant next) = None
 
   -- the values, by index; none where the slot is vacant
   abbrev pub value_at : List (Slot T) → ℕ → Option T
-  value_at slots s = value_in (slot_at slots s).content
+  value_at slots s = value_in (content_at slots s)
 
   -- how two slots' values are ordered: as equal where one is vacant
   abbrev pub slot_cmp : (T → T → Ordering) → Option T → Option T → Ordering

@@ -6,6 +6,7 @@
 mod chain;
 mod find;
 mod join;
+mod order;
 mod put;
 mod slot;
 mod take;

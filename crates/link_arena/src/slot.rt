@@ -39,13 +39,15 @@ pub(crate) struct Slot<T> {
     pub rank_ends: Ends,
 }
 
-const UNLINKED: Link = Link {
+// The place of a slot that stands in no tree.
+pub(crate) const UNLINKED: Link = Link {
     left: None,
     right: None,
     height: 0,
 };
 
-const LOOSE: Ends = Ends {
+// The neighbours of a slot that stands alone.
+pub(crate) const LOOSE: Ends = Ends {
     before: None,
     after: None,
 };
