@@ -39,7 +39,7 @@ chain_still : (a b c d : ℕ → Option ℕ) (xs : List ℕ) → ((s : ℕ) → 
 chain_still a b c d xs ab cd h = record { nexts = nexts_still a b xs None ab h.nexts; previous = previous_still c d None xs cd h.previous }
 
 module _ {T : Type 0} (cmp : T → T → Ordering) where
-  precedes_still : (one two : List (Slot T)) (s u : ℕ) → value_at two s ≡ value_at one s → value_at two u ≡ value_at one u → Precedes cmp one s u → Precedes cmp two s u
+  pub precedes_still : (one two : List (Slot T)) (s u : ℕ) → value_at two s ≡ value_at one s → value_at two u ≡ value_at one u → Precedes cmp one s u → Precedes cmp two s u
   precedes_still one two s u es eu p = ap (λ v. slot_cmp cmp v (value_at two u)) es ∙ ap (slot_cmp cmp (value_at one s)) eu ∙ p
 
   -- an order stays where the links, ends and values of its slots do

@@ -9,3 +9,8 @@ pub mod Puts
 pub mod Takes
 pub mod Walks
 pub mod Kept
+pub mod Boths
+pub mod Views
+pub mod Sounds
+pub mod Inserts
+pub mod Removals

@@ -4,10 +4,13 @@ use Rattle.std.specs.Cmp.{IsTotalOrder}
 use Rattle.std.specs.Ordering.{ordering_reverse}
 use Rattle.std.proofs.Math.Nat.{pow-le-pow_right}
 use Rattle.link_arena.specs.declared.slot.Link.{Link}
-use Rattle.link_arena.specs.Tree.{Tree, IsTree, IsStrict, IsBalanced, times, height, size, hit}
+use Rattle.link_arena.specs.Tree.{Tree, IsTree, IsStrict, IsBalanced, Stands, slots_of, times, height, size, hit}
+use Rattle.link_arena.specs.Chain.{first_or}
 use Rattle.link_arena.specs.Tree.Tree.{leaf, node}
-use Rattle.link_arena.specs.Slots.{slot_cmp, IsTied}
-use Rattle.link_arena.proofs.Trees.{hit_same, hit_other, same_tree}
+use Rattle.link_arena.specs.Slots.{root_height, slot_cmp, IsTied}
+use Rattle.link_arena.proofs.Trees.{hit_same, hit_other, same_tree, told_height}
+use Rattle.link_arena.proofs.Chains.{first_or-append}
+use Rattle.link_arena.proofs.Turns.{node_at}
 use Rattle.link_arena.proofs.Parts.{parted, gone}
 use Rattle.link_arena.proofs.Bound.{low, high}
 
@@ -115,3 +118,43 @@ module _ {T : Type 0} (cmp : T → T → Ordering) (total : IsTotalOrder cmp) (p
 
   pub tied_at : (b : Option T) (v : T) → Some v ≡ b → cmp probe v ≡ Equal → IsTied cmp probe b
   tied_at b v is tied = subst (λ o. IsTied cmp probe o) is tied
+
+-- the first slot of the whole tree is the first below the slot at, or where there is none, the last that was passed
+pub record LeadsOn (links : ℕ → Link) (root at passed : Option ℕ) : Type 0 where
+  pub whole : Tree
+  pub part : Tree
+  pub whole_stands : Stands links root whole
+  pub part_stands : Stands links at part
+  pub first : first_or passed (slots_of part) ≡ first_or None (slots_of whole)
+
+module _ (links : ℕ → Link) (root : Option ℕ) where
+  pub leads_from : (t : Tree) → Stands links root t → LeadsOn links root root None
+  leads_from t s = record { whole = t; part = t; whole_stands = s; part_stands = s; first = refl }
+
+  module _ (at : Option ℕ) (slot : ℕ) (passed : Option ℕ) (is : at ≡ Some slot) (w : LeadsOn links root at passed) where
+    pub leads_on : LeadsOn links root ((links slot).left) (Some slot)
+    leads_on =
+        let top = node_at links at w.part slot is w.part_stands in
+        let stands = subst (Stands links at) top.is w.part_stands in
+        record {
+          whole = w.whole;
+          part = top.before;
+          whole_stands = w.whole_stands;
+          part_stands = stands.2;
+          first =
+              sym (first_or-append passed (slots_of top.before) slot (slots_of top.after))
+              ∙ sym (ap (λ t. first_or passed (slots_of t)) top.is)
+              ∙ w.first;
+        }
+
+    pub leads_down : root_height links ((links slot).left) < root_height links at
+    leads_down =
+        let top = node_at links at w.part slot is w.part_stands in
+        let stands = subst (Stands links at) top.is w.part_stands in
+        omega (arith, told_height links at w.part w.part_stands, ap height top.is, told_height links ((links slot).left) top.before stands.2)
+
+  pub leads_to : (at passed : Option ℕ) → at ≡ None → LeadsOn links root at passed → (t : Tree) → Stands links root t → passed ≡ first_or None (slots_of t)
+  leads_to at passed none w t s =
+      let same : w.whole ≡ t = same_tree links root root w.whole t refl w.whole_stands s in
+      let empty : w.part ≡ leaf = same_tree links at None w.part leaf none w.part_stands refl in
+      sym (ap (λ part. first_or passed (slots_of part)) empty) ∙ w.first ∙ ap (λ whole. first_or None (slots_of whole)) same

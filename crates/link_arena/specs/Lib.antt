@@ -3,3 +3,8 @@ pub mod Tree
 pub mod Put
 pub mod Chain
 pub mod Ordered
+pub mod Both
+pub mod Vacant
+pub mod Sound
+pub mod Arena
+pub mod View

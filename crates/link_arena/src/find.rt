@@ -1,9 +1,10 @@
-//! The search down the tree of keys.
+//! Walks down a tree.
 
-ghost use Rattle.std.specs.Prelude.{◌≡◌, ℕ, ◌-◌, ◌*◌, ◌+◌, ◌^◌, ◌<◌, ◌≤◌, length, MatchOption};
+ghost use Rattle.std.specs.Prelude.{◌≡◌, ℕ, ◌-◌, ◌*◌, ◌+◌, ◌^◌, ◌<◌, ◌≤◌, MatchOption, None};
 ghost use Rattle.link_arena.specs.declared.twice.Order.TheVariants.{Key};
-ghost use Rattle.link_arena.specs.Tree.{Tree, size, times};
-ghost use Rattle.link_arena.specs.Slots.{value_at, IsTied};
+ghost use Rattle.link_arena.specs.Tree.{Tree, Stands, size, slots_of, times};
+ghost use Rattle.link_arena.specs.Chain.{first_or};
+ghost use Rattle.link_arena.specs.Slots.{side, value_at, IsTied};
 ghost use Rattle.link_arena.specs.Ordered.{IsFilled};
 
 use crate::slot::{Slot, link_at, value_of};
@@ -40,4 +41,18 @@ pub(crate) fn find_key<T: Twice, L: Ledger>(
         }
     }
     None
+}
+
+// The first slot of the tree below a root.
+pub(crate) fn least<T>(slots: &[Slot<T>], order: Order, root: Option<u32>) -> Option<u32>
+    requires { (t : Tree) × Stands (side order slots.now) root t }
+    ensures { (t : Tree) → Stands (side order slots.now) root t → result ≡ first_or None (slots_of t) }
+{
+    let mut at = root;
+    let mut least = None;
+    while let Some(slot) = at {
+        least = at;
+        at = link_at(slots, order, slot).left;
+    }
+    least
 }

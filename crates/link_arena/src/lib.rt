@@ -3,6 +3,8 @@
 //! Two height-balanced trees and two doubly linked lists run through the slots by index.
 #![tactic(auto)]
 
+mod arena;
+mod both;
 mod chain;
 mod find;
 mod join;
@@ -11,5 +13,7 @@ mod put;
 mod slot;
 mod take;
 mod twice;
+mod vacant;
 
+pub use arena::Arena;
 pub use twice::{Order, Twice};
