@@ -14,14 +14,14 @@ use Rattle.link_arena.specs.Ordered.{IsOrdered}
 use Rattle.link_arena.specs.Both.{CanAdd, AreAdded}
 use Rattle.link_arena.specs.Vacant.{IsVacantAt, IsFilledIn, IsReused, IsAppended}
 use Rattle.link_arena.specs.Sound.{IsKept, IsSound, AreVacant}
-use Rattle.link_arena.specs.Arena.{IsOneMore}
-use Rattle.link_arena.specs.View.{pairs_below, pairs_of}
+use Rattle.link_arena.specs.Arena.{Arena, AreTwoOrders, IsOneMore}
+use Rattle.link_arena.specs.View.{arena_of, pairs_below}
 use Rattle.link_arena.specs.Slots.{slot_at, content_at, value_at, value_in, slot_cmp, Precedes, link_of, ends_of}
 use Rattle.link_arena.proofs.Trees.{hit_same, hit_other}
 use Rattle.link_arena.proofs.Lists.{count_append, count_tree, is_hit}
 use Rattle.link_arena.proofs.Kept.{ordered_still}
 use Rattle.link_arena.proofs.Views.{one_more}
-use Rattle.link_arena.proofs.Sounds.{holds, key_view, rank_view}
+use Rattle.link_arena.proofs.Sounds.{holds, key_view, rank_view, orders}
 
 -- two equal counts
 pub same_hit : (s i : ℕ) (t : Tree) → s ≡ i → (times s t ≡ times i t) × (hit s i ≡ 1)
@@ -198,25 +198,34 @@ module _ {T : Type 0} (cmp : Order → T → T → Ordering) (old mid : List (Sl
         b.before b.after (values slot ∙ f.here) (λ s h. still s (omega (arith, k.both.same s, count_tree s u, ap (count_of s) b.before, count_append s b.first b.last)))
 
 -- what a value that is put in leaves
-pub record IsInserted {T : Type 0} (cmp : Order → T → T → Ordering) (old new : List (Slot T)) (key rank key_new rank_new next : Option ℕ) (held slot : ℕ) (value : T) : Type 0 where
-  pub sound : IsSound cmp new key_new rank_new next (held + 1)
-  pub by_key : IsOneMore (pairs_below Key old key) (slot, value) (pairs_below Key new key_new)
-  pub by_rank : IsOneMore (pairs_below Rank old rank) (slot, value) (pairs_below Rank new rank_new)
+pub record IsInserted {T : Type 0} (cmp : Order → T → T → Ordering) (old : Arena T) (slots : List (Slot T)) (key rank vacant : Option ℕ) (held slot : ℕ) (value : T) : Type 0 where
+  pub sound : IsSound cmp slots key rank vacant held
+  pub by_key : IsOneMore old.by_key (slot, value) (pairs_below Key slots key)
+  pub by_rank : IsOneMore old.by_rank (slot, value) (pairs_below Rank slots rank)
+  pub orders : (capacity : ℕ) → AreTwoOrders cmp (arena_of slots key rank held capacity)
 
-module _ {T : Type 0} (cmp : Order → T → T → Ordering) (old mid lent new whole : List (Slot T)) (key rank vacant key_new rank_new next : Option ℕ) (held slot : ℕ) (value : T) (s : IsSound cmp old key rank vacant held)
-    (f : IsFilledIn old mid vacant value slot next) (lends : lent ≡ mid) (total : (order : Order) → IsTotalOrder (cmp order)) (apart : (a b : T) → cmp Rank a b ≡ Equal → cmp Key a b ≡ Equal)
-    (unlike : All (λ (pair : ℕ × T). cmp Key value pair.1 ≢ Equal) (pairs_below Key old key)) (room : held < 2 ^ 31 - 1) where
+module _ {T : Type 0} (cmp : Order → T → T → Ordering) (old mid lent : List (Slot T)) (key rank vacant next : Option ℕ) (held slot : ℕ) (value : T) (s : IsSound cmp old key rank vacant held)
+    (total : (order : Order) → IsTotalOrder (cmp order)) (apart : (a b : T) → cmp Rank a b ≡ Equal → cmp Key a b ≡ Equal) (capacity : ℕ) (seen : Arena T) (view : arena_of old key rank held capacity ≡ seen)
+    (room : 1 ≤ seen.spare) (unlike : All (λ (pair : ℕ × T). cmp Key value pair.1 ≢ Equal) seen.by_key) (f : IsFilledIn old mid vacant value slot next) (lends : lent ≡ mid) where
+  few : held < 2 ^ 31 - 1
+  few = omega (arith, ap (λ a. a.spare) view)
+
   pub can_add_to : CanAdd cmp lent key rank s.0 s.1 slot
-  can_add_to = subst (λ slots. CanAdd cmp slots key rank s.0 s.1 slot) (sym lends) (can_add cmp old mid key rank vacant held s.0 s.1 s.2 s.3 value slot next f total apart unlike room)
+  can_add_to =
+      subst (λ slots. CanAdd cmp slots key rank s.0 s.1 slot) (sym lends)
+      (can_add cmp old mid key rank vacant held s.0 s.1 s.2 s.3 value slot next f total apart (subst (λ a. All (λ (pair : ℕ × T). cmp Key value pair.1 ≢ Equal) a.by_key) (sym view) unlike) few)
 
-  pub inserted : ((t u : Tree) → CanAdd cmp lent key rank t u slot → AreAdded cmp new key_new rank_new t u slot) → ((i : ℕ) → content_at new i ≡ content_at lent i) → length lent ≡ length new → whole ≡ new
-      → IsInserted cmp old whole key rank key_new rank_new next held slot value
-  inserted adds contents same is =
+  pub inserted : (new whole : List (Slot T)) (key_new rank_new : Option ℕ) → ((t u : Tree) → CanAdd cmp lent key rank t u slot → AreAdded cmp new key_new rank_new t u slot) → ((i : ℕ) → content_at new i ≡ content_at lent i)
+      → length lent ≡ length new → whole ≡ new → IsInserted cmp seen whole key_new rank_new next (held + 1) slot value
+  inserted new whole key_new rank_new adds contents same is =
       let a = adds s.0 s.1 can_add_to in
       let stays : (i : ℕ) → content_at new i ≡ content_at mid i = λ i. contents i ∙ ap (λ slots. content_at slots i) lends in
       let sizes : length mid ≡ length new = sym (ap length lends) ∙ same in
-      subst (λ slots. IsInserted cmp old slots key rank key_new rank_new next held slot value) (sym is) (record {
-        sound = (a.key_added.tree, a.rank_added.tree, (are_left cmp old mid key rank vacant held s.0 s.1 s.2 s.3 value slot next f).left, kept_with cmp old mid key rank vacant held s.0 s.1 s.2 s.3 value slot next f new key_new rank_new a stays sizes room);
-        by_key = one_more_by_key cmp old mid key rank vacant held s.0 s.1 s.2 s.3 value slot next f new key_new rank_new a stays sizes room;
-        by_rank = one_more_by_rank cmp old mid key rank vacant held s.0 s.1 s.2 s.3 value slot next f new key_new rank_new a stays sizes room;
+      let left = (are_left cmp old mid key rank vacant held s.0 s.1 s.2 s.3 value slot next f).left in
+      let k = kept_with cmp old mid key rank vacant held s.0 s.1 s.2 s.3 value slot next f new key_new rank_new a stays sizes few in
+      subst (λ slots. IsInserted cmp seen slots key_new rank_new next (held + 1) slot value) (sym is) (record {
+        sound = (a.key_added.tree, a.rank_added.tree, left, k);
+        by_key = subst (λ v. IsOneMore v.by_key (slot, value) (pairs_below Key new key_new)) view (one_more_by_key cmp old mid key rank vacant held s.0 s.1 s.2 s.3 value slot next f new key_new rank_new a stays sizes few);
+        by_rank = subst (λ v. IsOneMore v.by_rank (slot, value) (pairs_below Rank new rank_new)) view (one_more_by_rank cmp old mid key rank vacant held s.0 s.1 s.2 s.3 value slot next f new key_new rank_new a stays sizes few);
+        orders = orders cmp new key_new rank_new next (held + 1) a.key_added.tree a.rank_added.tree left k total;
       })

@@ -1,5 +1,5 @@
 -- A value that is taken out leaves the arena sound, and one pair less in each list.
-use Rattle.std.proofs.Common.{◌≡◌, ◌≢◌, ℕ, ◌+◌, ◌^◌, ◌<◌, ◌≤◌, inl, inr, Option, None, Some, arith, refl, ap, sym, ◌∙◌, subst, List, [], ◌∷◌, ◌++◌, length, Ordering}
+use Rattle.std.proofs.Common.{◌≡◌, ◌≢◌, ℕ, ◌+◌, ◌-◌, ◌^◌, ◌<◌, ◌≤◌, inl, inr, Option, None, Some, arith, refl, ap, sym, ◌∙◌, subst, List, [], ◌∷◌, ◌++◌, length, Ordering}
 use Rattle.std.proofs.Math.Nat.{eq-zero-or-pos}
 use Rattle.link_arena.specs.declared.twice.Order.{Order}
 use Rattle.link_arena.specs.declared.twice.Order.TheVariants.{Key, Rank}
@@ -9,20 +9,21 @@ use Rattle.link_arena.specs.Ordered.{IsOrdered}
 use Rattle.link_arena.specs.Both.{CanRemove, AreRemoved}
 use Rattle.link_arena.specs.Vacant.{IsEmptied}
 use Rattle.link_arena.specs.Sound.{IsKept, IsSound}
-use Rattle.link_arena.specs.Arena.{IsOneMore}
-use Rattle.link_arena.specs.View.{pairs_below}
+use Rattle.link_arena.specs.Arena.{Arena, AreTwoOrders, Holds, IsOneMore}
+use Rattle.link_arena.specs.View.{arena_of, pairs_below}
 use Rattle.link_arena.specs.Slots.{slot_at, content_at, value_at, value_in, link_of, ends_of}
 use Rattle.link_arena.proofs.Lists.{count_append, count_tree}
 use Rattle.link_arena.proofs.Kept.{ordered_still}
 use Rattle.link_arena.proofs.Views.{one_more}
-use Rattle.link_arena.proofs.Sounds.{in_tree, key_view, rank_view}
+use Rattle.link_arena.proofs.Sounds.{in_tree, key_view, rank_view, holds, orders, size_there}
+use Rattle.std.specs.Cmp.{IsTotalOrder}
 use Rattle.link_arena.proofs.Inserts.{same_hit, vacant_still}
 
-module _ {T : Type 0} (cmp : Order → T → T → Ordering) (old mid new : List (Slot T)) (key rank vacant : Option ℕ) (held : ℕ) (t u : Tree) (free : List ℕ) (k : IsKept cmp old key rank vacant held t u free) (slot : ℕ) where
+module _ {T : Type 0} (cmp : Order → T → T → Ordering) (old : List (Slot T)) (key rank vacant : Option ℕ) (held : ℕ) (t u : Tree) (free : List ℕ) (k : IsKept cmp old key rank vacant held t u free) (slot : ℕ) where
   pub can_remove : value_at old slot ≢ None → CanRemove cmp old key rank t u slot
   can_remove some = record { both = k.both; there = in_tree cmp old key rank vacant held t u free k slot some }
 
-  module _ (left : ℕ) (one_less : held ≡ left + 1) (value : T) (was : value_at old slot ≡ Some value) (key_new rank_new : Option ℕ) (a : AreRemoved cmp mid key_new rank_new t u slot)
+  module _ (mid new : List (Slot T)) (left : ℕ) (one_less : held ≡ left + 1) (value : T) (was : value_at old slot ≡ Some value) (key_new rank_new : Option ℕ) (a : AreRemoved cmp mid key_new rank_new t u slot)
       (contents : (s : ℕ) → content_at mid s ≡ content_at old s) (same : length old ≡ length mid) (e : IsEmptied mid new slot vacant) where
     there : 0 < times slot t
     there = in_tree cmp old key rank vacant held t u free k slot (λ none. cc)
@@ -83,24 +84,39 @@ module _ {T : Type 0} (cmp : Order → T → T → Ordering) (old mid new : List
         b.after b.before was (λ s h. still s (omega (arith, a.both.same s, count_tree s b.tree, ap (count_of s) b.after, count_append s b.first b.last)))
 
 -- what a value that is taken out leaves
-pub record IsRemovedFrom {T : Type 0} (cmp : Order → T → T → Ordering) (old new : List (Slot T)) (key rank key_new rank_new : Option ℕ) (left slot : ℕ) (value : T) : Type 0 where
-  pub sound : IsSound cmp new key_new rank_new (Some slot) left
-  pub by_key : IsOneMore (pairs_below Key new key_new) (slot, value) (pairs_below Key old key)
-  pub by_rank : IsOneMore (pairs_below Rank new rank_new) (slot, value) (pairs_below Rank old rank)
+pub record IsRemovedFrom {T : Type 0} (cmp : Order → T → T → Ordering) (old : Arena T) (slots : List (Slot T)) (key rank : Option ℕ) (held slot : ℕ) (value : T) : Type 0 where
+  pub sound : IsSound cmp slots key rank (Some slot) held
+  pub by_key : IsOneMore (pairs_below Key slots key) (slot, value) old.by_key
+  pub by_rank : IsOneMore (pairs_below Rank slots rank) (slot, value) old.by_rank
+  pub holds : Holds old slot value
+  pub orders : (capacity : ℕ) → AreTwoOrders cmp (arena_of slots key rank held capacity)
 
-module _ {T : Type 0} (cmp : Order → T → T → Ordering) (old lent mid lent_mid new whole : List (Slot T)) (key rank vacant key_new rank_new : Option ℕ) (held slot : ℕ) (s : IsSound cmp old key rank vacant held) (lends : lent ≡ old) where
-  pub can_remove_from : value_at old slot ≢ None → CanRemove cmp lent key rank s.0 s.1 slot
-  can_remove_from some = subst (λ slots. CanRemove cmp slots key rank s.0 s.1 slot) (sym lends) (can_remove cmp old old old key rank vacant held s.0 s.1 s.2 s.3 slot some)
+module _ {T : Type 0} (cmp : Order → T → T → Ordering) (old lent : List (Slot T)) (key rank vacant : Option ℕ) (held slot : ℕ) (s : IsSound cmp old key rank vacant held) (value : T) (was : value_at old slot ≡ Some value) (lends : lent ≡ old) where
+  some : value_at old slot ≢ None
+  some none = cc
 
-  pub removed_from : (left : ℕ) → held ≡ left + 1 → (value : T) → value_at old slot ≡ Some value → ((t u : Tree) → CanRemove cmp lent key rank t u slot → AreRemoved cmp mid key_new rank_new t u slot)
-      → ((i : ℕ) → content_at mid i ≡ content_at lent i) → length lent ≡ length mid → lent_mid ≡ mid → IsEmptied lent_mid new slot vacant → whole ≡ new → IsRemovedFrom cmp old whole key rank key_new rank_new left slot value
-  removed_from left one_less value was removes contents same lends_mid e is =
-      let a = removes s.0 s.1 (can_remove_from (λ none. cc)) in
+  pub can_remove_from : CanRemove cmp lent key rank s.0 s.1 slot
+  can_remove_from = subst (λ slots. CanRemove cmp slots key rank s.0 s.1 slot) (sym lends) (can_remove cmp old key rank vacant held s.0 s.1 s.2 s.3 slot some)
+
+  pub holds_one : 1 ≤ held
+  holds_one = omega (arith, s.3.key_size, size_there s.0 slot (in_tree cmp old key rank vacant held s.0 s.1 s.2 s.3 slot some))
+
+  pub removed_from : (total : (order : Order) → IsTotalOrder (cmp order)) (capacity : ℕ) (seen : Arena T) (view : arena_of old key rank held capacity ≡ seen) (mid lent_mid new whole : List (Slot T)) (key_new rank_new : Option ℕ)
+      → ((t u : Tree) → CanRemove cmp lent key rank t u slot → AreRemoved cmp mid key_new rank_new t u slot) → ((i : ℕ) → content_at mid i ≡ content_at lent i) → length lent ≡ length mid → lent_mid ≡ mid
+      → IsEmptied lent_mid new slot vacant → whole ≡ new → IsRemovedFrom cmp seen whole key_new rank_new (held - 1) slot value
+  removed_from total capacity seen view mid lent_mid new whole key_new rank_new removes contents same lends_mid e is =
+      let a = removes s.0 s.1 can_remove_from in
       let stays : (i : ℕ) → content_at mid i ≡ content_at old i = λ i. contents i ∙ ap (λ slots. content_at slots i) lends in
       let sizes : length old ≡ length mid = sym (ap length lends) ∙ same in
       let emptied : IsEmptied mid new slot vacant = subst (λ slots. IsEmptied slots new slot vacant) lends_mid e in
-      subst (λ slots. IsRemovedFrom cmp old slots key rank key_new rank_new left slot value) (sym is) (record {
-        sound = (a.key_removed.tree, a.rank_removed.tree, slot ∷ s.2, kept_without cmp old mid new key rank vacant held s.0 s.1 s.2 s.3 slot left one_less value was key_new rank_new a stays sizes emptied);
-        by_key = one_less_by_key cmp old mid new key rank vacant held s.0 s.1 s.2 s.3 slot left one_less value was key_new rank_new a stays sizes emptied;
-        by_rank = one_less_by_rank cmp old mid new key rank vacant held s.0 s.1 s.2 s.3 slot left one_less value was key_new rank_new a stays sizes emptied;
+      let one_less : held ≡ held - 1 + 1 = omega (arith, holds_one) in
+      let k = kept_without cmp old key rank vacant held s.0 s.1 s.2 s.3 slot mid new (held - 1) one_less value was key_new rank_new a stays sizes emptied in
+      subst (λ slots. IsRemovedFrom cmp seen slots key_new rank_new (held - 1) slot value) (sym is) (record {
+        sound = (a.key_removed.tree, a.rank_removed.tree, slot ∷ s.2, k);
+        by_key = subst (λ v. IsOneMore (pairs_below Key new key_new) (slot, value) v.by_key) view
+            (one_less_by_key cmp old key rank vacant held s.0 s.1 s.2 s.3 slot mid new (held - 1) one_less value was key_new rank_new a stays sizes emptied);
+        by_rank = subst (λ v. IsOneMore (pairs_below Rank new rank_new) (slot, value) v.by_rank) view
+            (one_less_by_rank cmp old key rank vacant held s.0 s.1 s.2 s.3 slot mid new (held - 1) one_less value was key_new rank_new a stays sizes emptied);
+        holds = subst (λ v. Holds v slot value) view (holds cmp old key rank vacant held s.0 s.1 s.2 s.3 slot value was);
+        orders = orders cmp new key_new rank_new (Some slot) (held - 1) a.key_removed.tree a.rank_removed.tree (slot ∷ s.2) k total;
       })

@@ -41,6 +41,11 @@ next_get after [] i s nexts there = absurd cc
 next_get after (x ∷ xs) zero s nexts there = let same : x ≡ s = cc in ap after (sym same) ∙ nexts.0 ∙ first_get xs
 next_get after (x ∷ xs) (suc i) s nexts there = rw add-one (next_get after xs i s nexts.1 there ∙ ap (slice_get xs) (omega arith))
 
+-- a tree with a slot in it is not empty
+pub size_there : (t : Tree) (s : ℕ) → 0 < times s t → 1 ≤ size t
+size_there leaf s h = absurd (omega arith)
+size_there (node a i b) s h = omega arith
+
 module _ {T : Type 0} where
   -- a slot of the list of vacant ones holds no value
   pub vacant_there : (slots : List (Slot T)) (first : Option ℕ) (free : List ℕ) (s : ℕ) → AreVacant slots first free → 0 < count_of s free → value_at slots s ≡ None

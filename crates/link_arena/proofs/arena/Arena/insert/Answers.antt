@@ -1,7 +1,5 @@
-use Rattle.std.proofs.Common.{◌≡◌, ◌+◌, ◌<◌, ◌-◌, ◌^◌, ◌≤◌, arith, ap, ◌∙◌, sym, subst, length}
+use Rattle.std.proofs.Common.{◌≡◌, ◌+◌, ◌≤◌, arith, ap, length, rules}
 use Rattle.std.proofs.lemmas.List.{with_items_is}
-use Rattle.link_arena.specs.Arena.{AreTwoOrders, IsOneMore}
-use Rattle.link_arena.proofs.Sounds.{orders}
 use Rattle.link_arena.proofs.Inserts.{vacant_first, none_vacant, can_add_to, inserted}
 use Rattle.link_arena.proofs.arena.Arena.insert.Goals as goal
 
@@ -16,16 +14,24 @@ fill-filled-requires-clause-room g c = λ none.
     omega (arith, ap length empty, k.all, c.requires.room)
 
 pub add_both-self-inside-requires : goal.add_both-self-inside-requires
-add_both-self-inside-requires g c = ?
+add_both-self-inside-requires g c =
+    (_, (_, can_add_to g.T.Twice.cmp_by _ _ _ _ _ _ _ c.self.inside.held _ c.args.value c.self.invariant g.met.T.Twice.total g.met.T.Twice.apart _ _ c.self.view_is c.requires.room c.requires.free
+    c.fill-filled.ensures.filled c.as_mut_slice.ensures.value))
 
 pub invariant_of-self : goal.invariant_of-self
-invariant_of-self g c = ?
+invariant_of-self g c =
+    (inserted g.T.Twice.cmp_by _ _ _ _ _ _ _ c.self.inside.held _ c.args.value c.self.invariant g.met.T.Twice.total g.met.T.Twice.apart _ _ c.self.view_is c.requires.room c.requires.free
+    c.fill-filled.ensures.filled c.as_mut_slice.ensures.value _ _ _ _ c.add_both-self-inside.ensures.added c.add_both-self-inside.ensures.contents (omega arith)
+    (with_items_is c.fill-filled.new.slots c.add_both-self-inside.new.slots (omega arith))).sound
 
-pub returns-clause-by_key : goal.returns-clause-by_key
-returns-clause-by_key g c = ?
-
-pub returns-clause-by_rank : goal.returns-clause-by_rank
-returns-clause-by_rank g c = ?
-
-pub returns-clause-orders : goal.returns-clause-orders
-returns-clause-orders g c = ?
+pub returns : goal.returns
+returns g c =
+    let made = inserted g.T.Twice.cmp_by _ _ _ _ _ _ _ c.self.inside.held _ c.args.value c.self.invariant g.met.T.Twice.total g.met.T.Twice.apart _ _ c.self.view_is c.requires.room c.requires.free
+        c.fill-filled.ensures.filled c.as_mut_slice.ensures.value _ _ _ _ c.add_both-self-inside.ensures.added c.add_both-self-inside.ensures.contents (omega arith)
+        (with_items_is c.fill-filled.new.slots c.add_both-self-inside.new.slots (omega arith)) in
+    record {
+      by_key = made.by_key;
+      by_rank = made.by_rank;
+      orders = made.orders _;
+      spare = let spare = ap (λ a. a.spare) c.self.view_is in omega (arith, c.requires.room);
+    }
