@@ -14,3 +14,4 @@ pub mod Views
 pub mod Sounds
 pub mod Inserts
 pub mod Removals
+pub mod Empty

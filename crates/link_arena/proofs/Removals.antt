@@ -83,6 +83,10 @@ module _ {T : Type 0} (cmp : Order → T → T → Ordering) (old : List (Slot T
         (rank_view cmp new key_new rank_new (Some slot) left a.key_removed.tree b.tree (slot ∷ free) kept_without) (rank_view cmp old key rank vacant held t u free k)
         b.after b.before was (λ s h. still s (omega (arith, a.both.same s, count_tree s b.tree, ap (count_of s) b.after, count_append s b.first b.last)))
 
+-- the value of a slot stays where the contents do
+pub same_value : {T : Type 0} (old lent mid lent_mid : List (Slot T)) (slot : ℕ) → lent ≡ old → ((i : ℕ) → content_at mid i ≡ content_at lent i) → lent_mid ≡ mid → value_at lent_mid slot ≡ value_at old slot
+same_value old lent mid lent_mid slot lends contents lends_mid = ap (λ slots. value_at slots slot) lends_mid ∙ ap value_in (contents slot) ∙ ap (λ slots. value_at slots slot) lends
+
 -- what a value that is taken out leaves
 pub record IsRemovedFrom {T : Type 0} (cmp : Order → T → T → Ordering) (old : Arena T) (slots : List (Slot T)) (key rank : Option ℕ) (held slot : ℕ) (value : T) : Type 0 where
   pub sound : IsSound cmp slots key rank (Some slot) held

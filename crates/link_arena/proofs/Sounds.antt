@@ -1,5 +1,5 @@
 -- What an arena's trees and its list of vacant slots tell of its lists.
-use Rattle.std.proofs.Common.{◌≡◌, ◌≢◌, ℕ, zero, suc, ◌+◌, ◌-◌, ◌^◌, ◌<◌, ◌≤◌, ◌⊎◌, inl, inr, Option, None, Some, arith, refl, ap, sym, ◌∙◌, subst, List, [], ◌∷◌, ◌++◌, length, Contains, slice_get, Ordering, Equal, All, Bor, MatchOption, length-append, add-one}
+use Rattle.std.proofs.Common.{◌≡◌, ◌≢◌, ℕ, zero, suc, ◌+◌, ◌-◌, ◌*◌, ◌^◌, ◌<◌, ◌≤◌, ◌⊎◌, inl, inr, Option, None, Some, arith, refl, ap, sym, ◌∙◌, subst, List, [], ◌∷◌, ◌++◌, length, Contains, slice_get, Ordering, Equal, All, Bor, MatchOption, length-append, add-one}
 use Rattle.std.specs.Option.{option_copied}
 use Rattle.std.proofs.lemmas.List.Elements.{All-weaker, All-contains_itself}
 use Rattle.std.specs.Cmp.{IsTotalOrder}
@@ -14,14 +14,14 @@ use Rattle.link_arena.specs.declared.slot.Slot.{Slot}
 use Rattle.link_arena.specs.Tree.{Tree, Stands, IsTree, slots_of, size, height, times, hit, count_of}
 use Rattle.link_arena.specs.Tree.Tree.{leaf, node}
 use Rattle.link_arena.specs.Chain.{AreNexts, first_or}
-use Rattle.link_arena.specs.Ordered.{IsOrdered}
+use Rattle.link_arena.specs.Ordered.{IsFilled}
 use Rattle.link_arena.specs.Sound.{IsKept, AreVacant}
 use Rattle.link_arena.specs.declared.both.Tops.{Tops}
 use Rattle.link_arena.specs.Both.{top_of}
-use Rattle.link_arena.specs.Arena.{AreTwoOrders, Holds, IsVacant, in_order, slots_in}
+use Rattle.link_arena.specs.Arena.{Arena, AreTwoOrders, Holds, IsVacant, in_order, slots_in}
 use Rattle.link_arena.specs.View.{arena_of, pairs_below, pairs_of}
 use Rattle.link_arena.specs.Slots.{side, afters, slot_at, content_at, value_at, value_in, no_slot, Precedes, IsTied}
-use Rattle.link_arena.proofs.Bound.{low}
+use Rattle.link_arena.proofs.Bound.{low, square}
 use Rattle.link_arena.proofs.Trees.{grown_is}
 use Rattle.link_arena.proofs.Lists.{count_tree, is_hit, to_list}
 use Rattle.link_arena.proofs.Orders.{precedes_strict}
@@ -62,6 +62,9 @@ module _ {T : Type 0} where
 module _ {T : Type 0} (cmp : Order → T → T → Ordering) (slots : List (Slot T)) (key rank vacant : Option ℕ) (held : ℕ) (t u : Tree) (free : List ℕ) (k : IsKept cmp slots key rank vacant held t u free) where
   pub filled : AreFilled (value_at slots) (slots_of t)
   filled s h = k.filled s (omega (arith, count_tree s t))
+
+  pub key_filled : IsFilled (cmp Key) Key slots key t
+  key_filled = record { tree = k.both.by_key.tree; filled = k.filled }
 
   pub filled_rank : AreFilled (value_at slots) (slots_of u)
   filled_rank s h = k.filled s (omega (arith, count_tree s u, k.both.same s))
@@ -166,3 +169,9 @@ module _ {T : Type 0} (cmp : Order → T → T → Ordering) (slots : List (Slot
       let P : Option T → Type 0 = λ o. value_at slots s ≡ o → IsTied (cmp Key) probe o → (value : T) × Holds (arena_of slots key rank held capacity) s value × (cmp Key probe value ≡ Equal) in
       let each : (o : Option T) → P o = elim [ None ↦ λ is tied. absurd tied | Some value ↦ λ is tied. (value, holds s value is, tied) ] in
       each (value_at slots s) refl found.1
+
+  -- an arena of n values is n long, and what is within the square of a tree's size and two is within that of n and two
+  pub few_told : (capacity : ℕ) (seen : Arena T) → arena_of slots key rank held capacity ≡ seen → (m : ℕ) → m ≤ (size t + 2) * (size t + 2) → m ≤ (length seen.by_key + 2) ^ 2
+  few_told capacity seen view m le =
+      let n : length seen.by_key ≡ size t = sym (ap (λ a. length a.by_key) view) ∙ key_length ∙ sym k.key_size in
+      rw (n, square (size t + 2)) le

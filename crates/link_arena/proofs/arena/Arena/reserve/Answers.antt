@@ -6,4 +6,4 @@ pub returns-clause-room : goal.returns-clause-room
 returns-clause-room g c =
     let held = sym (key_length _ _ _ _ _ _ _ _ _ c.self.invariant.3) ∙ ap (λ a. length a.by_key) c.self.view_is in
     let all = c.self.invariant.3.all in
-    omega arith
+    omega (arith, held, all, c.in_ok-reserve.ensures.ok)
