@@ -1,5 +1,5 @@
 -- The arena without values.
-use Rattle.std.proofs.Common.{◌≡◌, ℕ, ◌<◌, arith, refl, sym, ap, subst, None, List, [], Ordering}
+use Rattle.std.proofs.Common.{◌≡◌, ℕ, arith, refl, sym, subst, None, List, [], Ordering}
 use Rattle.std.specs.Cmp.{IsTotalOrder}
 use Rattle.link_arena.specs.declared.twice.Order.{Order}
 use Rattle.link_arena.specs.declared.twice.Order.TheVariants.{Key, Rank}

@@ -1,5 +1,5 @@
 -- A value that is put in keeps the arena sound, and adds one pair to each list.
-use Rattle.std.proofs.Common.{◌≡◌, ◌≢◌, ℕ, ◌+◌, ◌-◌, ◌^◌, ◌<◌, ◌≤◌, ◌⊎◌, inl, inr, Option, None, Some, arith, refl, ap, sym, ◌∙◌, subst, List, [], ◌∷◌, ◌++◌, length, Contains, Ordering, Less, Equal, Greater, All}
+use Rattle.std.proofs.Common.{◌≡◌, ◌≢◌, ℕ, ◌+◌, ◌-◌, ◌^◌, ◌<◌, ◌≤◌, ◌⊎◌, inl, inr, Option, None, Some, arith, refl, ap, sym, ◌∙◌, subst, List, [], ◌∷◌, length, Ordering, Less, Equal, Greater, All}
 use Rattle.std.specs.Cmp.{IsTotalOrder}
 use Rattle.std.specs.Ordering.{ordering_reverse}
 use Rattle.std.specs.Option.{ForSome}
@@ -7,9 +7,8 @@ use Rattle.std.proofs.Math.Nat.{eq-zero-or-pos}
 use Rattle.std.proofs.lemmas.List.Elements.{All-contains}
 use Rattle.link_arena.specs.declared.twice.Order.{Order}
 use Rattle.link_arena.specs.declared.twice.Order.TheVariants.{Key, Rank}
-use Rattle.link_arena.specs.declared.slot.Content.TheVariants.{Vacant}
 use Rattle.link_arena.specs.declared.slot.Slot.{Slot}
-use Rattle.link_arena.specs.Tree.{Tree, slots_of, size, times, hit, count_of}
+use Rattle.link_arena.specs.Tree.{Tree, slots_of, times, hit, count_of}
 use Rattle.link_arena.specs.Ordered.{IsOrdered}
 use Rattle.link_arena.specs.Both.{CanAdd, AreAdded}
 use Rattle.link_arena.specs.Vacant.{IsVacantAt, IsFilledIn, IsReused, IsAppended}
@@ -17,7 +16,7 @@ use Rattle.link_arena.specs.Sound.{IsKept, IsSound, AreVacant}
 use Rattle.link_arena.specs.Arena.{Arena, AreTwoOrders, IsOneMore}
 use Rattle.link_arena.specs.View.{arena_of, pairs_below}
 use Rattle.link_arena.specs.Slots.{slot_at, content_at, value_at, value_in, slot_cmp, Precedes, link_of, ends_of}
-use Rattle.link_arena.proofs.Trees.{hit_same, hit_other}
+use Rattle.link_arena.proofs.Trees.{hit_same}
 use Rattle.link_arena.proofs.Lists.{count_append, count_tree, is_hit}
 use Rattle.link_arena.proofs.Kept.{ordered_still}
 use Rattle.link_arena.proofs.Views.{one_more}

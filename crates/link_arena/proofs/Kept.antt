@@ -1,5 +1,5 @@
 -- What stays of the slots where only the links, or only the ends, of one order are written.
-use Rattle.std.proofs.Common.{◌≡◌, ℕ, ◌+◌, ◌<◌, ◌≤◌, Option, None, arith, ap, sym, ◌∙◌, subst, Ordering, Less, List, [], ◌++◌, ◌∷◌, length}
+use Rattle.std.proofs.Common.{◌≡◌, ℕ, ◌+◌, ◌<◌, ◌≤◌, Option, None, arith, ap, sym, ◌∙◌, subst, Ordering, List, ◌++◌, ◌∷◌, length}
 use Rattle.link_arena.specs.declared.twice.Order.{Order}
 use Rattle.link_arena.specs.declared.twice.Order.TheVariants.{Key, Rank}
 use Rattle.link_arena.specs.declared.slot.Link.{Link}

@@ -1,5 +1,5 @@
 -- A tree rises where its list does.
-use Rattle.std.proofs.Common.{◌≡◌, ℕ, ◌+◌, ◌<◌, arith, refl, ap, sym, subst, inl, inr, List, [], ◌++◌, ◌∷◌}
+use Rattle.std.proofs.Common.{◌≡◌, ℕ, ◌+◌, ◌<◌, arith, refl, sym, subst, inl, inr, List, [], ◌++◌, ◌∷◌}
 use Rattle.std.proofs.lemmas.Grind.{common_steps}
 use Rattle.std.proofs.Math.Nat.{eq-zero-or-pos}
 use Rattle.link_arena.specs.Tree.{Tree, IsRising, IsStrict, Rises, times, hit, slots_of, count_of}

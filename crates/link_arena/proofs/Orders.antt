@@ -1,5 +1,5 @@
 -- The order of slots by their values is strict.
-use Rattle.std.proofs.Common.{◌≡◌, ℕ, List, Option, Some, None, Ordering, Less, Equal, sym, ◌∙◌, is_lt, true≢false, ap}
+use Rattle.std.proofs.Common.{◌≡◌, List, Option, Some, None, Ordering, Less, sym, ◌∙◌, is_lt, true≢false, ap}
 use Rattle.std.specs.Cmp.{IsTotalOrder}
 use Rattle.std.proofs.lemmas.Cmp.{tied_itself}
 use Rattle.link_arena.specs.declared.slot.Slot.{Slot}

@@ -1,5 +1,5 @@
 -- The two trees below a slot.
-use Rattle.std.proofs.Common.{◌≡◌, ℕ, ◌+◌, ◌<◌, ◌≤◌, Option, None, Some, arith, refl, subst, max, inl, inr}
+use Rattle.std.proofs.Common.{◌≡◌, ℕ, ◌+◌, ◌<◌, ◌≤◌, Some, arith, refl, subst, max, inl, inr}
 use Rattle.std.proofs.Math.Nat.{eq-zero-or-pos}
 use Rattle.link_arena.specs.declared.slot.Link.{Link}
 use Rattle.link_arena.specs.Tree.{Tree, IsTree, times, height, hit}

@@ -1,5 +1,5 @@
 -- A slot put below a root, from the slot put below one side of it.
-use Rattle.std.proofs.Common.{◌≡◌, ℕ, ◌+◌, ◌^◌, ◌<◌, ◌≤◌, ◌≢◌, Option, None, Some, arith, refl, ap, sym, ◌∙◌, subst, inl, inr, [], ◌++◌, ◌∷◌, append_assoc}
+use Rattle.std.proofs.Common.{◌≡◌, ℕ, ◌+◌, ◌^◌, ◌<◌, ◌≤◌, Option, None, Some, arith, refl, ap, sym, ◌∙◌, subst, inl, inr, [], ◌++◌, ◌∷◌, append_assoc}
 use Rattle.std.proofs.Math.Nat.{eq-zero-or-pos}
 use Rattle.std.proofs.lemmas.Bool.{cases_lt}
 use Rattle.link_arena.specs.declared.slot.Link.{Link}

@@ -1,17 +1,17 @@
 -- A value that is taken out leaves the arena sound, and one pair less in each list.
-use Rattle.std.proofs.Common.{◌≡◌, ◌≢◌, ℕ, ◌+◌, ◌-◌, ◌^◌, ◌<◌, ◌≤◌, inl, inr, Option, None, Some, arith, refl, ap, sym, ◌∙◌, subst, List, [], ◌∷◌, ◌++◌, length, Ordering}
+use Rattle.std.proofs.Common.{◌≡◌, ◌≢◌, ℕ, ◌+◌, ◌-◌, ◌<◌, ◌≤◌, inl, inr, Option, None, Some, arith, refl, ap, sym, ◌∙◌, subst, List, ◌∷◌, length, Ordering}
 use Rattle.std.proofs.Math.Nat.{eq-zero-or-pos}
 use Rattle.link_arena.specs.declared.twice.Order.{Order}
 use Rattle.link_arena.specs.declared.twice.Order.TheVariants.{Key, Rank}
 use Rattle.link_arena.specs.declared.slot.Slot.{Slot}
-use Rattle.link_arena.specs.Tree.{Tree, slots_of, size, times, hit, count_of}
+use Rattle.link_arena.specs.Tree.{Tree, slots_of, times, count_of}
 use Rattle.link_arena.specs.Ordered.{IsOrdered}
 use Rattle.link_arena.specs.Both.{CanRemove, AreRemoved}
 use Rattle.link_arena.specs.Vacant.{IsEmptied}
 use Rattle.link_arena.specs.Sound.{IsKept, IsSound}
 use Rattle.link_arena.specs.Arena.{Arena, AreTwoOrders, Holds, IsOneMore}
 use Rattle.link_arena.specs.View.{arena_of, pairs_below}
-use Rattle.link_arena.specs.Slots.{slot_at, content_at, value_at, value_in, link_of, ends_of}
+use Rattle.link_arena.specs.Slots.{content_at, value_at, value_in, link_of, ends_of}
 use Rattle.link_arena.proofs.Lists.{count_append, count_tree}
 use Rattle.link_arena.proofs.Kept.{ordered_still}
 use Rattle.link_arena.proofs.Views.{one_more}

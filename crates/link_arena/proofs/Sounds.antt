@@ -1,5 +1,5 @@
 -- What an arena's trees and its list of vacant slots tell of its lists.
-use Rattle.std.proofs.Common.{◌≡◌, ◌≢◌, ℕ, zero, suc, ◌+◌, ◌-◌, ◌*◌, ◌^◌, ◌<◌, ◌≤◌, ◌⊎◌, inl, inr, Option, None, Some, arith, refl, ap, sym, ◌∙◌, subst, List, [], ◌∷◌, ◌++◌, length, Contains, slice_get, Ordering, Equal, All, Bor, MatchOption, length-append, add-one}
+use Rattle.std.proofs.Common.{◌≡◌, ◌≢◌, ℕ, zero, suc, ◌+◌, ◌*◌, ◌^◌, ◌<◌, ◌≤◌, inl, inr, Option, None, Some, arith, refl, ap, sym, ◌∙◌, subst, List, [], ◌∷◌, length, Contains, slice_get, Ordering, Equal, All, Bor, MatchOption, length-append, add-one}
 use Rattle.std.specs.Option.{option_copied}
 use Rattle.std.proofs.lemmas.List.Elements.{All-weaker, All-contains_itself}
 use Rattle.std.specs.Cmp.{IsTotalOrder}
@@ -9,9 +9,8 @@ use Rattle.std.proofs.lemmas.Bool.{cases_lt}
 use Rattle.std.proofs.lemmas.List.{get_or_past}
 use Rattle.link_arena.specs.declared.twice.Order.{Order}
 use Rattle.link_arena.specs.declared.twice.Order.TheVariants.{Key, Rank}
-use Rattle.link_arena.specs.declared.slot.Content.TheVariants.{Vacant}
 use Rattle.link_arena.specs.declared.slot.Slot.{Slot}
-use Rattle.link_arena.specs.Tree.{Tree, Stands, IsTree, slots_of, size, height, times, hit, count_of}
+use Rattle.link_arena.specs.Tree.{Tree, Stands, slots_of, size, times, hit, count_of}
 use Rattle.link_arena.specs.Tree.Tree.{leaf, node}
 use Rattle.link_arena.specs.Chain.{AreNexts, first_or}
 use Rattle.link_arena.specs.Ordered.{IsFilled}
@@ -20,7 +19,7 @@ use Rattle.link_arena.specs.declared.both.Tops.{Tops}
 use Rattle.link_arena.specs.Both.{top_of}
 use Rattle.link_arena.specs.Arena.{Arena, AreTwoOrders, Holds, IsVacant, in_order, slots_in}
 use Rattle.link_arena.specs.View.{arena_of, pairs_below, pairs_of}
-use Rattle.link_arena.specs.Slots.{side, afters, slot_at, content_at, value_at, value_in, no_slot, Precedes, IsTied}
+use Rattle.link_arena.specs.Slots.{side, afters, value_at, value_in, no_slot, Precedes, IsTied}
 use Rattle.link_arena.proofs.Bound.{low, square}
 use Rattle.link_arena.proofs.Trees.{grown_is}
 use Rattle.link_arena.proofs.Lists.{count_tree, is_hit, to_list}

@@ -1,5 +1,5 @@
 -- A slot taken out below a root, from the slot taken out below one side of it.
-use Rattle.std.proofs.Common.{◌≡◌, ℕ, ◌+◌, ◌<◌, ◌≤◌, ◌≢◌, Option, None, Some, arith, refl, ap, sym, ◌∙◌, subst, inl, inr, List, [], ◌++◌, ◌∷◌, append_assoc}
+use Rattle.std.proofs.Common.{◌≡◌, ℕ, ◌+◌, ◌≤◌, ◌≢◌, Option, None, Some, arith, refl, ap, sym, ◌∙◌, subst, inl, inr, List, [], ◌++◌, ◌∷◌, append_assoc}
 use Rattle.std.proofs.lemmas.List.{append-nil}
 use Rattle.std.proofs.lemmas.Bool.{cases_lt}
 use Rattle.std.proofs.Math.Nat.{eq-zero-or-pos}

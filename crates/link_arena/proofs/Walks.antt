@@ -1,18 +1,18 @@
 -- What a walk down a tree keeps.
-use Rattle.std.proofs.Common.{◌≡◌, ℕ, ◌+◌, ◌-◌, ◌*◌, ◌^◌, ◌<◌, ◌≤◌, ◌≢◌, Option, None, Some, arith, refl, ap, sym, ◌∙◌, subst, Ordering, Less, Equal, Greater}
+use Rattle.std.proofs.Common.{◌≡◌, ℕ, ◌+◌, ◌-◌, ◌*◌, ◌^◌, ◌<◌, ◌≤◌, Option, None, Some, arith, refl, ap, sym, ◌∙◌, subst, Ordering, Less, Equal, Greater}
 use Rattle.std.specs.Cmp.{IsTotalOrder}
 use Rattle.std.specs.Ordering.{ordering_reverse}
 use Rattle.std.proofs.Math.Nat.{pow-le-pow_right}
 use Rattle.link_arena.specs.declared.slot.Link.{Link}
 use Rattle.link_arena.specs.Tree.{Tree, IsTree, IsStrict, IsBalanced, Stands, slots_of, times, height, size, hit}
 use Rattle.link_arena.specs.Chain.{first_or}
-use Rattle.link_arena.specs.Tree.Tree.{leaf, node}
+use Rattle.link_arena.specs.Tree.Tree.{leaf}
 use Rattle.link_arena.specs.Slots.{root_height, slot_cmp, IsTied}
 use Rattle.link_arena.proofs.Trees.{hit_same, hit_other, same_tree, told_height}
 use Rattle.link_arena.proofs.Chains.{first_or-append}
 use Rattle.link_arena.proofs.Turns.{node_at}
 use Rattle.link_arena.proofs.Parts.{parted, gone}
-use Rattle.link_arena.proofs.Bound.{low, high}
+use Rattle.link_arena.proofs.Bound.{high}
 
 -- below the slot at, a part of the whole tree has each slot that ties, and what is left of the whole's height
 pub record IsOnWay (links : ℕ → Link) (less : ℕ → ℕ → Type 0) (n : ℕ) (ties : ℕ → Type 0) (root at : Option ℕ) (begun now : ℕ) : Type 0 where

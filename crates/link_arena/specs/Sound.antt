@@ -1,12 +1,12 @@
 -- How an arena keeps its values: each slot stands in both trees, or is vacant and stands in the list of vacant slots.
-use Rattle.std.specs.Prelude.{◌≡◌, ◌≢◌, ℕ, ◌+◌, ◌<◌, ◌^◌, List, [], ◌∷◌, Option, None, Some, length, ◌⊎◌, ◌++◌}
+use Rattle.std.specs.Prelude.{◌≡◌, ◌≢◌, ℕ, ◌+◌, ◌<◌, ◌^◌, List, [], ◌∷◌, Option, None, Some, length}
 use Rattle.std.specs.declared.cmp.Ordering.{Ordering}
 use Rattle.link_arena.specs.declared.twice.Order.{Order}
 use Rattle.link_arena.specs.declared.slot.Content.TheVariants.{Vacant}
 use Rattle.link_arena.specs.declared.slot.Slot.{Slot}
 use Rattle.link_arena.specs.Tree.{Tree, times, size, count_of}
 use Rattle.link_arena.specs.Both.{AreBoth}
-use Rattle.link_arena.specs.Slots.{slot_at, content_at, value_at}
+use Rattle.link_arena.specs.Slots.{content_at, value_at}
 
 module _ {T : Type 0} where
   -- from the first on, each slot is vacant and names the next

@@ -81,8 +81,7 @@ impl<T: Twice> Arena<T> {
         ensures err { OnErr result (self.new ≡ self.old) }
     {
         let wanted = self.held as usize + more as usize;
-        self.slots
-            .reserve(wanted.saturating_sub(self.slots.len()))?;
+        self.slots.reserve(wanted.saturating_sub(self.slots.len()))?;
         Ok(())
     }
 

@@ -23,7 +23,7 @@ pub(crate) fn find_key<T: Twice, L: Ledger>(
     requires { (t : Tree) × IsFilled (T.cmp_by Key) Key slots.now root t }
     ensures found { (t : Tree) → IsFilled (T.cmp_by Key) Key slots.now root t
         → MatchOption result ((s : ℕ) → 0 < times s t → ¬ IsTied (T.cmp_by Key) probe.now (value_at slots.now s))
-            (λ s. (0 < times s t) × IsTied (T.cmp_by Key) probe.now (value_at slots.now s)) }
+        (λ s. (0 < times s t) × IsTied (T.cmp_by Key) probe.now (value_at slots.now s)) }
     ensures bound { (t : Tree) → IsFilled (T.cmp_by Key) Key slots.now root t
         → 2 ^ (steps.new - steps.old) ≤ (size t + 2) * (size t + 2) }
     ensures more { steps.old ≤ steps.new }

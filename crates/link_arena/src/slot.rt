@@ -111,7 +111,12 @@ pub(crate) fn value_of<T>(slots: &[Slot<T>], at: u32) -> Option<&T>
     ensures { option_copied result ≡ value_at slots.now at }
 {
     match slots.get(at as usize) {
-        Some(Slot { content: Content::Value(value), .. }) => Some(value),
+        Some(
+            Slot {
+                content: Content::Value(value),
+                ..
+            },
+        ) => Some(value),
         _ => None,
     }
 }

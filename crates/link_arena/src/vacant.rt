@@ -43,10 +43,7 @@ fn fill_at<T>(slots: &mut [Slot<T>], slot: u32, value: T) -> Option<u32>
     requires { IsVacantAt slots.old slot }
     ensures { IsFilledIn slots.old slots.new (Some slot) value slot result }
 {
-    match mem::replace(
-        &mut slots[slot as usize].content,
-        Content::Value(value),
-    ) {
+    match mem::replace(&mut slots[slot as usize].content, Content::Value(value)) {
         Content::Vacant(next) => next,
         Content::Value(_) => unreachable!(),
     }
@@ -58,10 +55,7 @@ pub(crate) fn empty<T>(slots: &mut [Slot<T>], slot: u32, vacant: Option<u32>) ->
     ensures value { value_at slots.old slot ≡ Some result }
     ensures emptied { IsEmptied slots.old slots.new slot vacant }
 {
-    match mem::replace(
-        &mut slots[slot as usize].content,
-        Content::Vacant(vacant),
-    ) {
+    match mem::replace(&mut slots[slot as usize].content, Content::Vacant(vacant)) {
         Content::Value(value) => value,
         Content::Vacant(_) => unreachable!(),
     }

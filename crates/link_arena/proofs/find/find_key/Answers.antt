@@ -2,7 +2,7 @@ use Rattle.std.proofs.Common.{rules, sym}
 use Rattle.link_arena.specs.declared.twice.Order.TheVariants.{Key}
 use Rattle.link_arena.proofs.Parts.{parted, lower}
 use Rattle.link_arena.proofs.Orders.{precedes_strict}
-use Rattle.link_arena.proofs.Walks.{at_root, down_left, down_right, found, bound, nowhere, bound_at_end, tied_below, tied_above, tied_at}
+use Rattle.link_arena.proofs.Walks.{down_left, down_right, found, bound, nowhere, bound_at_end, tied_below, tied_above, tied_at}
 use Rattle.link_arena.proofs.find.find_key.Goals as goal
 
 pub returns-in_default-value_of-clause-found : goal.returns-in_default-value_of-clause-found

@@ -1,6 +1,3 @@
-use Rattle.std.proofs.Common.{◌≡◌, None}
-use Rattle.link_arena.specs.Tree.{Stands, slots_of}
-use Rattle.link_arena.specs.Chain.{first_or}
 use Rattle.link_arena.specs.Slots.{side, root_height}
 use Rattle.link_arena.proofs.Walks.{LeadsOn}
 use Rattle.link_arena.proofs.find.least.Given as goal

@@ -1,4 +1,4 @@
-use Rattle.std.proofs.Common.{◌≡◌, ◌≢◌, ◌+◌, ◌-◌, ◌*◌, ◌≤◌, ◌^◌, ℕ, All, MatchOption, subst, sym, vec_capacity}
+use Rattle.std.proofs.Common.{◌≡◌, ◌≢◌, All, MatchOption, subst, sym, vec_capacity}
 use Rattle.std.specs.declared.cmp.Ordering.TheVariants.{Equal}
 use Rattle.link_arena.specs.declared.twice.Order.TheVariants.{Key}
 use Rattle.link_arena.specs.Arena.{Holds}

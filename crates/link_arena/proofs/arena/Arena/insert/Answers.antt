@@ -1,4 +1,4 @@
-use Rattle.std.proofs.Common.{◌≡◌, ◌+◌, ◌≤◌, arith, ap, length, rules}
+use Rattle.std.proofs.Common.{arith, ap, length}
 use Rattle.std.proofs.lemmas.List.{with_items_is}
 use Rattle.link_arena.proofs.Inserts.{vacant_first, none_vacant, can_add_to, inserted}
 use Rattle.link_arena.proofs.arena.Arena.insert.Goals as goal
@@ -14,9 +14,14 @@ fill-filled-requires-clause-room g c = λ none.
     omega (arith, ap length empty, k.all, c.requires.room)
 
 pub add_both-self-inside-requires : goal.add_both-self-inside-requires
-add_both-self-inside-requires g c =
-    (_, (_, can_add_to g.T.Twice.cmp_by _ _ _ _ _ _ _ c.self.inside.held _ c.args.value c.self.invariant g.met.T.Twice.total g.met.T.Twice.apart _ _ c.self.view_is c.requires.room c.requires.free
-    c.fill-filled.ensures.filled c.as_mut_slice.ensures.value))
+add_both-self-inside-requires g c = (
+  _,
+  (
+    _,
+    can_add_to g.T.Twice.cmp_by _ _ _ _ _ _ _ c.self.inside.held _ c.args.value c.self.invariant g.met.T.Twice.total g.met.T.Twice.apart _ _ c.self.view_is c.requires.room c.requires.free
+        c.fill-filled.ensures.filled c.as_mut_slice.ensures.value,
+  ),
+)
 
 pub invariant_of-self : goal.invariant_of-self
 invariant_of-self g c =
@@ -27,8 +32,8 @@ invariant_of-self g c =
 pub returns : goal.returns
 returns g c =
     let made = inserted g.T.Twice.cmp_by _ _ _ _ _ _ _ c.self.inside.held _ c.args.value c.self.invariant g.met.T.Twice.total g.met.T.Twice.apart _ _ c.self.view_is c.requires.room c.requires.free
-        c.fill-filled.ensures.filled c.as_mut_slice.ensures.value _ _ _ _ c.add_both-self-inside.ensures.added c.add_both-self-inside.ensures.contents (omega arith)
-        (with_items_is c.fill-filled.new.slots c.add_both-self-inside.new.slots (omega arith)) in
+    c.fill-filled.ensures.filled c.as_mut_slice.ensures.value _ _ _ _ c.add_both-self-inside.ensures.added c.add_both-self-inside.ensures.contents (omega arith)
+    (with_items_is c.fill-filled.new.slots c.add_both-self-inside.new.slots (omega arith)) in
     record {
       by_key = made.by_key;
       by_rank = made.by_rank;

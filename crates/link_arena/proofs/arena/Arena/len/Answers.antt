@@ -1,7 +1,6 @@
 use Rattle.std.proofs.Common.{sym, ◌∙◌, ap, length, subst}
 use Rattle.link_arena.specs.Arena.{AreTwoOrders}
-use Rattle.link_arena.proofs.Sounds.{key_length, rank_length, orders, next_get}
-use Rattle.link_arena.proofs.Removals.{can_remove}
+use Rattle.link_arena.proofs.Sounds.{key_length, rank_length, orders}
 use Rattle.link_arena.proofs.arena.Arena.len.Goals as goal
 
 pub returns-clause-by_key : goal.returns-clause-by_key

@@ -1,4 +1,3 @@
-use Rattle.std.proofs.Common.{arith, subst, sym}
 use Rattle.link_arena.proofs.Empty.{nothing_kept, no_orders}
 use Rattle.link_arena.proofs.arena.Arena.new.Goals as goal
 

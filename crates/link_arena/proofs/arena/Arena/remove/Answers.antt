@@ -1,4 +1,4 @@
-use Rattle.std.proofs.Common.{◌≡◌, ◌-◌, None, Some, arith, ap, sym, ◌∙◌, subst, vec_capacity}
+use Rattle.std.proofs.Common.{None, arith, ap, sym, ◌∙◌, subst, vec_capacity}
 use Rattle.std.specs.Vec.{with_items}
 use Rattle.std.proofs.lemmas.List.{with_items_is}
 use Rattle.link_arena.specs.Arena.{AreTwoOrders, IsVacant}
@@ -24,7 +24,7 @@ pub empty-value-requires : goal.empty-value-requires
 empty-value-requires g c = λ none.
     let was = ap (λ slots. value_at slots c.args.slot) (sym c.deref.ensures.value) ∙ sym c.in_ok-value_of.ensures in
     let same = same_value _ _ _ _ c.args.slot c.as_mut_slice.ensures.value c.remove_both-self-inside.ensures.contents
-        (c.as_mut_slice-2.ensures.value ∙ with_items_is c.self.inside.slots c.remove_both-self-inside.new.slots (omega arith)) in
+    (c.as_mut_slice-2.ensures.value ∙ with_items_is c.self.inside.slots c.remove_both-self-inside.new.slots (omega arith)) in
     cc
 
 pub overflow_sub-self : goal.overflow_sub-self
@@ -45,8 +45,8 @@ returns g c =
     let lends = c.as_mut_slice-2.ensures.value ∙ with_items_is c.self.inside.slots c.remove_both-self-inside.new.slots (omega arith) in
     let was = sym (same_value _ _ _ _ c.args.slot c.as_mut_slice.ensures.value c.remove_both-self-inside.ensures.contents lends) ∙ c.empty-value.ensures.value in
     let made = removed_from g.T.Twice.cmp_by _ _ _ _ _ c.self.inside.held c.args.slot c.self.invariant _ was c.as_mut_slice.ensures.value g.met.T.Twice.total _ _ c.self.view_is _ _ _ _ _ _
-        c.remove_both-self-inside.ensures.removed c.remove_both-self-inside.ensures.contents (omega arith) lends c.empty-value.ensures.emptied
-        (with_items_is (with_items c.self.inside.slots c.remove_both-self-inside.new.slots) c.empty-value.new.slots (omega arith)) in
+    c.remove_both-self-inside.ensures.removed c.remove_both-self-inside.ensures.contents (omega arith) lends c.empty-value.ensures.emptied
+    (with_items_is (with_items c.self.inside.slots c.remove_both-self-inside.new.slots) c.empty-value.new.slots (omega arith)) in
     let one = holds_one g.T.Twice.cmp_by _ _ _ _ _ c.self.inside.held c.args.slot c.self.invariant _ was c.as_mut_slice.ensures.value in
     record {
       vacant = made.holds;
