@@ -1,0 +1,17 @@
+pub mod Bound
+pub mod Trees
+pub mod Orders
+pub mod Lists
+pub mod Parts
+pub mod Chains
+pub mod Turns
+pub mod Puts
+pub mod Takes
+pub mod Walks
+pub mod Kept
+pub mod Boths
+pub mod Views
+pub mod Sounds
+pub mod Inserts
+pub mod Removals
+pub mod Empty

@@ -1,0 +1,10 @@
+pub mod Slots
+pub mod Tree
+pub mod Put
+pub mod Chain
+pub mod Ordered
+pub mod Both
+pub mod Vacant
+pub mod Sound
+pub mod Arena
+pub mod View
