@@ -10,3 +10,4 @@ pub mod Digests
 pub mod ReadingTurns
 pub mod CanRead
 pub mod Settled
+pub mod Sound

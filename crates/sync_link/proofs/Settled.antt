@@ -46,7 +46,7 @@ use Rattle.sync_link.proofs.CanRead.{can_read_turns}
 
 -- ---- the rows of a box
 
-filter_twice : {X : Type 0} (keep : X → Bool) (xs : List X) → filter keep (filter keep xs) ≡ filter keep xs
+pub filter_twice : {X : Type 0} (keep : X → Bool) (xs : List X) → filter keep (filter keep xs) ≡ filter keep xs
 filter_twice keep [] = refl
 filter_twice keep (x ∷ xs) = by_test (keep x) refl (filter_twice keep xs)
   where

@@ -4,3 +4,4 @@ pub mod Places
 pub mod Sessions
 pub mod Granting
 pub mod Settling
+pub mod Standing
