@@ -4,7 +4,8 @@ use Rattle.std.proofs.lemmas.List.{map-set, length-set, set-get_or, get_or-set_s
 use Rattle.std.proofs.Math.ListN.{get_or-map}
 use Rattle.std.proofs.lemmas.Bool.{cases_eq, cases_lt}
 use Rattle.sha_lanes.specs.declared.chain.Chain.{Chain}
-use Rattle.sha_lanes.specs.Chain.{Advances, IsUnfinished, advanced, chain_at, ended, run, step}
+use Rattle.sha_lanes.specs.Chain.{advanced, ended, run, step}
+use Rattle.sha_lanes.specs.Running.{Advances, IsUnfinished, chain_at}
 
 -- no step
 pub run_none : (front : List ℕ) (j : ℕ) (value : List ℕ) → run front j 0 value ≡ value

@@ -4,7 +4,8 @@ use Rattle.std.proofs.lemmas.List.{append_assoc, length-take, take_all}
 use Rattle.std.specs.Int.{w64, to_be_bytes}
 use Rattle.sha2.specs.Sha256.{digest_bytes, hash_after, initial_hash_256, padded_message, sha256}
 use Rattle.sha_lanes.specs.declared.message.Message.{Message}
-use Rattle.sha_lanes.specs.Message.{AreAlike, block_count, bytes_of, message_at}
+use Rattle.sha_lanes.specs.Message.{AreAlike, block_count, bytes_of}
+use Rattle.sha_lanes.specs.Windows.{message_at}
 
 take-append : (n : ℕ) (p q : List ℕ) → take n (p ++ q) ≡ take n p ++ take (n - length p) q
 take-append zero [] q = refl

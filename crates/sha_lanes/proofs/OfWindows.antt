@@ -3,7 +3,8 @@ use Rattle.std.proofs.Common.{◌≡◌, ℕ, ◌+◌, ◌%◌, ◌<◌, ◌≤�
 use Rattle.std.proofs.lemmas.List.{length-map, ext_get_or, get_or-map, get_or-set_same, get_or-set_other}
 use Rattle.std.proofs.lemmas.Bool.{cases_eq, false≢true}
 use Rattle.sha_lanes.specs.declared.message.Message.{Message}
-use Rattle.sha_lanes.specs.Message.{AreAlike, AreHashed, IsBeside, IsHashed, block_count, bytes_of, digest_of, message_at}
+use Rattle.sha_lanes.specs.Message.{AreAlike, block_count, bytes_of, digest_of}
+use Rattle.sha_lanes.specs.Windows.{AreHashed, IsBeside, IsHashed, message_at}
 use Rattle.sha_lanes.proofs.OfLanes.{in_lanes}
 
 -- four messages that have as many blocks as the first

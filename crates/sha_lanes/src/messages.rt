@@ -1,7 +1,8 @@
 //! Digests of many messages, four at a time.
 
 ghost use Rattle.std.specs.Prelude.{◌≡◌, ℕ, ◌<◌, map, length, slice_index};
-ghost use Rattle.sha_lanes.specs.Message.{AreAlike, AreHashed, IsBeside, IsHashed, digest_of};
+ghost use Rattle.sha_lanes.specs.Message.{AreAlike, digest_of};
+ghost use Rattle.sha_lanes.specs.Windows.{AreHashed, IsBeside, IsHashed};
 
 use crate::compression::{compress, initial_state};
 use crate::message::Message;

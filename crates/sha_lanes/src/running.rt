@@ -1,7 +1,8 @@
 //! Chains run to their ends, four at a time.
 
 ghost use Rattle.std.specs.Prelude.{◌≡◌, ℕ, [], ◌∷◌, ◌+◌, ◌≤◌, map};
-ghost use Rattle.sha_lanes.specs.Chain.{Advances, IsUnfinished, advanced, ended};
+ghost use Rattle.sha_lanes.specs.Chain.{advanced, ended};
+ghost use Rattle.sha_lanes.specs.Running.{Advances, IsUnfinished};
 
 use crate::chain::Chain;
 use crate::loading::load_digests;

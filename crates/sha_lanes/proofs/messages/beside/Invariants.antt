@@ -1,5 +1,5 @@
 use Rattle.std.proofs.Common.{◌≡◌, ◌<◌, length, All}
-use Rattle.sha_lanes.specs.Message.{IsBeside}
+use Rattle.sha_lanes.specs.Windows.{IsBeside}
 use Rattle.sha_lanes.proofs.messages.beside.Given as goal
 
 abbrev pub invariant-search : goal.invariant-search

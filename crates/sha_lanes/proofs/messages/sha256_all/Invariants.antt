@@ -1,5 +1,5 @@
 use Rattle.std.proofs.Common.{◌≡◌, length}
-use Rattle.sha_lanes.specs.Message.{AreHashed}
+use Rattle.sha_lanes.specs.Windows.{AreHashed}
 use Rattle.sha_lanes.proofs.messages.sha256_all.Given as goal
 
 abbrev pub invariant-messages : goal.invariant-messages

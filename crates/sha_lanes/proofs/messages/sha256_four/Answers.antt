@@ -2,7 +2,8 @@ use Rattle.std.proofs.Common.{◌≡◌, ◌*◌, ◌<◌, ℕ, [], ◌∷◌, t
 use Rattle.sha2.specs.Sha256.{compress, hash_after, initial_hash_256, padded_message}
 use Rattle.sha2.proofs.Absorbing256.{hash_after_next}
 use Rattle.sha_lanes.specs.Lanes.{hash_in, one_of}
-use Rattle.sha_lanes.specs.Message.{message_at, bytes_of, digest_of}
+use Rattle.sha_lanes.specs.Message.{bytes_of, digest_of}
+use Rattle.sha_lanes.specs.Windows.{message_at}
 use Rattle.sha_lanes.proofs.OfLanes.{in_lanes}
 use Rattle.sha_lanes.proofs.OfMessages.{block_count-alike, digest_bytes-hash_after, map-four}
 use Rattle.sha_lanes.proofs.messages.sha256_four.Goals as goal

@@ -1,6 +1,6 @@
 use Rattle.std.proofs.Common.{ℕ, ◌+◌, ◌<◌, ◌≤◌, List, [], slice_index_or, ap, arith}
 use Rattle.sha_lanes.specs.declared.chain.Chain.{Chain}
-use Rattle.sha_lanes.specs.Chain.{chain_at}
+use Rattle.sha_lanes.specs.Running.{chain_at}
 use Rattle.sha_lanes.proofs.OfChains.{Advances-four}
 use Rattle.sha_lanes.proofs.running.advance.Goals as goal
 

@@ -1,5 +1,5 @@
 use Rattle.std.proofs.Common.{◌-◌}
-use Rattle.sha_lanes.specs.Chain.{chain_at}
+use Rattle.sha_lanes.specs.Running.{chain_at}
 use Rattle.sha_lanes.proofs.OfChains.{AreRun}
 use Rattle.sha_lanes.proofs.running.run_chains.Given as goal
 
