@@ -5,5 +5,6 @@
 #![tactic(auto)]
 
 pub mod laws;
+mod speak;
 #[cfg(test)]
 mod tests;
