@@ -6,4 +6,5 @@ pub mod Granting
 pub mod Settling
 pub mod Sound
 pub mod Speaking
+pub mod Hearing
 pub mod Standing
