@@ -11,3 +11,4 @@ pub mod ReadingTurns
 pub mod CanRead
 pub mod Settled
 pub mod Sound
+pub mod Speech

@@ -29,6 +29,7 @@ use Rattle.sync_core.specs.Steps.{count_one, hearing_rows, remembered, box_of, r
 use Rattle.sync_core.specs.Runs.{said_from, says, left_to_say, says_all}
 use Rattle.sync_core.proofs.Lawful.{disjoint}
 use Rattle.sync_core.proofs.SpelledTurns.{spelled_turn}
+use Rattle.sync_link.specs.Sound.{IsIn, AreIn, AsksIn, GoesOn, AreSound, IsSound}
 use Rattle.sync_link.specs.Standing.{within}
 use Rattle.sync_link.proofs.Cases.{AreCases, by_cases, heard_to, IsHeardTo, heard_as}
 use Rattle.sync_link.proofs.Own.{same_some, same_ok, not_err, unless_ok}
@@ -36,57 +37,27 @@ use Rattle.sync_link.proofs.Settled.{filter_twice}
 
 -- ---- asks within the area
 
-abbrev IsIn : Option Ranges → AskValue → Type 0
-IsIn None ask = ⊥
-IsIn (Some x) ask = IsInside sync_rules x ask
-
-abbrev AreIn : Option Ranges → List AskValue → Type 0
-AreIn area asks = AllByRecursion (IsIn area) asks
-
--- the box of one is that of another
-in_as : (area : Option Ranges) (ask other : AskValue) → ((x : Ranges) → IsInside sync_rules x ask → IsInside sync_rules x other) → IsIn area ask → IsIn area other
+-- the box of one has no row but those of another
+in_as : (area : Option Ranges) (ask other : AskValue) → ((r : RowValue) → is_in (box_of other) r ≡ true → is_in (box_of ask) r ≡ true) → IsIn area ask → IsIn area other
 in_as None ask other same h = absurd h
-in_as (Some x) ask other same h = same x h
+in_as (Some x) ask other same h = λ r e. h r (same r e)
 
-abbrev AsksIn : Option Ranges → Doing → Type 0
-AsksIn area (Saying items asks) = AreIn area asks
-AsksIn area Replying = Unit {0}
-AsksIn area Beginning = Unit {0}
-AsksIn area (Hearing asks opens) = AreIn area asks × AreIn area opens
-AsksIn area (HearingRows asks left read opens) = AreIn area asks × AreIn area opens
-AsksIn area Parting = Unit {0}
-AsksIn area Finished = Unit {0}
-AsksIn area (Refused cause) = Unit {0}
+as_inside : (x : Ranges) (asks : List AskValue) → AreIn (Some x) asks → AllByRecursion (IsInside sync_rules x) asks
+as_inside x [] h = tt
+as_inside x (rules.Print box print ∷ asks) h = (h.0, as_inside x asks h.1)
+as_inside x (rules.Sent box sent ∷ asks) h = (h.0, as_inside x asks h.1)
+
+inside_as : (x : Ranges) (asks : List AskValue) → AllByRecursion (IsInside sync_rules x) asks → AreIn (Some x) asks
+inside_as x [] h = tt
+inside_as x (rules.Print box print ∷ asks) h = (h.0, inside_as x asks h.1)
+inside_as x (rules.Sent box sent ∷ asks) h = (h.0, inside_as x asks h.1)
 
 abbrev AreSpelled : List ItemValue → Type 0
 AreSpelled items = AllByRecursion HasSpelling items
 
--- what is still to be said has spellings
-abbrev SaysSpelled : Doing → Type 0
-SaysSpelled (Saying items asks) = AreSpelled items
-SaysSpelled Replying = Unit {0}
-SaysSpelled Beginning = Unit {0}
-SaysSpelled (Hearing asks opens) = Unit {0}
-SaysSpelled (HearingRows asks left read opens) = Unit {0}
-SaysSpelled Parting = Unit {0}
-SaysSpelled Finished = Unit {0}
-SaysSpelled (Refused cause) = Unit {0}
-
--- rows that a side may have: they rise, are not too many, and frames carry them
-pub record AreSound (rows : List RowValue) : Type 0 where
-  pub rise : IsStrictlySortedBy inner_place_cmp rows
-  pub few : length rows ≤ SNAPSHOT_MAX
-  pub framed : AllByRecursion HasFrame rows
-
--- what a side keeps to: its rows are such, what it says has spellings, and all asks are within the area
-pub record IsSound (place : Place) : Type 0 where
-  pub rows : AreSound place.rows
-  pub spelled : SaysSpelled place.doing
-  pub asks : AsksIn place.area place.doing
-
 -- ---- at the beginning
 
-spelled_first : (role : Role) (area : Option Ranges) (rows : List RowValue) → SaysSpelled (first_doing role area rows)
+spelled_first : (role : Role) (area : Option Ranges) (rows : List RowValue) → GoesOn (first_doing role area rows)
 spelled_first Caller None rows = (tt, tt)
 spelled_first Caller (Some x) rows = (tt, (tt, tt))
 spelled_first Answerer area rows = tt
@@ -97,7 +68,7 @@ in_first Caller (Some x) rows = ((λ r e. e), tt)
 in_first Answerer area rows = tt
 
 pub sound_first : (role : Role) (area : Option Ranges) (rows : List RowValue) → AreSound rows → IsSound (first_place role rows area)
-sound_first role area rows sound = record { rows = sound; spelled = spelled_first role area rows; asks = in_first role area rows }
+sound_first role area rows sound = record { rows = sound; goes_on = spelled_first role area rows; asks = in_first role area rows }
 
 -- ---- what is said
 
@@ -109,11 +80,11 @@ in_going_on : (area : Option Ranges) (items : List ItemValue) (asks : List AskVa
 in_going_on area [] asks h = in_waiting area asks h
 in_going_on area (item ∷ items) asks h = h
 
-spelled_waiting : (asks : List AskValue) → SaysSpelled (waiting asks)
+spelled_waiting : (asks : List AskValue) → GoesOn (waiting asks)
 spelled_waiting [] = tt
 spelled_waiting (ask ∷ asks) = tt
 
-spelled_going_on : (items : List ItemValue) (asks : List AskValue) → AreSpelled items → SaysSpelled (going_on items asks)
+spelled_going_on : (items : List ItemValue) (asks : List AskValue) → AreSpelled items → GoesOn (going_on items asks)
 spelled_going_on [] asks h = spelled_waiting asks
 spelled_going_on (item ∷ items) asks h = h
 
@@ -121,32 +92,32 @@ spelled_going_on (item ∷ items) asks h = h
 abbrev StepsSound : Place → ItemValue × Place → Type 0
 StepsSound place step = IsSound step.1 × HasSpelling step.0
 
-sound_at : (place : Place) (doing : Doing) → AreSound place.rows → SaysSpelled doing → AsksIn place.area doing → (step : ItemValue × Place) → said_at place (next_said doing) ≡ Some step → StepsSound place step
+sound_at : (place : Place) (doing : Doing) → AreSound place.rows → GoesOn doing → AsksIn place.area doing → (step : ItemValue × Place) → said_at place (next_said doing) ≡ Some step → StepsSound place step
 sound_at place (Saying [] asks) rows spelled inside step e = absurd cc
 sound_at place (Saying (x ∷ items) asks) rows spelled inside step e =
     let first : ItemValue × Place = (x, record place { sent = place.sent + count_one x; doing = going_on items asks }) in
     subst (StepsSound place) (same_some first step e)
-    (record { rows = rows; spelled = spelled_going_on items asks spelled.1; asks = in_going_on place.area items asks inside }, spelled.0)
+    (record { rows = rows; goes_on = spelled_going_on items asks spelled.1; asks = in_going_on place.area items asks inside }, spelled.0)
 sound_at place Replying rows spelled inside step e =
     let first : ItemValue × Place = (Bye, record place { sent = place.sent + 0; doing = Finished }) in
-    subst (StepsSound place) (same_some first step e) (record { rows = rows; spelled = tt; asks = tt }, tt)
+    subst (StepsSound place) (same_some first step e) (record { rows = rows; goes_on = tt; asks = tt }, tt)
 sound_at place Beginning rows spelled inside step e = absurd cc
 sound_at place (Hearing asks opens) rows spelled inside step e = absurd cc
 sound_at place (HearingRows asks left read opens) rows spelled inside step e = absurd cc
 sound_at place Parting rows spelled inside step e = absurd cc
 sound_at place Finished rows spelled inside step e = absurd cc
-sound_at place (Refused cause) rows spelled inside step e = absurd cc
+sound_at place (Refused cause) rows spelled inside step e = absurd spelled
 
 pub sound_said : (place next : Place) (item : ItemValue) → IsSound place → said place ≡ Some (item, next) → IsSound next × HasSpelling item
 unfolding said
-sound_said place next item sound e = sound_at place place.doing sound.rows sound.spelled sound.asks (item, next) e
+sound_said place next item sound e = sound_at place place.doing sound.rows sound.goes_on sound.asks (item, next) e
 
 -- ---- what is heard
 
 module _ (area : Option Ranges) (rows : List RowValue) (sound : AreSound rows) where
   in_hearing : (ask : AskValue) (asks : List AskValue) (left : ℕ) (read : List RowValue) (opens : List AskValue) → IsIn area ask → AreIn area asks → AreIn area opens → AsksIn area (hearing_rows ask asks left read opens)
   in_hearing (rules.Print box print) asks zero read opens h mine others =
-      (mine, all-append (IsIn area) opens (rules.Sent box read ∷ []) others (in_as area (rules.Print box print) (rules.Sent box read) (λ x i. i) h, tt))
+      (mine, all-append (IsIn area) opens (rules.Sent box read ∷ []) others (in_as area (rules.Print box print) (rules.Sent box read) (λ r e. e) h, tt))
   in_hearing (rules.Sent box sent) asks zero read opens h mine others = (mine, others)
   in_hearing (rules.Print box print) asks (suc left) read opens h mine others = ((h, mine), others)
   in_hearing (rules.Sent box sent) asks (suc left) read opens h mine others = ((h, mine), others)
@@ -154,8 +125,8 @@ module _ (area : Option Ranges) (rows : List RowValue) (sound : AreSound rows) w
   in_parts : (box : Ranges) (print lower upper : List ℕ) (at : CutAt) (opens : List AskValue) → can_cut box at ≡ true → IsIn area (rules.Print box print) → AreIn area opens
       → AreIn area (opens ++ rules.Print (lower_part box at) lower ∷ rules.Print (upper_part box at) upper ∷ [])
   in_parts box print lower upper at opens can h others =
-      let low = λ (x : Ranges) (i : Inside sync_rules x box) (r : RowValue) (e : is_in (lower_part box at) r ≡ true). i r ((lower_part_has box at can r.entry.subspace r.entry.path r.entry.timestamp).0 e).0 in
-      let up = λ (x : Ranges) (i : Inside sync_rules x box) (r : RowValue) (e : is_in (upper_part box at) r ≡ true). i r ((upper_part_has box at can r.entry.subspace r.entry.path r.entry.timestamp).0 e).0 in
+      let low = λ (r : RowValue) (e : is_in (lower_part box at) r ≡ true). ((lower_part_has box at can r.entry.subspace r.entry.path r.entry.timestamp).0 e).0 in
+      let up = λ (r : RowValue) (e : is_in (upper_part box at) r ≡ true). ((upper_part_has box at can r.entry.subspace r.entry.path r.entry.timestamp).0 e).0 in
       all-append (IsIn area) opens (rules.Print (lower_part box at) lower ∷ rules.Print (upper_part box at) upper ∷ []) others
       (in_as area (rules.Print box print) (rules.Print (lower_part box at) lower) low h, (in_as area (rules.Print box print) (rules.Print (upper_part box at) upper) up h, tt))
 
@@ -170,32 +141,32 @@ module _ (area : Option Ranges) (rows : List RowValue) (sound : AreSound rows) w
   in_opened : (o : Option Ranges) (asks : List AskValue) → AreIn o asks → AreIn o (opened sync_rules rows asks)
   in_opened None [] h = tt
   in_opened None (ask ∷ asks) h = absurd h.0
-  in_opened (Some x) asks h = opened_inside sync_rules disjoint x rows asks h
+  in_opened (Some x) asks h = inside_as x (opened sync_rules rows asks) (opened_inside sync_rules disjoint x rows asks (as_inside x asks h))
 
   -- what a sound side does then
   abbrev SoundThen : Doing → ItemValue → Result Doing CoreRefusal → Type 0
-  SoundThen doing item r = (d : Doing) → r ≡ Ok d → AsksIn area doing → AsksIn area d × SaysSpelled d
+  SoundThen doing item r = (d : Doing) → r ≡ Ok d → AsksIn area doing → AsksIn area d × GoesOn d
 
   both : Doing → Type 0
-  both d = AsksIn area d × SaysSpelled d
+  both d = AsksIn area d × GoesOn d
 
-  spelled_hearing : (ask : AskValue) (asks : List AskValue) (left : ℕ) (read : List RowValue) (opens : List AskValue) → SaysSpelled (hearing_rows ask asks left read opens)
+  spelled_hearing : (ask : AskValue) (asks : List AskValue) (left : ℕ) (read : List RowValue) (opens : List AskValue) → GoesOn (hearing_rows ask asks left read opens)
   spelled_hearing (rules.Print box print) asks zero read opens = tt
   spelled_hearing (rules.Sent box sent) asks zero read opens = tt
   spelled_hearing (rules.Print box print) asks (suc left) read opens = tt
   spelled_hearing (rules.Sent box sent) asks (suc left) read opens = tt
 
   spelled_cut : (box : Ranges) (lower upper : List ℕ) (at : CutAt) (asks opens : List AskValue) (d : Doing)
-      → unless (cause_if (not (can_cut box at)) BadCut) (Hearing asks (opens ++ rules.Print (lower_part box at) lower ∷ rules.Print (upper_part box at) upper ∷ [])) ≡ Ok d → SaysSpelled d
+      → unless (cause_if (not (can_cut box at)) BadCut) (Hearing asks (opens ++ rules.Print (lower_part box at) lower ∷ rules.Print (upper_part box at) upper ∷ [])) ≡ Ok d → GoesOn d
   spelled_cut box lower upper at asks opens d e =
-      subst SaysSpelled (unless_ok (cause_if (not (can_cut box at)) BadCut) (Hearing asks (opens ++ rules.Print (lower_part box at) lower ∷ rules.Print (upper_part box at) upper ∷ [])) d e) tt
+      subst GoesOn (unless_ok (cause_if (not (can_cut box at)) BadCut) (Hearing asks (opens ++ rules.Print (lower_part box at) lower ∷ rules.Print (upper_part box at) upper ∷ [])) d e) tt
 
   first_in : (box : Ranges) (print : List ℕ) (o : Option Ranges) → o ≡ Some box → IsIn o (rules.Print box print)
   first_in box print None e = absurd cc
-  first_in box print (Some x) e = subst (λ y. Inside sync_rules y box) (sym (same_some x box e)) (λ r i. i)
+  first_in box print (Some x) e = subst (λ y. IsIn (Some y) (rules.Print box print)) (sym (same_some x box e)) (λ r i. i)
 
-  then_ok : (doing d : Doing) → AsksIn area doing → SaysSpelled doing → ◌≡◌ {A = Result Doing CoreRefusal} (Ok doing) (Ok d) → AsksIn area d × SaysSpelled d
-  then_ok doing d h spelled e = let same = same_ok doing d e in (subst (AsksIn area) same h, subst SaysSpelled same spelled)
+  then_ok : (doing d : Doing) → AsksIn area doing → GoesOn doing → ◌≡◌ {A = Result Doing CoreRefusal} (Ok doing) (Ok d) → AsksIn area d × GoesOn d
+  then_ok doing d h spelled e = let same = same_ok doing d e in (subst (AsksIn area) same h, subst GoesOn same spelled)
 
   sound_cases : AreCases area rows SoundThen
   sound_cases = record {
@@ -211,7 +182,7 @@ module _ (area : Option Ranges) (rows : List RowValue) (sound : AreSound rows) w
     row = λ ask asks left read opens row d e h.
         let next = hearing_rows ask asks (left - 1) (remembered ask read row) opens in
         let same = unless_ok (row_cause (box_of ask) read row) next d e in
-        (subst (AsksIn area) same (in_hearing ask asks (left - 1) (remembered ask read row) opens h.0.0 h.0.1 h.1), subst SaysSpelled same (spelled_hearing ask asks (left - 1) (remembered ask read row) opens));
+        (subst (AsksIn area) same (in_hearing ask asks (left - 1) (remembered ask read row) opens h.0.0 h.0.1 h.1), subst GoesOn same (spelled_hearing ask asks (left - 1) (remembered ask read row) opens));
     last_bye = λ d e h. then_ok Replying d tt tt e;
     end_turn = λ ask asks d e h. then_ok (answering rows (ask ∷ asks)) d (in_opened area (ask ∷ asks) h.1) (spelled_turn rows sound.rise sound.few sound.framed (ask ∷ asks)) e;
     farewell = λ d e h. then_ok Finished d tt tt e;
@@ -221,7 +192,7 @@ pub sound_heard : (place next : Place) (item : ItemValue) → IsSound place → 
 sound_heard place next item sound e =
     let to = heard_as place item next e in
     let then = by_cases place.area place.rows (SoundThen place.area place.rows sound.rows) (sound_cases place.area place.rows sound.rows) place.doing item to.doing to.comes sound.asks in
-    let made : IsSound (heard_to place item to.doing) = record { rows = sound.rows; spelled = then.1; asks = then.0 } in
+    let made : IsSound (heard_to place item to.doing) = record { rows = sound.rows; goes_on = then.1; asks = then.0 } in
     subst IsSound (sym to.then) made
 
 -- ---- the rows in the area
@@ -237,7 +208,7 @@ answering_again : (area : Option Ranges) (rows : List RowValue) (ask : AskValue)
 answering_again None rows ask asks h = absurd h.0
 answering_again (Some x) rows ask asks h =
     let same = filter_twice (is_in x) rows in
-    ap₂ (λ (t : TurnValue) opens. saying t opens) (turn_alike sync_rules disjoint x (rows_in x rows) rows same (ask ∷ asks) h) (opened_alike sync_rules disjoint x (rows_in x rows) rows same (ask ∷ asks) h)
+    ap₂ (λ (t : TurnValue) opens. saying t opens) (turn_alike sync_rules disjoint x (rows_in x rows) rows same (ask ∷ asks) (as_inside x (ask ∷ asks) h)) (opened_alike sync_rules disjoint x (rows_in x rows) rows same (ask ∷ asks) (as_inside x (ask ∷ asks) h))
 
 end_again : (area : Option Ranges) (rows : List RowValue) (opens : List AskValue) (item : ItemValue) → AreIn area opens → end_heard (rows_of_area area rows) opens item ≡ end_heard rows opens item
 end_again area rows [] (First print) h = refl

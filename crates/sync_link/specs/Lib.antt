@@ -4,4 +4,7 @@ pub mod Places
 pub mod Sessions
 pub mod Granting
 pub mod Settling
+pub mod Sound
+pub mod Speaking
+pub mod Hearing
 pub mod Standing

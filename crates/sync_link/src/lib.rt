@@ -4,6 +4,8 @@
 //! the bytes that it reads.
 #![tactic(auto)]
 
+mod hear;
 pub mod laws;
+mod speak;
 #[cfg(test)]
 mod tests;
