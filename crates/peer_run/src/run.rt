@@ -130,9 +130,9 @@ fn run_words<H: Shelf, I: Source, O: Sink, E: Sink, N: Noise>(
 
 /// Runs what the words ask for, over the objects outside, and answers its status: 0, or 1 where a row was not
 /// authorised or what was to be made is refused; 2 for words that are no command that is built; 3 or 4 where
-/// reading or writing failed; 5 for bytes that are not in their grammar, a name that is missing or taken; 7 for
-/// want of memory; 8 where a row met a full log; 9 for a key file without an index left. The report gets the
-/// lines of that end. What a command does not call stays as it was.
+/// reading or writing failed; 5 for bytes that are not in their grammar, a name that is missing or taken; 6 where
+/// a session is refused before it begins; 7 for want of memory; 8 where a row met a full log; 9 for a key file
+/// without an index left. The report gets the lines of that end. What a command does not call stays as it was.
 pub fn peer_run<H: Shelf, I: Source, O: Sink, E: Sink, D: Door, N: Noise>(
     alloc: Global,
     words: &[String],
