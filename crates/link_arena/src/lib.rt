@@ -17,3 +17,6 @@ mod vacant;
 
 pub use arena::Arena;
 pub use twice::{Order, Twice};
+
+#[cfg(test)]
+mod tests;
