@@ -12,3 +12,4 @@ pub mod CanRead
 pub mod Settled
 pub mod Sound
 pub mod Speech
+pub mod Finding

@@ -17,7 +17,7 @@ whole_front (front.Whole y (byte ∷ behind)) x e = absurd cc
 whole_front front.Part x e = absurd cc
 whole_front front.Wrong x e = absurd cc
 
-part_front : {A : Type 0} (f : Front A) → all_seen f ≡ Part → f ≡ front.Part
+pub part_front : {A : Type 0} (f : Front A) → all_seen f ≡ Part → f ≡ front.Part
 part_front (front.Whole y []) e = absurd cc
 part_front (front.Whole y (byte ∷ behind)) e = absurd cc
 part_front front.Part e = refl
@@ -34,7 +34,7 @@ not_part : {B : Type 0} (o : Option B) → whole_or_wrong o ≡ Part → ⊥
 not_part None e = cc
 not_part (Some y) e = cc
 
-judged_part : {A B : Type 0} (judge : A → Option B) (s : Seen A) → judged_whole judge s ≡ Part → s ≡ Part
+pub judged_part : {A B : Type 0} (judge : A → Option B) (s : Seen A) → judged_whole judge s ≡ Part → s ≡ Part
 judged_part judge (Whole x) e = absurd (not_part (judge x) e)
 judged_part judge Part e = refl
 judged_part judge Wrong e = absurd cc

@@ -33,7 +33,7 @@ use Rattle.sync_link.proofs.Seen.{read_as, read_back, judged_as, judged_back}
 
 -- ---- what all of some bytes spell
 
-all_front : {A : Type 0} (f : Front A) (x : A) → all_read f ≡ Some x → f ≡ front.Whole x []
+pub all_front : {A : Type 0} (f : Front A) (x : A) → all_read f ≡ Some x → f ≡ front.Whole x []
 all_front (front.Whole y []) x e =
     let same : y ≡ x = cc in
     ap (λ z. front.Whole z []) same

@@ -7,4 +7,5 @@ pub mod Settling
 pub mod Sound
 pub mod Speaking
 pub mod Hearing
+pub mod Found
 pub mod Standing

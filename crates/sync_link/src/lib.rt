@@ -4,8 +4,10 @@
 //! the bytes that it reads.
 #![tactic(auto)]
 
+mod find;
 mod hear;
 pub mod laws;
+mod proof;
 mod speak;
 #[cfg(test)]
 mod tests;

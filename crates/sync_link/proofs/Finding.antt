@@ -1,0 +1,222 @@
+-- What readers find at the front of bytes, told byte by byte.
+use Rattle.std.proofs.Common.{◌≡◌, ◌⊎◌, inl, inr, ℕ, zero, suc, ◌+◌, ◌-◌, ◌≤◌, ◌<◌, Bool, true, false, List, [], ◌∷◌, ◌++◌, length, take, drop, append_assoc, append-nil, Option, Some, None, Result, Ok, Err, refl, sym, ap, ◌∙◌, subst, arith}
+use Rattle.std.proofs.lemmas.List.{take-append-drop, length-take}
+use Rattle.spelling.specs.Front.{Front}
+use Rattle.spelling.specs.Front as front
+use Rattle.spelling.specs.Form.{AreBytes}
+use Rattle.spelling.specs.Reader.{Begins}
+use Rattle.std.specs.Prelude.{option_map}
+use Rattle.std.specs.Int.{w32, to_be_bytes}
+use Rattle.spelling.specs.Reading.{exactly_at, text_at}
+use Rattle.spelling.specs.Spelling.{text_spelling, IsText}
+use Rattle.spelling.specs.declared.ending.End.{End}
+use Rattle.spelling.specs.declared.ending.End.TheVariants as ends
+use Rattle.spelling.specs.declared.ending.NoMemory.{NoMemory}
+use Rattle.spelling.specs.declared.input.Unread.{Unread}
+use Rattle.spelling.specs.declared.input.Unread.TheVariants as unread
+use Rattle.spelling.proofs.Joining.{Reads, part_before, whole_not_part, whole_not_wrong}
+use Rattle.spelling.proofs.Lists.{All-left, take_front}
+use Rattle.cap_codec.specs.Reading.{signature_at, raw_at}
+use Rattle.cap_codec.specs.Rows.{RawValue, IsRawRow, raw_spelling, row_of}
+use Rattle.cap_codec.proofs.FormReads.{signature-reads}
+use Rattle.cap_codec.proofs.RowReads.{raw-reads}
+use Rattle.willow_entry.specs.Frame.{row_frame}
+use Rattle.willow_entry.specs.RowBody.{row_body}
+use Rattle.willow_entry.specs.declared.frame.TheConstants.{MAX_FRAME}
+use Rattle.mc_cap.specs.Signature.{signature_spelling, IsSignature}
+use Rattle.sync_msg.specs.Items.{ItemValue, IsHead, IsRowItem, item_spelling, item_value}
+use Rattle.sync_msg.specs.declared.item.Item.TheVariants.{Row}
+use Rattle.sync_msg.specs.declared.reader.BadItem.{BadItem}
+use Rattle.sync_msg.specs.declared.reader.Step.{Step}
+use Rattle.sync_msg.specs.declared.reader.Step.TheVariants.{Got, More}
+use Rattle.sync_msg.specs.ItemReading.{head_at, body_at}
+use Rattle.sync_msg.specs.Reader.{ReaderState, MayCome, BeginsFrame, BeginsItem, TakesItem, HasNoItem, StepsItem}
+use Rattle.sync_msg.proofs.HeadReads.{head-reads, head_reader, body-reads, body_reader}
+use Rattle.sync_msg.proofs.InFront.{row_of as this_row}
+use Rattle.sync_hello.specs.HelloForm.{hello_spelling}
+use Rattle.sync_hello.specs.HelloReading.{draft_at}
+use Rattle.sync_hello.specs.HelloSteps.{BeginsHello, TakesHello, HasNoHello, ReadsHello}
+use Rattle.sync_hello.specs.declared.hello.Hello.{Hello}
+use Rattle.sync_hello.specs.declared.read.HelloStep.{HelloStep}
+use Rattle.sync_hello.specs.declared.read.HelloStep.TheVariants as hellos
+use Rattle.sync_hello.proofs.HelloReads.{draft-reads, draft_reader}
+use Rattle.session_rules.specs.Machine.{Seen, Whole, Part, Wrong}
+use Rattle.session_rules.specs.Messages.{IsReadAs, ArePart}
+use Rattle.sync_link.specs.Readers.{all_seen, all_read, judged_whole, hello_drafted, hello_seen, proof_seen, row_spelled, row_seen, head_seen, item_seen}
+use Rattle.sync_link.specs.Found.{IsFound, GoWrong, is_due, FindsHello, FindsItem}
+use Rattle.sync_link.proofs.Own.{same_some}
+use Rattle.sync_link.proofs.Seen.{part_front, judged_part, judged_back, read_back}
+use Rattle.sync_link.proofs.Spellings.{all_front, hello_as, hello_back, proof_as, proof_back, head_as, row_as}
+
+-- ---- any reader
+
+module _ {M : Type 0} (sees : List ℕ → Seen M) where
+  -- bytes that are of no message go wrong at one of them
+  module _ (bytes : List ℕ) (none_whole : (held rest : List ℕ) (m : M) → bytes ≡ held ++ rest → sees held ≡ Whole m → ⊥) (no_part : sees bytes ≡ Part → ⊥) where
+    wrong_by : (held rest : List ℕ) → bytes ≡ held ++ rest → sees held ≡ Part → GoWrong sees held rest
+    wrong_by held [] e part = no_part (ap sees (e ∙ append-nil held) ∙ part)
+    wrong_by held (byte ∷ rest) e part =
+        let now = held ++ byte ∷ [] in
+        let joined : bytes ≡ now ++ rest = e ∙ sym (append_assoc held (byte ∷ []) rest) in
+        by_seen (wrong_by now rest joined) (sees now) refl joined
+      where
+        by_seen : (sees (held ++ byte ∷ []) ≡ Part → GoWrong sees (held ++ byte ∷ []) rest) → (s : Seen M) → sees (held ++ byte ∷ []) ≡ s → bytes ≡ (held ++ byte ∷ []) ++ rest
+            → (sees (held ++ byte ∷ []) ≡ Wrong) ⊎ ((sees (held ++ byte ∷ []) ≡ Part) × GoWrong sees (held ++ byte ∷ []) rest)
+        by_seen later (Whole m) is joined = absurd (none_whole (held ++ byte ∷ []) rest m joined is)
+        by_seen later Part is joined = inr (is, later is)
+        by_seen later Wrong is joined = inl is
+
+    pub all_wrong : sees [] ≡ Part → GoWrong sees [] bytes
+    all_wrong empty = wrong_by [] bytes refl empty
+
+-- bytes that are a part are one from the first on
+pub parts_by : {A M : Type 0} {at : List ℕ → Front A} {spell : A → List ℕ} {fits : A → Type 0} → Reads at spell fits → (sees : List ℕ → Seen M) → ((held : List ℕ) → at held ≡ front.Part → sees held ≡ Part)
+    → (held rest : List ℕ) → at (held ++ rest) ≡ front.Part → ArePart sees held rest
+parts_by reads sees is held [] part = tt
+parts_by {at = at} reads sees is held (byte ∷ rest) part =
+    let now = held ++ byte ∷ [] in
+    let whole : at (now ++ rest) ≡ front.Part = ap at (append_assoc held (byte ∷ []) rest) ∙ part in
+    (is now (part_before reads now rest whole), parts_by reads sees is now rest whole)
+
+-- ---- hellos
+
+seen_part : {A B : Type 0} (judge : A → Option B) (f : Front A) → f ≡ front.Part → judged_whole judge (all_seen f) ≡ Part
+seen_part judge f e = ap (λ x. judged_whole judge (all_seen x)) e
+
+none_yet : hello_seen [] ≡ Part
+unfolding hello_seen draft_at exactly_at
+none_yet = refl
+
+hello_part : (bytes : List ℕ) → AreBytes bytes → hello_seen bytes ≡ Part → BeginsHello bytes
+unfolding hello_seen
+hello_part bytes are e = (draft_reader.part bytes are).0 (part_front (draft_at bytes) (judged_part hello_drafted (all_seen (draft_at bytes)) e))
+
+hello_parts : (bytes : List ℕ) → AreBytes bytes → BeginsHello bytes → ArePart hello_seen [] bytes
+unfolding hello_seen
+hello_parts bytes are begins = parts_by draft-reads hello_seen (λ held e. seen_part hello_drafted (draft_at held) e) [] bytes ((draft_reader.part bytes are).1 begins)
+
+pub finds_hello : (bytes : List ℕ) (result : Result HelloStep NoMemory) → AreBytes bytes → ReadsHello bytes result → FindsHello bytes result
+finds_hello bytes (Ok (hellos.Whole hello taken)) are t = record { within = t.within; reads = subst (λ l. IsReadAs hello_seen l hello) (sym t.spelled) (hello_as hello t.fits) }
+finds_hello bytes (Ok hellos.More) are begins = hello_parts bytes are begins
+finds_hello bytes (Ok hellos.Bad) are none =
+    all_wrong hello_seen bytes
+    (λ held rest hello e whole.
+    let back = hello_back held hello (All-left _ held rest (subst AreBytes e are)) whole in
+    none.none_whole hello rest back.0 (e ∙ ap (λ l. l ++ rest) back.1))
+    (λ part. none.none_begun (hello_part bytes are part)) none_yet
+finds_hello bytes (Err e) are h = tt
+
+-- ---- items
+
+head_none : head_seen [] ≡ Part
+unfolding head_seen head_at
+head_none = refl
+
+head_back : (bytes : List ℕ) (item : ItemValue) → AreBytes bytes → head_seen bytes ≡ Whole item → IsHead item × (bytes ≡ item_spelling item)
+unfolding head_seen
+head_back bytes item are e = read_back head-reads bytes item are e
+
+head_parts : (bytes : List ℕ) → AreBytes bytes → Begins item_spelling IsHead bytes → ArePart head_seen [] bytes
+unfolding head_seen
+head_parts bytes are begins = parts_by head-reads head_seen (λ held e. ap all_seen e) [] bytes ((head_reader.part bytes are).1 begins)
+
+head_part : (bytes : List ℕ) → AreBytes bytes → head_seen bytes ≡ Part → Begins item_spelling IsHead bytes
+unfolding head_seen
+head_part bytes are e = (head_reader.part bytes are).0 (part_front (head_at bytes) e)
+
+row_none : row_seen [] ≡ Part
+unfolding row_seen body_at text_at
+row_none = refl
+
+-- bytes that are a row are its frame
+row_back : (bytes : List ℕ) (item : ItemValue) → AreBytes bytes → row_seen bytes ≡ Whole item → IsRowItem IsRawRow item × (bytes ≡ item_spelling item)
+unfolding row_seen row_body
+row_back bytes item are e =
+    let b = judged_back body-reads row_spelled bytes item are e in
+    by_raw b.0 b.1 b.2 (all_read (raw_at b.0)) refl b.3
+  where
+    by_raw : (body : List ℕ) → IsText MAX_FRAME body → bytes ≡ text_spelling (to_be_bytes w32) body → (o : Option RawValue) → all_read (raw_at body) ≡ o → option_map (λ raw. Row (row_of raw)) o ≡ Some item
+        → IsRowItem IsRawRow item × (bytes ≡ item_spelling item)
+    by_raw body text spelled None is h = absurd cc
+    by_raw body text spelled (Some raw) is h =
+        let t = raw-reads.takes body raw [] text.1 (all_front (raw_at body) raw is) in
+        let body_is : body ≡ raw_spelling raw = t.parts ∙ append-nil (raw_spelling raw) in
+        let same : Row (row_of raw) ≡ item = same_some (Row (row_of raw)) item h in
+        let framed : length (raw_spelling raw) ≤ MAX_FRAME = subst (λ l. length l ≤ MAX_FRAME) body_is text.0 in
+        let fits : IsRowItem IsRawRow (Row (row_of raw)) = (record { entry_fits = t.fits.entry_fits; read_out = raw.token; token_fits = t.fits.token_fits; spelled = refl }, framed) in
+        (subst (IsRowItem IsRawRow) same fits, spelled ∙ ap (text_spelling (to_be_bytes w32)) body_is ∙ ap item_spelling same)
+
+row_parts : (bytes : List ℕ) → AreBytes bytes → BeginsFrame bytes → ArePart row_seen [] bytes
+unfolding row_seen
+row_parts bytes are begins = parts_by body-reads row_seen (λ held e. seen_part row_spelled (body_at held) e) [] bytes ((body_reader.part bytes are).1 begins)
+
+row_part : (bytes : List ℕ) → AreBytes bytes → row_seen bytes ≡ Part → BeginsFrame bytes
+unfolding row_seen
+row_part bytes are e = (body_reader.part bytes are).0 (part_front (body_at bytes) (judged_part row_spelled (all_seen (body_at bytes)) e))
+
+row_found : (bytes : List ℕ) (item : ItemValue) (taken : ℕ) → IsRowItem IsRawRow item → taken ≤ length bytes → take taken bytes ≡ item_spelling item → IsFound row_seen bytes item taken
+row_found bytes item taken comes within spelled =
+    let row = this_row IsRawRow item comes in
+    let same : take taken bytes ≡ row_frame row.row = spelled ∙ ap item_spelling row.same in
+    record { within = within; reads = subst (λ l. IsReadAs row_seen l item) (sym same) (subst (λ x. IsReadAs row_seen (row_frame row.row) x) (sym row.same) (row_as row.row row.fits row.framed)) }
+
+-- ---- an item, by how many rows are due
+
+found_item : (due : ℕ) (bytes : List ℕ) (item : ItemValue) (taken : ℕ) → TakesItem (MayCome IsRawRow due) bytes item taken → IsFound (item_seen (is_due due)) bytes item taken
+found_item zero bytes item taken t = record { within = t.within; reads = subst (λ l. IsReadAs head_seen l item) (sym t.spelled) (head_as item t.comes) }
+found_item (suc due) bytes item taken t = row_found bytes item taken t.comes t.within t.spelled
+
+begun_item : (due : ℕ) (bytes : List ℕ) → AreBytes bytes → BeginsItem due bytes → ArePart (item_seen (is_due due)) [] bytes
+begun_item zero bytes are begins = head_parts bytes are begins
+begun_item (suc due) bytes are begins = row_parts bytes are begins
+
+no_item : (due : ℕ) (bytes : List ℕ) → AreBytes bytes → HasNoItem (MayCome IsRawRow due) (BeginsItem due) bytes → GoWrong (item_seen (is_due due)) [] bytes
+no_item zero bytes are none =
+    all_wrong head_seen bytes
+    (λ held rest item e whole.
+    let back = head_back held item (All-left _ held rest (subst AreBytes e are)) whole in
+    none.none_whole item rest back.0 (e ∙ ap (λ l. l ++ rest) back.1))
+    (λ part. none.none_begun (head_part bytes are part)) head_none
+no_item (suc due) bytes are none =
+    all_wrong row_seen bytes
+    (λ held rest item e whole.
+    let back = row_back held item (All-left _ held rest (subst AreBytes e are)) whole in
+    none.none_whole item rest back.0 (e ∙ ap (λ l. l ++ rest) back.1))
+    (λ part. none.none_begun (row_part bytes are part)) row_none
+
+pub finds_item : (old new : ReaderState) (bytes : List ℕ) (result : Result (Step RawValue) (End BadItem)) → AreBytes bytes → StepsItem IsRawRow row_of old new bytes result → FindsItem old new bytes result
+finds_item old new bytes (Ok (Got item taken)) are h = (found_item old.due bytes (item_value row_of item) taken h.0, h.1)
+finds_item old new bytes (Ok More) are h = (begun_item old.due bytes are h.0, h.1)
+finds_item old new bytes (Err (ends.Refused bad)) are h = (no_item old.due bytes are h.0, h.1.1)
+finds_item old new bytes (Err ends.NoMemory) are h = h
+
+-- ---- proofs
+
+proof_none : proof_seen [] ≡ Part
+unfolding proof_seen signature_at text_at
+proof_none = refl
+
+pub proof_found : (bytes signature rest : List ℕ) (taken : ℕ) → AreBytes bytes → signature_at bytes ≡ front.Whole signature rest → taken ≡ length bytes - length rest → IsFound proof_seen bytes signature taken
+proof_found bytes signature rest taken are e n =
+    let t = signature-reads.takes bytes signature rest are e in
+    let same : take taken bytes ≡ signature_spelling signature = ap (λ k. take k bytes) n ∙ take_front bytes (signature_spelling signature) rest t.parts in
+    record { within = omega (arith, n); reads = subst (λ l. IsReadAs proof_seen l signature) (sym same) (proof_as signature t.fits) }
+
+pub proof_begun : (bytes : List ℕ) → signature_at bytes ≡ front.Part → ArePart proof_seen [] bytes
+unfolding proof_seen
+proof_begun bytes e = parts_by signature-reads proof_seen (λ held e. ap all_seen e) [] bytes e
+
+part_not_wrong : {A : Type 0} (f : Front A) → f ≡ front.Part → f ≡ front.Wrong → ⊥
+part_not_wrong f e h = cc
+
+not_part : (bytes : List ℕ) → signature_at bytes ≡ front.Wrong → proof_seen bytes ≡ Part → ⊥
+unfolding proof_seen
+not_part bytes wrong part = part_not_wrong (signature_at bytes) (part_front (signature_at bytes) part) wrong
+
+pub proof_wrong : (bytes : List ℕ) → AreBytes bytes → signature_at bytes ≡ front.Wrong → GoWrong proof_seen [] bytes
+proof_wrong bytes are wrong =
+    all_wrong proof_seen bytes
+    (λ held rest signature e whole.
+    let back = proof_back held signature (All-left _ held rest (subst AreBytes e are)) whole in
+    whole_not_wrong signature rest (signature_at bytes) (ap signature_at (e ∙ ap (λ l. l ++ rest) back.1) ∙ signature-reads.again signature rest back.0) wrong)
+    (not_part bytes wrong) proof_none
