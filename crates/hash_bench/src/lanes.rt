@@ -4,6 +4,7 @@ use sha_lanes::{Chain, Message, run_chains, sha256_all};
 
 // How many chains a one-time key has, and how many messages a list.
 const CHAINS: usize = 34;
+
 const LIST: usize = 64;
 
 // The last value of so many leaves, each of 34 chains of 255 steps. The chains of a leaf begin at an end of the leaf

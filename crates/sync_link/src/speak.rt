@@ -35,11 +35,7 @@ fn say<R: Row>(core: &mut SyncCore<R>, out: &mut Vec<u8>) -> Result<(), NoMemory
 }
 
 // Appends the bytes of an item, of a row as it stands in the snapshot.
-fn write_item<R: Row>(
-    core: &SyncCore<R>,
-    item: OutItem,
-    out: &mut Vec<u8>,
-) -> Result<(), NoMemory>
+fn write_item<R: Row>(core: &SyncCore<R>, item: OutItem, out: &mut Vec<u8>) -> Result<(), NoMemory>
     requires { IsSomeAnd (item_at core.now.rows item) HasSpelling }
     ensures { OnOk result ((said : ItemValue) → item_at core.now.rows item ≡ Some said → out.new.items ≡ out.old.items ++ item_spelling said) }
 {
