@@ -18,11 +18,11 @@ fn key(number: u32) -> [u8; 33] {
 }
 
 /// The namespace of all rows.
-pub fn namespace() -> Option<NamespaceKey> {
+pub(crate) fn namespace() -> Option<NamespaceKey> {
     NamespaceKey::from_bytes(key(u32::MAX))
 }
 
-// The row of an author at the path of this number.
+// The row of an author at the path of this number. The less the number, the later the row.
 fn row(alloc: Global, namespace: &NamespaceKey, author: u32, number: u32) -> Option<BareRow>
     ensures { IfSome result (λ row. row.entry.namespace ≡ namespace.now) }
 {
@@ -32,25 +32,28 @@ fn row(alloc: Global, namespace: &NamespaceKey, author: u32, number: u32) -> Opt
         namespace: *namespace,
         subspace: UserKey::from_bytes(key(author))?,
         path,
-        timestamp: 5,
+        timestamp: u64::from(u32::MAX - number),
         length: 1,
         digest: Digest([0x11; 32]),
     };
     BareRow::new(alloc, entry, Vec::new(alloc)).ok()
 }
 
-/// So many rows of an author.
-pub fn rows(
+/// So many rows of each of these authors, whose rows take turns. From the last to the first they rise in time.
+pub(crate) fn rows(
     alloc: Global,
     namespace: &NamespaceKey,
-    author: u32,
+    first: u32,
+    end: u32,
     count: u32,
 ) -> Option<Vec<BareRow>>
     ensures { IfSome result (λ rows. All (λ row. row.entry.namespace ≡ namespace.now) rows.items) }
 {
     let mut rows = Vec::new(alloc);
     for number in 0..count {
-        rows.push(row(alloc, namespace, author, number)?).ok()?;
+        for author in first..end {
+            rows.push(row(alloc, namespace, author, number)?).ok()?;
+        }
     }
     Some(rows)
 }

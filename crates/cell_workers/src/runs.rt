@@ -29,7 +29,8 @@ fn jobs_of(
 {
     let mut jobs = Vec::new(alloc);
     for pass in passes {
-        let rows = rows(alloc, namespace, pass.number(), count)?;
+        let author = pass.number();
+        let rows = rows(alloc, namespace, author, author.checked_add(1)?, count)?;
         jobs.push(Job { pass, rows }).ok()?;
     }
     Some(jobs)
@@ -55,7 +56,7 @@ fn passes_of(
 }
 
 /// So many passes of a cell, each on a thread of its own, offer so many rows each. How long the log is then.
-pub fn by_threads<W: Threads + Wait + Sync>(
+pub(crate) fn by_threads<W: Threads + Wait + Sync>(
     rt: &W,
     alloc: Global,
     passes: u32,
@@ -73,40 +74,25 @@ pub fn by_threads<W: Threads + Wait + Sync>(
 }
 
 // Offers the rows, the last first.
-fn offer_all(state: &mut NsState<BareRow>, number: u32, mut rows: Vec<BareRow>)
+fn offer_all(state: &mut NsState<BareRow>, mut rows: Vec<BareRow>)
     requires { All (λ row. row.entry.namespace ≡ state.old.namespace) rows.items }
-    ensures { state.new.namespace ≡ state.old.namespace }
 {
     while let Some(row) = rows.pop() {
-        let _answer = state.ingest(number, row);
+        let _answer = state.ingest(0, row);
     }
 }
 
-/// The rows of so many authors are offered to a state, without threads. How long the log is then.
-pub fn by_one(alloc: Global, authors: u32, count: u32) -> Option<u32> {
+/// The rows of so many authors are offered to a state, in turns. How long the log is then.
+pub(crate) fn by_one(alloc: Global, authors: u32, count: u32) -> Option<u32> {
     let namespace = namespace()?;
-    let mut all = Vec::new(alloc);
-    for author in 0..authors {
-        all.push(rows(alloc, &namespace, author, count)?).ok()?;
-    }
+    let rows = rows(alloc, &namespace, 0, authors, count)?;
     let mut state = NsState::new(alloc, namespace);
-    let mut number = 0u32;
-    while let Some(rows) = all.pop() {
-        offer_all(&mut state, number, rows);
-        number = number.saturating_add(1);
-    }
+    offer_all(&mut state, rows);
     Some(state.front())
 }
 
 /// The rows are made, and offered to nobody. How many there are.
-pub fn only_made(alloc: Global, authors: u32, count: u32) -> Option<u32> {
-    let namespace = namespace()?;
-    let mut all = Vec::new(alloc);
-    let mut made = 0u32;
-    for author in 0..authors {
-        let rows = rows(alloc, &namespace, author, count)?;
-        made = made.checked_add(u32::try_from(rows.len()).ok()?)?;
-        all.push(rows).ok()?;
-    }
-    Some(made)
+pub(crate) fn only_made(alloc: Global, authors: u32, count: u32) -> Option<u32> {
+    let rows = rows(alloc, &namespace()?, 0, authors, count)?;
+    u32::try_from(rows.len()).ok()
 }

@@ -16,15 +16,15 @@ use willow_path::NoMemory;
 
 /// A pass, and the rows that it is to offer, the last first.
 #[derive(Drop)]
-pub struct Job<R: Row> {
-    pub pass: Pass<R>,
-    pub rows: Vec<R>,
+pub(crate) struct Job<R: Row> {
+    pub(crate) pass: Pass<R>,
+    pub(crate) rows: Vec<R>,
 }
 
 /// What a worker promises of the pass that it takes and hands back.
 #[derive(Drop)]
-pub struct Serves<R: Row> {
-    pub pass: Snapshot<Pass<R>>,
+pub(crate) struct Serves<R: Row> {
+    pub(crate) pass: Snapshot<Pass<R>>,
 }
 
 impl<R: Row> Promise<Pass<R>> for Serves<R> {
@@ -33,23 +33,23 @@ impl<R: Row> Promise<Pass<R>> for Serves<R> {
 
 /// A worker that runs on a thread, or the pass of one that ran in place, since no thread started.
 #[derive(Drop)]
-pub enum Worker<R: Row> {
+pub(crate) enum Worker<R: Row> {
     Runs(PromisedHandle<Pass<R>, Serves<R>>),
     Ran(Pass<R>),
 }
 
 /// A worker, with the pass as it was.
 #[derive(Drop)]
-pub struct Started<R: Row> {
-    pub was: Snapshot<Pass<R>>,
-    pub worker: Worker<R>,
+pub(crate) struct Started<R: Row> {
+    pub(crate) was: Snapshot<Pass<R>>,
+    pub(crate) worker: Worker<R>,
 }
 
 /// A pass as it was before its job, and as it is.
 #[derive(Drop)]
-pub struct Done<R: Row> {
-    pub was: Snapshot<Pass<R>>,
-    pub pass: Pass<R>,
+pub(crate) struct Done<R: Row> {
+    pub(crate) was: Snapshot<Pass<R>>,
+    pub(crate) pass: Pass<R>,
 }
 
 // Offers the rows, and hands the pass back.
@@ -148,7 +148,7 @@ fn finish_all<R: Row, W: Threads>(
 
 /// Does all jobs at the same time, each on a thread of its own, and hands them on in their order. A job for which no
 /// thread starts is done in place. Want of memory may come only before the first starts.
-pub fn serve_all<R: SharedRow, W: Threads + Wait + Sync>(
+pub(crate) fn serve_all<R: SharedRow, W: Threads + Wait + Sync>(
     rt: &W,
     alloc: Global,
     cell: &NsCell<R>,

@@ -8,7 +8,7 @@ use Rattle.ns_state.specs.declared.state.LogFull.{LogFull}
 use Rattle.ns_state.specs.declared.state.Told.TheVariants.{Stored, Kept}
 use Rattle.log_rule.proofs.Prefixes.{prefix_length}
 use Rattle.ns_cell.specs.Passes.{PassValue, IsLater}
-use Rattle.ns_cell.specs.Answers.{IsOffered, Call, Offers, Else, Makes, offered, place}
+use Rattle.ns_cell.specs.Answers.{IsOffered, Call, Offers, Reads, Makes, stored_by, offered, place}
 
 take-front : {A : Type 0} (xs ys : List A) → take (length xs) (xs ++ ys) ≡ xs
 take-front [] ys = refl
@@ -47,9 +47,19 @@ module _ {R : Type 0} (value : R → RowValue) where
       (omega arith, (let l = long.1 in omega arith))
   place_between before after (Offers row (Ok (Kept at))) h = (prefix_length before.seen after.seen h.0.seen, omega arith)
   place_between before after (Offers row (Err e)) h = (prefix_length before.seen after.seen h.0.seen, omega arith)
-  place_between before after Else h = (prefix_length before.seen after.seen h.seen, omega arith)
+  place_between before after Reads h = (prefix_length before.seen after.seen h.0.seen, omega arith)
 
   pub place_rises : (first then next last : PassValue R) (call later_call : Call R) → Makes value first call then → IsLater then next → Makes value next later_call last → place call then ≤ place later_call last
   place_rises first then next last call later_call a between b =
       let x = place_between first then call a in let y = place_between next last later_call b in
       let z = prefix_length then.seen next.seen between.seen in let x1 = x.1 in let y0 = y.0 in omega arith
+
+  -- ---- what stays
+
+  pub call_later : (before after : PassValue R) (call : Call R) → Makes value before call after → IsLater before after
+  call_later before after (Offers row result) h = h.0
+  call_later before after Reads h = h.0
+
+  pub own_grows : (before after : PassValue R) (call : Call R) → Makes value before call after → after.own ≡ before.own ++ stored_by before call
+  own_grows before after (Offers row result) h = h.1.own
+  own_grows before after Reads h = h.1 ∙ sym (append-nil before.own)

@@ -12,10 +12,10 @@ use Rattle.ns_state.specs.declared.state.Told.{Told}
 use Rattle.ns_state.specs.declared.state.Told.TheVariants.{Stored, Kept}
 use Rattle.ns_cell.specs.Passes.{PassValue, IsLater}
 
--- what a pass does in a call: it offers a row and is answered so, or it does something else
+-- what a pass does in a call: it offers a row and is answered so; or it takes a snapshot, reads the log or meets another
 pub data Call (R : Type 0) : Type 0 where
   Offers : R → Result Told (End LogFull) → Call R
-  Else : Call R
+  Reads : Call R
 
 module _ {R : Type 0} where
   -- the row as it stands in a log, under the number of the pass
@@ -39,14 +39,19 @@ module _ {R : Type 0} where
     pub event : IsOffer (logged value log) (log_value value (offered before row)) (logged value after.seen) result
     pub own : after.own ≡ before.own ++ stored (offered before row) result
 
-  -- the call made this of the pass
+  -- the call made this of the pass: what it offered was answered so, or it has seen what it had seen, and maybe more
   abbrev pub Makes : (R → RowValue) → PassValue R → Call R → PassValue R → Type 0
   Makes value before (Offers row result) after = IsLater before after × IsOffered value before row after result
-  Makes value before Else after = IsLater before after
+  Makes value before Reads after = IsLater before after × (after.own ≡ before.own)
+
+  -- the rows that the call stored
+  abbrev pub stored_by : PassValue R → Call R → List (LogRow R)
+  stored_by pass (Offers row result) = stored (offered pass row) result
+  stored_by pass Reads = []
 
   -- the place of a call in the one log: that of the row where one was stored, else where that ends which was then seen
   abbrev pub place : Call R → PassValue R → ℕ
   place (Offers row (Ok (Stored at))) after = at
   place (Offers row (Ok (Kept at))) after = length after.seen
   place (Offers row (Err e)) after = length after.seen
-  place Else after = length after.seen
+  place Reads after = length after.seen

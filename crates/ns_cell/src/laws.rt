@@ -11,7 +11,7 @@ ghost use Rattle.ns_state.specs.declared.state.Told.{Told};
 ghost use Rattle.ns_state.specs.declared.state.Told.TheVariants.{Stored, Kept};
 ghost use Rattle.ns_cell.specs.declared.limits.TheConstants.{PASS_LIMIT};
 ghost use Rattle.ns_cell.specs.Passes.{PassValue, IsLater};
-ghost use Rattle.ns_cell.specs.Answers.{IsOffered, Call, Makes, offered, place};
+ghost use Rattle.ns_cell.specs.Answers.{IsOffered, Call, Makes, stored_by, offered, place};
 
 use willow_entry::Row;
 
@@ -50,4 +50,13 @@ pub fn places<R: Row>()
     ensures rise { (first then next last : PassValue R) (call later_call : Call R)
         → Makes R.value first call then → IsLater then next → Makes R.value next later_call last
         → place call then ≤ place later_call last }
+{}
+
+/// Whatever a pass does, its cell and its number stand, and its own list grows by the row that it stored and by nothing
+/// else: a snapshot, a reading of the log and a meeting leave it as it was.
+pub fn calls<R: Row>()
+    ensures stays { (before after : PassValue R) (call : Call R)
+        → Makes R.value before call after → (after.cell ≡ before.cell) × (after.number ≡ before.number) }
+    ensures own { (before after : PassValue R) (call : Call R)
+        → Makes R.value before call after → after.own ≡ before.own ++ stored_by before call }
 {}
