@@ -9,3 +9,5 @@ pub mod Speaking
 pub mod Hearing
 pub mod Found
 pub mod Standing
+pub mod Due
+pub mod Talking

@@ -4,10 +4,14 @@
 //! the bytes that it reads.
 #![tactic(auto)]
 
+mod due;
 mod find;
+mod greet;
 mod hear;
 pub mod laws;
 mod proof;
 mod speak;
+mod standing;
+mod talker;
 #[cfg(test)]
 mod tests;
