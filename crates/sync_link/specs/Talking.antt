@@ -61,6 +61,15 @@ said_to_proof Answerer signature = []
 abbrev pub Writes : Option (List ℕ) → (List ℕ → List ℕ) → List ℕ → List ℕ → Type 0
 Writes made spoken out_old out_new = (signature : List ℕ) → MayBe made signature → out_new ≡ out_old ++ spoken signature
 
+-- the signature that was made stays
+abbrev pub Once : Option (List ℕ) → Option (List ℕ) → Type 0
+Once old new = (signature : List ℕ) → MayBe new signature → MayBe old signature
+
+-- none was made yet by a caller
+abbrev pub UnsignedIf : Role → Option (List ℕ) → Type 0
+UnsignedIf Caller made = made ≡ None
+UnsignedIf Answerer made = Unit {0}
+
 -- ---- a side
 
 -- what is seen of a side that stands so
@@ -86,6 +95,11 @@ pub record Proves {R S : Type 0} (gives : List ℕ → List ℕ → Bool) (old n
   pub given : gives (own_message old.role old.hello other) signature ≡ true
   pub wrote : out_new ≡ out_old ++ signature_spelling signature
 
+-- its signature is the one that it had, or its signer may give it for its proof to the side with this hello
+abbrev pub IsSigned : {R S : Type 0} → (List ℕ → List ℕ → Bool) → Talker R S → Talker R S → Hello → Type 0
+IsSigned gives old new other =
+    (signature : List ℕ) → new.signature ≡ Some signature → (old.signature ≡ Some signature) ⊎ (gives (own_message old.role old.hello other) signature ≡ true)
+
 -- a signer fails only where its count of faults rose or nothing was left of it
 abbrev pub CanFail : ℕ → ℕ → ℕ → Type 0
 CanFail left faults_old faults_new = (left ≡ 0) ⊎ Rose faults_old faults_new
@@ -93,7 +107,7 @@ CanFail left faults_old faults_new = (left ≡ 0) ⊎ Rose faults_old faults_new
 -- What is due behind a hello, by why it is refused, if it is.
 abbrev pub HearsHello : {R S : Type 0} → Talker R S → Talker R S → Hello → Due R → List ℕ → List ℕ → Option HelloRefusal → Type 0
 HearsHello old new other due out_old out_new (Some cause) = (due ≡ dues.Nothing (causes.Hello cause)) × (new ≡ old) × (out_new ≡ out_old)
-HearsHello old new other due out_old out_new None = (due ≡ dues.Proof other) × Writes new.signature (said_to_hello old.role old.hello) out_old out_new
+HearsHello old new other due out_old out_new None = (due ≡ dues.Proof other) × (Writes new.signature (said_to_hello old.role old.hello) out_old out_new × UnsignedIf old.role new.signature)
 
 -- An exchange has begun over the rows of a side, and said what is due first.
 pub record BeginsExchange {R : Type 0} (place : Place) (exchange : Exchange R) (out_old out_new : List ℕ) : Type 0 where
@@ -107,6 +121,7 @@ pub record BeginsExchange {R : Type 0} (place : Place) (exchange : Exchange R) (
 pub record AcceptsProof {R S : Type 0} (value : R → RowValue) (old new : Talker R S) (other : Hello) (due : Due R) (out_old out_new : List ℕ) : Type 0 where
   pub between : List ℕ
   pub proved : Writes new.signature (said_to_proof old.role) out_old between
+  pub once : Once old.signature new.signature
   pub exchange : Exchange R
   pub begins : BeginsExchange (first_place old.role (map value old.snapshot) (box_between old.role old.hello other)) exchange between out_new
   pub due_is : due ≡ dues.Items exchange

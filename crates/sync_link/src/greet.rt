@@ -8,7 +8,7 @@ ghost use Rattle.sync_hello.specs.Checked.{hello_refusal};
 ghost use Rattle.sync_hello.specs.HelloForm.{HasSpelling};
 ghost use Rattle.sync_core.specs.Place.{first_place};
 ghost use Rattle.sync_link.specs.Sound.{AreSound};
-ghost use Rattle.sync_link.specs.Talking.{BeginsExchange, CanFail, HearsHello, HearsProof, Keeps, Proves, Writes, box_between, own_message, proof_cause, said_to_hello, said_to_proof};
+ghost use Rattle.sync_link.specs.Talking.{BeginsExchange, CanFail, HearsHello, HearsProof, IsSigned, Keeps, Once, Proves, UnsignedIf, Writes, box_between, own_message, proof_cause, said_to_hello, said_to_proof};
 
 use crate::due::{Cause, Due, Exchange};
 use crate::speak::speak;
@@ -35,7 +35,9 @@ pub(crate) fn hear_hello<R: Row, S: Verify, K: Signer>(
     requires other { HasSpelling other }
     requires unsigned { talker.old.signature ≡ None }
     ensures keeps { Keeps talker.old talker.new }
+    ensures gives { K.gives signer.new ≡ K.gives signer.old }
     ensures hears { IfOk result (λ due. HearsHello talker.old talker.new other due out.old.items out.new.items (hello_refusal S.rules talker.old.namespace other)) }
+    ensures signs { OnOk result (IsSigned (K.gives signer.old) talker.old talker.new other) }
     ensures failed { IsErrOf result Stop.SignFault → CanFail (K.left signer.old) (K.faults signer.old) (K.faults signer.new) }
 {
     match check_hello(&talker.scheme, &talker.namespace, &other) {
@@ -59,7 +61,10 @@ fn greet_back<R: Row, S: Verify, K: Signer>(
     requires other { HasSpelling other.now }
     requires unsigned { talker.old.signature ≡ None }
     ensures keeps { Keeps talker.old talker.new }
+    ensures gives { K.gives signer.new ≡ K.gives signer.old }
     ensures writes { OnOk result (Writes talker.new.signature (said_to_hello talker.old.role talker.old.hello) out.old.items out.new.items) }
+    ensures unsigned { OnOk result (UnsignedIf talker.old.role talker.new.signature) }
+    ensures signs { OnOk result (IsSigned (K.gives signer.old) talker.old talker.new other.now) }
     ensures failed { IsErrOf result Stop.SignFault → CanFail (K.left signer.old) (K.faults signer.old) (K.faults signer.new) }
 {
     match talker.role {
@@ -81,6 +86,7 @@ fn prove<R: Row, S: Verify, K: Signer>(
     requires own { HasSpelling talker.old.hello }
     requires other { HasSpelling other.now }
     ensures keeps { Keeps talker.old talker.new }
+    ensures gives { K.gives signer.new ≡ K.gives signer.old }
     ensures proves { OnOk result (Proves (K.gives signer.old) talker.old talker.new other.now out.old.items out.new.items) }
     ensures failed { IsErrOf result Stop.SignFault → CanFail (K.left signer.old) (K.faults signer.old) (K.faults signer.new) }
 {
@@ -110,6 +116,7 @@ fn own_message(
 
 // The signature of a message.
 fn sign<K: Signer>(alloc: Global, signer: &mut K, message: &[u8]) -> Result<Signature, Stop>
+    ensures gives { K.gives signer.new ≡ K.gives signer.old }
     ensures given { IfOk result (λ signature. K.gives signer.old message.now signature ≡ true) }
     ensures failed { IsErrOf result Stop.SignFault → CanFail (K.left signer.old) (K.faults signer.old) (K.faults signer.new) }
 {
@@ -143,8 +150,11 @@ pub(crate) fn hear_proof<R: Row, S: Verify, K: Signer>(
     requires own { HasSpelling talker.old.hello }
     requires other { HasSpelling other.now }
     requires rows { AreSound (map R.value talker.old.snapshot) }
+    requires unsigned { UnsignedIf talker.old.role talker.old.signature }
     ensures keeps { Keeps talker.old talker.new }
+    ensures gives { K.gives signer.new ≡ K.gives signer.old }
     ensures hears { IfOk result (λ due. HearsProof R.value talker.old talker.new other.now due out.old.items out.new.items (proof_cause S.rules talker.old.role talker.old.hello other.now proof.now)) }
+    ensures signs { OnOk result (IsSigned (K.gives signer.old) talker.old talker.new other.now) }
     ensures failed { IsErrOf result Stop.SignFault → CanFail (K.left signer.old) (K.faults signer.old) (K.faults signer.new) }
 {
     match judge_proof(talker, other, proof) {
@@ -184,8 +194,12 @@ fn prove_back<R: Row, S: Verify, K: Signer>(
 ) -> Result<(), Stop>
     requires own { HasSpelling talker.old.hello }
     requires other { HasSpelling other.now }
+    requires unsigned { UnsignedIf talker.old.role talker.old.signature }
     ensures keeps { Keeps talker.old talker.new }
+    ensures gives { K.gives signer.new ≡ K.gives signer.old }
     ensures writes { OnOk result (Writes talker.new.signature (said_to_proof talker.old.role) out.old.items out.new.items) }
+    ensures once { OnOk result (Once talker.old.signature talker.new.signature) }
+    ensures signs { OnOk result (IsSigned (K.gives signer.old) talker.old talker.new other.now) }
     ensures failed { IsErrOf result Stop.SignFault → CanFail (K.left signer.old) (K.faults signer.old) (K.faults signer.new) }
 {
     match talker.role {
