@@ -13,3 +13,6 @@ pub mod Settled
 pub mod Sound
 pub mod Speech
 pub mod Finding
+pub mod Moves
+pub mod Greeting
+pub mod Exchanged

@@ -11,3 +11,4 @@ pub mod Found
 pub mod Standing
 pub mod Due
 pub mod Talking
+pub mod Taking

@@ -12,6 +12,7 @@ pub mod laws;
 mod proof;
 mod speak;
 mod standing;
+mod take;
 mod talker;
 #[cfg(test)]
 mod tests;
