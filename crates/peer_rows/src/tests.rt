@@ -1,12 +1,13 @@
-//! Listings of images, and generated frames, against texts and bytes made elsewhere.
+//! Joins of rows in pieces, listings of images, and generated frames, against texts and bytes made elsewhere.
 
 ghost use Rattle.std.specs.Prelude.{◌≤◌};
 
 use super::*;
 use mc_cap::{RefusedRow, RowRefusal};
-use peer_stage::{Done, Origin, ShowCounts, Stop};
+use peer_stage::{Done, JoinCounts, Origin, ShowCounts, Stop};
 use std::alloc::Global;
 use willow_outside::{MemSink, MemSource};
+use willow_path::NamespaceKey;
 
 // The text WIM1 and a namespace key, and the same with another key.
 const HEAD: &str = "57494d31004e4e4e4e4e4e4e4e4e4e4e4e4e4e4e4e4e4e4e4e4e4e4e4e4e4e4e4e4e4e4e4e";
@@ -75,6 +76,7 @@ fn joined(alloc: Global, texts: &[&str]) -> Option<Vec<u8>> {
 // How a command ended over the input.
 #[derive(Clone, Copy, Debug, PartialEq, Eq)]
 enum Ended {
+    Joined(JoinCounts),
     Shown(ShowCounts),
     Made,
     Bad(u64),
@@ -87,6 +89,7 @@ enum Ended {
 
 fn ending_of(end: Result<Done, Stop>) -> Ended {
     match end {
+        Ok(Done::Joined(counts)) => Ended::Joined(counts),
         Ok(Done::Shown(counts)) => Ended::Shown(counts),
         Ok(Done::Made) => Ended::Made,
         Err(
@@ -120,6 +123,65 @@ fn shown(rows: u64, refused: u64, first: Option<RefusedRow>) -> Ended {
         refused,
         first,
     })
+}
+
+// How the join of the rows into the first namespace ends, where it writes the image's bytes and a read gives so many bytes
+// at most.
+fn joins(alloc: Global, rows: &[u8], most: usize, image: &[u8]) -> Option<Ended>
+    requires { 1 ≤ most }
+{
+    let mut key = [0x4e; 33];
+    key[0] = 0;
+    let namespace = NamespaceKey::from_bytes(key)?;
+    let rows = Vec::from_slice(alloc, rows).ok()?;
+    let mut input = MemSource::new(alloc, rows, Vec::new(alloc), most);
+    let mut output = MemSink::new(alloc, Vec::new(alloc), Vec::new(alloc), 100);
+    let end = join(alloc, &namespace, &mut input, &mut output);
+    if output.held() != image {
+        return None;
+    }
+    Some(ending_of(end))
+}
+
+// Whether the join of these texts' bytes ends so in pieces of any size, among which there is one that ends at each place.
+fn joins_in_pieces(alloc: Global, rows: &[&str], image: &[&str], due: Ended) -> bool {
+    let Some(rows) = joined(alloc, rows) else {
+        return false;
+    };
+    let Some(image) = joined(alloc, image) else {
+        return false;
+    };
+    for place in 0..rows.len() {
+        if joins(alloc, &rows, place + 1, &image) != Some(due) {
+            return false;
+        }
+    }
+    true
+}
+
+#[test]
+fn rows_joined_in_pieces(rt: HostRuntime) {
+    let alloc = rt.alloc();
+    let counts = |stored: u64, kept: u64| {
+        Ended::Joined(JoinCounts {
+            rows: 2,
+            stored,
+            kept,
+            refused: 0,
+            first: None,
+        })
+    };
+    for (rows, image, due) in [
+        ([BELOW, OLD], [HEAD, OLD, BELOW, TWO_ROWS], counts(2, 0)),
+        ([OLD, NEW], [HEAD, NEW, "", ONE_ROW], counts(2, 0)),
+        ([NEW, BELOW], [HEAD, NEW, "", ONE_ROW], counts(1, 1)),
+        // A body that is no row, one that is cut, and a length that no frame has.
+        ([OLD, "00000003aabbcc"], [""; 4], Ended::Bad(223)),
+        ([OLD, "000000db004e"], [""; 4], Ended::Bad(223)),
+        ([OLD, "00020001"], [""; 4], Ended::Bad(223)),
+    ] {
+        assert!(rt; joins_in_pieces(alloc, &rows, &image, due));
+    }
 }
 
 // How the showing of the image ends, where it writes this text.

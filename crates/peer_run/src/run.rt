@@ -166,3 +166,12 @@ pub fn peer_run<H: Shelf, I: Source, O: Sink, E: Sink, D: Door, N: Noise>(
 {
     run_words(alloc, words, shelf, input, output, report, noise)
 }
+
+ghost use Rattle.peer_run.specs.Run.{Run};
+ghost use Rattle.peer_run.specs.Headline.{IsWholeJoin};
+ghost use Rattle.peer_run.specs.Promises.{HasEnded};
+ghost use Rattle.peer_words.specs.declared.command.Command.TheVariants as cmd;
+
+fn whole_probe()
+    ensures { (run : Run) (n : List ℕ) → HasEnded run → IsWords run.words (cmd.Join n) → IsWholeJoin n run }
+{}
