@@ -1,4 +1,4 @@
-pub mod Chains
+pub mod ChainLists
 pub mod Climbs
 pub mod Accepting
 pub mod Values

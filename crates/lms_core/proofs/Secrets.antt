@@ -1,14 +1,13 @@
 -- The values of a signer's nodes and its public key, by the steps that compute them.
-use Rattle.std.proofs.Common.{◌≡◌, ℕ, zero, suc, ◌+◌, ◌-◌, ◌*◌, ◌/◌, ◌%◌, ◌<◌, ◌≤◌, List, [], ◌++◌, ◌⊎◌, inl, inr, refl, sym, ap, ◌∙◌, arith, append_assoc}
+use Rattle.std.proofs.Common.{◌≡◌, ℕ, zero, suc, ◌+◌, ◌-◌, ◌*◌, ◌/◌, ◌%◌, ◌<◌, List, [], ◌++◌, ◌⊎◌, inl, inr, refl, sym, ap, ◌∙◌, arith, append_assoc}
 use Rattle.std.proofs.lemmas.Bool.{cases_eq}
 use Rattle.std.proofs.lemmas.List.{append-nil}
 use Rattle.lms_core.specs.declared.height.Height.{Height}
 use Rattle.lms_core.specs.Bytes.{u32_str}
-use Rattle.lms_core.specs.OneTime.{front, step, run, message_hash, digits}
+use Rattle.lms_core.specs.OneTime.{front, message_hash, digits}
 use Rattle.lms_core.specs.Tree.{leaf_value, inner_value, parent_value}
 use Rattle.lms_core.specs.Accepts.{levels, leaves, type_of}
-use Rattle.lms_core.specs.Signer.{chain_start, values_at, key_of_leaf, node_value, root_value, sibling, path_of, randomizer, public_key, signed_values, signature_of}
-use Rattle.lms_core.proofs.Values.{run_end}
+use Rattle.lms_core.specs.Signer.{values_at, key_of_leaf, node_value, root_value, sibling, path_of, randomizer, public_key, signed_values, signature_of}
 
 pub node_value_leaf : (height : Height) (id seed : List ℕ) (level node count : ℕ) (key value : List ℕ) → level ≡ 0 → count ≡ leaves height → key ≡ key_of_leaf id seed (node - count) → value ≡ leaf_value id node key → value ≡ node_value height id seed level node
 unfolding node_value
@@ -28,13 +27,6 @@ root_by_steps height id seed count value hn hv = hv ∙ rw hn refl
 pub public_by_steps : (height : Height) (id seed : List ℕ) (tree once types front root key : List ℕ) → tree ≡ u32_str (type_of height) → once ≡ u32_str 4 → types ≡ tree ++ once → front ≡ types ++ id → root ≡ root_value height id seed → key ≡ front ++ root → key ≡ public_key height id seed
 unfolding public_key
 public_by_steps height id seed tree once types front root key ht ho hs hf hr hk = hk ∙ rw (hf, hs, ht, ho, hr) refl
-
--- a chain's end, by its value at a digit
-pub end_by_steps : (id seed : List ℕ) (q i digit : ℕ) (bytes start value last : List ℕ) → digit ≤ 255 → bytes ≡ front id q i → start ≡ step bytes 255 seed → value ≡ run bytes 0 (digit - 0) start → last ≡ run bytes digit (255 - digit) value → last ≡ run (front id q i) 0 255 (chain_start id seed q i)
-unfolding chain_start
-end_by_steps id seed q i digit bytes start value last h hb hs hv hl =
-    let e : digit - 0 ≡ digit = omega arith in
-    hl ∙ rw (hv, e, run_end bytes digit start h, hs, hb) refl
 
 -- a number is odd or even
 pub parity : (n : ℕ) → (n % 2 ≡ 1) ⊎ (n % 2 ≡ 0)

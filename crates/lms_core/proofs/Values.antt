@@ -1,7 +1,7 @@
 -- The signer's chain values: how they follow one another, how long they are, and where their chains end.
-use Rattle.std.proofs.Common.{◌≡◌, ℕ, zero, suc, ◌+◌, ◌-◌, ◌*◌, ◌^◌, ◌<◌, ◌≤◌, List, [], ◌∷◌, ◌++◌, length, take, get_or, replicate, refl, sym, ap, ◌∙◌, arith, append_assoc, length-append}
+use Rattle.std.proofs.Common.{◌≡◌, ℕ, zero, suc, ◌+◌, ◌-◌, ◌*◌, ◌^◌, ◌<◌, ◌≤◌, List, [], ◌∷◌, ◌++◌, length, refl, arith, length-append}
 use Rattle.std.specs.List.{AllByRecursion}
-use Rattle.std.proofs.lemmas.List.{append-nil, take_at, drop_at, take_more, length-take-le, replicate_more, length-replicate}
+use Rattle.std.proofs.lemmas.List.{take_at, drop_at}
 use Rattle.sha2.proofs.Facts256.{length-sha256}
 use Rattle.lms_core.specs.OneTime.{front, step, run, chain_ends}
 use Rattle.lms_core.specs.Signer.{chain_start, values_at, last_digits}
@@ -45,44 +45,6 @@ length_values_at id seed q i (d ∷ digits) =
     let rest = values_at id seed q (suc i) digits in
     omega (arith, length-append first rest, length_value id seed q i d, length_values_at id seed q (suc i) digits)
 
-pub values_at_none : (id seed : List ℕ) (q i : ℕ) → values_at id seed q i [] ≡ []
-unfolding values_at
-values_at_none id seed q i = refl
-
--- one more chain at the end
-pub values_at_push : (id seed : List ℕ) (q i : ℕ) (digits : List ℕ) (d : ℕ) → values_at id seed q i (digits ++ d ∷ []) ≡ values_at id seed q i digits ++ run (front id q (i + length digits)) 0 d (chain_start id seed q (i + length digits))
-unfolding values_at
-values_at_push id seed q i [] d =
-    let e : i + 0 ≡ i = omega arith in
-    rw e (append-nil _)
-values_at_push id seed q i (x ∷ digits) d =
-    let first = run (front id q i) 0 x (chain_start id seed q i) in
-    let n = i + suc (length digits) in
-    let last = run (front id q n) 0 d (chain_start id seed q n) in
-    let e : suc i + length digits ≡ n = omega arith in
-    let ih = rw e at (values_at_push id seed q (suc i) digits d) in
-    ap (λ t. first ++ t) ih ∙ sym (append_assoc first (values_at id seed q (suc i) digits) last)
-
--- the values of the first chains, with one more chain
-pub values_at_more : (id seed : List ℕ) (q : ℕ) (digits : List ℕ) (i : ℕ) → i < length digits → values_at id seed q 0 (take (i + 1) digits) ≡ values_at id seed q 0 (take i digits) ++ run (front id q i) 0 (get_or digits i 0) (chain_start id seed q i)
-values_at_more id seed q digits i h =
-    let l : length (take i digits) ≡ i = length-take-le i digits (omega arith) in
-    let z : 0 + i ≡ i = omega arith in
-    rw (take_more digits i 0 h) (rw (l, z) at (values_at_push id seed q 0 (take i digits) (get_or digits i 0)))
-
--- the ends of the first chains, with one more chain
-pub last_values_more : (id seed : List ℕ) (q i : ℕ) → values_at id seed q 0 (last_digits (i + 1)) ≡ values_at id seed q 0 (last_digits i) ++ run (front id q i) 0 255 (chain_start id seed q i)
-unfolding last_digits
-last_values_more id seed q i =
-    let n : ℕ = 255 in
-    let l : length (replicate i n) ≡ i = length-replicate i n in
-    let z : 0 + i ≡ i = omega arith in
-    rw (← replicate_more {X = ℕ} i n) (rw (l, z) at (values_at_push id seed q 0 (replicate i n) n))
-
-pub last_values_none : (id seed : List ℕ) (q : ℕ) → values_at id seed q 0 (last_digits 0) ≡ []
-unfolding last_digits
-last_values_none id seed q = values_at_none id seed q 0
-
 -- from their values at the digits the chains reach their ends
 pub ends_of_values : (id seed : List ℕ) (q i : ℕ) (digits : List ℕ) → AllByRecursion (λ d. d < 2 ^ 8) digits → chain_ends id q i digits (values_at id seed q i digits) ≡ values_at id seed q i (last_digits (length digits))
 unfolding chain_ends values_at last_digits
@@ -95,10 +57,3 @@ ends_of_values id seed q i (d ∷ digits) h =
     let t = take_at first rest 32 (length_value id seed q i d) in
     let u = drop_at first rest 32 (length_value id seed q i d) in
     rw (t, u, run_end bytes d start (omega arith), ends_of_values id seed q (suc i) digits h.1) refl
-
--- a chain's value at a digit, by its front, its start and its steps
-pub value_by_steps : (id seed : List ℕ) (q i digit : ℕ) (bytes start reached : List ℕ) → bytes ≡ front id q i → start ≡ step bytes 255 seed → reached ≡ run bytes 0 (digit - 0) start → reached ≡ run (front id q i) 0 digit (chain_start id seed q i)
-unfolding chain_start
-value_by_steps id seed q i digit bytes start reached hb hs hr =
-    let e : digit - 0 ≡ digit = omega arith in
-    hr ∙ rw (e, hs, hb) refl

@@ -3,6 +3,7 @@ pub mod OneTime
 pub mod Tree
 pub mod Accepts
 pub mod Signer
+pub mod KeyChains
 pub mod Key
 pub mod Use
 pub mod UseLaws

@@ -6,6 +6,7 @@ mod bytes;
 mod hashing;
 mod height;
 mod key;
+mod key_chains;
 mod laws;
 mod one_time;
 mod one_use;

@@ -1,26 +1,15 @@
 //! One-time public keys, as the signatures tell them.
 
-ghost use Rattle.std.specs.Prelude.{◌≡◌, ◌-◌, ◌≤◌, length};
-ghost use Rattle.lms_core.specs.OneTime.{run, message_hash, checksum, digits, chain_ends, one_time_key, key_told};
+ghost use Rattle.std.specs.Prelude.{◌≡◌, length};
+ghost use Rattle.lms_core.specs.OneTime.{message_hash, checksum, digits, chain_ends, one_time_key, key_told};
 
-use crate::bytes::{field_at, join_into, two_bytes};
-use crate::hashing::{D_MESG, D_PBLC, chain_step, hash_three, input_front};
-use sha2::{Digest, Sha256};
+use crate::bytes::{join_into, two_bytes};
+use crate::hashing::{D_MESG, hash_three, input_front};
+use crate::key_chains::{key_of_ends, told_chains};
+use sha_lanes::run_chains;
 
 /// How many chains a one-time key has: one for each byte of a hash and two for its checksum.
 pub(crate) const CHAINS: usize = 34;
-
-/// The steps of a chain from `from` up to `to`, the last one left out.
-pub(crate) fn chain_run(front: &[u8; 22], from: u8, to: u8, value: &[u8; 32]) -> [u8; 32]
-    requires { from ≤ to }
-    ensures { result ≡ run front.now from (to - from) value.now }
-{
-    let mut reached = *value;
-    'steps: for at in from..to {
-        reached = chain_step(front, at, &reached);
-    }
-    reached
-}
 
 /// How far the bytes of a hash are below 255, together.
 #[tactic(auto, unfolding(crate::specs::OneTime::checksum))]
@@ -55,14 +44,9 @@ fn key_of_values(identifier: &[u8; 16], index: u32, digits: &[u8; 34], values: &
     requires { length values.now ≡ 1088 }
     ensures { result ≡ one_time_key identifier.now index (chain_ends identifier.now index 0 digits.now values.now) }
 {
-    let mut hasher = Sha256::new();
-    hasher.update(input_front(identifier, index, D_PBLC));
-    'chains: for chain in 0..CHAINS {
-        let front = input_front(identifier, index, chain as u16);
-        let value = field_at::<32>(values, 32 * chain);
-        hasher.update(chain_run(&front, digits[chain], 255, &value));
-    }
-    hasher.finalize()
+    let mut chains = told_chains(identifier, index, digits, values);
+    run_chains(&mut chains);
+    key_of_ends(identifier, index, &chains)
 }
 
 /// The one-time public key that a signature's randomizer and chain values tell for a message.

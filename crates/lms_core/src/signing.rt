@@ -6,11 +6,12 @@ ghost use Rattle.lms_core.specs.Accepts.{one_time_type, levels, leaves, type_of}
 ghost use Rattle.lms_core.specs.Signer.{key_of_leaf, values_at, node_value, root_value, sibling, path_of, randomizer, public_key, signature_of};
 
 use crate::bytes::{four_bytes, join_into};
-use crate::hashing::{D_PBLC, hash_three, input_front, leaf, parent};
+use crate::hashing::{hash_three, leaf, parent};
 use crate::height::ONE_TIME_TYPE;
-use crate::one_time::{CHAINS, chain_run, digits_of};
+use crate::key_chains::{append_values, key_of_ends, lengthen, secret_chains};
+use crate::one_time::digits_of;
 use crate::tree::Tree;
-use sha2::{Digest, Sha256};
+use sha_lanes::run_chains;
 use spelling::NoMemory;
 use std::alloc::Global;
 
@@ -34,7 +35,7 @@ impl Tree {
     }
 
     /// Appends the chain values of a leaf at the digits to `values`, and answers the leaf's one-time public
-    /// key: one pass over the chains serves both.
+    /// key: the chains go on from their values to their ends.
     fn sign_chains(
         &self,
         index: u32,
@@ -45,15 +46,12 @@ impl Tree {
         ensures signed { OnOk result (values.new.items
             ≡ values.old.items ++ values_at self.now.identifier self.now.seed index 0 digits.now) }
     {
-        let mut hasher = Sha256::new();
-        hasher.update(input_front(&self.identifier, index, D_PBLC));
-        'chains: for chain in 0..CHAINS {
-            let front = input_front(&self.identifier, index, chain as u16);
-            let value = chain_run(&front, 0, digits[chain], &self.start(&front));
-            values.extend_from_slice(&value)?;
-            hasher.update(chain_run(&front, digits[chain], 255, &value));
-        }
-        Ok(hasher.finalize())
+        let mut chains = secret_chains(&self.identifier, &self.seed, index, digits);
+        run_chains(&mut chains);
+        append_values(&chains, values)?;
+        lengthen(&mut chains);
+        run_chains(&mut chains);
+        Ok(key_of_ends(&self.identifier, index, &chains))
     }
 
     /// Appends the siblings on the way from a leaf to the root to `path`, and answers the root's value.

@@ -1,15 +1,15 @@
 //! What a signer keeps of its tree, and the values of the tree's nodes.
 
 ghost use Rattle.std.specs.Prelude.{◌≡◌, ◌++◌, ◌*◌, ◌-◌, ◌+◌, ◌^◌, ◌<◌, ◌≤◌, length};
-ghost use Rattle.lms_core.specs.OneTime.{step};
 ghost use Rattle.lms_core.specs.Accepts.{levels, leaves};
-ghost use Rattle.lms_core.specs.Signer.{chain_start, key_of_leaf, node_value, root_value, public_key};
+ghost use Rattle.lms_core.specs.Signer.{key_of_leaf, node_value, root_value, public_key};
 ghost use Rattle.lms_core.specs.Use.{user_key_of};
 
 use crate::bytes::{four_bytes, join_into};
-use crate::hashing::{D_PBLC, chain_step, inner, input_front, leaf};
+use crate::hashing::{inner, leaf};
 use crate::height::{Height, ONE_TIME_TYPE};
-use crate::one_time::{CHAINS, chain_run};
+use crate::key_chains::{key_of_ends, secret_chains};
+use sha_lanes::run_chains;
 use sha2::{Digest, Sha256};
 use willow_path::UserKey;
 
@@ -22,24 +22,13 @@ pub(crate) struct Tree {
 }
 
 impl Tree {
-    /// The start of the chain whose hash inputs begin with `front`.
-    pub(crate) fn start(&self, front: &[u8; 22]) -> [u8; 32]
-        ensures { result ≡ step front.now 255 self.now.seed }
-    {
-        chain_step(front, 255, &self.seed)
-    }
-
     /// The one-time public key of a leaf.
     fn leaf_key(&self, index: u32) -> [u8; 32]
         ensures { result ≡ key_of_leaf self.now.identifier self.now.seed index }
     {
-        let mut hasher = Sha256::new();
-        hasher.update(input_front(&self.identifier, index, D_PBLC));
-        'chains: for chain in 0..CHAINS {
-            let front = input_front(&self.identifier, index, chain as u16);
-            hasher.update(chain_run(&front, 0, 255, &self.start(&front)));
-        }
-        hasher.finalize()
+        let mut chains = secret_chains(&self.identifier, &self.seed, index, &[255; 34]);
+        run_chains(&mut chains);
+        key_of_ends(&self.identifier, index, &chains)
     }
 
     /// The value of a node that stands `level` levels above the leaves.

@@ -1,8 +1,0 @@
-use Rattle.std.proofs.Common.{◌++◌}
-use Rattle.sha2.specs.Hashers.{Holds256}
-use Rattle.lms_core.specs.OneTime.{front, d_pblc}
-use Rattle.lms_core.specs.Signer.{values_at, last_digits}
-use Rattle.lms_core.proofs.tree.Tree.leaf_key.Given as goal
-
-abbrev pub invariant-chains : goal.invariant-chains
-invariant-chains l = Holds256 l.hasher (front l.self.identifier l.index d_pblc ++ values_at l.self.identifier l.self.seed l.index 0 (last_digits l.chain))
