@@ -1,6 +1,6 @@
 //! The frames of the generator's rows, without the rows.
 
-ghost use Rattle.std.specs.Prelude.{◌≡◌, ◌+◌, ◌<◌, ◌≤◌, ◌++◌, length, map, IfOk, OnOk};
+ghost use Rattle.std.specs.Prelude.{◌≡◌, ◌+◌, ◌<◌, ◌≤◌, ◌++◌, length, drop, map, IfOk, OnOk};
 ghost use Rattle.std.specs.List.{range_with_len};
 ghost use Rattle.std.specs.Int.{w32, to_be_bytes};
 ghost use Rattle.spelling.specs.Spelling.{text_spelling};
@@ -46,14 +46,29 @@ impl GeneratedFrames {
         let message = entry_message(alloc, &entry)?;
         let s = (i % 8) as u8;
         let signature = open_signature(alloc, generator_writer(s), &message)?;
-        // The message is a letter and the entry's spelling.
         put_frame(
             out,
-            &message[1..],
-            &self.capabilities[usize::from(s)],
+            behind_letter(&message),
+            self.capability_of(s),
             &signature,
         )
     }
+
+    // The bytes of the capability of writer s.
+    fn capability_of(&self, s: u8) -> &[u8]
+        requires { s < 8 }
+        ensures { result.now ≡ writer_capability s }
+    {
+        &self.capabilities[usize::from(s)]
+    }
+}
+
+// The spelling of an entry, which stands behind a letter in what is signed of it.
+fn behind_letter(message: &[u8]) -> &[u8]
+    requires { 0 < length message.now }
+    ensures { result.now ≡ drop 1 message.now }
+{
+    &message[1..]
 }
 
 // The spelling of a writer's capability.
