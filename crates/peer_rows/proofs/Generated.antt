@@ -1,5 +1,5 @@
 -- The frames of the generated rows that are not yet made.
-use Rattle.std.proofs.Common.{◌≡◌, ℕ, zero, suc, ◌+◌, ◌-◌, ◌<◌, List, [], ◌++◌, length, refl, sym, ap, ◌∙◌, arith, length-append}
+use Rattle.std.proofs.Common.{◌≡◌, ℕ, zero, suc, ◌+◌, ◌-◌, ◌<◌, ◌≤◌, List, [], ◌++◌, length, refl, sym, ap, ◌∙◌, arith, length-append}
 use Rattle.std.specs.List.{flat_map, range_with_len}
 use Rattle.cap_codec.specs.Rows.{frame, raw_spelling}
 use Rattle.peer_listing.specs.Generator.{generated}
@@ -20,10 +20,10 @@ frames_left i rows more =
     ap (λ n. flat_map (λ k. frame (generated k)) (range_with_len i n)) count
 
 -- in the end none
-pub none_left : (rows : ℕ) → frames_from rows rows ≡ []
-none_left rows =
-    let count : rows - rows ≡ 0 = omega arith in
-    ap (λ n. flat_map (λ k. frame (generated k)) (range_with_len rows n)) count
+pub none_left : (i rows : ℕ) → rows ≤ i → frames_from i rows ≡ []
+none_left i rows all =
+    let count : rows - i ≡ 0 = omega arith in
+    ap (λ n. flat_map (λ k. frame (generated k)) (range_with_len i n)) count
 
 -- a frame has its length in front
 pub some_left : (i rows : ℕ) → i < rows → 0 < length (frames_from i rows)

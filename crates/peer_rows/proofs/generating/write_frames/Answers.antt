@@ -1,4 +1,4 @@
-use Rattle.std.proofs.Common.{◌≡◌, ℕ, ◌+◌, List, [], ◌++◌, subst, sym, arith}
+use Rattle.std.proofs.Common.{◌≡◌, ℕ, ◌+◌, List, [], ◌++◌, subst, sym, ap, ◌∙◌, arith}
 use Rattle.std.proofs.lemmas.Result.{err_from_is_err_and}
 use Rattle.cap_codec.specs.Rows.{frame}
 use Rattle.peer_listing.specs.Generator.{generated}
@@ -9,11 +9,11 @@ use Rattle.peer_rows.proofs.generating.write_frames.Goals as goal
 use Rattle.peer_rows.proofs.generating.write_frames.Goals.{then-len-ge-PIECE+in_ok-write_output, else-len-ge-PIECE}
 
 pub rows-init : goal.rows-init
-rows-init g c = nothing_written (g.O.Sink.facts c.args.output.now) (generated_frames c.args.rows) [] (frames_from 0 c.args.rows) (all_left c.args.rows)
+rows-init g c = nothing_written (g.O.Sink.facts c.args.output.now) (generated_frames c.args.rows) c.new-piece.result.items (frames_from 0 c.args.rows) (all_left c.args.rows ∙ ap (λ (l : List ℕ). l ++ frames_from 0 c.args.rows) (sym c.new-piece.ensures.items))
 
 pub returns-in_err-write_output-clause-writes : goal.returns-in_err-write_output-clause-writes
 returns-in_err-write_output-clause-writes g c =
-    let p = err_from_is_err_and c.from_residual-in_err-write_output.result c.from_residual-in_err-write_output.ensures.1 in
+    let p = err_from_is_err_and c.from_residual.result c.from_residual.ensures.1 in
     rw (p.1, p.2) (writing_stops (g.O.Sink.facts c.args.output.now) (g.O.Sink.facts c.rows.output) (generated_frames c.args.rows) c.rows.piece.items (g.O.Sink.facts c.write_output.new.output) c.deref.result.now (frames_from c.rows.i c.args.rows)
     c.in_err-write_output.field-0.0 c.rows.invariant c.deref.ensures.value c.in_err-write_output.ensures.writes)
 
@@ -50,5 +50,5 @@ returns-clause-writes g c =
     let o' = g.O.Sink.facts c.rows.output in
     let whole = generated_frames c.args.rows in
     writing_ends o o' whole c.rows.piece.items (g.O.Sink.facts c.write_output-2.new.output) c.deref-2.result.now c.write_output-2.result
-    (subst (λ (l : List ℕ). IsWriting o o' whole c.rows.piece.items l) (none_left c.args.rows) c.rows.invariant)
+    (subst (λ (l : List ℕ). IsWriting o o' whole c.rows.piece.items l) (none_left c.rows.i c.args.rows (omega (arith, c.rows-test.false))) c.rows.invariant)
     c.deref-2.ensures.value c.write_output-2.ensures.writes
