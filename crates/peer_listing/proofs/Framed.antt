@@ -1,5 +1,5 @@
 -- The parts of a generated row's body.
-use Rattle.std.proofs.Common.{◌≡◌, ℕ, ◌+◌, ◌%◌, ◌<◌, ◌≤◌, List, [], ◌∷◌, ◌++◌, length, map, drop, refl, sym, ap, ◌∙◌, subst, arith}
+use Rattle.std.proofs.Common.{◌≡◌, ℕ, ◌+◌, ◌%◌, ◌<◌, ◌≤◌, List, [], ◌∷◌, ◌++◌, length, map, drop, refl, sym, ap, ◌∙◌, arith}
 use Rattle.std.specs.List.{range_with_len}
 use Rattle.std.proofs.lemmas.List.{map_push}
 use Rattle.std.proofs.lemmas.List.FromFn.{map-range_with_len_more}
@@ -10,7 +10,7 @@ use Rattle.willow_entry.specs.RowBody.{row_body}
 use Rattle.willow_entry.specs.declared.entry.Entry.{Entry}
 use Rattle.willow_entry.specs.declared.frame.TheConstants.{MAX_FRAME}
 use Rattle.mc_cap.specs.Signature.{signature_spelling}
-use Rattle.cap_codec.specs.Rows.{raw_spelling, row_of}
+use Rattle.cap_codec.specs.Rows.{raw_spelling}
 use Rattle.peer_listing.specs.Generator.{generated, generated_entry, generated_token, generator_writer, writer_capability}
 use Rattle.peer_listing.proofs.Lengths.{generated_short}
 
