@@ -8,7 +8,7 @@ INPUT_PIECE, OUTPUT_PIECE, REPORT_PIECE = 100, 100, 7  # the most bytes a call
 
 # How much room each read of the input offers is not part of what a run must do: it is taken from the program. The cases
 # in which a call of the input fails rest on it, and those of `join` in which rows stand behind what stops it.
-ROOM = 65_536
+ROOM = 16_384
 
 
 class Fault(Exception):

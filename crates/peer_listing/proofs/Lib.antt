@@ -1,3 +1,4 @@
 pub mod Signed
 pub mod Lengths
 pub mod Kept
+pub mod Framed

@@ -7,6 +7,7 @@ use Rattle.scheme_core.specs.Open.{open_signature}
 use Rattle.willow_entry.specs.Message.{entry_message}
 use Rattle.willow_entry.specs.declared.entry.Entry.{Entry}
 use Rattle.mc_cap.specs.Messages.{initial_message}
+use Rattle.mc_cap.specs.Forms.{capability_spelling}
 use Rattle.mc_cap.specs.declared.capability.Capability.{Capability}
 use Rattle.mc_cap.specs.declared.capability.Mode.TheVariants.{Write}
 use Rattle.cap_codec.specs.declared.token.WriteToken.{WriteToken}
@@ -51,6 +52,10 @@ generator_capability writer = record {
   initial = Some (open_signature generator_namespace (initial_message Write writer));
   chain = [];
 }
+
+-- what each row of writer s carries of it: its bytes
+abbrev pub writer_capability : ℕ → List ℕ
+writer_capability s = capability_spelling (generator_capability (generator_writer s))
 
 unfoldable pub generated_token : ℕ → WriteToken
 generated_token i = record {

@@ -42,7 +42,7 @@ pub fn generated_row(alloc: Global, i: u32) -> Result<RawRow, NoMemory>
 
 // The entry of row i.
 #[tactic(auto, unfolding(crate::specs::Generator::generated_entry))]
-fn generated_entry(alloc: Global, i: u32) -> Result<Entry, NoMemory>
+pub(crate) fn generated_entry(alloc: Global, i: u32) -> Result<Entry, NoMemory>
     requires { i < GENERATED_ROWS }
     ensures { IfOk result (λ entry. entry ≡ generated_entry i) }
 {
@@ -113,7 +113,7 @@ fn generated_token(alloc: Global, i: u32, entry: &Entry) -> Result<WriteToken, N
 
 // The owned write capability of a writer, without delegations.
 #[tactic(auto, unfolding(crate::specs::Generator::generator_capability))]
-fn generator_capability(alloc: Global, writer: UserKey) -> Result<Capability, NoMemory>
+pub(crate) fn generator_capability(alloc: Global, writer: UserKey) -> Result<Capability, NoMemory>
     ensures { IfOk result (λ capability. capability ≡ generator_capability writer) }
 {
     let message = initial_message(Mode::Write, &writer);
@@ -129,7 +129,11 @@ fn generator_capability(alloc: Global, writer: UserKey) -> Result<Capability, No
 
 // The signature of a message by an open key.
 #[tactic(auto, using(crate::proofs::Signed::only_signed))]
-fn open_signature(alloc: Global, key: UserKey, message: &[u8]) -> Result<Signature, NoMemory>
+pub(crate) fn open_signature(
+    alloc: Global,
+    key: UserKey,
+    message: &[u8],
+) -> Result<Signature, NoMemory>
     requires { slice_index key 0 ≡ 0 }
     ensures { IfOk result (λ signature. signature ≡ open_signature key message.now) }
 {
@@ -169,7 +173,7 @@ fn namespace_bytes() -> [u8; 33]
 
 // The key of writer s.
 #[tactic(auto, unfolding(crate::specs::Generator::generator_writer))]
-fn generator_writer(s: u8) -> UserKey
+pub(crate) fn generator_writer(s: u8) -> UserKey
     ensures key { result ≡ generator_writer s }
     ensures open { slice_index result 0 ≡ 0 }
 {

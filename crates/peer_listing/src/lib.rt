@@ -2,11 +2,13 @@
 //! The contract: a call appends just the line that the definitions give, or leaves the vector as it was.
 #![tactic(auto)]
 
+mod frames;
 mod generator;
 pub mod laws;
 mod listing;
 mod summary;
 
+pub use frames::GeneratedFrames;
 pub use generator::{GENERATED_ROWS, generated_row, generator_namespace};
 pub use listing::{key_line, listing_head, listing_line};
 pub use summary::{DrillCounts, drill_summary};

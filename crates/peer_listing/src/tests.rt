@@ -95,15 +95,18 @@ fn lines(rt: HostRuntime) {
     assert_eq!(rt; lists_head(alloc), Some(true));
 }
 
-// Whether the frame of the generated row is these bytes.
+// Whether the frame of the generated row is these bytes, made of the row and made without it.
 fn generates(alloc: Global, i: u32, wanted: &str) -> Option<bool>
     requires { i < GENERATED_ROWS }
 {
     let row = generated_row(alloc, i).ok()?;
-    let mut out = Vec::new(alloc);
-    encode_frame(&row, &mut out).ok()?;
+    let mut of_row = Vec::new(alloc);
+    encode_frame(&row, &mut of_row).ok()?;
+    let mut alone = Vec::new(alloc);
+    let frames = GeneratedFrames::new(alloc).ok()?;
+    frames.put(alloc, i, &mut alone).ok()?;
     let wanted = hex::decode(alloc, wanted).ok()?;
-    Some(out.as_slice() == wanted.as_slice())
+    Some(of_row.as_slice() == wanted.as_slice() && alone.as_slice() == wanted.as_slice())
 }
 
 #[test]

@@ -1,13 +1,14 @@
-//! `generate`: the frames of the generator's rows.
+//! `generate`: the frames of the generator's rows, written a piece at a time.
 
-ghost use Rattle.std.specs.Prelude.{◌≡◌, ◌≤◌, IfOk};
+ghost use Rattle.std.specs.Prelude.{◌≤◌};
+ghost use Rattle.peer_stage.specs.Faults.{CountsStep};
+ghost use Rattle.peer_stage.specs.Stages.{WritesOutput};
 ghost use Rattle.peer_stage.specs.World.{World};
 ghost use Rattle.peer_rows.specs.Generate.{generated_frames, Generates};
 
-use cap_codec::encode_frame;
-use peer_listing::{GENERATED_ROWS, generated_row};
+use crate::imaging::PIECE;
+use peer_listing::{GENERATED_ROWS, GeneratedFrames};
 use peer_stage::{Done, Stop, write_output};
-use spelling::NoMemory;
 use std::alloc::Global;
 use willow_outside::Sink;
 
@@ -16,20 +17,29 @@ pub fn generate<O: Sink>(alloc: Global, rows: u32, output: &mut O) -> Result<Don
     requires { rows ≤ GENERATED_ROWS }
     ensures { (others : World) → Generates rows (record others { output = O.facts output.old }) (record others { output = O.facts output.new }) result }
 {
-    let frames = generated_frames(alloc, rows)?;
-    write_output(output, &frames)?;
+    let frames = GeneratedFrames::new(alloc)?;
+    write_frames(alloc, &frames, rows, output)?;
     Ok(Done::Made)
 }
 
-// The frames of the first rows, one after the other.
-fn generated_frames(alloc: Global, rows: u32) -> Result<Vec<u8>, NoMemory>
+// Writes the frames of the first rows: no more of them than a piece and a frame stands in memory.
+fn write_frames<O: Sink>(
+    alloc: Global,
+    frames: &GeneratedFrames,
+    rows: u32,
+    output: &mut O,
+) -> Result<(), Stop>
     requires { rows ≤ GENERATED_ROWS }
-    ensures { IfOk result (λ frames. frames.items ≡ generated_frames rows) }
+    ensures writes { WritesOutput (O.facts output.old) (O.facts output.new) (generated_frames rows) result }
+    ensures faults { CountsStep (O.facts output.old).faults (O.facts output.new).faults result }
 {
-    let mut frames = Vec::new(alloc);
-    for i in 0..rows {
-        let row = generated_row(alloc, i)?;
-        encode_frame(&row, &mut frames)?;
+    let mut piece = Vec::new(alloc);
+    'rows: for i in 0..rows {
+        if piece.len() >= PIECE {
+            write_output(output, &piece)?;
+            piece.clear();
+        }
+        frames.put(alloc, i, &mut piece)?;
     }
-    Ok(frames)
+    write_output(output, &piece)
 }

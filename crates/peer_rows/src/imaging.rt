@@ -16,7 +16,7 @@ use willow_outside::Sink;
 use willow_path::NamespaceKey;
 
 /// A piece is written as soon as it has so many bytes.
-const PIECE: usize = 65_536;
+pub(crate) const PIECE: usize = 65_536;
 
 // Writes the image of the store's rows, as `write_store_image` makes it, straight from the store: no more of it than a
 // piece and a frame stands in memory.

@@ -10,10 +10,10 @@ ghost use Rattle.peer_stage.specs.declared.outcome.Stop.TheVariants as stop;
 ghost use Rattle.peer_rows.specs.Join.{Joins};
 ghost use Rattle.peer_rows.specs.Stored.{EndsStream, HasSeen, LogsInput, TakesPiece, offset_of};
 
+use crate::images::log_stop;
 use crate::imaging::write_image_of;
 use crate::log::Log;
 use crate::offering::offer_all;
-use crate::row_log::LogFull;
 use cap_codec::{RawRow, RawRows};
 use peer_stage::{Done, INPUT_LIMIT, Stop};
 use row_stream::{RowStream, StreamRefusal};
@@ -23,7 +23,7 @@ use willow_outside::{Fault, Sink, Source};
 use willow_path::NamespaceKey;
 
 /// How many bytes are asked for in one read.
-const PIECE: usize = 65_536;
+const PIECE: usize = 16_384;
 
 /// Reads row frames from the input, keeps the live rows of those that are authorised in the namespace, and
 /// writes their image. Neither all of the input nor all of the image stands in memory.
@@ -101,8 +101,7 @@ fn take_piece(
     known_rows(&rows);
     match offer_all(alloc, namespace, log, rows) {
         Ok(()) => Ok(()),
-        Err(End::Refused(LogFull)) => Err(Stop::LogFull),
-        Err(End::NoMemory) => Err(Stop::NoMemory),
+        Err(end) => Err(log_stop(end)),
     }
 }
 

@@ -1,6 +1,6 @@
 use Rattle.std.proofs.Common.{arith}
 use Rattle.cap_codec.specs.Rows.{IsRawRow}
-use Rattle.peer_rows.proofs.Pieces.{breaks, piece_wrong, few_rows, seen_on, past_log, offer_passes}
+use Rattle.peer_rows.proofs.Pieces.{breaks, piece_wrong, few_rows, seen_on, offers_stop}
 use Rattle.peer_rows.proofs.joining.take_piece.Goals as goal
 
 pub returns-in-Err-Refused : goal.returns-in-Err-Refused
@@ -18,7 +18,7 @@ returns-in-Ok-offer_all c = λ bytes h.
     seen_on c.args.namespace.now bytes c.args.stream.now c.args.log.now h c.feed.new.self c.args.piece.now c.in-Ok.rows.items c.in-Ok.ensures (rw c.deref.ensures.value at c.known_rows.ensures) c.offer_all.new.log
     (c.in-Ok-offer_all.ensures.offers h.seen h.is_log) c.in-Ok-offer_all.ensures.fits
 
-pub returns-in-Err-Refused-offer_all : goal.returns-in-Err-Refused-offer_all
-returns-in-Err-Refused-offer_all c = λ bytes h.
-    past_log c.args.namespace.now bytes c.args.stream.now c.args.log.now h c.feed.new.self c.args.piece.now c.in-Ok.rows.items c.in-Ok.ensures (rw c.deref.ensures.value at c.known_rows.ensures)
-    (offer_passes c.args.namespace.now h.seen c.in-Ok.rows.items c.offer_all.new.log c.in-Err-Refused-offer_all.field-0 c.in-Err-Refused-offer_all.field-0-0 c.in-Err-Refused-offer_all.field-0-is (c.in-Err-Refused-offer_all.ensures.offers h.seen h.is_log))
+pub returns-in-Err : goal.returns-in-Err
+returns-in-Err c = λ bytes h.
+    rw c.log_stop.ensures (offers_stop c.args.namespace.now bytes c.args.stream.now c.args.log.now h c.feed.new.self c.args.piece.now c.in-Ok.rows.items c.in-Ok.ensures (rw c.deref.ensures.value at c.known_rows.ensures) c.offer_all.new.log
+    c.in-Err.end (c.in-Err.ensures.offers h.seen h.is_log))
