@@ -1,2 +1,3 @@
 pub mod Recency
-pub mod Aged
+pub mod Orders
+pub mod Items
