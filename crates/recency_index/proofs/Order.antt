@@ -10,7 +10,7 @@ use Rattle.willow_entry.specs.Row.{subspace_path_cmp}
 use Rattle.willow_entry.proofs.Ranks.{rank_total, rank_tie, rank_from_newer, subspace_path_total, subspace_path_tie}
 use Rattle.recency_index.specs.declared.ranked.Ranked.{Ranked}
 use Rattle.recency_index.specs.Recency.{ranked_of, item_rank, recency_cmp}
-use Rattle.recency_index.specs.Orders.{ranked_total}
+use Rattle.recency_index.specs.OrderLaws.{ranked_total}
 use Rattle.link_arena.specs.declared.twice.Order.TheVariants.{Rank}
 
 pub recency_total : IsTotalOrder recency_cmp

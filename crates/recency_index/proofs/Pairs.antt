@@ -15,7 +15,8 @@ use Rattle.link_arena.specs.Arena.{Arena, AreTwoOrders, IsOneMore, Holds}
 use Rattle.link_arena.specs.declared.twice.Order.TheVariants.{Key, Rank}
 use Rattle.recency_index.specs.declared.ranked.Ranked.{Ranked}
 use Rattle.recency_index.specs.Recency.{recency_cmp, newest, AreNewestFirst, is_at, has_at, without_at}
-use Rattle.recency_index.specs.Orders.{place_cmp, ranked_cmp, ranked_total}
+use Rattle.recency_index.specs.Orders.{place_cmp, ranked_cmp}
+use Rattle.recency_index.specs.OrderLaws.{ranked_total}
 use Rattle.recency_index.specs.Items.{items_in}
 use Rattle.recency_index.proofs.Order.{recency_total}
 use Rattle.recency_index.proofs.Newest.{newest_of}
@@ -173,8 +174,8 @@ module _ (few more : Arena Ranked) (slot : ℕ) (item : Ranked) (orders : AreTwo
         let first = items_in one.first in
         let last = items_in one.last in
         few_is ∙ sym (
-          ap (filter p) more_is
-          ∙ filter-append p first (item ∷ last)
-          ∙ ap (λ b. filter p first ++ cond b (item ∷ filter p last) (filter p last)) (ap not here)
-          ∙ ap₂ (λ (a b : List Ranked). a ++ b) (filter_all p first (λ z m. kept z (member_append_left first last z m))) (filter_all p last (λ z m. kept z (member_append_right first last z m)))
+        ap (filter p) more_is
+        ∙ filter-append p first (item ∷ last)
+        ∙ ap (λ b. filter p first ++ cond b (item ∷ filter p last) (filter p last)) (ap not here)
+        ∙ ap₂ (λ (a b : List Ranked). a ++ b) (filter_all p first (λ z m. kept z (member_append_left first last z m))) (filter_all p last (λ z m. kept z (member_append_right first last z m)))
         )

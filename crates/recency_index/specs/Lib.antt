@@ -1,3 +1,4 @@
 pub mod Recency
 pub mod Orders
+pub mod OrderLaws
 pub mod Items

@@ -80,7 +80,8 @@ pub(crate) fn by_recency(a: &Ranked, b: &Ranked) -> Ordering
 }
 
 impl Twice for Ranked {
-    ghost use Rattle.recency_index.specs.Orders.{ranked_cmp, ranked_total, ranked_apart};
+    ghost use Rattle.recency_index.specs.Orders.{ranked_cmp};
+    ghost use Rattle.recency_index.specs.OrderLaws.{ranked_total, ranked_apart};
 
     ghost cmp_by = { ranked_cmp };
 
