@@ -52,7 +52,10 @@ pub(crate) fn filled(alloc: Global, count: u32, times: Times) -> Option<Recency>
             return None;
         }
         let entry = numbered(alloc, number, times.time(number))?;
-        index.insert(&entry).ok()?;
+        match index.insert(&entry) {
+            Ok(()) => {}
+            Err(_) => return None,
+        }
     }
     Some(index)
 }
