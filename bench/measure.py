@@ -20,8 +20,7 @@ CHECKS = 500
 ROWS = 65_536
 NAMESPACE = "00" + "4f" * 32
 AUTHORS = 8
-READS = 1_000_000
-NEWEST = 10  # that `index_bench` reads a round
+READS = 10_000_000
 HEAD, TRAILER = 37, 8  # of an image: four letters and a key; four zero bytes and a number
 
 # LMS_SHA256_M32_H5 with LMOTS_SHA256_N32_W8 (RFC 8554), in blocks:
@@ -191,7 +190,7 @@ def show_index(index_bench):
     for name, count, seconds in (
         ("put in, by rising time", ROWS, took["rising"] - took["nothing"]),
         ("put in, by falling time", ROWS, took["falling"] - took["nothing"]),
-        (f"the {NEWEST} newest read, {READS:,} times", READS * NEWEST, took["newest"] - took["newest of nothing"]),
+        ("one of the ten newest read", READS, took["newest"] - took["newest of nothing"]),
     ):
         print(f"| {name} | {count:,} | {seconds:.3f} | {seconds / count * 1e9:,.1f} |")
 

@@ -8,8 +8,8 @@ use std::alloc::Global;
 use willow_entry::Entry;
 use willow_path::{Digest, NamespaceKey, Path, UserKey};
 
-// How many of the newest items are read.
-const NEWEST: u32 = 10;
+// Among how many of the newest items one is read.
+const NEWEST: u64 = 10;
 
 // How the times of the items that are put in go, one after the other.
 #[derive(Clone, Copy)]
@@ -60,14 +60,14 @@ pub(crate) fn filled(alloc: Global, count: u32, times: Times) -> Option<Recency>
     Some(index)
 }
 
-// The sum of the times of the newest items, read so often.
-pub(crate) fn newest(index: &Recency, rounds: u32) -> u64 {
+// The sum of the times of items among the newest, read so often. Which one is read depends on the sum so far, so that
+// no read is left out of a build.
+pub(crate) fn newest(index: &Recency, reads: u32) -> u64 {
     let mut sum = 0u64;
-    for _ in 0..rounds {
-        for n in 0..NEWEST {
-            if let Some(item) = index.nth_newest(n) {
-                sum = sum.wrapping_add(item.timestamp);
-            }
+    for _ in 0..reads {
+        let n = (sum % NEWEST) as u32;
+        if let Some(item) = index.nth_newest(n) {
+            sum = sum.wrapping_add(item.timestamp);
         }
     }
     sum

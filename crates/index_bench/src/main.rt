@@ -1,6 +1,6 @@
-//! Fills an index of recency, for a benchmark: the first word says what is timed, the second how many items or rounds.
-//! It prints the time of the newest item or the sum of those read, so that nothing is left out of a build. It promises
-//! nothing but that it is safe and ends: the index is proved where it stands.
+//! Fills an index of recency and reads it, for a benchmark: the first word says what is timed, the second how many items
+//! or reads. It prints the sum of the times that were read, so that nothing is left out of a build. It promises nothing
+//! but that it is safe and ends: the index is proved where it stands.
 #![tactic(auto)]
 
 mod filled;
