@@ -2,12 +2,12 @@
 use Rattle.std.proofs.Common.{◌≡◌, ap, ◌∙◌, sym, refl, Ordering, Less, Equal, Greater}
 use Rattle.std.specs.Cmp.{IsTotalOrder}
 use Rattle.std.specs.Ordering.{ordering_then, ordering_reverse}
-use Rattle.std.proofs.lemmas.Cmp.{on_total, then_total, back_total, tied_itself}
+use Rattle.std.proofs.lemmas.Cmp.{tied_itself}
 use Rattle.willow_entry.specs.declared.entry.Entry.{Entry}
 use Rattle.willow_entry.specs.Entry.{IsNewer, rank_of}
 use Rattle.willow_entry.specs.Rank.{rank_cmp}
 use Rattle.willow_entry.specs.Row.{subspace_path_cmp}
-use Rattle.willow_entry.proofs.Ranks.{rank_total, rank_tie, rank_from_newer, subspace_path_total, subspace_path_tie}
+use Rattle.willow_entry.proofs.Ranks.{rank_total, rank_tie, rank_from_newer, subspace_path_tie}
 use Rattle.recency_index.specs.declared.ranked.Ranked.{Ranked}
 use Rattle.recency_index.specs.Recency.{ranked_of, item_rank, recency_cmp}
 use Rattle.recency_index.specs.OrderLaws.{ranked_total}

@@ -1,9 +1,8 @@
 -- Pairs of slots and items that rise by place and by recency: their items are the most recent first, one at each place.
-use Rattle.std.proofs.Common.{◌≡◌, ◌≢◌, inl, inr, ℕ, zero, suc, ◌+◌, ◌<◌, ◌≤◌, List, [], ◌∷◌, ◌++◌, length, Bool, true, false, cond, not, filter, Contains, All, Option, Some, None, slice_get, MatchOption, Bor, refl, sym, ap, ap₂, ◌∙◌, subst, Ordering, Less, Equal, arith}
+use Rattle.std.proofs.Common.{◌≡◌, ◌≢◌, inl, inr, ℕ, List, [], ◌∷◌, ◌++◌, true, false, cond, not, filter, Contains, All, refl, sym, ap, ap₂, ◌∙◌, subst, Ordering, Less, Equal}
 use Rattle.std.specs.List.{AllByRecursion}
 use Rattle.std.specs.List.Sorted.{IsStrictlySortedBy}
 use Rattle.std.specs.Cmp.{IsTotalOrder, Equal-is}
-use Rattle.std.specs.Ordering.{is_eq}
 use Rattle.std.proofs.lemmas.Cmp.{on_total, tied_back, tied_itself}
 use Rattle.std.proofs.lemmas.Bool.{false_from_ne_true, false≢true}
 use Rattle.std.proofs.lemmas.List.Elements.{filter-append, All-contains, All-weaker, All-contains_itself}
@@ -11,7 +10,7 @@ use Rattle.willow_entry.proofs.Members.{Member, contains_from_member, member_fro
 use Rattle.willow_entry.proofs.Rising.{all_member, Less≢Equal}
 use Rattle.willow_entry.specs.Row.{subspace_path_cmp}
 use Rattle.willow_entry.proofs.Ranks.{subspace_path_total}
-use Rattle.link_arena.specs.Arena.{Arena, AreTwoOrders, IsOneMore, Holds}
+use Rattle.link_arena.specs.Arena.{Arena, AreTwoOrders, IsOneMore}
 use Rattle.link_arena.specs.declared.twice.Order.TheVariants.{Key, Rank}
 use Rattle.recency_index.specs.declared.ranked.Ranked.{Ranked}
 use Rattle.recency_index.specs.Recency.{recency_cmp, newest, AreNewestFirst, is_at, has_at, without_at}

@@ -1,13 +1,12 @@
 -- An item that is taken out of its slot, and one that is counted from the first.
-use Rattle.std.proofs.Common.{◌≡◌, ◌≢◌, ℕ, zero, suc, ◌+◌, ◌<◌, ◌≤◌, List, [], ◌∷◌, ◌++◌, length, get_or, take, not, true, Contains, All, Option, Some, None, is_some, slice_get, MatchOption, Bor, refl, sym, ap, ◌∙◌, subst, Equal, arith, add-one}
+use Rattle.std.proofs.Common.{◌≡◌, ℕ, zero, suc, ◌+◌, ◌<◌, ◌≤◌, List, [], ◌∷◌, ◌++◌, length, get_or, take, not, true, Contains, All, Option, Some, None, is_some, slice_get, MatchOption, Bor, refl, sym, ap, ◌∙◌, subst, Equal, arith, add-one}
 use Rattle.std.specs.Option.{IfSome}
 use Rattle.std.specs.List.{IsDistinct}
 use Rattle.std.specs.Ordering.{eq_by_cmp}
 use Rattle.std.specs.Cmp.{Equal-is}
 use Rattle.std.proofs.Math.Seq.{take-suc}
 use Rattle.std.proofs.lemmas.Cmp.{tied_back}
-use Rattle.std.proofs.lemmas.Option.{slice_get_within, slice_get_past}
-use Rattle.willow_entry.specs.Row.{subspace_path_cmp}
+use Rattle.std.proofs.lemmas.Option.{slice_get_past}
 use Rattle.willow_entry.proofs.Members.{Member, true_of_any, member_filter, member_from_contains}
 use Rattle.willow_entry.proofs.Ranks.{subspace_path_total}
 use Rattle.link_arena.specs.Arena.{Arena, AreTwoOrders, IsOneMore, Holds, IsVacant, slots_in}

@@ -1,5 +1,5 @@
 -- Items of which some are left out, one after the other.
-use Rattle.std.proofs.Common.{◌≡◌, inl, inr, ℕ, zero, suc, ◌<◌, List, [], ◌∷◌, ◌++◌, ◌&&◌, ◌||◌, Bool, true, false, cond, not, filter, length, get_or, take, refl, sym, ap, ◌∙◌, subst, Equal, arith}
+use Rattle.std.proofs.Common.{◌≡◌, inl, inr, ℕ, zero, suc, ◌<◌, List, [], ◌∷◌, ◌++◌, ◌&&◌, ◌||◌, Bool, true, false, cond, not, filter, length, get_or, take, refl, sym, ap, ◌∙◌, Equal, arith}
 use Rattle.std.specs.List.{IsDistinct}
 use Rattle.std.specs.Cmp.{Equal-is, both_ways}
 use Rattle.std.specs.Ordering.{is_eq, eq_by_cmp}

@@ -1,4 +1,4 @@
-use Rattle.std.proofs.Common.{◌<◌, ◌≤◌, ◌≡◌, ℕ, slice_get, sym, ap, ◌∙◌, arith}
+use Rattle.std.proofs.Common.{slice_get, sym, ap, ◌∙◌, arith}
 use Rattle.link_arena.specs.Arena.{slots_in}
 use Rattle.recency_index.proofs.Taken.{stands_at, none_behind}
 use Rattle.recency_index.proofs.index.nth_slot.Goals as goal

@@ -1,4 +1,4 @@
-use Rattle.std.proofs.Common.{◌≡◌, ◌≤◌, ◌+◌, sym, ◌∙◌, arith, rules}
+use Rattle.std.proofs.Common.{sym, ◌∙◌}
 use Rattle.recency_index.proofs.Pairs.{none_there, all_left}
 use Rattle.recency_index.proofs.Taken.{taken_at}
 use Rattle.recency_index.proofs.index.take.Goals as goal

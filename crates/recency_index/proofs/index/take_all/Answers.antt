@@ -1,4 +1,3 @@
-use Rattle.std.proofs.Common.{take, length, subst, ◌≡◌, arith}
 use Rattle.recency_index.proofs.Taken.{none_taken, one_more_taken}
 use Rattle.recency_index.proofs.index.take_all.Goals as goal
 

@@ -1,8 +1,3 @@
-use Rattle.std.proofs.Common.{◌≡◌, ◌≤◌, take}
-use Rattle.link_arena.specs.Arena.{AreTwoOrders}
-use Rattle.recency_index.specs.Recency.{without}
-use Rattle.recency_index.specs.Orders.{ranked_cmp}
-use Rattle.recency_index.specs.Items.{items_in}
 use Rattle.recency_index.proofs.Taken.{AreTakenSoFar}
 use Rattle.recency_index.proofs.index.take_all.Given as goal
 
