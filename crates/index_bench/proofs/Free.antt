@@ -1,11 +1,11 @@
 -- Paths of numbers at which no item stands yet.
-use Rattle.std.proofs.Common.{◌≡◌, inl, inr, ℕ, ◌+◌, ◌<◌, ◌≤◌, ◌^◌, List, [], ◌∷◌, Bool, false, get_or, refl, sym, ap, ◌∙◌, arith}
+use Rattle.std.proofs.Common.{◌≡◌, inl, inr, ℕ, ◌+◌, ◌<◌, ◌≤◌, ◌^◌, List, [], ◌∷◌, false, get_or, sym, ap, ◌∙◌, arith}
 use Rattle.std.specs.Int.{w32, to_be_bytes, from_be_bytes}
 use Rattle.std.specs.Cmp.{Equal-is}
 use Rattle.std.proofs.lemmas.Bool.{false_from_ne_true}
 use Rattle.std.proofs.lemmas.Nat.{from_be_bytes-to_be_bytes_4}
 use Rattle.willow_entry.specs.Row.{subspace_path_cmp}
-use Rattle.willow_entry.proofs.Members.{Member, any_false, false_of_any}
+use Rattle.willow_entry.proofs.Members.{any_false, false_of_any}
 use Rattle.willow_entry.proofs.Ranks.{subspace_path_tie}
 use Rattle.recency_index.specs.declared.ranked.Ranked.{Ranked}
 use Rattle.recency_index.specs.Recency.{newest, is_at, has_at}
@@ -26,8 +26,8 @@ pub free_more : (n : ℕ) (item : Ranked) (items : List Ranked) → n < 2 ^ 32 �
 free_more n item items below here free = λ subspace m le above. any_false (is_at subspace (path_of m)) (newest (item ∷ items)) (λ x member.
     elim (member_from_newest (item ∷ items) x member) [
       | inl same ↦ false_from_ne_true (is_at subspace (path_of m) x) (λ t.
-        let tied = subspace_path_tie (x.subspace, x.path) (subspace, path_of m) ((Equal-is (subspace_path_cmp (x.subspace, x.path) (subspace, path_of m))).0 t) in
-        let number = one_number n m below above (sym here ∙ ap (λ i. i.path) same ∙ ap (λ p. p.1) tied) in
-        absurd (omega (arith, number)))
+          let tied = subspace_path_tie (x.subspace, x.path) (subspace, path_of m) ((Equal-is (subspace_path_cmp (x.subspace, x.path) (subspace, path_of m))).0 t) in
+          let number = one_number n m below above (sym here ∙ ap (λ i. i.path) same ∙ ap (λ p. p.1) tied) in
+          absurd (omega (arith, number)))
       | inr old ↦ false_of_any (is_at subspace (path_of m)) items (free subspace m (omega arith) above) x old
     ])

@@ -1,4 +1,4 @@
-use Rattle.std.proofs.Common.{◌≡◌, ◌+◌, false, subst, sym, ap, refl, arith, List}
+use Rattle.std.proofs.Common.{◌≡◌, ◌+◌, false, subst, sym, refl, arith, List}
 use Rattle.recency_index.specs.Recency.{has_at, ranked_of}
 use Rattle.recency_index.specs.declared.ranked.Ranked.{Ranked}
 use Rattle.index_bench.proofs.Free.{AreFreeFrom, free_more}
