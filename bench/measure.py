@@ -1,5 +1,5 @@
-"""Times the executables `hash_bench` and `willow_peer`, and prints tables in Markdown; with one word, the executable
-`hash_bench`, those of its digests and keys alone.
+"""Times the executables `hash_bench`, `willow_peer` and `index_bench`, and prints tables in Markdown. With one word,
+an executable, it prints those of that one alone: of its digests and keys, or of the index of recency.
 
 Each figure is the best of ROUNDS runs; the runs of all commands take turns, so that what else the machine does
 falls on all of them alike. A hash is one block of SHA-256, that is one call of its compression function: a message
@@ -20,6 +20,7 @@ CHECKS = 500
 ROWS = 65_536
 NAMESPACE = "00" + "4f" * 32
 AUTHORS = 8
+READS = 10_000_000
 HEAD, TRAILER = 37, 8  # of an image: four letters and a key; four zero bytes and a number
 
 # LMS_SHA256_M32_H5 with LMOTS_SHA256_N32_W8 (RFC 8554), in blocks:
@@ -176,9 +177,33 @@ def show_rows(hash_bench, peer, folder):
     print(f"| the digest of a total | | {(40 + 72) // 64} | |")
 
 
+def show_index(index_bench):
+    took = best({
+        "rising": ([index_bench, "rising", str(ROWS)], None),
+        "falling": ([index_bench, "falling", str(ROWS)], None),
+        "newest": ([index_bench, "newest", str(READS)], None),
+        "newest of nothing": ([index_bench, "newest", "0"], None),
+        "nothing": ([index_bench, "rising", "0"], None),
+    })
+    print("| Index of recency | items | seconds | nanoseconds an item |")
+    print("|---|---|---|---|")
+    for name, count, seconds in (
+        ("put in, by rising time", ROWS, took["rising"] - took["nothing"]),
+        ("put in, by falling time", ROWS, took["falling"] - took["nothing"]),
+        ("one of the ten newest read", READS, took["newest"] - took["newest of nothing"]),
+    ):
+        print(f"| {name} | {count:,} | {seconds:.3f} | {seconds / count * 1e9:,.1f} |")
+
+
 if __name__ == "__main__":
-    show_digests(os.path.abspath(sys.argv[1]))
-    if len(sys.argv) > 2:
+    executables = [os.path.abspath(word) for word in sys.argv[1:]]
+    if len(executables) == 1 and os.path.basename(executables[0]) == "index_bench":
+        show_index(executables[0])
+        sys.exit()
+    show_digests(executables[0])
+    if len(executables) > 2:
         print()
         with tempfile.TemporaryDirectory() as temporary:
-            show_rows(os.path.abspath(sys.argv[1]), os.path.abspath(sys.argv[2]), temporary)
+            show_rows(executables[0], executables[1], temporary)
+        print()
+        show_index(executables[2])

@@ -1,3 +1,5 @@
 pub mod Order
 pub mod Newest
-pub mod Aged
+pub mod Without
+pub mod Pairs
+pub mod Taken

@@ -1,9 +1,8 @@
 -- What a list of items has when the most recent come first.
-use Rattle.std.proofs.Common.{◌≡◌, ℕ, ◌↔◌, List, [], ◌∷◌, ◌++◌, Bool, true, false, not, filter, Contains, sym, ap, ◌∙◌}
-use Rattle.std.specs.List.{list_any}
+use Rattle.std.proofs.Common.{◌≡◌, ℕ, ◌↔◌, List, false, not, Contains}
 use Rattle.willow_entry.proofs.Members.{Member, contains_from_member, member_from_contains, filter_member, any_false}
 use Rattle.std.proofs.lemmas.Bool.{not-true}
-use Rattle.willow_entry.proofs.Rising.{IsApart, rising-rises, member_from_rising, member_rising, same_rising}
+use Rattle.willow_entry.proofs.Rising.{rising-rises, member_from_rising, member_rising, same_rising}
 use Rattle.recency_index.specs.declared.ranked.Ranked.{Ranked}
 use Rattle.recency_index.specs.Recency.{recency_cmp, newest, AreNewestFirst, is_at, has_at, without_at}
 use Rattle.recency_index.proofs.Order.{recency_total, recency_tie}

@@ -2,17 +2,19 @@
 use Rattle.std.proofs.Common.{◌≡◌, ap, ◌∙◌, sym, refl, Ordering, Less, Equal, Greater}
 use Rattle.std.specs.Cmp.{IsTotalOrder}
 use Rattle.std.specs.Ordering.{ordering_then, ordering_reverse}
-use Rattle.std.proofs.lemmas.Cmp.{on_total, then_total, back_total, tied_itself}
+use Rattle.std.proofs.lemmas.Cmp.{tied_itself}
 use Rattle.willow_entry.specs.declared.entry.Entry.{Entry}
 use Rattle.willow_entry.specs.Entry.{IsNewer, rank_of}
 use Rattle.willow_entry.specs.Rank.{rank_cmp}
 use Rattle.willow_entry.specs.Row.{subspace_path_cmp}
-use Rattle.willow_entry.proofs.Ranks.{rank_total, rank_tie, rank_from_newer, subspace_path_total, subspace_path_tie}
+use Rattle.willow_entry.proofs.Ranks.{rank_total, rank_tie, rank_from_newer, subspace_path_tie}
 use Rattle.recency_index.specs.declared.ranked.Ranked.{Ranked}
 use Rattle.recency_index.specs.Recency.{ranked_of, item_rank, recency_cmp}
+use Rattle.recency_index.specs.OrderLaws.{ranked_total}
+use Rattle.link_arena.specs.declared.twice.Order.TheVariants.{Rank}
 
 pub recency_total : IsTotalOrder recency_cmp
-recency_total = then_total (back_total (on_total item_rank rank_total)) (on_total (λ (a : Ranked). (a.subspace, a.path)) subspace_path_total)
+recency_total = ranked_total Rank
 
 -- items of one rank at one place are equal
 same_item : (a b : Ranked) → rank_cmp (item_rank b) (item_rank a) ≡ Equal → subspace_path_cmp (a.subspace, a.path) (b.subspace, b.path) ≡ Equal → a ≡ b

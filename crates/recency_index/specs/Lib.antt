@@ -1,2 +1,4 @@
 pub mod Recency
-pub mod Aged
+pub mod Orders
+pub mod OrderLaws
+pub mod Items

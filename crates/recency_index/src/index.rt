@@ -1,133 +1,104 @@
-//! The index: one sorted vector.
+//! The index: an arena of items, by place and by recency.
 
-ghost use Rattle.std.specs.Prelude.{◌≡◌, ◌↔◌, ℕ, ◌+◌, ◌-◌, ◌^◌, ◌<◌, ◌≤◌, [], ◌∷◌, length, reverse, slice_get, false, All, Contains, IsTrue, IfOk, OnOk, OnErr, MatchOption, Some, vec_len, vec_capacity};
+ghost use Rattle.std.specs.Prelude.{◌≡◌, ◌↔◌, ◌+◌, ◌-◌, ◌^◌, ◌<◌, ◌≤◌, [], ◌∷◌, length, slice_get, false, All, Contains, IsTrue, IfOk, OnOk, OnErr, MatchOption, Some};
 ghost use Rattle.std.specs.List.{IsDistinct};
 ghost use Rattle.std.specs.Ordering.{eq_by_cmp};
-ghost use Rattle.willow_entry.specs.Pruning.{IsPlace};
-ghost use Rattle.recency_index.specs.Recency.{ranked_of, recency_cmp, newest, AreNewestFirst, is_at, has_at, without_at, is_among, without};
-ghost use Rattle.recency_index.specs.Aged.{age_cmp, AreOldestFirst};
+ghost use Rattle.link_arena.specs.Arena.{AreTwoOrders, slots_in};
+ghost use Rattle.recency_index.specs.Recency.{ranked_of, recency_cmp, newest, AreNewestFirst, has_at, without_at, without};
+ghost use Rattle.recency_index.specs.Orders.{ranked_cmp};
+ghost use Rattle.recency_index.specs.Items.{items_in};
 
-use crate::ranked::{Ranked, by_place, by_recency};
+use crate::ranked::Ranked;
+use link_arena::{Arena, Order};
 use std::alloc::Global;
-use std::cmp::Ordering;
-use std::marker::Model;
+use std::marker::{Brand, Model};
+use std::sync::ledger::{Blank, Ledger};
+use step_count::Steps;
 use willow_entry::Entry;
 use willow_path::{NoMemory, Path, UserKey};
 
 // The greatest number of items of an index.
-const MAX_ITEMS: usize = 2_147_483_647;
+const MAX_ITEMS: u32 = 2_147_483_647;
 
-// The number of items that are older than this one.
-fn place(items: &[Ranked], item: &Ranked) -> usize
-    requires { AreOldestFirst items.now }
-    ensures place { IsPlace age_cmp item.now items.now result }
-    ensures bound { result ≤ length items.now }
+// Puts an item in, at whose place none is. The blank is a new ledger of one part, which L names.
+fn put<L: Ledger>(items: &mut Arena<Ranked>, item: Ranked, blank: Blank)
+    requires orders { AreTwoOrders ranked_cmp items.old }
+    requires room { 1 ≤ items.old.spare }
+    requires free { has_at item.subspace item.path (items_in items.old.by_rank) ≡ false }
+    requires name { blank.name ≡ L.name }
+    requires parts { blank.parts ≡ L.parts }
+    requires one { blank.parts ≡ 1 }
+    ensures items { items_in items.new.by_rank ≡ newest (item ∷ items_in items.old.by_rank) }
+    ensures orders { AreTwoOrders ranked_cmp items.new }
+    ensures spare { items.old.spare ≡ items.new.spare + 1 }
 {
-    items.partition_point(|held| by_recency(item, held) == Ordering::Less)
+    let mut steps = Steps::<L>::new(blank);
+    items.insert(item, &mut steps);
 }
 
-// Whether the item at the place is this one.
-fn is_there(items: &[Ranked], at: usize, item: &Ranked) -> bool
-    requires place { IsPlace age_cmp item.now items.now at }
-    requires oldest_first { AreOldestFirst items.now }
-    ensures found { IsTrue result → slice_get items.now at ≡ Some item.now }
-    ensures none { result ≡ false → is_among items.now item.now ≡ false }
+// Removes the item at the place of the probe, and answers whether it was there. The blank is a new ledger of one part,
+// which L names.
+fn take<L: Ledger>(items: &mut Arena<Ranked>, probe: &Ranked, blank: Blank) -> bool
+    requires orders { AreTwoOrders ranked_cmp items.old }
+    requires name { blank.name ≡ L.name }
+    requires parts { blank.parts ≡ L.parts }
+    requires one { blank.parts ≡ 1 }
+    ensures was { result ≡ has_at probe.now.subspace probe.now.path (items_in items.old.by_rank) }
+    ensures items { items_in items.new.by_rank ≡ without_at probe.now.subspace probe.now.path (items_in items.old.by_rank) }
+    ensures orders { AreTwoOrders ranked_cmp items.new }
+    ensures spare { items.old.spare ≤ items.new.spare }
 {
-    at < items.len() && by_recency(item, &items[at]) == Ordering::Equal
-}
-
-// Puts an item in its place, where it isn't yet.
-fn put(items: &mut Vec<Ranked>, item: Ranked)
-    requires oldest_first { AreOldestFirst items.old.items }
-    requires free { is_among items.old.items item ≡ false }
-    requires room { vec_len items.old < vec_capacity items.old }
-    ensures oldest_first { AreOldestFirst items.new.items }
-    ensures items { reverse items.new.items ≡ newest (item ∷ reverse items.old.items) }
-    ensures len { vec_len items.new ≡ vec_len items.old + 1 }
-    ensures capacity { vec_capacity items.new ≡ vec_capacity items.old }
-{
-    let at = place(items, &item);
-    if items.insert(at, item).is_err() {
-        unreachable!();
+    let mut steps = Steps::<L>::new(blank);
+    match items.find(probe, &mut steps) {
+        Some(slot) => items.remove(slot).is_some(),
+        None => false,
     }
 }
 
-// Removes the item, where it is there.
-fn take_out(items: &mut Vec<Ranked>, item: &Ranked)
-    requires { AreOldestFirst items.old.items }
-    ensures items { items.new.items ≡ without (item.now ∷ []) items.old.items }
-    ensures len { vec_len items.new ≤ vec_len items.old }
-    ensures capacity { vec_capacity items.new ≡ vec_capacity items.old }
-{
-    let at = place(items, item);
-    if is_there(items, at, item) {
-        items.remove(at);
-    }
-}
-
-// Removes these items, where they are there.
-fn take_all(items: &mut Vec<Ranked>, gone: &[Ranked])
-    requires { AreOldestFirst items.old.items }
-    ensures items { items.new.items ≡ without gone.now items.old.items }
-    ensures len { vec_len items.new ≤ vec_len items.old }
-    ensures capacity { vec_capacity items.new ≡ vec_capacity items.old }
+// Removes these items, each of which is there.
+fn take_all(items: &mut Arena<Ranked>, gone: &[Ranked])
+    requires orders { AreTwoOrders ranked_cmp items.old }
+    requires held { All (λ g. Contains (items_in items.old.by_rank) g) gone.now }
+    requires once { IsDistinct (eq_by_cmp recency_cmp) gone.now }
+    ensures items { items_in items.new.by_rank ≡ without gone.now (items_in items.old.by_rank) }
+    ensures orders { AreTwoOrders ranked_cmp items.new }
+    ensures spare { items.old.spare ≤ items.new.spare }
 {
     for item in gone {
-        take_out(items, item);
+        take::<Brand>(items, item, Blank::new(1));
     }
 }
 
-// Whether the item stands in this subspace, at this path.
-fn is_at(item: &Ranked, subspace: &UserKey, path: &Path) -> bool
-    ensures { result ≡ is_at subspace.now path.now item.now }
+// The slot of the n-th item, counted from 0, the most recent first.
+fn nth_slot(items: &Arena<Ranked>, n: u32) -> Option<u32>
+    requires { AreTwoOrders ranked_cmp items.now }
+    ensures { result ≡ slice_get (slots_in items.now.by_rank) n }
 {
-    by_place(item, subspace, path) == Ordering::Equal
-}
-
-// Whether one of the items stands in this subspace, at this path.
-fn has_at(items: &[Ranked], subspace: &UserKey, path: &Path) -> bool
-    ensures { result ≡ has_at subspace.now path.now items.now }
-{
-    items.iter().any(|item| is_at(item, subspace, path))
-}
-
-// Removes the items in this subspace at this path.
-fn remove_at(items: &mut Vec<Ranked>, subspace: &UserKey, path: &Path)
-    ensures items { items.new.items ≡ without_at subspace.now path.now items.old.items }
-    ensures len { vec_len items.new ≤ vec_len items.old }
-    ensures capacity { vec_capacity items.new ≡ vec_capacity items.old }
-{
-    items.retain(|item| !is_at(item, subspace, path));
-}
-
-// The n-th item, counted from 0 at the end.
-fn nth_last(items: &[Ranked], n: usize) -> Option<&Ranked>
-    ensures { MatchOption result (length items.now ≤ n) (λ item. slice_get (reverse items.now) n ≡ Some item.now) }
-{
-    if n < items.len() {
-        Some(&items[items.len() - 1 - n])
-    } else {
-        None
+    let mut at = items.first_by(Order::Rank);
+    for _passed in 0..n {
+        at = items.next_by(at?, Order::Rank);
     }
+    at
 }
 
 /// Items of entries of one namespace, of which no two stand in one subspace at one path.
 /// A contract sees them, the most recent first, and for how many more there is room.
 #[derive(Drop)]
 pub struct Recency {
-    items: Vec<Ranked>,
+    items: Arena<Ranked>,
 }
 
 impl Model for Recency {
-    ghost use Rattle.std.specs.Prelude.{◌-◌, reverse, vec_len, vec_capacity};
+    ghost use Rattle.link_arena.specs.Arena.{AreTwoOrders};
     ghost use Rattle.recency_index.specs.Recency.{IndexValue};
-    ghost use Rattle.recency_index.specs.Aged.{AreOldestFirst};
+    ghost use Rattle.recency_index.specs.Orders.{ranked_cmp};
+    ghost use Rattle.recency_index.specs.Items.{items_in};
 
     ghost Value = { IndexValue };
 
-    ghost view = { λ r. record { items = reverse r.items.items; spare = vec_capacity r.items - vec_len r.items } };
+    ghost view = { λ r. record { items = items_in r.items.by_rank; spare = r.items.spare } };
 
-    ghost invariant = { λ r. AreOldestFirst r.items.items };
+    ghost invariant = { λ r. AreTwoOrders ranked_cmp r.items };
 }
 
 impl Recency {
@@ -136,7 +107,7 @@ impl Recency {
         ensures { result.items ≡ [] }
     {
         Recency {
-            items: Vec::new(alloc),
+            items: Arena::new(alloc),
         }
     }
 
@@ -157,7 +128,7 @@ impl Recency {
     {
         let item = Ranked::of(entry)?;
         self.items.reserve(1)?;
-        put(&mut self.items, item);
+        put::<Brand>(&mut self.items, item, Blank::new(1));
         Ok(())
     }
 
@@ -168,9 +139,8 @@ impl Recency {
         ensures spare { self.old.spare ≤ self.new.spare }
         ensures err { OnErr result (self.new ≡ self.old) }
     {
-        let was = has_at(&self.items, subspace, path);
-        remove_at(&mut self.items, subspace, path);
-        Ok(was)
+        let probe = Ranked::at(subspace, path)?;
+        Ok(take::<Brand>(&mut self.items, &probe, Blank::new(1)))
     }
 
     /// Makes room for so many more items, of which there are then at most 2^31 - 1.
@@ -181,8 +151,7 @@ impl Recency {
         ensures spare { self.old.spare ≤ self.new.spare }
         ensures err { OnErr result (self.new ≡ self.old) }
     {
-        self.items.reserve(more as usize)?;
-        Ok(())
+        self.items.reserve(more)
     }
 
     /// Removes the items that are gone, each of which is there, and adds the new one, in whose subspace and path none
@@ -196,7 +165,7 @@ impl Recency {
         ensures spare { self.old.spare ≤ self.new.spare + 1 }
     {
         take_all(&mut self.items, gone);
-        put(&mut self.items, new);
+        put::<Brand>(&mut self.items, new, Blank::new(1));
     }
 
     /// The n-th of the items, counted from 0, the most recent first; None exactly from their number on.
@@ -204,6 +173,7 @@ impl Recency {
         ensures item { MatchOption result (length self.now.items ≤ n) (λ item. slice_get self.now.items n ≡ Some item.now) }
         ensures newest_first { AreNewestFirst self.now.items }
     {
-        nth_last(&self.items, n as usize)
+        let slot = nth_slot(&self.items, n)?;
+        self.items.get(slot)
     }
 }

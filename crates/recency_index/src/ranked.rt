@@ -1,10 +1,13 @@
-//! What the order of entries by recency rests on.
+//! What the index has of an entry: its place is its key, and its recency its rank.
 
 ghost use Rattle.std.specs.Prelude.{◌≡◌, IfOk};
 ghost use Rattle.willow_entry.specs.Row.{subspace_path_cmp};
 ghost use Rattle.recency_index.specs.Recency.{ranked_of, item_rank, recency_cmp};
 
+use link_arena::Twice;
 use std::cmp::Ordering;
+use std::sync::ledger::Ledger;
+use step_count::Steps;
 use willow_entry::{Entry, Rank, by_rank, by_subspace_path};
 use willow_path::{Digest, NoMemory, Path, UserKey};
 
@@ -37,6 +40,20 @@ impl Ranked {
         })
     }
 
+    // An item in this subspace at this path, of the least rank.
+    pub(crate) fn at(subspace: &UserKey, path: &Path) -> Result<Ranked, NoMemory>
+        ensures subspace { IfOk result (λ item. item.subspace ≡ subspace.now) }
+        ensures path { IfOk result (λ item. item.path ≡ path.now) }
+    {
+        Ok(Ranked {
+            timestamp: 0,
+            digest: Digest([0; 32]),
+            length: 0,
+            subspace: *subspace,
+            path: path.copy()?,
+        })
+    }
+
     // The rank of the entry.
     fn rank(&self) -> Rank<'_>
         ensures { result ≡ item_rank self.now }
@@ -46,7 +63,7 @@ impl Ranked {
 }
 
 // How places within a namespace are ordered, of two items.
-pub(crate) fn by_place(a: &Ranked, subspace: &UserKey, path: &Path) -> Ordering
+fn by_place(a: &Ranked, subspace: &UserKey, path: &Path) -> Ordering
     ensures { result ≡ subspace_path_cmp (a.now.subspace, a.now.path) (subspace.now, path.now) }
 {
     by_subspace_path((&a.subspace, &a.path), (subspace, path))
@@ -59,5 +76,26 @@ pub(crate) fn by_recency(a: &Ranked, b: &Ranked) -> Ordering
     match by_rank(&b.rank(), &a.rank()) {
         Ordering::Equal => by_place(a, &b.subspace, &b.path),
         order => order,
+    }
+}
+
+impl Twice for Ranked {
+    ghost use Rattle.recency_index.specs.Orders.{ranked_cmp};
+    ghost use Rattle.recency_index.specs.OrderLaws.{ranked_total, ranked_apart};
+
+    ghost cmp_by = { ranked_cmp };
+
+    ghost total = { ranked_total };
+
+    ghost apart = { ranked_apart };
+
+    fn by_key<L: Ledger>(&self, other: &Ranked, steps: &mut Steps<L>) -> Ordering {
+        steps.tick();
+        by_place(self, &other.subspace, &other.path)
+    }
+
+    fn by_rank<L: Ledger>(&self, other: &Ranked, steps: &mut Steps<L>) -> Ordering {
+        steps.tick();
+        by_recency(self, other)
     }
 }

@@ -227,3 +227,85 @@ fn taken_out_and_replaced(rt: HostRuntime) -> Result<(), Fail> {
     );
     Ok(())
 }
+
+// The entry at the path of one component that spells the number, of that time.
+fn numbered(alloc: Global, number: u16, timestamp: u64) -> Option<Entry> {
+    let mut path = Path::empty(alloc);
+    path.push(&number.to_be_bytes()).ok()?;
+    Some(Entry {
+        path,
+        timestamp,
+        ..entry(alloc, EARLY)?
+    })
+}
+
+// The number and the time of one of a thousand entries: no two numbers are the same, some times are, and each round has
+// other times.
+fn sample(i: u32, round: u32) -> (u16, u64) {
+    let number = i.wrapping_mul(389) % 1009;
+    let time = i.wrapping_mul(613u32.wrapping_add(round)) % 251;
+    (number as u16, u64::from(time))
+}
+
+// Puts the item of a sample in.
+fn put_sample(alloc: Global, index: &mut Recency, i: u32, round: u32) -> Option<()> {
+    let (number, time) = sample(i, round);
+    put(index, &numbered(alloc, number, time)?).ok()
+}
+
+// Takes the item of a sample out, which is there.
+fn take_sample(alloc: Global, index: &mut Recency, i: u32, round: u32) -> Option<()> {
+    let (number, time) = sample(i, round);
+    let old = numbered(alloc, number, time)?;
+    let was = index.remove(&old.subspace, &old.path).ok()?;
+    was.then_some(())
+}
+
+// Whether the index has just the items of these samples of one round, in the order of a sorted vector: by falling time,
+// and of one time by rising path.
+fn agrees(alloc: Global, index: &Recency, from: u32, to: u32, round: u32) -> Option<bool> {
+    let mut sorted = Vec::new(alloc);
+    for i in from..to {
+        let (number, time) = sample(i, round);
+        sorted.push((u64::MAX.wrapping_sub(time), number)).ok()?;
+    }
+    sorted.sort().ok()?;
+    let mut n = 0u32;
+    for (age, number) in &sorted {
+        let wanted = numbered(alloc, *number, u64::MAX.wrapping_sub(*age))?;
+        match index.nth_newest(n) {
+            Some(item) if is_of(item, &wanted) => n = n.checked_add(1)?,
+            _ => return Some(false),
+        }
+    }
+    Some(index.nth_newest(n).is_none())
+}
+
+// Whether the index agrees with sorted vectors after a thousand are put in, after half is taken out, while these come
+// back with other times and the others go, and after all are in again.
+fn comes_and_goes(alloc: Global) -> Option<[bool; 4]> {
+    let mut index = Recency::new(alloc);
+    for i in 0..1000u32 {
+        put_sample(alloc, &mut index, i, 0)?;
+    }
+    let full = agrees(alloc, &index, 0, 1000, 0)?;
+    for i in 0..500u32 {
+        take_sample(alloc, &mut index, i, 0)?;
+    }
+    let half = agrees(alloc, &index, 500, 1000, 0)?;
+    for i in 0..500u32 {
+        put_sample(alloc, &mut index, i, 1)?;
+        take_sample(alloc, &mut index, i.wrapping_add(500), 0)?;
+    }
+    let other = agrees(alloc, &index, 0, 500, 1)?;
+    for i in 500..1000u32 {
+        put_sample(alloc, &mut index, i, 1)?;
+    }
+    let again = agrees(alloc, &index, 0, 1000, 1)?;
+    Some([full, half, other, again])
+}
+
+#[test]
+fn a_thousand_slots(rt: HostRuntime) {
+    assert_eq!(rt; comes_and_goes(rt.alloc()), Some([true; 4]));
+}

@@ -1,6 +1,8 @@
-use Rattle.std.proofs.Common.{◌≡◌, ◌≤◌, take, vec_len, vec_capacity}
-use Rattle.recency_index.specs.Recency.{without}
+use Rattle.recency_index.proofs.Taken.{AreTakenSoFar}
 use Rattle.recency_index.proofs.index.take_all.Given as goal
 
+abbrev pub ghosts-take : goal.ghosts-take
+ghosts-take a = record { name = a.blank.name; parts = a.blank.parts }
+
 abbrev pub invariant-loop-item : goal.invariant-loop-item
-invariant-loop-item l = (l.items.items ≡ without (take l.item-index l.gone) l.fn.items.items) × (vec_len l.items ≤ vec_len l.fn.items) × (vec_capacity l.items ≡ vec_capacity l.fn.items)
+invariant-loop-item l = AreTakenSoFar l.fn.items l.items l.gone l.item-index
