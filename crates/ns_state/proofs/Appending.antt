@@ -14,7 +14,7 @@ use Rattle.recency_index.specs.declared.ranked.Ranked.{Ranked}
 use Rattle.recency_index.specs.Recency.{ranked_of, recency_cmp, newest, has_at, without}
 use Rattle.ns_state.specs.Log.{IsLog, values, plain_row}
 use Rattle.ns_state.specs.Recent.{items_of, recent}
-use Rattle.ns_state.specs.declared.state.TheConstants.{LOG_LIMIT}
+use Rattle.ns_state.specs.declared.live_log.TheConstants.{LOG_LIMIT}
 use Rattle.ns_state.proofs.NewRows.{covering_of_live}
 use Rattle.ns_state.proofs.Logs.{log_more, live_more, live_short, rising_short}
 use Rattle.ns_state.proofs.Recent.{gone_held, gone_distinct, left_free, newest_more}

@@ -10,10 +10,10 @@ use Rattle.willow_entry.specs.declared.row.LogRow.{LogRow}
 use Rattle.willow_entry.specs.LogRow.{LogValue, log_value}
 use Rattle.willow_entry.specs.Row.{RowValue, is_covering, HasCovering}
 use Rattle.willow_entry.proofs.Between.{covering_from_at}
-use Rattle.ns_state.specs.declared.state.LogFull.{LogFull}
+use Rattle.ns_state.specs.declared.live_log.LogFull.{LogFull}
 use Rattle.ns_state.specs.declared.state.Told.{Told}
 use Rattle.ns_state.specs.declared.state.Told.TheVariants.{Stored, Kept}
-use Rattle.ns_state.specs.declared.state.TheConstants.{LOG_LIMIT}
+use Rattle.ns_state.specs.declared.live_log.TheConstants.{LOG_LIMIT}
 use Rattle.ns_state.specs.Log.{values, logged}
 use Rattle.ns_state.specs.Machine.{Reply, StoredAt, Covered, Full, Offer, is_covered, reply, log_after, next}
 use Rattle.ns_state.specs.Answer.{IsAnswer, IsOffer}

@@ -3,7 +3,7 @@ use Rattle.std.specs.List.{All}
 use Rattle.recency_index.specs.Recency.{ranked_of, newest, has_at, without}
 use Rattle.willow_entry.specs.Row.{HasCovering, live}
 use Rattle.ns_state.specs.Log.{values, plain_row}
-use Rattle.ns_state.specs.declared.state.TheConstants.{LOG_LIMIT}
+use Rattle.ns_state.specs.declared.live_log.TheConstants.{LOG_LIMIT}
 use Rattle.ns_state.proofs.Logs.{store_short}
 use Rattle.ns_state.proofs.Appending.{recent_short, gone_of, held_in, each_once, place_free, appended}
 use Rattle.ns_state.proofs.state.NsState.append.Goals as goal

@@ -4,7 +4,7 @@ use Rattle.spelling.specs.declared.ending.End.TheVariants.{Refused}
 use Rattle.willow_entry.proofs.Between.{covering_from_at}
 use Rattle.willow_entry.proofs.Live.{live-covered}
 use Rattle.ns_state.specs.declared.state.Told.TheVariants.{Stored, Kept}
-use Rattle.ns_state.specs.declared.state.TheConstants.{LOG_LIMIT}
+use Rattle.ns_state.specs.declared.live_log.TheConstants.{LOG_LIMIT}
 use Rattle.ns_state.specs.Log.{plain_row}
 use Rattle.ns_state.proofs.NewRows.{new-with_covered}
 use Rattle.ns_state.proofs.Logs.{covers_last}

@@ -1,12 +1,13 @@
-//! What goes from the index of recency where a row is stored.
+//! Live rows in the index of recency, and what goes from it where a row is stored.
 
-ghost use Rattle.std.specs.Prelude.{◌≡◌, ◌<◌, length, map, filter, slice_get, Some, IfOk};
-ghost use Rattle.recency_index.specs.Recency.{ranked_of};
+ghost use Rattle.std.specs.Prelude.{◌≡◌, ℕ, ◌<◌, ◌^◌, All, List, length, map, filter, slice_get, Some, IfOk};
+ghost use Rattle.recency_index.specs.Recency.{ranked_of, newest};
 ghost use Rattle.willow_entry.specs.Row.{RowValue, is_dominating};
 ghost use Rattle.ns_state.specs.Recent.{items_of};
 
 use block_store::BlockStore;
-use recency_index::Ranked;
+use recency_index::{Ranked, Recency};
+use std::alloc::Global;
 use willow_entry::Row;
 use willow_path::NoMemory;
 
@@ -31,4 +32,18 @@ pub(crate) fn gone_items<R: Row>(store: &BlockStore<R>, row: &R) -> Result<Vec<R
         gone.push(item_at(store, positions[at])?)?;
     }
     Ok(gone)
+}
+
+// The index of the rows of a store.
+pub(crate) fn recency_of<R: Row>(alloc: Global, store: &BlockStore<R>) -> Result<Recency, NoMemory>
+    requires one_namespace { (namespace : List ℕ) × All (λ (r : RowValue). r.entry.namespace ≡ namespace) (map R.value store.now) }
+    requires few { length store.now < 2 ^ 31 }
+    ensures { IfOk result (λ recency. recency.items ≡ newest (items_of (map R.value store.now))) }
+{
+    let mut recency = Recency::new(alloc);
+    let mut left = store.rows();
+    'rows: while let Some(row) = left.next() {
+        recency.insert(row.entry())?;
+    }
+    Ok(recency)
 }

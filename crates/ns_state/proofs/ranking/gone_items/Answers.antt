@@ -2,7 +2,7 @@ use Rattle.std.proofs.Common.{◌<◌, [], ◌∷◌, ◌++◌, map, length, ap,
 use Rattle.std.proofs.lemmas.List.{length-map}
 use Rattle.willow_entry.specs.Row.{is_dominating}
 use Rattle.ns_state.proofs.AtPositions.{position_within, items_more, items_all}
-use Rattle.ns_state.proofs.gone.gone_items.Goals as goal
+use Rattle.ns_state.proofs.ranking.gone_items.Goals as goal
 
 pub item_at-requires : goal.item_at-requires
 item_at-requires g c =
