@@ -8,7 +8,7 @@ mod listing;
 mod summary;
 
 pub use generator::{GENERATED_ROWS, generated_row, generator_namespace};
-pub use listing::{key_line, listing_head, listing_line};
+pub use listing::{fields_line, key_line, listing_head, listing_line};
 pub use summary::{DrillCounts, drill_summary};
 
 #[cfg(test)]
