@@ -1,7 +1,7 @@
 use Rattle.std.proofs.Common.{◌≡◌, map, take, drop, IfOk, ap, ◌∙◌, subst}
 use Rattle.ns_state.specs.Log.{plain_row}
 use Rattle.ns_state.proofs.Logs.{plain_part}
-use Rattle.ns_state.proofs.state.NsState.read_log.Goals as goal
+use Rattle.ns_state.proofs.live_log.LiveLog.read_log.Goals as goal
 
 pub returns : goal.returns
 returns g c = subst (λ l. IfOk c.read_rows.result (λ rows. map plain_row rows.items ≡ l))

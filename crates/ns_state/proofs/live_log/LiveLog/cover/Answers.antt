@@ -4,7 +4,7 @@ use Rattle.willow_entry.proofs.Between.{covering_from_at}
 use Rattle.ns_state.specs.Log.{values, plain_row}
 use Rattle.ns_state.proofs.NewRows.{live_covering, covering_of_live}
 use Rattle.ns_state.proofs.Walks.{walk_found, walk_none}
-use Rattle.ns_state.proofs.state.NsState.cover.Goals as goal
+use Rattle.ns_state.proofs.live_log.LiveLog.cover.Goals as goal
 
 pub returns-in_err-covered_by-clause-none : goal.returns-in_err-covered_by-clause-none
 returns-in_err-covered_by-clause-none g c =
