@@ -6,3 +6,5 @@ mod Recent
 mod AtPositions
 mod Appending
 mod Offers
+mod Growing
+mod Ranked

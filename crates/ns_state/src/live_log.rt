@@ -112,6 +112,7 @@ impl<R: Row> LiveLog<R> {
 
     // A position of the log whose row equals or dominates the row; None exactly where there is none.
     pub(crate) fn cover(&self, row: &R) -> Option<u32>
+        ensures log { IsLog R.value self.now.namespace self.now.log }
         ensures found { IfSome result (λ at. IsCoveringAt (values R.value self.now.log) at (R.value row.now)) }
         ensures none { IfNone result (HasCovering (values R.value self.now.log) (R.value row.now) → ⊥) }
     {

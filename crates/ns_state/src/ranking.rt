@@ -1,10 +1,11 @@
 //! Live rows in the index of recency, and what goes from it where a row is stored.
 
-ghost use Rattle.std.specs.Prelude.{◌≡◌, ℕ, ◌<◌, ◌^◌, All, List, length, map, filter, slice_get, Some, IfOk};
-ghost use Rattle.recency_index.specs.Recency.{ranked_of, newest};
+ghost use Rattle.std.specs.Prelude.{◌≡◌, ◌<◌, length, map, filter, slice_get, Some, IfOk};
+ghost use Rattle.recency_index.specs.Recency.{ranked_of};
 ghost use Rattle.willow_entry.specs.Row.{RowValue, is_dominating};
-ghost use Rattle.ns_state.specs.Recent.{items_of};
+ghost use Rattle.ns_state.specs.Recent.{items_of, recent};
 
+use crate::live_log::LiveLog;
 use block_store::BlockStore;
 use recency_index::{Ranked, Recency};
 use std::alloc::Global;
@@ -34,14 +35,12 @@ pub(crate) fn gone_items<R: Row>(store: &BlockStore<R>, row: &R) -> Result<Vec<R
     Ok(gone)
 }
 
-// The index of the rows of a store.
-pub(crate) fn recency_of<R: Row>(alloc: Global, store: &BlockStore<R>) -> Result<Recency, NoMemory>
-    requires one_namespace { (namespace : List ℕ) × All (λ (r : RowValue). r.entry.namespace ≡ namespace) (map R.value store.now) }
-    requires few { length store.now < 2 ^ 31 }
-    ensures { IfOk result (λ recency. recency.items ≡ newest (items_of (map R.value store.now))) }
+// The index of what is live of a log.
+pub(crate) fn recency_of<R: Row>(alloc: Global, log: &LiveLog<R>) -> Result<Recency, NoMemory>
+    ensures { IfOk result (λ recency. recency.items ≡ recent R.value log.now.log) }
 {
     let mut recency = Recency::new(alloc);
-    let mut left = store.rows();
+    let mut left = log.store().rows();
     'rows: while let Some(row) = left.next() {
         recency.insert(row.entry())?;
     }

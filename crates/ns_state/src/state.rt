@@ -60,7 +60,7 @@ impl<R: Row> NsState<R> {
     pub fn of_log(alloc: Global, log: LiveLog<R>) -> Result<NsState<R>, NoMemory>
         ensures { IfOk result (λ state. state ≡ log) }
     {
-        let recency = recency_of(alloc, log.store())?;
+        let recency = recency_of(alloc, &log)?;
         Ok(NsState { log, recency })
     }
 
@@ -122,9 +122,9 @@ impl<R: Row> NsState<R> {
         ensures log { IsLog R.value self.new.namespace self.new.log }
         ensures err { OnErr result (self.new ≡ self.old) }
     {
-        self.recency.reserve(1)?;
         let gone = gone_items(self.log.store(), &row)?;
         let item = Ranked::of(row.entry())?;
+        self.recency.reserve(1)?;
         match self.log.offer(pass, row)? {
             Some(at) => {
                 self.recency.replace(&gone, item);
