@@ -1,4 +1,4 @@
-mod NewRows
+pub mod NewRows
 mod Core
 mod Logs
 mod Walks

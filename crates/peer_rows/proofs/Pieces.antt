@@ -18,16 +18,16 @@ use Rattle.peer_stage.specs.declared.outcome.Stop.TheVariants as stop
 use Rattle.row_stream.proofs.Longer.{stream_on, wrong_on}
 use Rattle.peer_stage.specs.declared.outcome.JoinCounts.{JoinCounts}
 use Rattle.peer_rows.specs.Logged.{IsLogOf, PassesLog}
-use Rattle.peer_rows.specs.Stored.{held_of, offset_of, OffersAll, HasSeen, IsPastLog, TakesPiece}
-use Rattle.peer_rows.specs.declared.row_log.LogFull.{LogFull}
+use Rattle.ns_state.specs.declared.live_log.LogFull.{LogFull}
+use Rattle.ns_state.specs.declared.live_log.TheConstants.{LOG_LIMIT}
+use Rattle.peer_rows.specs.Stored.{offset_of, OffersAll, HasSeen, IsPastLog, TakesPiece}
 use Rattle.peer_rows.specs.declared.log.Log.{Log}
-use Rattle.peer_rows.specs.declared.row_log.TheConstants.{LOG_LIMIT}
 use Rattle.peer_rows.proofs.Offered.{no_counts, IsLogOf-start}
 use Rattle.peer_rows.proofs.RawStreams.{framed_rows, more_rows, frames_same, right_so_far, wrong_there}
 
 -- ---- nothing is read yet
 
-pub nothing_seen : (namespace : List ℕ) (state : StreamState) (log : Log) → state ≡ nothing_fed → log.kept ≡ record { rows = []; stored = 0 } → log.counts ≡ no_counts → HasSeen namespace [] state log
+pub nothing_seen : (namespace : List ℕ) (state : StreamState) (log : Log) → state ≡ nothing_fed → log.kept ≡ record { namespace = namespace; log = [] } → log.counts ≡ no_counts → HasSeen namespace [] state log
 nothing_seen namespace state log start empty none = record {
   seen = [];
   fit = tt;
@@ -78,7 +78,7 @@ module _ (namespace bytes : List ℕ) (state : StreamState) (log : Log) (h : Has
         fit_goes : AllByRecursion FitsFrame (h.seen ++ rows)
         fit_goes = All-append FitsFrame h.seen rows h.fit (framed_rows rows are out.stream.fit)
 
-        pub seen_on : (log' : Log) → IsLogOf namespace (h.seen ++ rows) (held_of log') log'.counts → log'.counts.stored ≤ LOG_LIMIT → HasSeen namespace (bytes ++ piece) state' log'
+        pub seen_on : (log' : Log) → IsLogOf namespace (h.seen ++ rows) log'.kept log'.counts → log'.counts.stored ≤ LOG_LIMIT → HasSeen namespace (bytes ++ piece) state' log'
         seen_on log' next fits = record {
           seen = h.seen ++ rows;
           fit = fit_goes;

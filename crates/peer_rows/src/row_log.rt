@@ -1,6 +1,6 @@
 //! Rows that are offered to a log of live rows, by a command.
 
-ghost use Rattle.std.specs.Prelude.{◌≡◌, ◌+◌, ◌≤◌, All, List, length, map, IfOk, IfErr, if◌then◌else◌};
+ghost use Rattle.std.specs.Prelude.{◌≡◌, ◌+◌, ◌≤◌, All, List, length, map, IfOk, IfErr, OnErr, if◌then◌else◌};
 ghost use Rattle.willow_entry.specs.Row.{RowValue};
 ghost use Rattle.peer_rows.specs.RowLogs.{HasTaken, IsRefusal, OffersRow, OffersRows};
 
@@ -20,6 +20,7 @@ pub(crate) fn offer_row<R: Row>(log: &mut LiveLog<R>, row: R) -> Result<bool, En
     ensures counts { IfOk result (λ stored. length log.new.log ≡ length log.old.log + (if stored then 1 else 0)) }
     ensures full { IfErr result (λ end. IsRefusal end → LOG_LIMIT ≤ length log.old.log) }
     ensures few { length log.new.log ≤ LOG_LIMIT }
+    ensures err { OnErr result (log.new ≡ log.old) }
 {
     Ok(log.offer(PASS, row)?.is_some())
 }

@@ -1,0 +1,10 @@
+use Rattle.std.proofs.Common.{◌≡◌, take}
+use Rattle.std.specs.List.{flat_map}
+use Rattle.recency_index.specs.Recency.{newest}
+use Rattle.ns_state.specs.Recent.{items_of}
+use Rattle.peer_rows.specs.Logged.{live_rows}
+use Rattle.peer_rows.specs.Show.{item_line}
+use Rattle.peer_rows.proofs.listing.list_newest.Given as goal
+
+abbrev pub invariant-loop-n : goal.invariant-loop-n
+invariant-loop-n l = l.lines.items ≡ flat_map item_line (take l.n (newest (items_of (live_rows l.state))))
