@@ -32,6 +32,11 @@ abbrev pub log_listing : Option ℕ → List ℕ → List RowValue → List ℕ
 log_listing None n rows = rows_listing n rows
 log_listing (Some most) n rows = newest_of most n rows
 
+-- these are the lines of the items, and how many there are
+pub record AreLines (count : ℕ) (lines : List ℕ) (items : List Ranked) : Type 0 where
+  pub are_lines : lines ≡ flat_map item_line items
+  pub counted : count ≡ length items
+
 -- a head and lines are this text
 abbrev pub AreText : Vec ℕ × Vec ℕ → List ℕ → Type 0
 AreText x text = x.0.items ++ x.1.items ≡ text

@@ -1,6 +1,6 @@
 //! Images that a command reads, be it from the input or from a name, and the logs of their rows.
 
-ghost use Rattle.std.specs.Prelude.{◌≡◌, ◌^◌, ◌<◌, length};
+ghost use Rattle.std.specs.Prelude.{◌≡◌, ◌^◌, ◌<◌, length, IfOk};
 ghost use Rattle.spelling.specs.declared.ending.End.TheVariants as ends;
 ghost use Rattle.peer_rows.specs.Images.{ReadsImageFrom, LogsImage, log_stop};
 
@@ -38,7 +38,8 @@ pub fn image_from(alloc: Global, bytes: &[u8], origin: Origin) -> Result<Image, 
 /// The log of the authorised rows of an image, offered in order, and the numbers of all its rows.
 pub fn log_image(alloc: Global, image: Image) -> Result<(EntryLog, JoinCounts), Stop>
     requires { length image.rows.items < 2 ^ 32 }
-    ensures { LogsImage image.namespace image.rows.items result }
+    ensures logs { LogsImage image.namespace image.rows.items result }
+    ensures namespace { IfOk result (λ x. x.0.namespace ≡ image.namespace) }
 {
     let Image { namespace, rows } = image;
     let mut log = Log::new(alloc, namespace);

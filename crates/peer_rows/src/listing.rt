@@ -1,12 +1,16 @@
 //! The listing of what is live of a log.
 
-ghost use Rattle.std.specs.Prelude.{◌≡◌, ◌++◌, IfOk, OnErr, OnOk};
+ghost use Rattle.std.specs.Prelude.{◌≡◌, ◌++◌, take, IfOk, OnErr, OnOk};
+ghost use Rattle.recency_index.specs.Recency.{newest};
+ghost use Rattle.ns_state.specs.Recent.{items_of};
 ghost use Rattle.peer_listing.specs.Listing.{listing_head};
 ghost use Rattle.peer_rows.specs.Show.{item_line};
-ghost use Rattle.peer_rows.specs.Listed.{AreText, log_listing, newest_of, rows_listing};
+ghost use Rattle.peer_rows.specs.Listed.{AreLines, AreText, log_listing, newest_of, rows_listing};
 ghost use Rattle.peer_rows.specs.Logged.{live_rows};
 
 use crate::images::EntryLog;
+use auth_entry::AuthorisedEntry;
+use lms_core::PeerScheme;
 use ns_state::NsState;
 use peer_listing::{fields_line, listing_head, listing_line};
 use recency_index::Ranked;
@@ -47,18 +51,28 @@ fn list_all(alloc: Global, log: &EntryLog) -> Result<(Vec<u8>, Vec<u8>), NoMemor
 fn list_newest(alloc: Global, most: u32, log: EntryLog) -> Result<(Vec<u8>, Vec<u8>), NoMemory>
     ensures { IfOk result (λ made. AreText made (newest_of most log.namespace (live_rows log))) }
 {
-    let namespace = log.namespace();
-    let count = most.min(log.store().len());
     let state = NsState::of_log(alloc, log)?;
+    let (count, lines) = newest_lines(alloc, most, &state)?;
+    let head = head_of(alloc, &state.namespace(), count)?;
+    Ok((head, lines))
+}
+
+// The lines of the first so many of the live rows by recency, and how many there are.
+fn newest_lines(
+    alloc: Global,
+    most: u32,
+    state: &NsState<AuthorisedEntry<PeerScheme>>,
+) -> Result<(u32, Vec<u8>), NoMemory>
+    ensures { IfOk result (λ made. AreLines made.0 made.1.items (take most (newest (items_of (live_rows state.now))))) }
+{
     let mut lines = Vec::new(alloc);
-    for n in 0..count {
+    for n in 0..most {
         match state.nth_newest(n) {
             Some(item) => put_item(item, &mut lines)?,
-            None => unreachable!(),
+            None => return Ok((n, lines)),
         }
     }
-    let head = head_of(alloc, &namespace, count)?;
-    Ok((head, lines))
+    Ok((most, lines))
 }
 
 // Appends the line of an item.

@@ -7,19 +7,24 @@ use Rattle.std.proofs.lemmas.List.Elements.{filter-append}
 use Rattle.willow_entry.specs.Frame.{HasFrame}
 use Rattle.willow_entry.specs.Row.{RowValue, live, inner_place_cmp, place_cmp}
 use Rattle.willow_entry.proofs.Members.{Member, member_from_contains, contains_from_member}
-use Rattle.willow_entry.proofs.Rising.{all_member}
+use Rattle.willow_entry.proofs.Rising.{all_member, all_from_members}
 use Rattle.lms_core.specs.Use.{peer_rules}
 use Rattle.mc_cap.specs.declared.refusal.RowRefusal.{RowRefusal}
 use Rattle.cap_codec.specs.Rows.{RawValue, row_of, FitsFrame}
 use Rattle.cap_codec.proofs.RowReads.{body_short}
 use Rattle.auth_entry.specs.Authorised.{is_authorised, row_refusal}
 use Rattle.auth_entry.proofs.Meaning.{authorised_means}
-use Rattle.exchange_rules.proofs.Members.{all_weaker}
 use Rattle.peer_image.specs.ImageReading.{raw_rows}
 use Rattle.peer_image.specs.Order.{AreOf, IsInnerRising, IsInOrder, order_refusal}
 use Rattle.peer_image.proofs.InOrder.{order_decides, order_of_live}
 use Rattle.peer_rows.specs.Logged.{authorised_rows}
-use Rattle.peer_run.proofs.Members.{all_held}
+
+all_held : (rows : List RowValue) → AllByRecursion (Member rows) rows
+all_held rows = all_from_members place_cmp (Member rows) rows (λ x m. m)
+
+all_weaker : (P Q : RawValue → Type 0) → ((r : RawValue) → P r → Q r) → (rows : List RawValue) → AllByRecursion P rows → AllByRecursion Q rows
+all_weaker P Q implies [] all = tt
+all_weaker P Q implies (r ∷ rows) all = (implies r all.0, all_weaker P Q implies rows all.1)
 
 none_of : (o : Option RowRefusal) → not (is_some o) ≡ true → o ≡ None
 none_of None e = refl
