@@ -23,6 +23,7 @@ pub fn generated_logs(alloc: Global, rows: u32) -> Result<(EntryLog, EntryLog), 
     requires { rows ≤ GENERATED_ROWS }
     ensures whole { IfOk result (λ logs. HasTaken entry_row (generated_rows rows) logs.0) }
     ensures half { IfOk result (λ logs. HasTaken entry_row (generated_rows (rows / 2)) logs.1) }
+    ensures one_namespace { IfOk result (λ logs. logs.1.namespace ≡ logs.0.namespace) }
 {
     let mut known = KnownCapabilities::new(alloc, PeerScheme);
     let mut whole = LiveLog::new(alloc, generator_namespace());

@@ -71,6 +71,7 @@ fn list_image(
     ensures { ListsImage newest image.namespace image.rows.items result }
 {
     let (log, counts) = log_image(alloc, image)?;
+    let _front = log.front();
     let (head, lines) = list_log(alloc, newest, log)?;
     Ok((head, lines, show_counts(&counts)))
 }

@@ -10,7 +10,7 @@ use Rattle.peer_rows.proofs.Joined.{shown_framed, is_join}
 use Rattle.peer_rows.proofs.joining.join.Goals as goal
 
 pub write_image_of-requires : goal.write_image_of-requires
-write_image_of-requires g c = shown_framed c.args.namespace.now (g.I.Source.facts c.args.input.now) (g.I.Source.facts c.read_log.new.input) c.in_ok-log.log c.store.result.now c.in_ok-log.ensures.logs c.store.ensures
+write_image_of-requires g c = shown_framed c.args.namespace.now (g.I.Source.facts c.args.input.now) (g.I.Source.facts c.read_log.new.input) c.in_ok-log.log c.store.result.now c.in_ok-log.ensures.logs c.store.ensures.live
 
 pub returns-in_err-write_image_of : goal.returns-in_err-write_image_of
 returns-in_err-write_image_of g c =

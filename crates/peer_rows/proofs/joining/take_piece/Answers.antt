@@ -10,8 +10,8 @@ returns-in-Err-Refused c = λ n bytes h.
 
 pub offer_all-requires-clause-few : goal.offer_all-requires-clause-few
 offer_all-requires-clause-few c =
-    let h = c.requires.1.1 in
-    (c.requires.0, h.seen, h.is_log, omega (arith, c.requires.1.2, h.is_log.counted.all, few_rows c.requires.0 c.requires.1.0 c.args.stream.now c.args.log.now h c.feed.new.self c.args.piece.now c.in-Ok.rows.items c.in-Ok.ensures))
+    let h = c.requires.2 in
+    (c.requires.0, h.seen, h.is_log, omega (arith, c.requires.3, h.is_log.counted.all, few_rows c.requires.0 c.requires.1 c.args.stream.now c.args.log.now h c.feed.new.self c.args.piece.now c.in-Ok.rows.items c.in-Ok.ensures))
 
 pub returns-in-Ok-offer_all : goal.returns-in-Ok-offer_all
 returns-in-Ok-offer_all c = λ n bytes h.
