@@ -47,7 +47,7 @@ member_from_among gone item t =
     subst (Member gone) (recency_tie found.0 item ((Equal-is (recency_cmp found.0 item)).0 found.2)) found.1
 
 -- rows of one namespace with items in one subspace at one path stand at one place
-one_place : (s t : RowValue) → s.entry.namespace ≡ t.entry.namespace → is_at t.entry.subspace t.entry.path (item_of s) ≡ true → place_cmp s t ≡ Equal
+pub one_place : (s t : RowValue) → s.entry.namespace ≡ t.entry.namespace → is_at t.entry.subspace t.entry.path (item_of s) ≡ true → place_cmp s t ≡ Equal
 one_place s t namespace there = place-in_one_namespace s t namespace ∙ (Equal-is (inner_place_cmp s t)).0 there
 
 one_item : (s t : RowValue) → item_of s ≡ item_of t → is_at t.entry.subspace t.entry.path (item_of s) ≡ true

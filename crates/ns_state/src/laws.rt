@@ -5,7 +5,7 @@ ghost use Rattle.willow_entry.specs.LogRow.{LogValue};
 ghost use Rattle.willow_entry.specs.Row.{RowValue, live, new, HasCovering};
 ghost use Rattle.ns_state.specs.Machine.{Event, rows_of, run, accepted};
 
-use crate::state::LOG_LIMIT;
+use crate::live_log::LOG_LIMIT;
 
 /// Whatever events there are, in whatever order: what is live of the log is what is live of all accepted rows; the rows
 /// of the log are those of the accepted ones, in order, that no row before them covers; it is no longer than the limit. So

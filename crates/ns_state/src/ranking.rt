@@ -1,0 +1,48 @@
+//! Live rows in the index of recency, and what goes from it where a row is stored.
+
+ghost use Rattle.std.specs.Prelude.{◌≡◌, ◌<◌, length, map, filter, slice_get, Some, IfOk};
+ghost use Rattle.recency_index.specs.Recency.{ranked_of};
+ghost use Rattle.willow_entry.specs.Row.{RowValue, is_dominating};
+ghost use Rattle.ns_state.specs.Recent.{items_of, recent};
+
+use crate::live_log::LiveLog;
+use block_store::BlockStore;
+use recency_index::{Ranked, Recency};
+use std::alloc::Global;
+use willow_entry::Row;
+use willow_path::NoMemory;
+
+// The item of the row at this position.
+fn item_at<R: Row>(store: &BlockStore<R>, at: u32) -> Result<Ranked, NoMemory>
+    requires { at < length store.now }
+    ensures { IfOk result (λ item. (r : RowValue) → slice_get (map R.value store.now) at ≡ Some r → item ≡ ranked_of r.entry) }
+{
+    match store.get(at) {
+        Some(row) => Ranked::of(row.entry()),
+        None => unreachable!(),
+    }
+}
+
+// The items of the rows that the row dominates.
+pub(crate) fn gone_items<R: Row>(store: &BlockStore<R>, row: &R) -> Result<Vec<Ranked>, NoMemory>
+    ensures { IfOk result (λ gone. gone.items ≡ items_of (filter (is_dominating (R.value row.now)) (map R.value store.now))) }
+{
+    let positions = store.pruned_by(row)?;
+    let mut gone = Vec::new(*positions.allocator());
+    for at in 0..positions.len() {
+        gone.push(item_at(store, positions[at])?)?;
+    }
+    Ok(gone)
+}
+
+// The index of what is live of a log.
+pub(crate) fn recency_of<R: Row>(alloc: Global, log: &LiveLog<R>) -> Result<Recency, NoMemory>
+    ensures { IfOk result (λ recency. recency.items ≡ recent R.value log.now.log) }
+{
+    let mut recency = Recency::new(alloc);
+    let mut left = log.store().rows();
+    'rows: while let Some(row) = left.next() {
+        recency.insert(row.entry())?;
+    }
+    Ok(recency)
+}
