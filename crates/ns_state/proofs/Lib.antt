@@ -8,3 +8,4 @@ mod Appending
 mod Offers
 mod Growing
 mod Ranked
+mod SortedRows

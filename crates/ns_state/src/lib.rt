@@ -6,6 +6,7 @@
 pub mod laws;
 mod live_log;
 mod log;
+mod newest;
 mod ranking;
 mod state;
 
