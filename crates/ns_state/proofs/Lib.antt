@@ -7,5 +7,4 @@ mod AtPositions
 mod Appending
 mod Offers
 mod Growing
-mod Ranked
 mod SortedRows

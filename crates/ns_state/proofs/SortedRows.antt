@@ -1,12 +1,15 @@
 -- Live rows that are sorted by recency.
-use Rattle.std.proofs.Common.{◌≡◌, inl, inr, ℕ, ◌+◌, zero, suc, ◌<◌, Bool, true, false, List, [], ◌∷◌, ◌++◌, map, length, get_or, Ordering, Less, Equal, Greater, is_lt, refl, sym, ap, ◌∙◌, subst, append_assoc, append-nil, arith, Contains}
+use Rattle.std.proofs.Common.{◌≡◌, inl, inr, ℕ, ◌+◌, zero, suc, ◌<◌, Bool, true, false, Bor, List, [], ◌∷◌, ◌++◌, map, length, get_or, Ordering, Less, Equal, Greater, is_lt, refl, sym, ap, ◌∙◌, subst, append_assoc, append-nil, arith, Contains}
 use Rattle.std.specs.List.{AllByRecursion, IsDistinct}
 use Rattle.std.specs.List.Sorted.{IsPermutation, IsSortedBy, IsStrictlySortedBy}
-use Rattle.std.specs.Cmp.{IsTotalOrder}
+use denote.Param.Members.{Mut}
+use Rattle.std.specs.Cmp.{IsTotalOrder, IsStrictWeakOrder}
+use Rattle.std.specs.Fn.{Called, ComparesAs}
 use Rattle.std.specs.Ordering.{is_eq, eq_by_cmp, ordering_reverse, match_ordering}
 use Rattle.std.proofs.lemmas.Cmp.{on_total}
+use Rattle.std.proofs.lemmas.Fn.{always_returns_same}
 use Rattle.std.proofs.lemmas.List.{map-append, length-map}
-use Rattle.std.proofs.lemmas.List.Sorted.{IsPermutation-map, IsPermutation-sym, Contains-permutation}
+use Rattle.std.proofs.lemmas.List.Sorted.{ranks_by, IsPermutation-map, IsPermutation-sym, Contains-permutation}
 use Rattle.std.proofs.lemmas.Map.Keys.{IsDistinct-IsPermutation, apart_from_distinct, sorted_from_all_adjacent}
 use Rattle.willow_entry.specs.declared.row.LogRow.{LogRow}
 use Rattle.willow_entry.specs.Pruning.{placed, rising}
@@ -22,15 +25,6 @@ use Rattle.recency_index.proofs.Order.{recency_total, recency_tie}
 use Rattle.ns_state.specs.Log.{IsLog, values}
 use Rattle.ns_state.specs.Recent.{items_of, row_recency_cmp, newest_rows}
 use Rattle.ns_state.proofs.Recent.{one_row, items_distinct}
-
--- ---- rows that are gathered
-
--- one more of the rows that are left
-pub gathered_on : {X R V : Type 0} (f : X → V) (g : R → V) (all : List V) (rows rows' : List X) (left left' : List R) (x : X) (r : R)
-    → map f rows ++ map g left ≡ all → rows' ≡ rows ++ x ∷ [] → left ≡ r ∷ left' → f x ≡ g r → map f rows' ++ map g left' ≡ all
-gathered_on f g all rows rows' left left' x r so_far more next same =
-    ap (λ l. map f l ++ map g left') more ∙ ap (λ l. l ++ map g left') (map-append f rows (x ∷ [])) ∙ append_assoc (map f rows) (f x ∷ []) (map g left')
-    ∙ ap (λ v. map f rows ++ v ∷ map g left') same ∙ sym (ap (λ l. map f rows ++ map g l) next) ∙ so_far
 
 -- ---- what a key orders
 
@@ -75,13 +69,20 @@ module _ {K : Type 0} (cmp : K → K → Ordering) (total : IsTotalOrder cmp) wh
   sorted_rises f (x ∷ xs) distinct up = rises_at (map f (x ∷ xs)) (f x) distinct (λ k within.
       ap is_lt (λ i. cmp (get-map f (x ∷ xs) (k + 1) x i) (get-map f (x ∷ xs) k x i)) ∙ up k x (omega arith) (omega (arith, within, length-map (x ∷ xs) f)))
 
+  -- what a sort ensures, where each call of its closure compares the two by their keys
+  pub sorted_by : {X : Type 0} (f : X → K) {F : Type 0} {g : Mut F (Bor X × (Bor X × Unit {0})) Ordering} {compare : F} (xs : List X)
+      → ((lt : X → X → Bool) → IsStrictWeakOrder lt → ComparesAs g lt compare → IsSortedBy lt xs)
+      → ((a : Bor X × (Bor X × Unit {0})) (r : Ordering) (compare' : F) → Called g compare a r compare' → (r ≡ cmp (f a.0.now) (f a.1.0.now)) × (compare' ≡ compare)) → IsSortedBy (λ x y. is_lt (cmp (f x) (f y))) xs
+  sorted_by f {g = g} {compare = compare} xs up h = up (λ x y. is_lt (cmp (f x) (f y))) (ranks_by total f)
+      (always_returns_same g (λ a r. is_lt r ≡ is_lt (cmp (f a.0.now) (f a.1.0.now))) compare (λ a r compare' k. (ap is_lt (h a r compare' k).0, (h a r compare' k).1)))
+
 -- ---- the items of rows by recency
 
 placed_items : (r : RowValue) (rows : List RowValue) → items_of (placed row_recency_cmp r rows) ≡ placed recency_cmp (ranked_of r.entry) (items_of rows)
 placed_items r [] = refl
 placed_items r (s ∷ rows) =
     let P : Ordering → Type 0 = λ o. items_of (match_ordering o (r ∷ s ∷ rows) (s ∷ rows) (s ∷ placed row_recency_cmp r rows))
-        ≡ match_ordering o (ranked_of r.entry ∷ ranked_of s.entry ∷ items_of rows) (ranked_of s.entry ∷ items_of rows) (ranked_of s.entry ∷ placed recency_cmp (ranked_of r.entry) (items_of rows)) in
+    ≡ match_ordering o (ranked_of r.entry ∷ ranked_of s.entry ∷ items_of rows) (ranked_of s.entry ∷ items_of rows) (ranked_of s.entry ∷ placed recency_cmp (ranked_of r.entry) (items_of rows)) in
     let each : (o : Ordering) → P o = elim [
       | Less ↦ refl
       | Equal ↦ refl
@@ -92,6 +93,9 @@ placed_items r (s ∷ rows) =
 pub newest_items : (rows : List RowValue) → items_of (newest_rows rows) ≡ newest (items_of rows)
 newest_items [] = refl
 newest_items (r ∷ rows) = placed_items r (newest_rows rows) ∙ ap (placed recency_cmp (ranked_of r.entry)) (newest_items rows)
+
+pub newest_member : (rows : List RowValue) (r : RowValue) → Contains (newest_rows rows) r → Contains rows r
+newest_member rows r c = contains_from_member rows r (member_from_rising row_recency_cmp rows r (member_from_contains (newest_rows rows) r c))
 
 -- ---- what is live of a log
 

@@ -1,14 +1,12 @@
-//! Live rows in the index of recency, and what goes from it where a row is stored.
+//! What goes from the index of recency where a row is stored.
 
 ghost use Rattle.std.specs.Prelude.{◌≡◌, ◌<◌, length, map, filter, slice_get, Some, IfOk};
 ghost use Rattle.recency_index.specs.Recency.{ranked_of};
 ghost use Rattle.willow_entry.specs.Row.{RowValue, is_dominating};
-ghost use Rattle.ns_state.specs.Recent.{items_of, recent};
+ghost use Rattle.ns_state.specs.Recent.{items_of};
 
-use crate::live_log::LiveLog;
 use block_store::BlockStore;
-use recency_index::{Ranked, Recency};
-use std::alloc::Global;
+use recency_index::Ranked;
 use willow_entry::Row;
 use willow_path::NoMemory;
 
@@ -33,16 +31,4 @@ pub(crate) fn gone_items<R: Row>(store: &BlockStore<R>, row: &R) -> Result<Vec<R
         gone.push(item_at(store, positions[at])?)?;
     }
     Ok(gone)
-}
-
-// The index of what is live of a log.
-pub(crate) fn recency_of<R: Row>(alloc: Global, log: &LiveLog<R>) -> Result<Recency, NoMemory>
-    ensures { IfOk result (λ recency. recency.items ≡ recent R.value log.now.log) }
-{
-    let mut recency = Recency::new(alloc);
-    let mut left = log.store().rows();
-    'rows: while let Some(row) = left.next() {
-        recency.insert(row.entry())?;
-    }
-    Ok(recency)
 }

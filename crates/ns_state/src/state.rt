@@ -6,8 +6,8 @@ ghost use Rattle.ns_state.specs.Log.{IsLog, values, logged, plain_row};
 ghost use Rattle.ns_state.specs.Recent.{recent};
 ghost use Rattle.ns_state.specs.Answer.{IsAnswer, IsOffer};
 
-use crate::ranking::{gone_items, recency_of};
 use crate::live_log::{LiveLog, LogFull};
+use crate::ranking::gone_items;
 use block_store::Snapshot;
 use recency_index::{Ranked, Recency};
 use std::alloc::Global;
@@ -54,14 +54,6 @@ impl<R: Row> NsState<R> {
             log: LiveLog::new(alloc, namespace),
             recency: Recency::new(alloc),
         }
-    }
-
-    /// The state of a log, of which the live rows are put in order by recency.
-    pub fn of_log(alloc: Global, log: LiveLog<R>) -> Result<NsState<R>, NoMemory>
-        ensures { IfOk result (λ state. state ≡ log) }
-    {
-        let recency = recency_of(alloc, &log)?;
-        Ok(NsState { log, recency })
     }
 
     /// The namespace.
