@@ -17,13 +17,8 @@ path_text [] = codes "."
 path_text (part ∷ parts) = flat_map part_text (part ∷ parts)
 
 -- subspace, path, timestamp, payload length and digest, with one space between, and a newline
-abbrev pub fields_line : List ℕ → List (List ℕ) → ℕ → ℕ → List ℕ → List ℕ
-fields_line subspace path timestamp payload_length digest =
-    hex_text subspace ++ (codes " " ++ (path_text path ++ (codes " " ++ (decimal timestamp ++ (codes " " ++ (decimal payload_length ++ (codes " " ++ (hex_text digest ++ 10 ∷ []))))))))
-
--- these of an entry
 abbrev pub listing_line : Entry → List ℕ
-listing_line e = fields_line e.subspace e.path e.timestamp e.length e.digest.0
+listing_line e = hex_text e.subspace ++ (codes " " ++ (path_text e.path ++ (codes " " ++ (decimal e.timestamp ++ (codes " " ++ (decimal e.length ++ (codes " " ++ (hex_text e.digest.0 ++ 10 ∷ []))))))))
 
 -- `namespace KEY rows C` and a newline
 abbrev pub listing_head : List ℕ → ℕ → List ℕ

@@ -10,7 +10,7 @@ mod summary;
 
 pub use frames::GeneratedFrames;
 pub use generator::{GENERATED_ROWS, generated_row, generator_namespace};
-pub use listing::{fields_line, key_line, listing_head, listing_line};
+pub use listing::{key_line, listing_head, listing_line};
 pub use summary::{DrillCounts, drill_summary};
 
 #[cfg(test)]

@@ -2,7 +2,7 @@
 
 ghost use Rattle.std.specs.Prelude.{◌≡◌, ◌++◌, ◌∷◌, ◌≤◌, [], codes, IfOk, OnErr, OnOk, decimal, flat_map, length, take, vec_len};
 ghost use Rattle.std.specs.String.{string_bytes};
-ghost use Rattle.peer_listing.specs.Listing.{fields_line, hex_text, key_line, listing_head, listing_line, part_text, path_text};
+ghost use Rattle.peer_listing.specs.Listing.{hex_text, key_line, listing_head, listing_line, part_text, path_text};
 
 use itoa::Buffer;
 use spelling::{NoMemory, put_byte, put_bytes};
@@ -18,31 +18,8 @@ pub fn listing_line(entry: &Entry, out: &mut Vec<u8>) -> Result<(), NoMemory>
     ensures appended { OnOk result (out.new.items ≡ out.old.items ++ listing_line entry.now) }
     ensures kept { OnErr result (out.new.items ≡ out.old.items) }
 {
-    fields_line(
-        &entry.subspace,
-        &entry.path,
-        entry.timestamp,
-        entry.length,
-        &entry.digest,
-        out,
-    )
-}
-
-/// Appends the line of an entry with these fields, whatever its namespace is, as `listing_line` does. Without memory
-/// `out` stays as it was.
-pub fn fields_line(
-    subspace: &UserKey,
-    path: &Path,
-    timestamp: u64,
-    payload_length: u64,
-    digest: &Digest,
-    out: &mut Vec<u8>,
-) -> Result<(), NoMemory>
-    ensures appended { OnOk result (out.new.items ≡ out.old.items ++ fields_line subspace.now path.now timestamp payload_length digest.now.0) }
-    ensures kept { OnErr result (out.new.items ≡ out.old.items) }
-{
     let begun = out.len();
-    match put_line(subspace, path, timestamp, payload_length, digest, out) {
+    match put_line(entry, out) {
         Ok(()) => Ok(()),
         Err(NoMemory) => {
             out.truncate(begun);
@@ -72,41 +49,34 @@ pub fn key_line(key: &UserKey, out: &mut Vec<u8>) -> Result<(), NoMemory>
 }
 
 // Appends an entry's line, or without memory a part of it.
-fn put_line(
-    subspace: &UserKey,
-    path: &Path,
-    timestamp: u64,
-    payload_length: u64,
-    digest: &Digest,
-    out: &mut Vec<u8>,
-) -> Result<(), NoMemory>
-    ensures appended { OnOk result (out.new.items ≡ out.old.items ++ fields_line subspace.now path.now timestamp payload_length digest.now.0) }
+fn put_line(entry: &Entry, out: &mut Vec<u8>) -> Result<(), NoMemory>
+    ensures appended { OnOk result (out.new.items ≡ out.old.items ++ listing_line entry.now) }
     ensures kept { take (vec_len out.old) out.new.items ≡ out.old.items }
 {
-    put_place(out, subspace, path)?;
-    put_numbers(out, timestamp, payload_length)?;
-    put_digest(out, digest)
+    put_place(out, entry)?;
+    put_numbers(out, entry)?;
+    put_digest(out, &entry.digest)
 }
 
-// Appends a subspace and a path, or without memory a part of them.
-fn put_place(out: &mut Vec<u8>, subspace: &UserKey, path: &Path) -> Result<(), NoMemory>
-    ensures appended { OnOk result (out.new.items ≡ out.old.items ++ (hex_text subspace.now ++ (codes " " ++ path_text path.now))) }
+// Appends an entry's subspace and path, or without memory a part of them.
+fn put_place(out: &mut Vec<u8>, entry: &Entry) -> Result<(), NoMemory>
+    ensures appended { OnOk result (out.new.items ≡ out.old.items ++ (hex_text entry.now.subspace ++ (codes " " ++ path_text entry.now.path))) }
     ensures kept { take (vec_len out.old) out.new.items ≡ out.old.items }
 {
-    put_digits(out, &subspace.to_bytes())?;
+    put_digits(out, &entry.subspace.to_bytes())?;
     put_byte(out, b' ')?;
-    put_path(out, path)
+    put_path(out, &entry.path)
 }
 
-// Appends a timestamp and a payload length, each behind a space, or without memory a part of them.
-fn put_numbers(out: &mut Vec<u8>, timestamp: u64, payload_length: u64) -> Result<(), NoMemory>
-    ensures appended { OnOk result (out.new.items ≡ out.old.items ++ (codes " " ++ (decimal timestamp ++ (codes " " ++ decimal payload_length)))) }
+// Appends an entry's timestamp and payload length, each behind a space, or without memory a part of them.
+fn put_numbers(out: &mut Vec<u8>, entry: &Entry) -> Result<(), NoMemory>
+    ensures appended { OnOk result (out.new.items ≡ out.old.items ++ (codes " " ++ (decimal entry.now.timestamp ++ (codes " " ++ decimal entry.now.length)))) }
     ensures kept { take (vec_len out.old) out.new.items ≡ out.old.items }
 {
     put_byte(out, b' ')?;
-    put_decimal(out, timestamp)?;
+    put_decimal(out, entry.timestamp)?;
     put_byte(out, b' ')?;
-    put_decimal(out, payload_length)
+    put_decimal(out, entry.length)
 }
 
 // Appends a digest behind a space, and a newline, or without memory a part.

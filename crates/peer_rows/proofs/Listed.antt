@@ -4,7 +4,6 @@ use Rattle.std.specs.Prelude.{Err}
 use Rattle.std.proofs.lemmas.Option.{slice_get-get_or, slice_get_within}
 use Rattle.std.specs.List.{flat_map}
 use Rattle.std.proofs.lemmas.List.{length-map, flat_map_more, take_more, take_all, length-take-le}
-use Rattle.recency_index.specs.declared.ranked.Ranked.{Ranked}
 use Rattle.willow_entry.specs.Row.{RowValue}
 use Rattle.lms_core.specs.Use.{peer_rules}
 use Rattle.cap_codec.specs.Rows.{RawValue, row_of}
@@ -22,8 +21,8 @@ use Rattle.peer_rows.proofs.Taken.{taken_live, taken_many}
 use Rattle.peer_listing.specs.Listing.{listing_head, listing_line}
 use Rattle.peer_stage.specs.declared.outcome.JoinCounts.{JoinCounts}
 use Rattle.peer_rows.specs.Logged.{authorised_rows, entry_row, live_rows, AreCounts}
-use Rattle.peer_rows.specs.Show.{listing, asked_listing, item_line, AreShown}
-use Rattle.peer_rows.specs.Listed.{log_listing, rows_listing, items_listing, show_counts, AreLines, IsListing, ListsImage}
+use Rattle.peer_rows.specs.Show.{listing, asked_listing, AreShown}
+use Rattle.peer_rows.specs.Listed.{log_listing, rows_listing, show_counts, IsListing, ListsImage}
 
 -- the lines of rows are those of what a store sees of them
 lines_same : (rows : List RawValue) → flat_map (λ (r : RowValue). listing_line r.entry) (map row_of rows) ≡ flat_map (λ (r : RawValue). listing_line r.entry) rows
@@ -65,30 +64,16 @@ listed_on line all left left' x text text' h next goes = record {
 pub all_listed : {X : Type 0} (line : X → List ℕ) (all left : List X) (text : List ℕ) → HasListed line all left text → left ≡ [] → text ≡ flat_map line all
 all_listed line all left text h none = h.lines ∙ ap (flat_map line) (sym (h.whole ∙ ap (λ l. h.seen ++ l) none ∙ append-nil h.seen))
 
--- ---- items by recency
+flat-map : {X : Type 0} (f : X → RowValue) (xs : List X) → flat_map (λ (r : RowValue). listing_line r.entry) (map f xs) ≡ flat_map (λ x. listing_line (f x).entry) xs
+flat-map f [] = refl
+flat-map f (x ∷ xs) = ap (λ text. listing_line (f x).entry ++ text) (flat-map f xs)
 
-pub item_on : (items : List Ranked) (n : ℕ) (item : Ranked) (text text' : List ℕ) → slice_get items n ≡ Some item → text ≡ flat_map item_line (take n items) → text' ≡ text ++ item_line item → text' ≡ flat_map item_line (take (n + 1) items)
-item_on items n item text text' got so_far goes =
-    let within = slice_get_within items n item got in
-    let there : Some (get_or items n item) ≡ Some item = sym (slice_get-get_or items n item within) ∙ got in
-    let same : get_or items n item ≡ item = cc in
-    goes ∙ ap (λ t. t ++ item_line item) so_far ∙ flat_map_more item_line [] (take n items) item
-    ∙ ap (flat_map item_line) (ap (λ i. take n items ++ i ∷ []) (sym same) ∙ sym (take_more items n item within))
-
--- there are no more
-pub lines_end : (items : List Ranked) (n most : ℕ) (text : List ℕ) → length items ≤ n → n ≤ length items → n < most → text ≡ flat_map item_line (take n items) → AreLines n text (take most items)
-lines_end items n most text none so_far few lines = record {
-  are_lines = lines ∙ ap (flat_map item_line) (take_all n items none ∙ sym (take_all most items (omega (arith, none, few))));
-  counted = omega (arith, none, so_far, ap length (take_all most items (omega (arith, none, few))));
-}
-
--- so many are there
-pub lines_whole : (items : List Ranked) (most : ℕ) (text : List ℕ) → most ≤ length items → text ≡ flat_map item_line (take most items) → AreLines most text (take most items)
-lines_whole items most text there lines = record { are_lines = lines; counted = sym (length-take-le most items there) }
-
--- the listing of these lines
-pub items_text : (n : List ℕ) (count : ℕ) (items : List Ranked) (head lines : List ℕ) → head ≡ listing_head n count → AreLines count lines items → head ++ lines ≡ items_listing n items
-items_text n count items head lines head_is are = ap (λ h. h ++ lines) (head_is ∙ ap (listing_head n) are.counted) ∙ ap (λ l. listing_head n (length items) ++ l) are.are_lines
+-- the lines of rows that are seen as these, and how many they are, are the listing of these
+pub rows_text : {X : Type 0} (n : List ℕ) (f : X → RowValue) (xs : List X) (rows : List RowValue) (head lines : List ℕ) → map f xs ≡ rows
+    → head ≡ listing_head n (length xs) → lines ≡ flat_map (λ x. listing_line (f x).entry) xs → head ++ lines ≡ rows_listing n rows
+rows_text n f xs rows head lines same head_is lines_are =
+    ap (λ h. h ++ lines) (head_is ∙ ap (listing_head n) (sym (length-map xs f) ∙ ap length same))
+    ∙ ap (λ l. listing_head n (length rows) ++ l) (lines_are ∙ sym (flat-map f xs) ∙ ap (flat_map (λ (r : RowValue). listing_line r.entry)) same)
 
 -- ---- an image
 

@@ -2,40 +2,25 @@
 use Rattle.std.specs.Prelude.{◌≡◌, ℕ, List, ◌++◌, length, take, Option, Some, None, Result, Ok, Err}
 use Rattle.std.specs.List.{flat_map}
 use Rattle.std.specs.Global.{Vec}
-use Rattle.recency_index.specs.Recency.{newest}
-use Rattle.recency_index.specs.declared.ranked.Ranked.{Ranked}
 use Rattle.willow_entry.specs.Row.{RowValue}
 use Rattle.cap_codec.specs.Rows.{RawValue}
-use Rattle.ns_state.specs.Recent.{items_of}
+use Rattle.ns_state.specs.Recent.{newest_rows}
 use Rattle.peer_listing.specs.Listing.{listing_head, listing_line}
 use Rattle.peer_stage.specs.declared.outcome.JoinCounts.{JoinCounts}
 use Rattle.peer_stage.specs.declared.outcome.ShowCounts.{ShowCounts}
 use Rattle.peer_stage.specs.declared.outcome.Stop.{Stop}
 use Rattle.peer_stage.specs.declared.outcome.Stop.TheVariants as stop
 use Rattle.peer_rows.specs.Logged.{FitsLog, PassesLog}
-use Rattle.peer_rows.specs.Show.{asked_listing, item_line, AreShown}
+use Rattle.peer_rows.specs.Show.{asked_listing, AreShown}
 
 -- the listing of rows in order
 abbrev pub rows_listing : List ℕ → List RowValue → List ℕ
 rows_listing n rows = listing_head n (length rows) ++ flat_map (λ r. listing_line r.entry) rows
 
--- the listing of items in order
-abbrev pub items_listing : List ℕ → List Ranked → List ℕ
-items_listing n items = listing_head n (length items) ++ flat_map item_line items
-
--- the listing of the first so many of rows by recency, or of all where there are fewer
-abbrev pub newest_of : ℕ → List ℕ → List RowValue → List ℕ
-newest_of most n rows = items_listing n (take most (newest (items_of rows)))
-
--- the listing of rows that is asked for
+-- the listing of rows that is asked for: of the first so many by recency, or all where there are fewer; or of all in order
 abbrev pub log_listing : Option ℕ → List ℕ → List RowValue → List ℕ
 log_listing None n rows = rows_listing n rows
-log_listing (Some most) n rows = newest_of most n rows
-
--- these are the lines of the items, and how many there are
-pub record AreLines (count : ℕ) (lines : List ℕ) (items : List Ranked) : Type 0 where
-  pub are_lines : lines ≡ flat_map item_line items
-  pub counted : count ≡ length items
+log_listing (Some most) n rows = rows_listing n (take most (newest_rows rows))
 
 -- a head and lines are this text
 abbrev pub AreText : Vec ℕ × Vec ℕ → List ℕ → Type 0

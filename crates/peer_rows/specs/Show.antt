@@ -4,12 +4,11 @@ use Rattle.std.specs.List.{flat_map}
 use Rattle.std.specs.Global.{Vec}
 use Rattle.willow_outside.specs.Facts.{SourceFacts}
 use Rattle.lms_core.specs.Use.{peer_rules}
-use Rattle.recency_index.specs.Recency.{newest}
-use Rattle.recency_index.specs.declared.ranked.Ranked.{Ranked}
-use Rattle.ns_state.specs.Recent.{items_of}
+use Rattle.willow_entry.specs.Row.{RowValue}
+use Rattle.ns_state.specs.Recent.{newest_rows}
 use Rattle.cap_codec.specs.Rows.{RawValue, row_of}
 use Rattle.auth_entry.specs.Authorised.{authorised}
-use Rattle.peer_listing.specs.Listing.{listing_head, listing_line, fields_line}
+use Rattle.peer_listing.specs.Listing.{listing_head, listing_line}
 use Rattle.peer_image.specs.ImageReading.{IsImage, IsWrong, IsMisordered}
 use Rattle.peer_image.specs.Order.{order_refusal}
 use Rattle.peer_image.specs.declared.refusal.ImageRefusal.{ImageRefusal}
@@ -34,17 +33,13 @@ listing_lines n rows = flat_map (λ r. listing_line r.entry) (authorised peer_ru
 abbrev pub listing : List ℕ → List RawValue → List ℕ
 listing n rows = listing_head n (length (authorised peer_rules n rows)) ++ listing_lines n rows
 
--- the items of the rows that are authorised in the namespace: the first so many by recency, or all where there are fewer
-abbrev pub newest_items : ℕ → List ℕ → List RawValue → List Ranked
-newest_items most n rows = take most (newest (items_of (authorised_rows n rows)))
-
--- the line of an item
-abbrev pub item_line : Ranked → List ℕ
-item_line item = fields_line item.subspace item.path item.timestamp item.length item.digest.0
+-- the rows that are authorised in the namespace: the first so many by recency, or all where there are fewer
+abbrev pub newest_authorised : ℕ → List ℕ → List RawValue → List RowValue
+newest_authorised most n rows = take most (newest_rows (authorised_rows n rows))
 
 -- the head, which counts the lines behind it, and the lines of the newest rows, the most recent first
 abbrev pub newest_listing : ℕ → List ℕ → List RawValue → List ℕ
-newest_listing most n rows = listing_head n (length (newest_items most n rows)) ++ flat_map item_line (newest_items most n rows)
+newest_listing most n rows = listing_head n (length (newest_authorised most n rows)) ++ flat_map (λ r. listing_line r.entry) (newest_authorised most n rows)
 
 -- the listing that is asked for: of so many of the newest rows, or of all
 abbrev pub asked_listing : Option ℕ → List ℕ → List RawValue → List ℕ
