@@ -11,4 +11,4 @@ returns c =
     let items = c.in_ok-rows.rows.items in
     let count : c.len.result ≡ length items = omega (arith, c.len.ensures, c.in_ok-rows.rows.ok.0) in
     rows_text log.namespace (λ row. entry_row row.now) items (take c.args.most (newest_rows (live_rows log))) _ _ c.in_ok-rows.ensures
-    (c.in_ok-head.ensures ∙ (λ i. listing_head (c.namespace.ensures i) (count i))) c.in_ok-lines.ensures
+    (c.in_ok-head.ensures ∙ (λ i. listing_head (c.namespace.ensures i) (count i))) (rw c.deref.ensures.value at c.in_ok-lines.ensures)
