@@ -4,7 +4,7 @@ from dataclasses import dataclass
 import lms
 from capabilities import (FULL, Area, Capability, Delegation, entry_message, initial_message, open_signature,
                           read_capability)
-from entries import Entry, Store, live
+from entries import Entry, Store, by_recency, live
 from exchange import Run, exchange
 from octets import NotSpelled, whole
 from outside import Fault, Objects
@@ -93,13 +93,17 @@ def image_in(data: bytes, name: str):
         raise Stop(PRUNED, name=name, at=wrong.args[0], by=wrong.args[1]) from None
 
 
-def show(objects: Objects) -> End:
+def show(objects: Objects, newest: int = None) -> End:
     namespace, rows = image_in(taken(objects.input.read_all), INPUT)
     authorised, refusals = judged(rows, namespace)
+    store = Store()
+    take(store, authorised)
+    assert store.live() == authorised  # an image is in order
+    listed = authorised if newest is None else by_recency(authorised)[:newest]
     # In how many pieces a listing is written is not part of what a run must do: it is taken from the program, and only
     # the cases in which a call of the output fails rest on it.
-    head = f"namespace {namespace.hex()} rows {len(authorised)}\n"
-    listing = "".join(row.entry.line() for row in authorised)
+    head = f"namespace {namespace.hex()} rows {len(listed)}\n"
+    listing = "".join(row.entry.line() for row in listed)
     given(lambda: objects.output.write_whole(head.encode()))
     given(lambda: objects.output.write_whole(listing.encode()))
     return End(f"rows {len(rows)} refused {len(refusals)}\n" + first_refused(refusals), bool(refusals))

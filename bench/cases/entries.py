@@ -133,6 +133,11 @@ class Store:
                 if not self._dropped_from_above(self.best[place])]
 
 
+def by_recency(rows: list) -> list:
+    """The rows, the greater rank first, and of equal ranks the lower subspace and path."""
+    return sorted(sorted(rows, key=lambda row: row.entry.place()), key=lambda row: row.entry.rank(), reverse=True)
+
+
 def live(rows: list) -> list:
     """The rows that no row of the list drops, each once, by rising subspace and path: the definition itself."""
     found = []

@@ -12,7 +12,7 @@ HEX = "[0-9a-fA-F]"
 # The options of each command that is built; the ones in brackets may be absent.
 OPTIONS = {
     "join": "namespace",
-    "show": "",
+    "show": "[newest]",
     "key": "name height",
     "grant": "namespace mode user [key]",
     "delegate": "key to [subspace] [under] [from] [until]",
@@ -99,7 +99,7 @@ def until(word: str):
 
 VALUES = {
     "namespace": key, "user": key, "to": key, "name": name, "height": height, "mode": mode, "key": signer,
-    "path": path, "time": number, "length": number, "digest": digest, "rows": count,
+    "path": path, "time": number, "length": number, "digest": digest, "rows": count, "newest": count,
     "under": path, "from": number, "until": until, **{option: name for option in NAMES},
 }
 

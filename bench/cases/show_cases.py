@@ -7,6 +7,10 @@ def show(name: str, given: bytes = b"", **rest) -> Case:
     return Case(f"show-{name}", ("show",), given, **rest)
 
 
+def newest(name: str, count: int, given: bytes, **rest) -> Case:
+    return Case(f"show-newest-{name}", ("show", "--newest", str(count)), given, **rest)
+
+
 EMPTY = image_of()
 TWO = row(A, time=4), row(AB)
 IMAGE = image_of(*TWO)
@@ -100,13 +104,47 @@ KEPT = Store()
 for index in range(47, 60):
     KEPT.take(generated(index))
 
+# By recency: B, AB, C, A.
+MIXED = image_of(row(A, 6), row(AB, 8), row(B, 9), row(path("c"), 7))
+# Their places rise, and all are of one time.
+TIED = image_of(row(A, 5), row(B, 5), row(path("c"), 5), row(A, 5, author=V))
+GREATER_LENGTH = image_of(row(A, 5, 1), row(B, 5, 2), row(path("c"), 5, 1))
+GREATER_DIGEST = image_of(row(A, 5, 1, 0x11), row(B, 5, 2, 0x10), row(path("c"), 5, 0, 0x12))
+ONE_LEFT_OUT = image_of(row(A, 6), spoilt(row(B, 9)), row(path("c"), 7))
+
+NEWEST = [
+    newest("lists-the-most-recent-row", 1, MIXED),
+    newest("lists-the-first-rows-by-falling-time", 3, MIXED),
+    newest("lists-all-rows-where-there-are-so-many", 4, MIXED),
+    newest("lists-all-rows-where-there-are-fewer", 5, MIXED),
+    newest("lists-all-rows-where-the-greatest-number-is-asked-for", 65_536, MIXED),
+    newest("lists-no-row-of-the-empty-image", 3, EMPTY),
+    newest("lists-rows-of-one-rank-by-rising-place", 4, TIED),
+    newest("lists-the-lower-places-of-one-rank", 2, TIED),
+    newest("lists-the-greater-length-first-at-one-time-and-digest", 2, GREATER_LENGTH),
+    newest("lists-the-greater-digest-first-at-one-time", 3, GREATER_DIGEST),
+    newest("counts-no-row-that-is-not-authorised", 2, ONE_LEFT_OUT),
+    newest("lists-fewer-where-rows-are-not-authorised", 3, ONE_LEFT_OUT),
+    newest("lists-no-row-where-none-is-authorised", 1, image_of(row(digest=1, capability=UNSIGNED_CHAIN))),
+    newest("leaves-out-a-row-of-another-namespace", 2, image_of(row(), row(B, digest=1, capability=ELSEWHERE))),
+    newest("lists-the-greatest-timestamp-first", 1, image_of(row(A, 0), row(B, GREATEST))),
+    newest("refuses-rows-out-of-order", 1, image_of(*reversed(TWO))),
+    newest("of-nothing-goes-wrong-at-0", 1, b""),
+    newest("stops-at-a-fault-of-the-first-read", 1, MIXED, fails="i1"),
+    newest("leaves-nothing-where-the-first-write-fails", 1, MIXED, fails="o1"),
+    newest("leaves-the-head-of-the-listing-where-the-second-write-fails", 2, MIXED, fails="o2"),
+]
+
 GROUPS = {
     "listings": LISTINGS,
     "rows that are left out": LEFT_OUT,
     "where an image goes wrong": WRONG_BYTES,
     "rows out of order and pruned ones": ORDER,
     "faults": FAULTS,
-    "generated rows": [show("lists-what-stays-of-generated-rows", image_of(*KEPT.live(), space=O))],
+    "generated rows": [show("lists-what-stays-of-generated-rows", image_of(*KEPT.live(), space=O)),
+                       newest("lists-some-of-generated-rows", 5, image_of(*KEPT.live(), space=O))],
+    "the newest": NEWEST,
     "the samples": [show("of-the-sample-of-notes", NOTES_IMAGE),
+                    newest("of-the-sample-of-notes", 3, NOTES_IMAGE),
                     show("of-the-sample-of-an-archive", ARCHIVE_IMAGE)],
 }

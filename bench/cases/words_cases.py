@@ -203,11 +203,18 @@ MEETINGS = [
     words("of-drill-with-an-area", "drill", "--rows", "5", "--under", "/61"),
 ]
 
-# These are commands of the grammar, but none that is built.
-NOT_BUILT = [
-    words("of-show-with-the-newest", "show", "--newest", "3"),
+NEWEST = [
     words("of-show-with-none-of-the-newest", "show", "--newest", "0"),
     words("of-show-without-the-number-of-the-newest", "show", "--newest"),
+    words("of-show-with-65537-of-the-newest", "show", "--newest", "65537"),
+    words("of-show-with-the-newest-in-words", "show", "--newest", "all"),
+    words("of-show-with-a-zero-before-the-number-of-the-newest", "show", "--newest", "03"),
+    words("of-show-with-the-newest-twice", "show", "--newest", "3", "--newest", "3"),
+    words("of-show-with-the-newest-and-a-namespace", "show", "--newest", "3", "--namespace", N_WORD),
+]
+
+# These are commands of the grammar, but none that is built.
+NOT_BUILT = [
     words("of-sync", "sync", "--image", "a", "--cap", "c", "--key", BY_U, "--to", "localhost:7000"),
     words("of-serve", "serve", "--image", "a", "--cap", "c", "--key", BY_U, "--at", "localhost:7000", "--links", "2"),
     words("of-watch", "watch", "--image", "a"),
@@ -221,5 +228,6 @@ GROUPS = {
     "areas": AREAS,
     "paths, numbers and digests": PATHS_AND_NUMBERS,
     "drills and meetings": MEETINGS,
+    "the newest": NEWEST,
     "commands that are not built yet": NOT_BUILT,
 }

@@ -2,7 +2,7 @@
 use Rattle.std.proofs.Common.{sym, refl, ◌∙◌, Result}
 use Rattle.spelling.specs.declared.ending.End.{End}
 use Rattle.willow_entry.specs.Row.{RowValue}
-use Rattle.ns_state.specs.declared.state.LogFull.{LogFull}
+use Rattle.ns_state.specs.declared.live_log.LogFull.{LogFull}
 use Rattle.ns_state.specs.declared.state.Told.{Told}
 use Rattle.log_rule.proofs.Prefixes.{prefix_self, prefix_trans}
 use Rattle.ns_cell.specs.Passes.{PassValue, IsLater}

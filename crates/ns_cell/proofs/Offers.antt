@@ -4,7 +4,7 @@ use Rattle.spelling.specs.declared.ending.End.TheVariants.{Refused, NoMemory}
 use Rattle.willow_entry.specs.Row.{RowValue, HasCovering, IsCoveringAt}
 use Rattle.ns_state.specs.Log.{values}
 use Rattle.ns_state.specs.Answer.{IsFull}
-use Rattle.ns_state.specs.declared.state.LogFull.{LogFull}
+use Rattle.ns_state.specs.declared.live_log.LogFull.{LogFull}
 use Rattle.ns_state.specs.declared.state.Told.TheVariants.{Stored, Kept}
 use Rattle.log_rule.proofs.Prefixes.{prefix_length}
 use Rattle.ns_cell.specs.Passes.{PassValue, IsLater}

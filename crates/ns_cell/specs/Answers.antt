@@ -7,7 +7,7 @@ use Rattle.willow_entry.specs.Row.{RowValue}
 use Rattle.willow_entry.specs.declared.row.LogRow.{LogRow}
 use Rattle.ns_state.specs.Log.{logged}
 use Rattle.ns_state.specs.Answer.{IsAnswer, IsOffer}
-use Rattle.ns_state.specs.declared.state.LogFull.{LogFull}
+use Rattle.ns_state.specs.declared.live_log.LogFull.{LogFull}
 use Rattle.ns_state.specs.declared.state.Told.{Told}
 use Rattle.ns_state.specs.declared.state.Told.TheVariants.{Stored, Kept}
 use Rattle.ns_cell.specs.Passes.{PassValue, IsLater}

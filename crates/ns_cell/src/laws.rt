@@ -6,7 +6,7 @@ ghost use Rattle.spelling.specs.declared.ending.End.TheVariants.{Refused, NoMemo
 ghost use Rattle.willow_entry.specs.Row.{HasCovering, IsCoveringAt};
 ghost use Rattle.ns_state.specs.Log.{values};
 ghost use Rattle.ns_state.specs.Answer.{IsFull};
-ghost use Rattle.ns_state.specs.declared.state.LogFull.{LogFull};
+ghost use Rattle.ns_state.specs.declared.live_log.LogFull.{LogFull};
 ghost use Rattle.ns_state.specs.declared.state.Told.{Told};
 ghost use Rattle.ns_state.specs.declared.state.Told.TheVariants.{Stored, Kept};
 ghost use Rattle.ns_cell.specs.declared.limits.TheConstants.{PASS_LIMIT};

@@ -14,9 +14,10 @@ use Rattle.recency_index.specs.declared.ranked.Ranked.{Ranked}
 use Rattle.recency_index.specs.Recency.{ranked_of, recency_cmp, newest, has_at, without}
 use Rattle.ns_state.specs.Log.{IsLog, values, plain_row}
 use Rattle.ns_state.specs.Recent.{items_of, recent}
-use Rattle.ns_state.specs.declared.state.TheConstants.{LOG_LIMIT}
+use Rattle.ns_state.specs.declared.live_log.TheConstants.{LOG_LIMIT}
 use Rattle.ns_state.proofs.NewRows.{covering_of_live}
-use Rattle.ns_state.proofs.Logs.{log_more, live_more, live_short, rising_short}
+use Rattle.willow_entry.proofs.Live.{live_early_left}
+use Rattle.ns_state.proofs.Logs.{values_more, live_short, rising_short}
 use Rattle.ns_state.proofs.Recent.{gone_held, gone_distinct, left_free, newest_more}
 
 pub recent_short : {R : Type 0} (value : R → RowValue) (log : List (LogRow R)) → length (recent value log) ≤ length log
@@ -62,24 +63,9 @@ module _ {R : Type 0} (value : R → RowValue) (namespace : List ℕ) (log : Lis
           ∙ left_free namespace (map value store) store_live in_namespace r here free_of_store
 
       -- the items by recency, with the new one
-      pub recent_more : (store' : List R) (log' : List (LogRow R)) → map value store' ≡ live (map value store ++ r ∷ []) → map value store' ≡ live (values value log') → newest (item ∷ without gone items) ≡ recent value log'
-      recent_more store' log' stored kept =
-          ap (λ i. newest (i ∷ without gone items)) item_is ∙ ap₂ (λ g l. newest (ranked_of r.entry ∷ without g l)) gone_is items_are
+      pub recent_more : (log' : List (LogRow R)) (l : LogRow R) → value l.row ≡ r → log' ≡ log ++ l ∷ [] → newest (item ∷ without gone items) ≡ recent value log'
+      recent_more log' l is longer =
+          ap (λ i. newest (i ∷ without gone items)) item_is ∙ ap₂ (λ g k. newest (ranked_of r.entry ∷ without g k)) gone_is items_are
           ∙ newest_more namespace (map value store) store_live in_namespace r here free_of_store
-          ∙ ap (λ l. newest (items_of l)) (sym stored ∙ kept)
-
--- one more row, as it is held
-pub appended : {R A : Type 0} (value : R → RowValue) (namespace : List ℕ) (log log' : List (LogRow (Arc R A))) (store store' : List R) (items items' gone : List Ranked) (item : Ranked) (held : LogRow (Arc R A)) (l : LogRow R)
-    → Keeps value namespace (map plain_row log) store items → plain_row held ≡ l → log' ≡ log ++ held ∷ [] → length (map plain_row log) < LOG_LIMIT → (value l.row).entry.namespace ≡ namespace
-    → (HasCovering (values value (map plain_row log)) (value l.row) → ⊥) → map value store' ≡ live (map value store ++ value l.row ∷ [])
-    → gone ≡ gone_of value store (value l.row) → item ≡ ranked_of (value l.row).entry → items' ≡ newest (item ∷ without gone items)
-    → Keeps value namespace (map plain_row log') store' items'
-appended value namespace log log' store store' items items' gone item held l keeps seen longer room here uncovered stored gone_is item_is items_are =
-    let old = map plain_row log in
-    let is : map plain_row log' ≡ old ++ l ∷ [] = ap (map plain_row) longer ∙ map-append plain_row log (held ∷ []) ∙ ap (λ k. old ++ k ∷ []) seen in
-    let more = live_more value store store' old l keeps.1 stored in
-    subst (λ k. Keeps value namespace k store' items') (sym is) (
-      log_more value namespace old l keeps.0 room here uncovered,
-      more,
-      items_are ∙ recent_more value namespace old store items keeps (value l.row) here uncovered gone gone_is item item_is store' (old ++ l ∷ []) stored more,
-    )
+          ∙ ap (λ k. newest (items_of k))
+          (ap (λ k. live (k ++ r ∷ [])) keeps.1 ∙ live_early_left (values value log) (r ∷ []) ∙ ap (λ s. live (values value log ++ s ∷ [])) (sym is) ∙ ap live (sym (ap (values value) longer ∙ values_more value log l)))

@@ -8,7 +8,7 @@ use Rattle.willow_entry.proofs.Members.{contains_from_member, member_from_contai
 use Rattle.willow_entry.proofs.RowLaws.{covering_means}
 use Rattle.willow_entry.proofs.Live.{live-covered, live_covers, live_early_left, live_same_members}
 use Rattle.ns_state.specs.Machine.{Event, Offer, Snapshot, Reply, StoredAt, Covered, Full, rows_of, is_covered, reply, log_after, next, run, taken, unrefused, accepted}
-use Rattle.ns_state.specs.declared.state.TheConstants.{LOG_LIMIT}
+use Rattle.ns_state.specs.declared.live_log.TheConstants.{LOG_LIMIT}
 use Rattle.ns_state.proofs.NewRows.{covered_test, new-with_covered, new-with_uncovered, covering_alike, covering_of_new, new_covering}
 
 covering_from_test : (log : List LogValue) (r : RowValue) → is_covered log r ≡ true → HasCovering (rows_of log) r

@@ -1,4 +1,4 @@
-mod NewRows
+pub mod NewRows
 mod Core
 mod Logs
 mod Walks
@@ -6,3 +6,5 @@ mod Recent
 mod AtPositions
 mod Appending
 mod Offers
+mod Growing
+mod SortedRows

@@ -12,7 +12,7 @@ use Rattle.willow_entry.specs.Row.{RowValue, is_dominating, place_cmp, live, new
 use Rattle.willow_entry.proofs.Members.{contains_from_member, member_append_right}
 use Rattle.willow_entry.proofs.Live.{live_early_left}
 use Rattle.ns_state.specs.Log.{IsLog, values, plain_row}
-use Rattle.ns_state.specs.declared.state.TheConstants.{LOG_LIMIT}
+use Rattle.ns_state.specs.declared.live_log.TheConstants.{LOG_LIMIT}
 use Rattle.ns_state.proofs.NewRows.{new-with_uncovered}
 
 pub values_more : {R : Type 0} (value : R → RowValue) (log : List (LogRow R)) (l : LogRow R) → values value (log ++ l ∷ []) ≡ values value log ++ value l.row ∷ []

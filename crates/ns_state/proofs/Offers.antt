@@ -1,5 +1,5 @@
 -- What a state answers to an offer is the machine's step.
-use Rattle.std.proofs.Common.{◌≡◌, Bool, true, false, cond, nat_lt, List, [], ◌∷◌, length, Result, Ok, Err, sym, ap, ◌∙◌, lt-ltb, arith}
+use Rattle.std.proofs.Common.{◌≡◌, ℕ, Bool, true, false, cond, nat_lt, List, [], ◌∷◌, ◌++◌, length, Option, Some, None, Result, Ok, Err, OnOk, sym, ap, ◌∙◌, subst, lt-ltb, arith}
 use Rattle.std.specs.List.{list_any}
 use Rattle.std.proofs.lemmas.List.{map-append, length-map}
 use Rattle.std.proofs.lemmas.Bool.{lt-ltb, false_from_ne_true, ltb-true}
@@ -8,16 +8,18 @@ use Rattle.spelling.specs.declared.ending.End.{End}
 use Rattle.spelling.specs.declared.ending.End.TheVariants.{Refused, NoMemory}
 use Rattle.willow_entry.specs.declared.row.LogRow.{LogRow}
 use Rattle.willow_entry.specs.LogRow.{LogValue, log_value}
-use Rattle.willow_entry.specs.Row.{RowValue, is_covering, HasCovering}
+use Rattle.willow_entry.specs.Row.{RowValue, is_covering, live, new, HasCovering}
+use Rattle.willow_entry.proofs.Live.{live-covered}
 use Rattle.willow_entry.proofs.Between.{covering_from_at}
-use Rattle.ns_state.specs.declared.state.LogFull.{LogFull}
+use Rattle.ns_state.specs.declared.live_log.LogFull.{LogFull}
 use Rattle.ns_state.specs.declared.state.Told.{Told}
 use Rattle.ns_state.specs.declared.state.Told.TheVariants.{Stored, Kept}
-use Rattle.ns_state.specs.declared.state.TheConstants.{LOG_LIMIT}
+use Rattle.ns_state.specs.declared.live_log.TheConstants.{LOG_LIMIT}
 use Rattle.ns_state.specs.Log.{values, logged}
 use Rattle.ns_state.specs.Machine.{Reply, StoredAt, Covered, Full, Offer, is_covered, reply, log_after, next}
-use Rattle.ns_state.specs.Answer.{IsAnswer, IsOffer}
-use Rattle.ns_state.proofs.NewRows.{covered_test, uncovered_test}
+use Rattle.ns_state.specs.Answer.{IsAnswer, IsGrown, IsOffer, IsPlaced}
+use Rattle.ns_state.proofs.NewRows.{covered_test, uncovered_test, new-with_covered}
+use Rattle.ns_state.proofs.Logs.{values_more, new_last, covers_last}
 
 module _ {R : Type 0} (value : R → RowValue) (log : List (LogRow R)) (offered : LogRow R) where
   seen : is_covered (logged value log) (value offered.row) ≡ list_any (λ s. is_covering s (value offered.row)) (values value log)
@@ -52,3 +54,29 @@ module _ {R : Type 0} (value : R → RowValue) (log : List (LogRow R)) (offered 
       let replied = reply-uncovered is.0.uncovered false test in
       record { told = replied; log_is = ap (logged value) is.1 ∙ sym (after_reply Full replied) }
   offer_from_answer log' (Err NoMemory) is = record { told = tt; log_is = tt }
+
+-- ---- what is new, what is live and what is covered then
+
+module _ {R : Type 0} (value : R → RowValue) (log log' : List (LogRow R)) (offered : LogRow R) (fresh : new (values value log) ≡ values value log) where
+  pub placed_new : (at : Option ℕ) → IsPlaced value log offered log' at → values value log' ≡ new (values value log ++ value offered.row ∷ [])
+  placed_new (Some at) is = new_last value log log' offered fresh is.uncovered is.log_is
+  placed_new None is = ap (values value) is.1 ∙ sym (new-with_covered (values value log) (value offered.row) is.0 ∙ fresh)
+
+  pub grown_new : (result : Result (Option ℕ) (End LogFull)) → IsGrown value log offered log' result → OnOk result (values value log' ≡ new (values value log ++ value offered.row ∷ []))
+  grown_new (Ok at) is = placed_new at is
+  grown_new (Err e) is = tt
+
+  pub answer_new : (result : Result Told (End LogFull)) → IsAnswer value log offered log' result → OnOk result (values value log' ≡ new (values value log ++ value offered.row ∷ []))
+  answer_new (Ok (Stored at)) is = placed_new (Some at) is
+  answer_new (Ok (Kept at)) is = placed_new None (covering_from_at (values value log) at (value offered.row) is.covers, is.log_is)
+  answer_new (Err e) is = tt
+
+  pub answer_live : (result : Result Told (End LogFull)) → IsAnswer value log offered log' result → OnOk result (live (values value log') ≡ live (values value log ++ value offered.row ∷ []))
+  answer_live (Ok (Stored at)) is = ap live (ap (values value) is.log_is ∙ values_more value log offered)
+  answer_live (Ok (Kept at)) is = ap (λ l. live (values value l)) is.log_is ∙ sym (live-covered (values value log) (value offered.row) (covering_from_at (values value log) at (value offered.row) is.covers))
+  answer_live (Err e) is = tt
+
+  pub answer_covers : (result : Result Told (End LogFull)) → IsAnswer value log offered log' result → OnOk result (HasCovering (values value log') (value offered.row))
+  answer_covers (Ok (Stored at)) is = covers_last value log log' offered is.log_is
+  answer_covers (Ok (Kept at)) is = subst (λ l. HasCovering (values value l) (value offered.row)) (sym is.log_is) (covering_from_at (values value log) at (value offered.row) is.covers)
+  answer_covers (Err e) is = tt

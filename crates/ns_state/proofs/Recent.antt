@@ -47,7 +47,7 @@ member_from_among gone item t =
     subst (Member gone) (recency_tie found.0 item ((Equal-is (recency_cmp found.0 item)).0 found.2)) found.1
 
 -- rows of one namespace with items in one subspace at one path stand at one place
-one_place : (s t : RowValue) → s.entry.namespace ≡ t.entry.namespace → is_at t.entry.subspace t.entry.path (item_of s) ≡ true → place_cmp s t ≡ Equal
+pub one_place : (s t : RowValue) → s.entry.namespace ≡ t.entry.namespace → is_at t.entry.subspace t.entry.path (item_of s) ≡ true → place_cmp s t ≡ Equal
 one_place s t namespace there = place-in_one_namespace s t namespace ∙ (Equal-is (inner_place_cmp s t)).0 there
 
 one_item : (s t : RowValue) → item_of s ≡ item_of t → is_at t.entry.subspace t.entry.path (item_of s) ≡ true
@@ -60,11 +60,11 @@ module _ (n : List ℕ) (rows : List RowValue) (is_live : live rows ≡ rows) (a
   undominated s m t k = (pruned_member is_dominating place_cmp rows_prune rows s (subst (λ l. Member l s) (sym is_live) m)).1 t k
 
   -- of these rows those with one item are one
-  one_row : (s t : RowValue) → Member rows s → Member rows t → item_of s ≡ item_of t → s ≡ t
+  pub one_row : (s t : RowValue) → Member rows s → Member rows t → item_of s ≡ item_of t → s ≡ t
   one_row s t m k e = settled_rows s t (one_place s t (all s m ∙ sym (all t k)) (one_item s t e)) (undominated t k s m) (undominated s m t k)
 
   -- the items of rows that rise are apart
-  items_distinct : (xs : List RowValue) → IsRising xs → ((s : RowValue) → Member xs s → Member rows s) → IsDistinct (eq_by_cmp recency_cmp) (items_of xs)
+  pub items_distinct : (xs : List RowValue) → IsRising xs → ((s : RowValue) → Member xs s → Member rows s) → IsDistinct (eq_by_cmp recency_cmp) (items_of xs)
   unfolding IsStrictlySortedBy IsDistinct
   items_distinct [] up among = tt
   items_distinct (x ∷ xs) up among = (

@@ -1,14 +1,14 @@
 -- What a state answers to an offer.
-use Rattle.std.specs.Prelude.{◌≡◌, ℕ, ◌<◌, List, [], ◌∷◌, ◌++◌, length, Result, Ok, Err}
+use Rattle.std.specs.Prelude.{◌≡◌, ℕ, ◌<◌, List, [], ◌∷◌, ◌++◌, length, Option, Some, None, Result, Ok, Err}
 use Rattle.spelling.specs.declared.ending.End.{End}
 use Rattle.spelling.specs.declared.ending.End.TheVariants.{Refused, NoMemory}
 use Rattle.willow_entry.specs.declared.row.LogRow.{LogRow}
 use Rattle.willow_entry.specs.LogRow.{LogValue}
 use Rattle.willow_entry.specs.Row.{RowValue, HasCovering, IsCoveringAt}
-use Rattle.ns_state.specs.declared.state.LogFull.{LogFull}
+use Rattle.ns_state.specs.declared.live_log.LogFull.{LogFull}
 use Rattle.ns_state.specs.declared.state.Told.{Told}
 use Rattle.ns_state.specs.declared.state.Told.TheVariants.{Stored, Kept}
-use Rattle.ns_state.specs.declared.state.TheConstants.{LOG_LIMIT}
+use Rattle.ns_state.specs.declared.live_log.TheConstants.{LOG_LIMIT}
 use Rattle.ns_state.specs.Log.{values}
 use Rattle.ns_state.specs.Machine.{Reply, StoredAt, Covered, Full, Offer, next, reply}
 
@@ -30,7 +30,18 @@ pub record IsFull {R : Type 0} (value : R → RowValue) (log : List (LogRow R)) 
   pub length_is : length log ≡ LOG_LIMIT
   pub front_is : front ≡ LOG_LIMIT
 
--- What is answered to the offer of a row, and which log there is then. Without memory the log is the same.
+-- what becomes of a row for which the log has room: it is stored at the position told, or a row of the log covers it
+abbrev pub IsPlaced : {R : Type 0} → (R → RowValue) → List (LogRow R) → LogRow R → List (LogRow R) → Option ℕ → Type 0
+IsPlaced value log offered log' (Some at) = IsStored value log offered at log'
+IsPlaced value log offered log' None = HasCovering (values value log) (value offered.row) × (log' ≡ log)
+
+-- What a log answers to the offer of a row, and which log there is then. Without memory it is the same.
+abbrev pub IsGrown : {R : Type 0} → (R → RowValue) → List (LogRow R) → LogRow R → List (LogRow R) → Result (Option ℕ) (End LogFull) → Type 0
+IsGrown value log offered log' (Ok at) = IsPlaced value log offered log' at
+IsGrown value log offered log' (Err (Refused full)) = IsFull value log offered.row full.front × (log' ≡ log)
+IsGrown value log offered log' (Err NoMemory) = log' ≡ log
+
+-- What a state answers to the offer of a row, and which log there is then. Without memory the log is the same.
 abbrev pub IsAnswer : {R : Type 0} → (R → RowValue) → List (LogRow R) → LogRow R → List (LogRow R) → Result Told (End LogFull) → Type 0
 IsAnswer value log offered log' (Ok (Stored at)) = IsStored value log offered at log'
 IsAnswer value log offered log' (Ok (Kept at)) = IsKept value log offered at log'

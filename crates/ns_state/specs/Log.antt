@@ -5,7 +5,7 @@ use Rattle.std.specs.declared.sync.Arc.{Arc}
 use Rattle.willow_entry.specs.declared.row.LogRow.{LogRow}
 use Rattle.willow_entry.specs.LogRow.{LogValue, log_value}
 use Rattle.willow_entry.specs.Row.{RowValue, new}
-use Rattle.ns_state.specs.declared.state.TheConstants.{LOG_LIMIT}
+use Rattle.ns_state.specs.declared.live_log.TheConstants.{LOG_LIMIT}
 
 -- what contracts see of a state: its namespace and its log
 pub record StateValue (R : Type 0) : Type 0 where

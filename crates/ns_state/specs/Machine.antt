@@ -4,7 +4,7 @@ use Rattle.std.specs.Prelude.{ℕ, Bool, nat_lt, if◌then◌else◌, List, [], 
 use Rattle.std.specs.List.{list_any}
 use Rattle.willow_entry.specs.LogRow.{LogValue}
 use Rattle.willow_entry.specs.Row.{RowValue, is_covering, live}
-use Rattle.ns_state.specs.declared.state.TheConstants.{LOG_LIMIT}
+use Rattle.ns_state.specs.declared.live_log.TheConstants.{LOG_LIMIT}
 
 -- a pass offers a row; a pass asks for what is live
 pub data Event : Type 0 where

@@ -3,9 +3,11 @@
 ghost use Rattle.std.specs.Prelude.{◌≡◌, ◌↔◌, ◌≤◌, List, ◌++◌, length, Contains};
 ghost use Rattle.willow_entry.specs.LogRow.{LogValue};
 ghost use Rattle.willow_entry.specs.Row.{RowValue, live, new, HasCovering};
+ghost use Rattle.recency_index.specs.Recency.{newest};
+ghost use Rattle.ns_state.specs.Recent.{items_of, newest_rows};
 ghost use Rattle.ns_state.specs.Machine.{Event, rows_of, run, accepted};
 
-use crate::state::LOG_LIMIT;
+use crate::live_log::LOG_LIMIT;
 
 /// Whatever events there are, in whatever order: what is live of the log is what is live of all accepted rows; the rows
 /// of the log are those of the accepted ones, in order, that no row before them covers; it is no longer than the limit. So
@@ -24,6 +26,13 @@ pub fn core()
 pub fn nothing_is_lost()
     ensures covered { (log more : List LogValue) (r : RowValue) → Contains (rows_of log) r → HasCovering (live (rows_of (log ++ more))) r }
     ensures grows { (log : List LogValue) (events : List Event) → (more : List LogValue) × (run log events ≡ log ++ more) }
+{}
+
+/// The newest rows are rows of the list, and their items are the newest of the rows' items.
+#[tactic(auto, using(crate::proofs::SortedRows::newest_items, crate::proofs::SortedRows::newest_member))]
+pub fn newest_rows()
+    ensures items { (rows : List RowValue) → items_of (newest_rows rows) ≡ newest (items_of rows) }
+    ensures rows { (rows : List RowValue) (r : RowValue) → Contains (newest_rows rows) r → Contains rows r }
 {}
 
 /// The limit is this number.

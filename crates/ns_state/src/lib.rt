@@ -3,12 +3,15 @@
 //! Its one contract: an offer of a row does what the machine of a log does, and the store is live of the log.
 #![tactic(auto)]
 
-mod gone;
 pub mod laws;
+mod live_log;
 mod log;
+mod newest;
+mod ranking;
 mod state;
 
-pub use state::{LOG_LIMIT, LogFull, NsState, Told};
+pub use live_log::{LOG_LIMIT, LiveLog, LogFull};
+pub use state::{NsState, Told};
 
 #[cfg(test)]
 mod tests;

@@ -1,9 +1,9 @@
 //! What becomes of rows that are offered, as a table, and a log that is full.
 
-use crate::{LogFull, NsState, Told};
+use crate::{LiveLog, LogFull, NsState, Told};
 use std::alloc::Global;
 use std::test::*;
-use willow_entry::{BareRow, Entry, Row, SharedRow};
+use willow_entry::{BareRow, Entry, Row, SharedRow, same};
 use willow_path::{Digest, End, NamespaceKey, Path, UserKey};
 
 // Rows offered one after the other: the pass, the one-byte components of the path, the timestamp, and what becomes of it.
@@ -126,6 +126,50 @@ fn offers(rt: HostRuntime) -> Result<(), Fail> {
     assert_eq!(rt; read(&state, 4, 1), Some(0));
     assert_eq!(rt; newest(&state), (Some(6), None));
     assert_eq!(rt; state.snapshot().ok().map(|rows| rows.len()), Some(1));
+    Ok(())
+}
+
+// Rows by recency: the one-byte components of the path, and the timestamp. All have one digest and one length.
+const NEWEST: [(&'static [u8], u64); 4] = [(b"d", 9), (b"a", 7), (b"b", 7), (b"c", 3)];
+
+// Offers a row to a log; one of another namespace counts as want of memory.
+fn offer_to(log: &mut LiveLog<BareRow>, row: BareRow) -> Result<Option<u32>, End<LogFull>> {
+    if row.entry().namespace != log.namespace() {
+        return Err(End::NoMemory);
+    }
+    log.offer(0, row)
+}
+
+// The log of the rows, the last one first, and of one that the newest dominates.
+fn written(alloc: Global) -> Option<LiveLog<BareRow>> {
+    let mut log = LiveLog::new(alloc, NamespaceKey::from_bytes(key(0x4e))?);
+    offer_to(&mut log, row_at(alloc, b"de", 8)?).ok()?;
+    for at in [3, 1, 0, 2] {
+        let (parts, time) = NEWEST[at];
+        offer_to(&mut log, row_at(alloc, parts, time)?).ok()?;
+    }
+    Some(log)
+}
+
+// Whether so many are the newest rows where `most` are asked for.
+fn are_newest(alloc: Global, log: &LiveLog<BareRow>, most: u32, count: usize) -> Option<bool> {
+    let rows = log.newest(alloc, most).ok()?;
+    for at in 0..rows.len() {
+        let (parts, time) = *NEWEST.get(at)?;
+        if !same(rows[at], &row_at(alloc, parts, time)?) {
+            return Some(false);
+        }
+    }
+    Some(rows.len() == count)
+}
+
+#[test]
+fn newest_rows(rt: HostRuntime) -> Result<(), Fail> {
+    let alloc = rt.alloc();
+    let log = written(alloc).ok_or("a log")?;
+    for (most, count) in [(0, 0), (3, 3), (4, 4), (9, 4)] {
+        assert_eq!(rt; are_newest(alloc, &log, most, count), Some(true));
+    }
     Ok(())
 }
 

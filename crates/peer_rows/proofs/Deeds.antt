@@ -23,10 +23,10 @@ use Rattle.peer_stage.specs.declared.outcome.Stop.{Stop}
 use Rattle.peer_stage.specs.declared.outcome.Stop.TheVariants as stop
 use Rattle.peer_stage.proofs.Ends.{IsCondition}
 use Rattle.peer_stage.proofs.Inputs.{not_too_far, is_all}
-use Rattle.peer_stage.proofs.Owing.{Owes, then_owes, writes_owe, input_counts, input_unfailed, input_lasts, output_lasts, lawful, not_built_is_lawful}
+use Rattle.peer_stage.proofs.Owing.{Owes, then_owes, writes_owe, input_counts, input_unfailed, input_lasts, output_lasts, lawful}
 use Rattle.peer_rows.specs.Logged.{PassesLog}
 use Rattle.peer_rows.specs.Join.{BeginNoFrames, JoinsInput, IsBadStream, IsWrongStream, IsFullStream}
-use Rattle.peer_rows.specs.Show.{ShowsInput, IsBadImage, IsReadMisordered}
+use Rattle.peer_rows.specs.Show.{ShowsInput, IsBadImage, IsReadMisordered, IsReadFull}
 use Rattle.peer_rows.specs.Deeds.{CanJoin, CanShow, join_deed, show_deed, gen_deed}
 use Rattle.peer_rows.proofs.Offered.{PassesLog-longer}
 use Rattle.peer_rows.proofs.RawStreams.{rows_in_front}
@@ -112,32 +112,39 @@ no_misorder i i' refusal can (bytes, read, wrong) =
     let none : None ≡ Some refusal = sym can.in_order ∙ ap (λ (rows : List RawValue). order_refusal (raw_rows rows)) same ∙ wrong.refused in
     absurd cc
 
-show_stops : (i i' : SourceFacts) (e : Stop) → CanShow i → IsCondition e → ShowsInput i i' (Err e) → ⊥
-show_stops i i' (stop.BadInput from at) can condition s = no_bad_image i i' at can s.0
-show_stops i i' (stop.NotRising from row) can condition s = no_misorder i i' _ can s.0
-show_stops i i' (stop.Pruned from row by) can condition s = no_misorder i i' _ can s.0
-show_stops i i' stop.ReadFault can condition s = condition
-show_stops i i' stop.NoMemory can condition s = condition
-show_stops i i' e can condition s = s
+no_full_image : (i i' : SourceFacts) → CanShow i → IsReadFull i i' → ⊥
+no_full_image i i' can (bytes, read, full) =
+    let image = subst (λ (b : List ℕ). IsImage b full.namespace full.rows) (is_all i i' can.had bytes can.input read) full.is_image in
+    let same = one_image can.had can.namespace full.namespace can.rows full.rows can.is_image image in
+    let passes = subst (λ (n : List ℕ). PassesLog n can.rows) (sym same.0) (subst (λ (rows : List RawValue). PassesLog full.namespace rows) (sym same.1) full.passes) in
+    omega (arith, passes, can.fits_log)
 
-showing_owes : Owes Reads Wrote (λ old. CanShow old.input) (λ x new. Unit {0}) (OnInput ShowsInput)
-showing_owes =
+show_stops : (asked : Option ℕ) (i i' : SourceFacts) (e : Stop) → CanShow i → IsCondition e → ShowsInput asked i i' (Err e) → ⊥
+show_stops asked i i' (stop.BadInput from at) can condition s = no_bad_image i i' at can s.0
+show_stops asked i i' (stop.NotRising from row) can condition s = no_misorder i i' _ can s.0
+show_stops asked i i' (stop.Pruned from row by) can condition s = no_misorder i i' _ can s.0
+show_stops asked i i' stop.LogFull can condition s = no_full_image i i' can s
+show_stops asked i i' stop.ReadFault can condition s = condition
+show_stops asked i i' stop.NoMemory can condition s = condition
+show_stops asked i i' e can condition s = s
+
+showing_owes : (asked : Option ℕ) → Owes Reads Wrote (λ old. CanShow old.input) (λ x new. Unit {0}) (OnInput (ShowsInput asked))
+showing_owes asked =
     record {
-      counts = input_counts ShowsInput;
-      unfailed = input_unfailed ShowsInput;
+      counts = input_counts (ShowsInput asked);
+      unfailed = input_unfailed (ShowsInput asked);
       read_fault = λ old new s. s.does.1.fault;
       write_fault = λ old new s. absurd s.does;
       usage = λ old new s. s.does;
-      stops = λ old new e can condition s. show_stops old.input new.input e can condition s.does;
+      stops = λ old new e can condition s. show_stops asked old.input new.input e can condition s.does;
       goes_on = λ old new x can s. tt;
     }
 
-pub show_is_lawful : (newest : Option ℕ) → IsLawful (show_deed newest)
-show_is_lawful None =
-    lawful (show_deed None) (λ old. CanShow old.input) (λ d new. Unit {0}) (λ unbuilt. unbuilt) (λ old new ready. ready)
-    (then_owes Reads Wrote (λ old. CanShow old.input) (λ x new. Unit {0}) (λ d new. Unit {0}) _ _ input_lasts output_lasts showing_owes
+pub show_is_lawful : (asked : Option ℕ) → IsLawful (show_deed asked)
+show_is_lawful asked =
+    lawful (show_deed asked) (λ old. CanShow old.input) (λ d new. Unit {0}) (λ unbuilt. unbuilt) (λ old new ready. ready)
+    (then_owes Reads Wrote (λ old. CanShow old.input) (λ x new. Unit {0}) (λ d new. Unit {0}) _ _ input_lasts output_lasts (showing_owes asked)
     (λ x. writes_owe Reads Wrote (λ old. Unit {0}) (x.0.items ++ x.1.items) (done.Shown x.2) (λ old new rose. rose)))
-show_is_lawful (Some newest) = not_built_is_lawful
 
 -- ---- gen
 

@@ -3,12 +3,13 @@ use Rattle.std.proofs.Common.{◌≡◌, ℕ, ◌+◌, List, [], ◌∷◌, ◌+
 use Rattle.std.specs.List.{range_with_len}
 use Rattle.std.proofs.lemmas.List.FromFn.{map-range_with_len_more}
 use Rattle.lms_core.specs.Use.{peer_rules}
-use Rattle.willow_entry.specs.Pruning.{pruned, new_after}
+use Rattle.willow_entry.specs.Pruning.{new_after}
 use Rattle.cap_codec.specs.Rows.{RawValue, row_of}
 use Rattle.auth_entry.specs.Authorised.{AuthorisedValue, row_refusal}
 use Rattle.mc_cap.specs.declared.refusal.RowRefusal.{RowRefusal}
 use Rattle.peer_listing.specs.Generator.{generated, generator_namespace}
-use Rattle.peer_rows.specs.RowLogs.{LogRows, HasTaken}
+use Rattle.ns_state.specs.Log.{StateValue, values}
+use Rattle.peer_rows.specs.RowLogs.{HasTaken}
 use Rattle.peer_rows.specs.Logged.{authorised_rows, entry_row}
 use Rattle.peer_rows.specs.Drilled.{generated_rows, IsNext}
 use Rattle.peer_rows.proofs.Logged.{authorised_none, authorised_some, authorised_rows-more, authorised_rows-same}
@@ -34,6 +35,6 @@ next_none n row namespace x is of e =
     ∙ authorised_rows-same generator_namespace (map generated (range_with_len 0 n)) (generated n) (authorised_some generator_namespace (generated n) x refused)
 
 -- nothing was offered yet
-pub drilled_none : (log : LogRows AuthorisedValue) → log ≡ record { rows = []; stored = 0 } → HasTaken entry_row (generated_rows 0) log
-unfolding generated_rows pruned new_after
-drilled_none log is = rw is (record { held = refl; stored = refl })
+pub drilled_none : (log : StateValue AuthorisedValue) → log.log ≡ [] → HasTaken entry_row (generated_rows 0) log
+unfolding generated_rows new_after
+drilled_none log is = ap (values entry_row) is

@@ -7,14 +7,15 @@ use Rattle.willow_entry.specs.Row.{live}
 use Rattle.auth_entry.specs.Authorised.{AuthorisedValue}
 use Rattle.peer_image.specs.Image.{image}
 use Rattle.peer_rows.specs.declared.log.Log.{Log}
-use Rattle.peer_rows.specs.Logged.{authorised_rows, stored_rows}
+use Rattle.peer_rows.specs.Logged.{authorised_rows, entry_row, live_rows, stored_rows}
 use Rattle.peer_rows.specs.Stored.{IsLogRead}
 use Rattle.peer_rows.specs.Join.{IsJoinRead}
 use Rattle.peer_rows.proofs.Framed.{live_framed}
+use Rattle.peer_rows.proofs.Taken.{taken_live}
 
-module _ (n : List ℕ) (i i' : SourceFacts) (log : Log) (shown : List AuthorisedValue) (h : IsLogRead n i i' log) (same : shown ≡ log.kept.rows) where
+module _ (n : List ℕ) (i i' : SourceFacts) (log : Log) (shown : List AuthorisedValue) (h : IsLogRead n i i' log) (same : stored_rows shown ≡ live_rows log.kept) where
   held : stored_rows shown ≡ live (authorised_rows n h.rows)
-  held = ap stored_rows same ∙ h.whole.is_log.held_is
+  held = same ∙ taken_live entry_row (authorised_rows n h.rows) log.kept h.whole.is_log.taken
 
   pub shown_framed : AllByRecursion HasFrame (stored_rows shown)
   shown_framed = subst (AllByRecursion HasFrame) (sym held) (live_framed n h.rows h.frames.fit)

@@ -1,5 +1,6 @@
 pub mod NewRows
 pub mod Firsts
+pub mod AuthorisedRows
 pub mod Taken
 pub mod Logged
 pub mod Offered

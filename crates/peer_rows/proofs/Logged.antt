@@ -13,9 +13,10 @@ use Rattle.mc_cap.specs.declared.refusal.RefusedRow.{RefusedRow}
 use Rattle.std.specs.Prelude.{Err}
 use Rattle.spelling.specs.declared.ending.End.{End}
 use Rattle.spelling.specs.declared.ending.End.TheVariants.{Refused, NoMemory}
-use Rattle.peer_rows.specs.RowLogs.{LogRows, HasTaken, ArePastLog, GoesOn, OffersRow}
-use Rattle.peer_rows.specs.declared.row_log.LogFull.{LogFull}
-use Rattle.peer_rows.specs.Logged.{authorised_rows, entry_row, stored_rows, numbered_refusal, first_refused, AreCounts, IsLogOf, Offers, with_refused, with_offered}
+use Rattle.ns_state.specs.Log.{StateValue}
+use Rattle.ns_state.specs.declared.live_log.LogFull.{LogFull}
+use Rattle.peer_rows.specs.RowLogs.{HasTaken, ArePastLog, GoesOn, OffersRow}
+use Rattle.peer_rows.specs.Logged.{authorised_rows, entry_row, numbered_refusal, first_refused, AreCounts, IsLogOf, Offers, with_refused, with_offered}
 use Rattle.peer_rows.proofs.Firsts.{first_some-snoc, or_else-none}
 
 pub authorised_none : (n : List ℕ) (r : RawValue) → row_refusal peer_rules n r ≡ None → is_authorised peer_rules n r ≡ true
@@ -54,13 +55,14 @@ first-more n seen r o k is e =
 pub first-same : (n : List ℕ) (seen : List RawValue) (r : RawValue) → row_refusal peer_rules n r ≡ None → first_refused n (seen ++ r ∷ []) ≡ first_refused n seen
 first-same n seen r e = first-more n seen r None (length seen) refl e ∙ or_else-none (first_refused n seen)
 
-pub IsLogOf-refused : (n : List ℕ) (seen : List RawValue) (held : List RowValue) (counts : JoinCounts) (r : RawValue) (x : RowRefusal)
-    → row_refusal peer_rules n r ≡ Some x → IsLogOf n seen held counts → IsLogOf n (seen ++ r ∷ []) held (with_refused x counts)
-IsLogOf-refused n seen held counts r x e log =
+pub IsLogOf-refused : (n : List ℕ) (seen : List RawValue) (kept : StateValue AuthorisedValue) (counts : JoinCounts) (r : RawValue) (x : RowRefusal)
+    → row_refusal peer_rules n r ≡ Some x → IsLogOf n seen kept counts → IsLogOf n (seen ++ r ∷ []) kept (with_refused x counts)
+IsLogOf-refused n seen kept counts r x e log =
     let same = authorised_rows-same n seen r (authorised_some n r x e) in
     let was = log.counted in
     record {
-      held_is = log.held_is ∙ ap live (sym same);
+      of_namespace = log.of_namespace;
+      taken = log.taken ∙ ap new (sym same);
       counted = record {
         all = omega (arith, was.all, length-append seen (r ∷ []));
         stored = was.stored ∙ ap (λ (rows : List RowValue). length (new rows)) (sym same);
@@ -73,14 +75,14 @@ IsLogOf-refused n seen held counts r x e log =
 one_longer : (n : List ℕ) (seen : List RawValue) (r : RawValue) → is_authorised peer_rules n r ≡ true → length (authorised_rows n (seen ++ r ∷ [])) ≡ length (authorised_rows n seen) + 1
 one_longer n seen r accepts = rw (authorised_rows-more n seen r accepts) (omega (arith, length-append (authorised_rows n seen) (row_of r ∷ [])))
 
-pub IsLogOf-offered : (n : List ℕ) (seen : List RawValue) (held held' : List RowValue) (counts : JoinCounts) (r : RawValue) (stored : Bool) → row_refusal peer_rules n r ≡ None
-    → held' ≡ live (authorised_rows n seen ++ row_of r ∷ []) → GoesOn (authorised_rows n seen) (row_of r) stored → IsLogOf n seen held counts → IsLogOf n (seen ++ r ∷ []) held' (with_offered stored counts)
-IsLogOf-offered n seen held held' counts r stored e goes on log =
+pub IsLogOf-offered : (n : List ℕ) (seen : List RawValue) (kept kept' : StateValue AuthorisedValue) (counts : JoinCounts) (r : RawValue) (stored : Bool) → row_refusal peer_rules n r ≡ None → kept'.namespace ≡ kept.namespace
+    → HasTaken entry_row (authorised_rows n seen ++ row_of r ∷ []) kept' → GoesOn (authorised_rows n seen) (row_of r) stored → IsLogOf n seen kept counts → IsLogOf n (seen ++ r ∷ []) kept' (with_offered stored counts)
+IsLogOf-offered n seen kept kept' counts r stored e same goes on log =
     let accepts = authorised_none n r e in
     let more = authorised_rows-more n seen r accepts in
     let was = log.counted in
     let longer = one_longer n seen r accepts in
-    record { held_is = goes ∙ ap live (sym more); counted = counts_on stored was longer (ap new more ∙ on) (first-same n seen r e) }
+    record { of_namespace = same ∙ log.of_namespace; taken = goes ∙ ap new (sym more); counted = counts_on stored was longer (ap new more ∙ on) (first-same n seen r e) }
   where
     counts_on : (b : Bool) → AreCounts n seen counts → length (authorised_rows n (seen ++ r ∷ [])) ≡ length (authorised_rows n seen) + 1
         → new (authorised_rows n (seen ++ r ∷ [])) ≡ new (authorised_rows n seen) ++ cond b (row_of r ∷ []) [] → first_refused n (seen ++ r ∷ []) ≡ first_refused n seen
@@ -102,13 +104,8 @@ IsLogOf-offered n seen held held' counts r stored e goes on log =
           first = was.first ∙ sym first;
         }
 
--- what a log holds of the authorised rows
-pub taken_of : (n : List ℕ) (seen : List RawValue) (kept : LogRows AuthorisedValue) (counts : JoinCounts) → kept.stored ≡ counts.stored → IsLogOf n seen (stored_rows kept.rows) counts
-    → HasTaken entry_row (authorised_rows n seen) kept
-taken_of n seen kept counts same log = record { held = log.held_is; stored = same ∙ log.counted.stored }
-
 -- where a row is one too many among the authorised ones, it is among all
-pub offered_past : (n : List ℕ) (seen : List RawValue) (r : RawValue) (log : LogRows AuthorisedValue) (held : List RowValue) (counts : JoinCounts) (e : End LogFull) → row_refusal peer_rules n r ≡ None
-    → OffersRow entry_row (authorised_rows n seen) (row_of r) log (Err e) → Offers n seen r held counts (Err e)
-offered_past n seen r log held counts (Refused full) fine past = subst ArePastLog (sym (authorised_rows-more n seen r (authorised_none n r fine))) past
-offered_past n seen r log held counts NoMemory fine past = tt
+pub offered_past : (n : List ℕ) (seen : List RawValue) (r : RawValue) (log : StateValue AuthorisedValue) (counts : JoinCounts) (e : End LogFull) → row_refusal peer_rules n r ≡ None
+    → OffersRow entry_row (authorised_rows n seen) (row_of r) log (Err e) → Offers n seen r log counts (Err e)
+offered_past n seen r log counts (Refused full) fine past = subst ArePastLog (sym (authorised_rows-more n seen r (authorised_none n r fine))) past
+offered_past n seen r log counts NoMemory fine past = tt

@@ -11,24 +11,23 @@ use Rattle.row_stream.specs.Streams.{frames_of, IsStream, GoesWrong}
 use Rattle.row_stream.specs.Feeding.{StreamState, nothing_fed, Feeds, HandsOut, Breaks}
 use Rattle.std.specs.Prelude.{Err}
 use Rattle.spelling.specs.declared.ending.End.{End}
-use Rattle.spelling.specs.declared.ending.End.TheVariants.{Refused, NoMemory}
+use Rattle.spelling.specs.declared.ending.End.TheVariants.{Refused}
 use Rattle.peer_stage.specs.declared.outcome.Origin.TheVariants as origin
 use Rattle.peer_stage.specs.declared.outcome.Stop.{Stop}
 use Rattle.peer_stage.specs.declared.outcome.Stop.TheVariants as stop
 use Rattle.row_stream.proofs.Longer.{stream_on, wrong_on}
 use Rattle.peer_stage.specs.declared.outcome.JoinCounts.{JoinCounts}
-use Rattle.peer_rows.specs.Logged.{IsLogOf}
-use Rattle.peer_rows.specs.Images.{log_stop}
-use Rattle.peer_rows.specs.Stored.{held_of, offset_of, OffersAll, HasSeen, TakesPiece}
-use Rattle.peer_rows.specs.declared.row_log.LogFull.{LogFull}
+use Rattle.peer_rows.specs.Logged.{IsLogOf, PassesLog}
+use Rattle.ns_state.specs.declared.live_log.LogFull.{LogFull}
+use Rattle.ns_state.specs.declared.live_log.TheConstants.{LOG_LIMIT}
+use Rattle.peer_rows.specs.Stored.{offset_of, OffersAll, HasSeen, IsPastLog, TakesPiece}
 use Rattle.peer_rows.specs.declared.log.Log.{Log}
-use Rattle.peer_rows.specs.declared.row_log.TheConstants.{LOG_LIMIT}
 use Rattle.peer_rows.proofs.Offered.{no_counts, IsLogOf-start}
 use Rattle.peer_rows.proofs.RawStreams.{framed_rows, more_rows, frames_same, right_so_far, wrong_there}
 
 -- ---- nothing is read yet
 
-pub nothing_seen : (namespace : List ℕ) (state : StreamState) (log : Log) → state ≡ nothing_fed → log.kept ≡ record { rows = []; stored = 0 } → log.counts ≡ no_counts → HasSeen namespace [] state log
+pub nothing_seen : (namespace : List ℕ) (state : StreamState) (log : Log) → state ≡ nothing_fed → log.kept ≡ record { namespace = namespace; log = [] } → log.counts ≡ no_counts → HasSeen namespace [] state log
 nothing_seen namespace state log start empty none = record {
   seen = [];
   fit = tt;
@@ -79,7 +78,7 @@ module _ (namespace bytes : List ℕ) (state : StreamState) (log : Log) (h : Has
         fit_goes : AllByRecursion FitsFrame (h.seen ++ rows)
         fit_goes = All-append FitsFrame h.seen rows h.fit (framed_rows rows are out.stream.fit)
 
-        pub seen_on : (log' : Log) → IsLogOf namespace (h.seen ++ rows) (held_of log') log'.counts → log'.counts.stored ≤ LOG_LIMIT → HasSeen namespace (bytes ++ piece) state' log'
+        pub seen_on : (log' : Log) → IsLogOf namespace (h.seen ++ rows) log'.kept log'.counts → log'.counts.stored ≤ LOG_LIMIT → HasSeen namespace (bytes ++ piece) state' log'
         seen_on log' next fits = record {
           seen = h.seen ++ rows;
           fit = fit_goes;
@@ -90,14 +89,12 @@ module _ (namespace bytes : List ℕ) (state : StreamState) (log : Log) (h : Has
           fits = fits;
         }
 
-        -- where a row met a full log, one of all was one too many
-        pub offers_stop : (log' : Log) (e : End LogFull) → OffersAll namespace h.seen rows log' (Err e) → TakesPiece namespace (bytes ++ piece) state' log' (Err (log_stop e))
-        offers_stop log' (Refused full) passes = record {
+        pub past_log : PassesLog namespace (h.seen ++ rows) → IsPastLog namespace (bytes ++ piece)
+        past_log passes = record {
           rows = h.seen ++ rows;
           not_wrong = right_so_far 0 (bytes ++ piece) (h.seen ++ rows) state'.begun fit_goes stream_goes;
           passes = passes;
         }
-        offers_stop log' NoMemory t = tt
 
 -- ---- a piece that goes wrong
 
@@ -114,3 +111,7 @@ pub piece_wrong : (namespace bytes piece : List ℕ) (state state' : StreamState
 piece_wrong namespace bytes piece state state' log log' refusal s h b is =
     let wrong = goes_wrong namespace bytes state log h state' piece refusal b in
     subst (λ (e : Stop). TakesPiece namespace (bytes ++ piece) state' log' (Err e)) (sym is) (wrong_there (bytes ++ piece) refusal wrong, tt)
+
+-- where a row met a full log, one of all was one too many
+pub offer_passes : (namespace : List ℕ) (seen rows : List RawValue) (log : Log) (e : End LogFull) (full : LogFull) → e ≡ Refused full → OffersAll namespace seen rows log (Err e) → PassesLog namespace (seen ++ rows)
+offer_passes namespace seen rows log e full is h = subst (λ (d : End LogFull). OffersAll namespace seen rows log (Err d)) is h

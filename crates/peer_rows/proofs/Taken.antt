@@ -1,86 +1,68 @@
--- How what a log holds goes on by one row that is offered.
-use Rattle.std.proofs.Common.{◌≡◌, ◌+◌, ◌≤◌, Bool, true, false, List, [], ◌∷◌, ◌++◌, length, map, refl, sym, ap, ◌∙◌, subst, arith, inl, inr, length-append, append_assoc}
-use Rattle.std.specs.List.{list_any}
-use Rattle.std.proofs.lemmas.List.{append-nil, map-append}
-use Rattle.willow_entry.specs.Row.{RowValue, is_dominating, place_cmp, live, new, is_covering, HasCovering}
-use Rattle.willow_entry.proofs.RowLaws.{covering_means, covered_from_covering, covering_from_covered, rows_prune}
-use Rattle.willow_entry.proofs.Members.{Member, member_from_contains, contains_from_member, true_of_any, any_false}
-use Rattle.willow_entry.proofs.Pruning.{IsCovered, covers_all_chain, covers_pruned, pruned_covers}
-use Rattle.willow_entry.proofs.Live.{live_early_left, live-covered}
-use Rattle.peer_rows.specs.RowLogs.{LogRows, HasTaken, ArePastLog, GoesOn}
-use Rattle.peer_rows.specs.declared.row_log.TheConstants.{LOG_LIMIT}
-use Rattle.peer_rows.proofs.NewRows.{unless, new_after-snoc, new_after-longer}
+-- How a log goes on by one row that is offered.
+use Rattle.std.proofs.Common.{◌≡◌, ℕ, ◌+◌, ◌≤◌, Bool, true, false, cond, List, [], ◌∷◌, ◌++◌, length, map, Option, Some, None, is_some, refl, sym, ap, ◌∙◌, subst, inl, arith, length-append, append_assoc}
+use Rattle.std.specs.Prelude.{Err}
+use Rattle.std.specs.List.{All}
+use Rattle.willow_entry.proofs.Members.{contains_from_member, member_append_right}
+use Rattle.std.proofs.lemmas.List.{append-nil, map-append, length-map}
+use Rattle.spelling.specs.declared.ending.End.{End}
+use Rattle.spelling.specs.declared.ending.End.TheVariants.{Refused, NoMemory}
+use Rattle.willow_entry.specs.declared.row.LogRow.{LogRow}
+use Rattle.willow_entry.specs.Row.{RowValue, live, new, is_covering, HasCovering}
+use Rattle.willow_entry.proofs.Live.{live-new}
+use Rattle.ns_state.specs.Log.{StateValue, values}
+use Rattle.ns_state.specs.Answer.{IsGrown, IsPlaced}
+use Rattle.ns_state.specs.declared.live_log.LogFull.{LogFull}
+use Rattle.ns_state.specs.declared.live_log.TheConstants.{LOG_LIMIT}
+use Rattle.ns_state.proofs.NewRows.{covering_of_new, new_covering, new-with_covered, new-with_uncovered}
+use Rattle.peer_rows.specs.RowLogs.{HasTaken, ArePastLog, GoesOn, IsRefusal, OffersRow}
+use Rattle.peer_rows.proofs.NewRows.{new_after-longer}
 
--- ---- the test of what is new
+module _ {R : Type 0} (value : R → RowValue) (seen : List RowValue) (log : StateValue R) (taken : HasTaken value seen log) where
+  -- what is live of a log is what is live of the rows that were offered
+  pub taken_live : live (values value log.log) ≡ live seen
+  taken_live = ap live taken ∙ live-new seen
 
-covered_any : (rows : List RowValue) (s : RowValue) → HasCovering rows s → list_any (λ y. is_covering y s) rows ≡ true
-covered_any rows s h = true_of_any (λ y. is_covering y s) rows h.0 (member_from_contains rows h.0 h.1) ((covering_means h.0 s).1 h.2)
-
-uncovered_any : (rows : List RowValue) (s : RowValue) → (HasCovering rows s → ⊥) → list_any (λ y. is_covering y s) rows ≡ false
-uncovered_any rows s none = any_false (λ y. is_covering y s) rows (λ x m. test x m (is_covering x s) refl) where
-  test : (x : RowValue) → Member rows x → (b : Bool) → is_covering x s ≡ b → is_covering x s ≡ false
-  test x m true e = absurd (none (x, contains_from_member rows x m, (covering_means x s).0 e))
-  test x m false e = e
-
-pub new-covered : (rows : List RowValue) (s : RowValue) → HasCovering rows s → new (rows ++ s ∷ []) ≡ new rows
-new-covered rows s h = new_after-snoc is_covering [] rows s ∙ ap (λ (b : Bool). new rows ++ unless b s) (covered_any rows s h) ∙ append-nil (new rows)
-
-pub new-uncovered : (rows : List RowValue) (s : RowValue) → (HasCovering rows s → ⊥) → new (rows ++ s ∷ []) ≡ new rows ++ s ∷ []
-new-uncovered rows s none = new_after-snoc is_covering [] rows s ∙ ap (λ (b : Bool). new rows ++ unless b s) (uncovered_any rows s none)
-
--- what is live of a list covers just what the list covers
-covering_from_live : (rows : List RowValue) (s : RowValue) → HasCovering (live rows) s → HasCovering rows s
-covering_from_live rows s h =
-    covering_from_covered rows s (covers_all_chain is_dominating place_cmp rows_prune rows (live rows) (s ∷ []) (covers_pruned is_dominating place_cmp rows_prune rows) (only s (covered_from_covering (live rows) s h)) s (inl refl))
-  where
-    only : (x : RowValue) → IsCovered is_dominating (live rows) x → (z : RowValue) → Member (x ∷ []) z → IsCovered is_dominating (live rows) z
-    only x c z (inl e) = subst (λ (w : RowValue). IsCovered is_dominating (live rows) w) e c
-    only x c z (inr m) = absurd m
-
-covering_to_live : (rows : List RowValue) (s : RowValue) → HasCovering rows s → HasCovering (live rows) s
-covering_to_live rows s h =
-    covering_from_covered (live rows) s (covers_all_chain is_dominating place_cmp rows_prune (live rows) rows (s ∷ []) (pruned_covers is_dominating place_cmp rows_prune rows) (only s (covered_from_covering rows s h)) s (inl refl))
-  where
-    only : (x : RowValue) → IsCovered is_dominating rows x → (z : RowValue) → Member (x ∷ []) z → IsCovered is_dominating rows z
-    only x c z (inl e) = subst (λ (w : RowValue). IsCovered is_dominating rows w) e c
-    only x c z (inr m) = absurd m
+  -- it is as long as there are new ones
+  pub taken_many : length log.log ≡ length (new seen)
+  taken_many = sym (length-map log.log (λ (l : LogRow _). value l.row)) ∙ ap length taken
 
 -- ---- one more row
 
-module _ {R : Type 0} (value : R → RowValue) (seen : List RowValue) (row : RowValue) (old log : LogRows R) (taken : HasTaken value seen old) where
-  covers_seen : HasCovering (map value old.rows) row → HasCovering seen row
-  covers_seen covered = covering_from_live seen row (subst (λ (rows : List RowValue). HasCovering rows row) taken.held covered)
+module _ {R : Type 0} (value : R → RowValue) (seen : List RowValue) (old log : StateValue R) (offered : LogRow R) (taken : HasTaken value seen old) where
+  abbrev row : RowValue
+  row = value offered.row
 
-  uncovered_seen : (HasCovering (map value old.rows) row → ⊥) → HasCovering seen row → ⊥
-  uncovered_seen none covered = none (subst (λ (rows : List RowValue). HasCovering rows row) (sym taken.held) (covering_to_live seen row covered))
+  covers_seen : HasCovering (values value old.log) row → HasCovering seen row
+  covers_seen covered = covering_of_new seen row (subst (λ rows. HasCovering rows row) taken covered)
 
-  held_on : map value log.rows ≡ live (map value old.rows ++ row ∷ []) → map value log.rows ≡ live (seen ++ row ∷ [])
-  held_on goes = goes ∙ ap (λ (rows : List RowValue). live (rows ++ row ∷ [])) taken.held ∙ live_early_left seen (row ∷ [])
+  uncovered_seen : (HasCovering (values value old.log) row → ⊥) → HasCovering seen row → ⊥
+  uncovered_seen none covered = none (subst (λ rows. HasCovering rows row) (sym taken) (new_covering seen row covered))
 
-  -- a row before it covers it
-  pub kept_out : HasCovering (map value old.rows) row → map value log.rows ≡ live (map value old.rows ++ row ∷ []) → log.stored ≡ old.stored → HasTaken value (seen ++ row ∷ []) log × GoesOn seen row false
-  kept_out covered goes same =
-      let none = new-covered seen row (covers_seen covered) in
-      (record { held = held_on goes; stored = same ∙ taken.stored ∙ ap length (sym none) }, none ∙ sym (append-nil (new seen)))
-
-  -- none does
-  pub taken_in : (HasCovering (map value old.rows) row → ⊥) → map value log.rows ≡ live (map value old.rows ++ row ∷ []) → log.stored ≡ old.stored + 1 → HasTaken value (seen ++ row ∷ []) log × GoesOn seen row true
-  taken_in none goes more =
-      let one = new-uncovered seen row (uncovered_seen none) in
-      (record { held = held_on goes; stored = more ∙ rw one (omega (arith, taken.stored, length-append (new seen) (row ∷ []))) }, one)
-
-  -- a row before it covers it, and nothing is done
-  pub left_out : HasCovering (map value old.rows) row → log ≡ old → HasTaken value (seen ++ row ∷ []) log × GoesOn seen row false
-  left_out covered same =
-      let none = new-covered seen row (covers_seen covered) in
-      let held : map value log.rows ≡ live seen = ap (λ (l : LogRows R). map value l.rows) same ∙ taken.held in (
-        record { held = held ∙ sym (live-covered seen row (covers_seen covered)); stored = ap (λ (l : LogRows R). l.stored) same ∙ taken.stored ∙ ap length (sym none) },
-        none ∙ sym (append-nil (new seen)),
+  -- where there is room for it the rows go on by it, if none covers it
+  pub placed_row : (at : Option ℕ) (stored : Bool) → stored ≡ is_some at → IsPlaced value old.log offered log.log at → HasTaken value (seen ++ row ∷ []) log × GoesOn seen row stored
+  placed_row (Some at) stored tells is =
+      let one = new-with_uncovered seen row (uncovered_seen is.uncovered) in (
+        ap (values value) is.log_is ∙ map-append (λ (l : LogRow _). value l.row) old.log (offered ∷ []) ∙ ap (λ rows. rows ++ row ∷ []) taken ∙ sym one,
+        subst (GoesOn seen row) (sym tells) one,
       )
+  placed_row None stored tells is =
+      let none = new-with_covered seen row (covers_seen is.0) in
+      (ap (values value) is.1 ∙ taken ∙ sym none, subst (GoesOn seen row) (sym tells) (none ∙ sym (append-nil (new seen))))
 
-  -- none does, and the log is full
-  pub one_too_many : (HasCovering (map value old.rows) row → ⊥) → LOG_LIMIT ≤ old.stored → ArePastLog (seen ++ row ∷ [])
-  one_too_many none full = rw (new-uncovered seen row (uncovered_seen none)) (omega (arith, taken.stored, full, length-append (new seen) (row ∷ [])))
+  -- where it is refused it is one too many
+  pub refused_row : (e : End LogFull) → IsGrown value old.log offered log.log (Err e) → OffersRow value seen row log (Err e)
+  refused_row (Refused full) is = rw (new-with_uncovered seen row (uncovered_seen is.0.uncovered)) (omega (arith, taken_many value seen old taken, is.0.length_is, length-append (new seen) (row ∷ [])))
+  refused_row NoMemory is = tt
+
+-- how long a log is then
+pub placed_many : {R : Type 0} (value : R → RowValue) (log log' : List (LogRow R)) (offered : LogRow R) (at : Option ℕ) (stored : Bool) → stored ≡ is_some at → IsPlaced value log offered log' at
+    → length log' ≡ length log + (cond stored 1 0)
+placed_many value log log' offered (Some at) stored tells is = rw tells (omega (arith, ap length is.log_is, length-append log (offered ∷ [])))
+placed_many value log log' offered None stored tells is = rw tells (omega (arith, ap length is.1))
+
+pub refused_full : {R : Type 0} (value : R → RowValue) (log log' : List (LogRow R)) (offered : LogRow R) (e : End LogFull) → IsGrown value log offered log' (Err e) → IsRefusal e → LOG_LIMIT ≤ length log
+refused_full value log log' offered (Refused full) is refusal = omega (arith, is.0.length_is)
+refused_full value log log' offered NoMemory is refusal = absurd refusal
 
 -- with more rows behind them they are too many as well
 pub past_longer : (rows more : List RowValue) → ArePastLog rows → ArePastLog (rows ++ more)
@@ -89,10 +71,11 @@ past_longer rows more past = omega (arith, past, new_after-longer is_covering []
 -- ---- several rows
 
 -- these rows were offered behind those before, of all, and these are left
-pub record HasOffered {R : Type 0} (value : R → RowValue) (before : LogRows R) (all rows left : List R) (log : LogRows R) : Type 0 where
+pub record HasOffered {R : Type 0} (value : R → RowValue) (before : StateValue R) (all rows left : List R) (log : StateValue R) : Type 0 where
   pub took : (seen : List RowValue) → HasTaken value seen before → HasTaken value (seen ++ map value rows) log
-  pub more : before.stored ≤ log.stored
-  pub few : log.stored ≤ before.stored + length rows
+  pub of_namespace : log.namespace ≡ before.namespace
+  pub more : length before.log ≤ length log.log
+  pub few : length log.log ≤ length before.log + length rows
   pub whole : all ≡ rows ++ left
 
 -- one of several is too many, so they are
@@ -101,3 +84,10 @@ past_among {R} value seen all rows left row is past =
     let parts : seen ++ map value all ≡ ((seen ++ map value rows) ++ value row ∷ []) ++ map value left =
     ap (λ (l : List R). seen ++ map value l) is ∙ ap (λ (l : List RowValue). seen ++ l) (map-append value rows (row ∷ left)) ∙ sym (append_assoc seen (map value rows) (value row ∷ map value left)) ∙ sym (append_assoc (seen ++ map value rows) (value row ∷ []) (map value left)) in
     subst ArePastLog (sym parts) (past_longer ((seen ++ map value rows) ++ value row ∷ []) (map value left) past)
+
+-- the row that comes next is of the namespace of all
+pub next_here : {R : Type 0} (value : R → RowValue) (n : List ℕ) (all rows left : List R) (row : R) → all ≡ rows ++ row ∷ left → All (λ (r : RowValue). r.entry.namespace ≡ n) (map value all) → (value row).entry.namespace ≡ n
+next_here value n all rows left row is here =
+    let at = contains_from_member (map value rows ++ map value (row ∷ left)) (value row) (member_append_right (map value rows) (map value (row ∷ left)) (value row) (inl refl)) in
+    let parts = ap (map value) is ∙ map-append value rows (row ∷ left) in
+    subst (λ (r : RowValue). r.entry.namespace ≡ n) at.2 (subst (All (λ (r : RowValue). r.entry.namespace ≡ n)) parts here at.0 (value row) at.1)

@@ -1,11 +1,11 @@
 -- The commands over rows as values.
-use Rattle.std.specs.Prelude.{◌≡◌, ℕ, List, Option, Some, None}
+use Rattle.std.specs.Prelude.{◌≡◌, ℕ, List, Option, None}
 use Rattle.willow_outside.specs.Counts.{Rose}
 use Rattle.willow_outside.specs.Facts.{SourceFacts}
 use Rattle.cap_codec.specs.Rows.{RawValue, AreFrames}
 use Rattle.peer_image.specs.ImageReading.{IsImage, raw_rows}
 use Rattle.peer_image.specs.Order.{order_refusal}
-use Rattle.peer_stage.specs.Deed.{Deed, not_built}
+use Rattle.peer_stage.specs.Deed.{Deed}
 use Rattle.peer_stage.specs.Inputs.{HasInput}
 use Rattle.peer_rows.specs.Logged.{FitsLog}
 use Rattle.peer_rows.specs.Join.{Joins}
@@ -34,7 +34,7 @@ join_deed namespace =
 
 -- ---- show
 
--- the input is an image of rows in order
+-- the input is an image of rows in order, which fit the log
 pub record CanShow (i : SourceFacts) : Type 0 where
   pub had : List ℕ
   pub input : HasInput i had
@@ -42,18 +42,17 @@ pub record CanShow (i : SourceFacts) : Type 0 where
   pub rows : List RawValue
   pub is_image : IsImage had namespace rows
   pub in_order : order_refusal (raw_rows rows) ≡ None
+  pub fits_log : FitsLog namespace rows
 
--- all rows are listed; a listing of the newest is not built yet
 abbrev pub show_deed : Option ℕ → Deed
-show_deed None =
+show_deed asked =
     record {
-      meets = Shows;
+      meets = Shows asked;
       ready = λ old new. CanShow old.input;
       reads = λ old new. Rose old.input.faults new.input.faults;
       writes = λ old new. Rose old.output.faults new.output.faults;
       unbuilt = ⊥;
     }
-show_deed (Some newest) = not_built
 
 -- ---- gen
 

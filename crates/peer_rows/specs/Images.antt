@@ -12,9 +12,10 @@ use Rattle.peer_stage.specs.declared.outcome.JoinCounts.{JoinCounts}
 use Rattle.peer_stage.specs.declared.outcome.Origin.{Origin}
 use Rattle.peer_stage.specs.declared.outcome.Stop.{Stop}
 use Rattle.peer_stage.specs.declared.outcome.Stop.TheVariants as stop
-use Rattle.peer_rows.specs.RowLogs.{LogRows, HasTaken}
+use Rattle.ns_state.specs.Log.{StateValue}
+use Rattle.ns_state.specs.declared.live_log.LogFull.{LogFull}
+use Rattle.peer_rows.specs.RowLogs.{HasTaken}
 use Rattle.peer_rows.specs.Logged.{authorised_rows, entry_row, AreCounts, PassesLog}
-use Rattle.peer_rows.specs.declared.row_log.LogFull.{LogFull}
 
 -- the bytes are the image of these rows in order
 pub record IsImageInOrder (bytes namespace : List ℕ) (rows : List RawValue) : Type 0 where
@@ -31,7 +32,7 @@ ReadsImageFrom origin bytes (Err stop.NoMemory) = Unit {0}
 ReadsImageFrom origin bytes (Err e) = ⊥
 
 -- the log of the authorised rows, with the numbers of all of them; or one too many would be stored
-abbrev pub LogsImage : List ℕ → List RawValue → Result (LogRows AuthorisedValue × JoinCounts) Stop → Type 0
+abbrev pub LogsImage : List ℕ → List RawValue → Result (StateValue AuthorisedValue × JoinCounts) Stop → Type 0
 LogsImage namespace rows (Ok x) = HasTaken entry_row (authorised_rows namespace rows) x.0 × AreCounts namespace rows x.1
 LogsImage namespace rows (Err stop.LogFull) = PassesLog namespace rows
 LogsImage namespace rows (Err stop.NoMemory) = Unit {0}

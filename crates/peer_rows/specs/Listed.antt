@@ -1,29 +1,44 @@
--- The lines and numbers of the rows of a listing, as they go on row by row.
-use Rattle.std.specs.Prelude.{◌≡◌, ℕ, ◌+◌, List, Some}
-use Rattle.spelling.specs.Answers.{or_else}
-use Rattle.mc_cap.specs.declared.refusal.RowRefusal.{RowRefusal}
+-- The listing of the rows of an image, by what is live of their log.
+use Rattle.std.specs.Prelude.{◌≡◌, ℕ, List, ◌++◌, length, take, Option, Some, None, Result, Ok, Err}
+use Rattle.std.specs.List.{flat_map}
+use Rattle.std.specs.Global.{Vec}
+use Rattle.willow_entry.specs.Row.{RowValue}
 use Rattle.cap_codec.specs.Rows.{RawValue}
+use Rattle.ns_state.specs.Recent.{newest_rows}
+use Rattle.peer_listing.specs.Listing.{listing_head, listing_line}
+use Rattle.peer_stage.specs.declared.outcome.JoinCounts.{JoinCounts}
 use Rattle.peer_stage.specs.declared.outcome.ShowCounts.{ShowCounts}
-use Rattle.peer_rows.specs.Show.{listing, listing_lines, AreShown}
+use Rattle.peer_stage.specs.declared.outcome.Stop.{Stop}
+use Rattle.peer_stage.specs.declared.outcome.Stop.TheVariants as stop
+use Rattle.peer_rows.specs.Logged.{FitsLog, PassesLog}
+use Rattle.peer_rows.specs.Show.{asked_listing, AreShown}
 
--- these are the lines of the rows, and their numbers
-pub record IsListed (namespace : List ℕ) (rows : List RawValue) (lines : List ℕ) (counts : ShowCounts) : Type 0 where
-  pub are_lines : lines ≡ listing_lines namespace rows
+-- the listing of rows in order
+abbrev pub rows_listing : List ℕ → List RowValue → List ℕ
+rows_listing n rows = listing_head n (length rows) ++ flat_map (λ r. listing_line r.entry) rows
+
+-- the listing of rows that is asked for: of the first so many by recency, or all where there are fewer; or of all in order
+abbrev pub log_listing : Option ℕ → List ℕ → List RowValue → List ℕ
+log_listing None n rows = rows_listing n rows
+log_listing (Some most) n rows = rows_listing n (take most (newest_rows rows))
+
+-- a head and lines are this text
+abbrev pub AreText : Vec ℕ × Vec ℕ → List ℕ → Type 0
+AreText x text = x.0.items ++ x.1.items ≡ text
+
+-- this is the listing of the rows, with their numbers, and each that would be stored found room
+pub record IsListing (asked : Option ℕ) (namespace : List ℕ) (rows : List RawValue) (text : List ℕ) (counts : ShowCounts) : Type 0 where
+  pub is_listing : text ≡ asked_listing asked namespace rows
+  pub fits_log : FitsLog namespace rows
   pub counted : AreShown namespace rows counts
 
--- this is the listing of the rows, with their numbers
-pub record IsListing (namespace : List ℕ) (rows : List RawValue) (text : List ℕ) (counts : ShowCounts) : Type 0 where
-  pub is_listing : text ≡ listing namespace rows
-  pub counted : AreShown namespace rows counts
+-- how the listing of the rows of an image ends
+abbrev pub ListsImage : Option ℕ → List ℕ → List RawValue → Result (Vec ℕ × Vec ℕ × ShowCounts) Stop → Type 0
+ListsImage asked namespace rows (Ok x) = IsListing asked namespace rows (x.0.items ++ x.1.items) x.2
+ListsImage asked namespace rows (Err stop.LogFull) = PassesLog namespace rows
+ListsImage asked namespace rows (Err stop.NoMemory) = Unit {0}
+ListsImage asked namespace rows (Err e) = ⊥
 
--- the numbers with one row more that is authorised
-abbrev pub with_listed : ShowCounts → ShowCounts
-with_listed counts = record counts { rows = counts.rows + 1 }
-
--- the numbers with one row more that is not authorised
-abbrev pub with_left_out : RowRefusal → ShowCounts → ShowCounts
-with_left_out refusal counts = record counts {
-  rows = counts.rows + 1;
-  refused = counts.refused + 1;
-  first = or_else counts.first (Some (record { row = counts.rows + 1; refusal = refusal }));
-}
+-- the numbers of a listing of rows that were offered to a log
+abbrev pub show_counts : JoinCounts → ShowCounts
+show_counts counts = record { rows = counts.rows; refused = counts.refused; first = counts.first }

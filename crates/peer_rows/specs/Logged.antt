@@ -10,9 +10,10 @@ use Rattle.cap_codec.specs.Rows.{RawValue, row_of}
 use Rattle.auth_entry.specs.Authorised.{AuthorisedValue, authorised, row_refusal}
 use Rattle.peer_stage.specs.declared.outcome.JoinCounts.{JoinCounts}
 use Rattle.mc_cap.specs.declared.refusal.RefusedRow.{RefusedRow}
-use Rattle.peer_rows.specs.RowLogs.{ArePastLog}
-use Rattle.peer_rows.specs.declared.row_log.LogFull.{LogFull}
-use Rattle.peer_rows.specs.declared.row_log.TheConstants.{LOG_LIMIT}
+use Rattle.ns_state.specs.Log.{StateValue, values}
+use Rattle.ns_state.specs.declared.live_log.LogFull.{LogFull}
+use Rattle.ns_state.specs.declared.live_log.TheConstants.{LOG_LIMIT}
+use Rattle.peer_rows.specs.RowLogs.{HasTaken, ArePastLog}
 
 -- the rows that are authorised, in order, as a store sees them
 abbrev pub authorised_rows : List ℕ → List RawValue → List RowValue
@@ -24,6 +25,10 @@ entry_row a = row_of a.row
 
 abbrev pub stored_rows : List AuthorisedValue → List RowValue
 stored_rows = map entry_row
+
+-- what is live of a log, as a store sees it
+abbrev pub live_rows : StateValue AuthorisedValue → List RowValue
+live_rows log = live (values entry_row log.log)
 
 -- ---- refused rows
 
@@ -69,9 +74,10 @@ with_refused refusal counts = record counts {
 
 -- ---- the log
 
--- Of the rows seen, the live ones among the authorised are held, and these are the numbers.
-pub record IsLogOf (namespace : List ℕ) (seen : List RawValue) (held : List RowValue) (counts : JoinCounts) : Type 0 where
-  pub held_is : held ≡ live (authorised_rows namespace seen)
+-- This is the namespace's log of the authorised ones among the rows seen, and these are the numbers.
+pub record IsLogOf (namespace : List ℕ) (seen : List RawValue) (log : StateValue AuthorisedValue) (counts : JoinCounts) : Type 0 where
+  pub of_namespace : log.namespace ≡ namespace
+  pub taken : HasTaken entry_row (authorised_rows namespace seen) log
   pub counted : AreCounts namespace seen counts
 
 -- every row that would be stored found room
@@ -84,7 +90,7 @@ PassesLog namespace rows = ArePastLog (authorised_rows namespace rows)
 
 -- how the offer of a row ends, over the rows seen before it: the log is that of the rows with this one, or
 -- the row would be stored and is one too many
-abbrev pub Offers : List ℕ → List RawValue → RawValue → List RowValue → JoinCounts → Result (Unit {0}) (End LogFull) → Type 0
-Offers namespace seen row held counts (Ok u) = IsLogOf namespace (seen ++ row ∷ []) held counts
-Offers namespace seen row held counts (Err (Refused e)) = PassesLog namespace (seen ++ row ∷ [])
-Offers namespace seen row held counts (Err NoMemory) = Unit {0}
+abbrev pub Offers : List ℕ → List RawValue → RawValue → StateValue AuthorisedValue → JoinCounts → Result (Unit {0}) (End LogFull) → Type 0
+Offers namespace seen row log counts (Ok u) = IsLogOf namespace (seen ++ row ∷ []) log counts
+Offers namespace seen row log counts (Err (Refused e)) = PassesLog namespace (seen ++ row ∷ [])
+Offers namespace seen row log counts (Err NoMemory) = Unit {0}

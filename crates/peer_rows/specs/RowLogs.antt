@@ -3,18 +3,13 @@ use Rattle.std.specs.Prelude.{◌≡◌, ℕ, ◌<◌, Bool, List, [], ◌∷◌
 use Rattle.spelling.specs.declared.ending.End.{End}
 use Rattle.spelling.specs.declared.ending.End.TheVariants.{Refused, NoMemory}
 use Rattle.willow_entry.specs.Row.{RowValue, live, new}
-use Rattle.peer_rows.specs.declared.row_log.LogFull.{LogFull}
-use Rattle.peer_rows.specs.declared.row_log.TheConstants.{LOG_LIMIT}
+use Rattle.ns_state.specs.Log.{StateValue, values}
+use Rattle.ns_state.specs.declared.live_log.LogFull.{LogFull}
+use Rattle.ns_state.specs.declared.live_log.TheConstants.{LOG_LIMIT}
 
--- the live rows, and how many of those offered were stored when they came
-pub record LogRows (R : Type 0) : Type 0 where
-  pub rows : List R
-  pub stored : ℕ
-
--- These rows were offered, one after the other: of them what is live is held, and the new ones were stored.
-pub record HasTaken {R : Type 0} (value : R → RowValue) (seen : List RowValue) (log : LogRows R) : Type 0 where
-  pub held : map value log.rows ≡ live seen
-  pub stored : log.stored ≡ length (new seen)
+-- these rows were offered, one after the other, and the new ones are those of the log
+abbrev pub HasTaken : {R : Type 0} → (R → RowValue) → List RowValue → StateValue R → Type 0
+HasTaken value seen log = values value log.log ≡ new seen
 
 -- of these rows one too many would be stored
 abbrev pub ArePastLog : List RowValue → Type 0
@@ -30,13 +25,13 @@ IsRefusal (Refused full) = Unit {0}
 IsRefusal NoMemory = ⊥
 
 -- how the offer of a row ends, behind those that were offered before
-abbrev pub OffersRow : {R : Type 0} → (R → RowValue) → List RowValue → RowValue → LogRows R → Result Bool (End LogFull) → Type 0
+abbrev pub OffersRow : {R : Type 0} → (R → RowValue) → List RowValue → RowValue → StateValue R → Result Bool (End LogFull) → Type 0
 OffersRow value seen row log (Ok stored) = HasTaken value (seen ++ row ∷ []) log × GoesOn seen row stored
 OffersRow value seen row log (Err (Refused full)) = ArePastLog (seen ++ row ∷ [])
 OffersRow value seen row log (Err NoMemory) = Unit {0}
 
 -- how the offer of several ends
-abbrev pub OffersRows : {R : Type 0} → (R → RowValue) → List RowValue → List RowValue → LogRows R → Result (Unit {0}) (End LogFull) → Type 0
+abbrev pub OffersRows : {R : Type 0} → (R → RowValue) → List RowValue → List RowValue → StateValue R → Result (Unit {0}) (End LogFull) → Type 0
 OffersRows value seen rows log (Ok u) = HasTaken value (seen ++ rows) log
 OffersRows value seen rows log (Err (Refused full)) = ArePastLog (seen ++ rows)
 OffersRows value seen rows log (Err NoMemory) = Unit {0}

@@ -15,20 +15,16 @@ use Rattle.peer_stage.specs.Stages.{IsInput, IsReadWhole}
 use Rattle.peer_stage.specs.declared.stage.TheConstants.{INPUT_LIMIT}
 use Rattle.peer_stage.specs.declared.outcome.Stop.{Stop}
 use Rattle.peer_stage.specs.declared.outcome.Stop.TheVariants as stop
-use Rattle.peer_rows.specs.Logged.{stored_rows, IsLogOf, FitsLog, PassesLog}
+use Rattle.peer_rows.specs.Logged.{IsLogOf, FitsLog, PassesLog}
 use Rattle.peer_rows.specs.Join.{JoinsInput, BeginNoFrames, AreRightSoFar}
 use Rattle.peer_rows.specs.declared.log.Log.{Log}
-use Rattle.peer_rows.specs.declared.row_log.LogFull.{LogFull}
-use Rattle.peer_rows.specs.declared.row_log.TheConstants.{LOG_LIMIT}
-
--- the rows that a log holds, as a store sees them
-abbrev pub held_of : Log → List RowValue
-held_of log = stored_rows log.kept.rows
+use Rattle.ns_state.specs.declared.live_log.LogFull.{LogFull}
+use Rattle.ns_state.specs.declared.live_log.TheConstants.{LOG_LIMIT}
 
 -- how the offers of rows end, over the rows seen before them: the log is that of all of them, or one of them is one
 -- too many
 abbrev pub OffersAll : List ℕ → List RawValue → List RawValue → Log → Result (Unit {0}) (End LogFull) → Type 0
-OffersAll namespace seen rows log (Ok u) = IsLogOf namespace (seen ++ rows) (held_of log) log.counts
+OffersAll namespace seen rows log (Ok u) = IsLogOf namespace (seen ++ rows) log.kept log.counts
 OffersAll namespace seen rows log (Err (ends.Refused full)) = PassesLog namespace (seen ++ rows)
 OffersAll namespace seen rows log (Err ends.NoMemory) = Unit {0}
 
@@ -40,7 +36,7 @@ pub record HasSeen (namespace bytes : List ℕ) (state : StreamState) (log : Log
   pub unrefused : state.refusal ≡ None
   pub stream : IsStream IsRawRow 0 bytes (map row_of seen) state.begun None
   pub all_fed : state.at + length state.begun ≡ length bytes
-  pub is_log : IsLogOf namespace seen (held_of log) log.counts
+  pub is_log : IsLogOf namespace seen log.kept log.counts
   pub fits : log.counts.stored ≤ LOG_LIMIT
 
 -- the bytes stop at this place to be frames of rows, and what stands there is wrong whatever comes behind
@@ -77,7 +73,7 @@ EndsStream state (Err e) = ⊥
 
 -- a log of just these rows, each that would be stored with room
 pub record IsWholeLog (namespace : List ℕ) (rows : List RawValue) (log : Log) : Type 0 where
-  pub is_log : IsLogOf namespace rows (held_of log) log.counts
+  pub is_log : IsLogOf namespace rows log.kept log.counts
   pub fits_log : FitsLog namespace rows
 
 -- the input was read whole and is the frames of rows, whose log this is

@@ -1,20 +1,20 @@
 //! Images that a command reads, be it from the input or from a name, and the logs of their rows.
 
-ghost use Rattle.std.specs.Prelude.{◌≡◌, ◌^◌, ◌<◌, length};
+ghost use Rattle.std.specs.Prelude.{◌≡◌, ◌^◌, ◌<◌, length, IfOk};
 ghost use Rattle.spelling.specs.declared.ending.End.TheVariants as ends;
 ghost use Rattle.peer_rows.specs.Images.{ReadsImageFrom, LogsImage, log_stop};
 
 use crate::log::Log;
-use crate::row_log::{LogFull, RowLog};
 use auth_entry::AuthorisedEntry;
 use lms_core::PeerScheme;
+use ns_state::{LiveLog, LogFull};
 use peer_image::{Image, ImageRefusal, read_image};
 use peer_stage::{JoinCounts, Origin, Stop};
 use spelling::End;
 use std::alloc::Global;
 
 /// A log of authorised rows.
-pub type EntryLog = RowLog<AuthorisedEntry<PeerScheme>>;
+pub type EntryLog = LiveLog<AuthorisedEntry<PeerScheme>>;
 
 /// The image that the bytes are. What is wrong with them is told of where they came from.
 pub fn image_from(alloc: Global, bytes: &[u8], origin: Origin) -> Result<Image, Stop>
@@ -38,12 +38,13 @@ pub fn image_from(alloc: Global, bytes: &[u8], origin: Origin) -> Result<Image, 
 /// The log of the authorised rows of an image, offered in order, and the numbers of all its rows.
 pub fn log_image(alloc: Global, image: Image) -> Result<(EntryLog, JoinCounts), Stop>
     requires { length image.rows.items < 2 ^ 32 }
-    ensures { LogsImage image.namespace image.rows.items result }
+    ensures logs { LogsImage image.namespace image.rows.items result }
+    ensures namespace { IfOk result (λ x. x.0.namespace ≡ image.namespace) }
 {
     let Image { namespace, rows } = image;
-    let mut log = Log::new(alloc);
+    let mut log = Log::new(alloc, namespace);
     for row in rows {
-        match log.offer(alloc, &namespace, row) {
+        match log.offer(alloc, row) {
             Ok(()) => {}
             Err(end) => return Err(log_stop(end)),
         }
@@ -56,7 +57,7 @@ pub fn log_stop(end: End<LogFull>) -> Stop
     ensures { result ≡ log_stop end }
 {
     match end {
-        End::Refused(LogFull) => Stop::LogFull,
+        End::Refused(LogFull { front: _ }) => Stop::LogFull,
         End::NoMemory => Stop::NoMemory,
     }
 }

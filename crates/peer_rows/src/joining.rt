@@ -10,11 +10,11 @@ ghost use Rattle.peer_stage.specs.declared.outcome.Stop.TheVariants as stop;
 ghost use Rattle.peer_rows.specs.Join.{Joins};
 ghost use Rattle.peer_rows.specs.Stored.{EndsStream, HasSeen, LogsInput, TakesPiece, offset_of};
 
-use crate::images::log_stop;
 use crate::imaging::write_image_of;
 use crate::log::Log;
 use crate::offering::offer_all;
 use cap_codec::{RawRow, RawRows};
+use ns_state::LogFull;
 use peer_stage::{Done, INPUT_LIMIT, Stop};
 use row_stream::{RowStream, StreamRefusal};
 use spelling::{End, NoMemory};
@@ -23,7 +23,7 @@ use willow_outside::{Fault, Sink, Source};
 use willow_path::NamespaceKey;
 
 /// How many bytes are asked for in one read.
-const PIECE: usize = 16_384;
+const PIECE: usize = 65_536;
 
 /// Reads row frames from the input, keeps the live rows of those that are authorised in the namespace, and
 /// writes their image. Neither all of the input nor all of the image stands in memory.
@@ -48,7 +48,7 @@ fn read_log<I: Source>(alloc: Global, namespace: &NamespaceKey, input: &mut I) -
     ensures faults { CountsStep (I.facts input.old).faults (I.facts input.new).faults result }
     ensures ends { (I.facts input.old).ends ≤ (I.facts input.new).ends }
 {
-    let mut log = Log::new(alloc);
+    let mut log = Log::new(alloc, *namespace);
     let mut stream = RowStream::<RawRows>::new(alloc);
     let mut piece = room(alloc)?;
     let mut left = INPUT_LIMIT;
@@ -65,7 +65,7 @@ fn read_log<I: Source>(alloc: Global, namespace: &NamespaceKey, input: &mut I) -
                     return Err(Stop::bad_input(INPUT_LIMIT));
                 }
                 left -= n as u64;
-                take_piece(alloc, namespace, &mut stream, &mut log, &piece[..n])?;
+                take_piece(alloc, &mut stream, &mut log, &piece[..n])?;
             }
             Err(Fault::Failed) => return Err(Stop::ReadFault),
             Err(Fault::NoMemory) => return Err(Stop::NoMemory),
@@ -84,14 +84,13 @@ fn room(alloc: Global) -> Result<Vec<u8>, NoMemory>
 // meets a full log.
 fn take_piece(
     alloc: Global,
-    namespace: &NamespaceKey,
     stream: &mut RowStream<RawRows>,
     log: &mut Log,
     piece: &[u8],
 ) -> Result<(), Stop>
-    requires { (bytes : List ℕ) × HasSeen namespace.now bytes stream.old log.old × (length bytes + length piece.now ≤ INPUT_LIMIT) }
-    ensures { (bytes : List ℕ) → HasSeen namespace.now bytes stream.old log.old
-        → TakesPiece namespace.now (bytes ++ piece.now) stream.new log.new result }
+    requires { (namespace : List ℕ) × (bytes : List ℕ) × HasSeen namespace bytes stream.old log.old × (length bytes + length piece.now ≤ INPUT_LIMIT) }
+    ensures { (namespace bytes : List ℕ) → HasSeen namespace bytes stream.old log.old
+        → TakesPiece namespace (bytes ++ piece.now) stream.new log.new result }
 {
     let rows = match stream.feed(piece) {
         Ok(rows) => rows,
@@ -99,9 +98,10 @@ fn take_piece(
         Err(End::NoMemory) => return Err(Stop::NoMemory),
     };
     known_rows(&rows);
-    match offer_all(alloc, namespace, log, rows) {
+    match offer_all(alloc, log, rows) {
         Ok(()) => Ok(()),
-        Err(end) => Err(log_stop(end)),
+        Err(End::Refused(LogFull { front: _ })) => Err(Stop::LogFull),
+        Err(End::NoMemory) => Err(Stop::NoMemory),
     }
 }
 

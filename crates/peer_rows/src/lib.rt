@@ -8,7 +8,7 @@ mod generating;
 mod images;
 mod imaging;
 mod joining;
-mod laws;
+mod listing;
 mod log;
 mod offering;
 mod row_log;
@@ -18,8 +18,7 @@ pub use drilled::generated_logs;
 pub use generating::generate;
 pub use images::{EntryLog, image_from, log_image, log_stop};
 pub use joining::join;
-pub use laws::log_limit;
-pub use row_log::{LOG_LIMIT, LogFull, RowLog};
+pub use row_log::offer_rows;
 pub use showing::show;
 
 #[cfg(test)]

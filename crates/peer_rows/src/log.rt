@@ -1,35 +1,36 @@
 //! What one namespace keeps of the rows that are offered to it: the live ones, with the numbers of a join.
 
-ghost use Rattle.std.specs.Prelude.{◌≡◌, ◌+◌, ◌-◌, ◌^◌, ◌<◌, ◌≤◌, [], List, length, None, Some, OnOk};
+ghost use Rattle.std.specs.Prelude.{◌≡◌, ℕ, ◌+◌, ◌-◌, ◌^◌, ◌<◌, ◌≤◌, [], List, length, None, Some, OnOk};
 ghost use Rattle.spelling.specs.Answers.{or_else};
 ghost use Rattle.cap_codec.specs.Rows.{RawValue};
 ghost use Rattle.auth_entry.specs.Authorised.{row_refusal};
 ghost use Rattle.lms_core.specs.Use.{peer_rules};
-ghost use Rattle.peer_rows.specs.Logged.{IsLogOf, Offers, stored_rows, with_offered, with_refused};
+ghost use Rattle.peer_rows.specs.Logged.{IsLogOf, Offers, with_offered, with_refused};
 
-use crate::row_log::{LOG_LIMIT, LogFull, RowLog};
+use crate::row_log::offer_row;
 use auth_entry::{AuthorisedEntry, KnownCapabilities, RowRefusal};
 use cap_codec::RawRow;
 use lms_core::PeerScheme;
 use mc_cap::RefusedRow;
+use ns_state::{LOG_LIMIT, LiveLog, LogFull};
 use peer_stage::JoinCounts;
 use spelling::End;
 use std::alloc::Global;
 use willow_path::NamespaceKey;
 
-/// The live rows of those offered, and the numbers of all of them.
+/// A log of the authorised ones of the rows that are offered, and the numbers of all of them.
 #[derive(Drop)]
 pub(crate) struct Log {
-    pub(crate) kept: RowLog<AuthorisedEntry<PeerScheme>>,
+    pub(crate) kept: LiveLog<AuthorisedEntry<PeerScheme>>,
     pub(crate) counts: JoinCounts,
     known: KnownCapabilities<PeerScheme>,
-    ghost same: { kept.stored ≡ counts.stored },
+    ghost same: { length kept.log ≡ counts.stored },
     ghost sums: { counts.stored + counts.kept + counts.refused ≡ counts.rows },
 }
 
 impl Log {
-    pub(crate) fn new(alloc: Global) -> Log
-        ensures kept { result.kept ≡ record { rows = []; stored = 0 } }
+    pub(crate) fn new(alloc: Global, namespace: NamespaceKey) -> Log
+        ensures kept { result.kept ≡ record { namespace = namespace; log = [] } }
         ensures counts { result.counts ≡ record { rows = 0; stored = 0; kept = 0; refused = 0; first = None } }
     {
         let counts = JoinCounts {
@@ -40,26 +41,22 @@ impl Log {
             first: None,
         };
         Log {
-            kept: RowLog::new(alloc),
+            kept: LiveLog::new(alloc, namespace),
             counts,
             known: KnownCapabilities::new(alloc, PeerScheme),
         }
     }
 
-    /// Offers a row of a stream: one that is not authorised is left out and counted.
-    pub(crate) fn offer(
-        &mut self,
-        alloc: Global,
-        namespace: &NamespaceKey,
-        row: RawRow,
-    ) -> Result<(), End<LogFull>>
+    /// Offers a row of a stream: one that is not authorised in the log's namespace is left out and counted.
+    pub(crate) fn offer(&mut self, alloc: Global, row: RawRow) -> Result<(), End<LogFull>>
         requires { self.old.counts.rows < 2 ^ 64 - 1 }
-        ensures offers { (seen : List RawValue) → IsLogOf namespace.now seen (stored_rows self.old.kept.rows) self.old.counts
-            → Offers namespace.now seen row (stored_rows self.new.kept.rows) self.new.counts result }
+        ensures offers { (namespace : List ℕ) (seen : List RawValue) → IsLogOf namespace seen self.old.kept self.old.counts
+            → Offers namespace seen row self.new.kept self.new.counts result }
         ensures fits { OnOk result (self.new.counts.stored ≤ LOG_LIMIT) }
     {
-        match self.known.check(alloc, namespace, &row) {
-            Ok(()) => self.keep(AuthorisedEntry::new(*namespace, row)),
+        let namespace = self.kept.namespace();
+        match self.known.check(alloc, &namespace, &row) {
+            Ok(()) => self.keep(AuthorisedEntry::new(namespace, row)),
             Err(End::Refused(refusal)) => {
                 self.count_refused(refusal);
                 Ok(())
@@ -75,7 +72,7 @@ impl Log {
         ensures counts { self.new.counts ≡ with_refused refusal self.old.counts }
         ensures fits { self.new.counts.stored ≤ LOG_LIMIT }
     {
-        let _stored = self.kept.stored();
+        let _front = self.kept.front();
         let row = self.counts.rows + 1;
         self.counts = JoinCounts {
             rows: row,
@@ -85,16 +82,17 @@ impl Log {
         };
     }
 
-    // Puts an authorised row into the store, if no row covers it and there is room.
+    // Puts an authorised row into the log, if no row covers it and there is room.
     fn keep(&mut self, entry: AuthorisedEntry<PeerScheme>) -> Result<(), End<LogFull>>
-        requires { self.old.counts.rows < 2 ^ 64 - 1 }
-        ensures offers { (seen : List RawValue) → row_refusal peer_rules entry.namespace entry.row ≡ None → IsLogOf entry.namespace seen (stored_rows self.old.kept.rows) self.old.counts
-            → Offers entry.namespace seen entry.row (stored_rows self.new.kept.rows) self.new.counts result }
+        requires rows { self.old.counts.rows < 2 ^ 64 - 1 }
+        requires namespace { entry.namespace ≡ self.old.kept.namespace }
+        requires authorised { row_refusal peer_rules entry.namespace entry.row ≡ None }
+        ensures offers { (namespace : List ℕ) (seen : List RawValue) → IsLogOf namespace seen self.old.kept self.old.counts
+            → Offers namespace seen entry.row self.new.kept self.new.counts result }
         ensures fits { OnOk result (self.new.counts.stored ≤ LOG_LIMIT) }
     {
-        let stored = self.kept.offer(entry)?;
+        let stored = offer_row(&mut self.kept, entry)?;
         self.counts = offered(&self.counts, stored);
-        let _stored = self.kept.stored();
         Ok(())
     }
 }

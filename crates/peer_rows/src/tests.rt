@@ -4,6 +4,7 @@ ghost use Rattle.std.specs.Prelude.{◌≤◌};
 
 use super::*;
 use mc_cap::{RefusedRow, RowRefusal};
+use peer_listing::GENERATED_ROWS;
 use peer_stage::{Done, Origin, ShowCounts, Stop};
 use std::alloc::Global;
 use willow_outside::{MemSink, MemSource};
@@ -134,7 +135,7 @@ fn shows(
     let write_faults = Vec::from_slice(alloc, &[write_fault]).ok()?;
     let mut input = MemSource::new(alloc, image, read_faults, 100);
     let mut output = MemSink::new(alloc, Vec::new(alloc), write_faults, 100);
-    let end = show(alloc, &mut input, &mut output);
+    let end = show(alloc, None, &mut input, &mut output);
     if output.held() != text.as_bytes() {
         return None;
     }
@@ -191,7 +192,7 @@ fn images_shown(rt: HostRuntime) {
 
 // How the making of so many rows ends, where it writes these texts' bytes.
 fn generates(alloc: Global, rows: u32, texts: &[&str]) -> Option<Ended>
-    requires { rows ≤ LOG_LIMIT }
+    requires { rows ≤ GENERATED_ROWS }
 {
     let wanted = joined(alloc, texts)?;
     let mut output = MemSink::new(alloc, Vec::new(alloc), Vec::new(alloc), 100);

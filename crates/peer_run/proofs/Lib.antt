@@ -1,5 +1,4 @@
 pub mod Members
-pub mod AuthorisedRows
 pub mod FewNew
 pub mod DrilledRows
 pub mod DrilledText

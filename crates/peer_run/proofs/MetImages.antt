@@ -30,7 +30,7 @@ use Rattle.peer_run.specs.Transcript.{transcript}
 use Rattle.peer_run.specs.declared.exchanging.Came.{Came}
 use Rattle.peer_run.specs.declared.exchanging.Exchanged.{Exchanged}
 use Rattle.peer_run.specs.declared.images_met.Met.{Met}
-use Rattle.peer_run.proofs.AuthorisedRows.{authorised_framed, of_namespace}
+use Rattle.peer_rows.proofs.AuthorisedRows.{authorised_framed, of_namespace}
 use Rattle.peer_run.proofs.FirstOfBoth.{first_behind}
 use Rattle.peer_run.proofs.Members.{all_left, all_right, live_all, one_namespace}
 

@@ -50,7 +50,7 @@ use Rattle.peer_run.specs.declared.images_met.Met.{Met}
 use Rattle.peer_run.specs.declared.meeting.MeetWords.{MeetWords}
 use Rattle.peer_run.specs.declared.meeting.Sides.{Sides}
 use Rattle.peer_run.proofs.BothPass.{agreed}
-use Rattle.peer_run.proofs.AuthorisedRows.{authorised_live, of_namespace}
+use Rattle.peer_rows.proofs.AuthorisedRows.{authorised_live, of_namespace}
 use Rattle.peer_run.proofs.Gathered.{WereGot, gathered}
 use Rattle.peer_run.proofs.Meetings.{left_converges, right_converges, meet_alike}
 

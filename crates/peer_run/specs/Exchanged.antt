@@ -12,9 +12,10 @@ use Rattle.sync_core.specs.Flat.{TurnValue}
 use Rattle.sync_core.specs.SyncRules.{sync_rules}
 use Rattle.sync_pair.specs.Meeting.{turn_bytes}
 use Rattle.auth_entry.specs.Authorised.{AuthorisedValue}
-use Rattle.peer_rows.specs.RowLogs.{LogRows, HasTaken, ArePastLog}
+use Rattle.ns_state.specs.Log.{StateValue}
+use Rattle.ns_state.specs.declared.live_log.LogFull.{LogFull}
+use Rattle.peer_rows.specs.RowLogs.{HasTaken, ArePastLog}
 use Rattle.peer_rows.specs.Logged.{entry_row}
-use Rattle.peer_rows.specs.declared.row_log.LogFull.{LogFull}
 use Rattle.peer_run.specs.declared.exchanging.Came.{Came}
 use Rattle.peer_run.specs.declared.exchanging.Exchanged.{Exchanged}
 
@@ -32,19 +33,19 @@ pub record HasCome (seen rows : List RowValue) (came : Came) : Type 0 where
   pub all : came.stored + came.kept ≡ length rows
 
 -- A log took the rows that came behind some others: each that was to be stored found room.
-pub record HasTakenUp (seen rows : List RowValue) (log : LogRows AuthorisedValue) (came : Came) : Type 0 where
+pub record HasTakenUp (seen rows : List RowValue) (log : StateValue AuthorisedValue) (came : Came) : Type 0 where
   pub taken : HasTaken entry_row (seen ++ rows) log
   pub numbers : HasCome seen rows came
   pub room : ArePastLog (seen ++ rows) → ⊥
 
 -- how a log takes the rows that came
-abbrev pub Takes : List RowValue → List RowValue → LogRows AuthorisedValue → Result Came (End LogFull) → Type 0
+abbrev pub Takes : List RowValue → List RowValue → StateValue AuthorisedValue → Result Came (End LogFull) → Type 0
 Takes seen rows log (Ok came) = HasTakenUp seen rows log came
 Takes seen rows log (Err (Refused full)) = ArePastLog (seen ++ rows)
 Takes seen rows log (Err NoMemory) = Unit {0}
 
 -- The turns in bytes are those of the exchange of two stores, so many items were counted, and each side took what came.
-pub record AreMet (a b : List RowValue) (area : Option Ranges) (left_log right_log : LogRows AuthorisedValue) (x : Exchanged) : Type 0 where
+pub record AreMet (a b : List RowValue) (area : Option Ranges) (left_log right_log : StateValue AuthorisedValue) (x : Exchanged) : Type 0 where
   pub turns : map (λ t. t.items) x.turns.items ≡ map turn_bytes (met a b area)
   pub items : x.items ≡ counted (met a b area)
   pub left : HasTakenUp a (to_left (met a b area)) left_log x.left
@@ -55,7 +56,7 @@ abbrev pub IsPastOne : List RowValue → List RowValue → Option Ranges → Typ
 IsPastOne a b area = ArePastLog (a ++ to_left (met a b area)) ⊎ ArePastLog (b ++ to_right (met a b area))
 
 -- how the exchange of two logs ends that took these rows before
-abbrev pub Exchanges : List RowValue → List RowValue → Option Ranges → LogRows AuthorisedValue → LogRows AuthorisedValue → Result Exchanged (End LogFull) → Type 0
+abbrev pub Exchanges : List RowValue → List RowValue → Option Ranges → StateValue AuthorisedValue → StateValue AuthorisedValue → Result Exchanged (End LogFull) → Type 0
 Exchanges a b area left right (Ok x) = AreMet a b area left right x
 Exchanges a b area left right (Err (Refused full)) = IsPastOne a b area
 Exchanges a b area left right (Err NoMemory) = Unit {0}

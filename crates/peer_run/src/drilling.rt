@@ -6,7 +6,8 @@ ghost use Rattle.peer_run.specs.Drill.{Drills, drill_text};
 
 use crate::exchanging::exchange;
 use peer_listing::{DrillCounts, GENERATED_ROWS, drill_summary};
-use peer_rows::{LogFull, generated_logs};
+use ns_state::LogFull;
+use peer_rows::generated_logs;
 use peer_stage::{Done, Stop, write_output};
 use spelling::{End, NoMemory};
 use std::alloc::Global;
@@ -35,7 +36,7 @@ fn drill_text(alloc: Global, rows: u32) -> Result<Vec<u8>, NoMemory>
     let full = Some(Area::full(alloc));
     let exchanged = match exchange(alloc, &mut left, &mut right, &full) {
         Ok(exchanged) => exchanged,
-        Err(End::Refused(LogFull)) => unreachable!(),
+        Err(End::Refused(LogFull { front: _ })) => unreachable!(),
         Err(End::NoMemory) => return Err(NoMemory),
     };
     let counts = DrillCounts {

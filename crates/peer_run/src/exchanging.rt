@@ -1,16 +1,16 @@
 //! Two logs that exchange their rows.
 
-ghost use Rattle.std.specs.Prelude.{List, All};
-ghost use Rattle.block_store.specs.BoxKinds.{IsOfOneNamespace};
+ghost use Rattle.std.specs.Prelude.{◌≡◌, List, All};
 ghost use Rattle.willow_entry.specs.Frame.{HasFrame};
 ghost use Rattle.willow_entry.specs.Row.{RowValue};
 ghost use Rattle.peer_rows.specs.RowLogs.{HasTaken};
-ghost use Rattle.peer_rows.specs.Logged.{entry_row, stored_rows};
+ghost use Rattle.peer_rows.specs.Logged.{entry_row, live_rows, stored_rows};
 ghost use Rattle.peer_run.specs.Exchanged.{Exchanges, Takes, boxed};
 
 use auth_entry::AuthorisedEntry;
 use lms_core::PeerScheme;
-use peer_rows::{EntryLog, LogFull};
+use ns_state::LogFull;
+use peer_rows::{EntryLog, offer_rows};
 use spelling::End;
 use std::alloc::Global;
 use sync_pair::{PairRun, meet_rows};
@@ -39,10 +39,9 @@ pub(crate) fn exchange(
     right: &mut EntryLog,
     area: &Option<Area>,
 ) -> Result<Exchanged, End<LogFull>>
-    requires left_one { IsOfOneNamespace (stored_rows left.old.rows) }
-    requires right_one { IsOfOneNamespace (stored_rows right.old.rows) }
-    requires left_frames { All HasFrame (stored_rows left.old.rows) }
-    requires right_frames { All HasFrame (stored_rows right.old.rows) }
+    requires one_namespace { right.old.namespace ≡ left.old.namespace }
+    requires left_frames { All HasFrame (live_rows left.old) }
+    requires right_frames { All HasFrame (live_rows right.old) }
     ensures { (a b : List RowValue) → HasTaken entry_row a left.old → HasTaken entry_row b right.old → Exchanges a b (boxed area.now) left.new right.new result }
 {
     let run = meet_rows(alloc, &left.snapshot()?, &right.snapshot()?, area.as_ref())?;
@@ -64,12 +63,13 @@ pub(crate) fn exchange(
 
 // Offers the rows that came to a log.
 fn take(log: &mut EntryLog, rows: Vec<AuthorisedEntry<PeerScheme>>) -> Result<Came, End<LogFull>>
+    requires { All (λ (row : RowValue). row.entry.namespace ≡ log.old.namespace) (stored_rows rows.items) }
     ensures { (seen : List RowValue) → HasTaken entry_row seen log.old → Takes seen (stored_rows rows.items) log.new result }
 {
     let count = rows.len() as u64;
-    let before = log.stored();
-    log.offer_all(rows)?;
-    let stored = log.stored() - before;
+    let before = log.front();
+    offer_rows(log, rows)?;
+    let stored = u64::from(log.front() - before);
     Ok(Came {
         stored,
         kept: count - stored,

@@ -2,7 +2,6 @@
 
 ghost use Rattle.std.specs.Prelude.{ℕ, List, ◌≤◌};
 ghost use Rattle.peer_stage.specs.World.{World};
-ghost use Rattle.peer_rows.specs.Deeds.{show_deed};
 ghost use Rattle.peer_words.specs.Words.{texts};
 ghost use Rattle.peer_words.specs.Commands.{IsWords};
 ghost use Rattle.peer_run.specs.Deeds.{deed_of};
@@ -36,7 +35,7 @@ fn run_command<H: Shelf, I: Source, O: Sink, N: Noise>(
 {
     match command {
         Command::Join { namespace } => join(alloc, &namespace, input, output),
-        Command::Show { newest } => run_show(alloc, newest, input, output),
+        Command::Show { newest } => show(alloc, newest, input, output),
         Command::Key { name, height } => make_key(alloc, name, height, shelf, noise, output),
         Command::Grant {
             namespace,
@@ -80,23 +79,6 @@ fn run_command<H: Shelf, I: Source, O: Sink, N: Noise>(
         Command::Sync { .. } => Err(Stop::Usage),
         Command::Serve { .. } => Err(Stop::Usage),
         Command::Watch { .. } => Err(Stop::Usage),
-    }
-}
-
-// A listing of all rows; one of the newest is not built yet.
-fn run_show<I: Source, O: Sink>(
-    alloc: Global,
-    newest: Option<u32>,
-    input: &mut I,
-    output: &mut O,
-) -> Result<Done, Stop>
-    ensures { (others : World) → (show_deed newest).meets
-        (record others { input = I.facts input.old; output = O.facts output.old })
-        (record others { input = I.facts input.new; output = O.facts output.new }) result }
-{
-    match newest {
-        None => show(alloc, input, output),
-        Some(_) => Err(Stop::Usage),
     }
 }
 

@@ -7,7 +7,7 @@ pub mod laws;
 mod ranked;
 
 pub use index::Recency;
-pub use ranked::Ranked;
+pub use ranked::{Ranked, by_recency};
 
 #[cfg(test)]
 mod tests;

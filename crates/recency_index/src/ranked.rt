@@ -1,6 +1,8 @@
 //! What the index has of an entry: its place is its key, and its recency its rank.
 
 ghost use Rattle.std.specs.Prelude.{◌≡◌, IfOk};
+ghost use Rattle.std.specs.Ordering.{ordering_then};
+ghost use Rattle.willow_entry.specs.Rank.{rank_cmp};
 ghost use Rattle.willow_entry.specs.Row.{subspace_path_cmp};
 ghost use Rattle.recency_index.specs.Recency.{ranked_of, item_rank, recency_cmp};
 
@@ -69,14 +71,35 @@ fn by_place(a: &Ranked, subspace: &UserKey, path: &Path) -> Ordering
     by_subspace_path((&a.subspace, &a.path), (subspace, path))
 }
 
-// How two items are ordered by recency: the greater rank first, and of equal ranks the lower place.
-pub(crate) fn by_recency(a: &Ranked, b: &Ranked) -> Ordering
-    ensures { result ≡ recency_cmp a.now b.now }
+// How two ranks, each at a place, are ordered by recency: the greater rank first, and of equal ranks the lower place.
+fn by_rank_and_place(r: (&Rank, &UserKey, &Path), s: (&Rank, &UserKey, &Path)) -> Ordering
+    ensures { result ≡ ordering_then (rank_cmp s.entry.0.now r.entry.0.now) (subspace_path_cmp (r.entry.1.now, r.entry.2.now) (s.entry.1.now, s.entry.2.now)) }
 {
-    match by_rank(&b.rank(), &a.rank()) {
-        Ordering::Equal => by_place(a, &b.subspace, &b.path),
+    match by_rank(s.0, r.0) {
+        Ordering::Equal => by_subspace_path((r.1, r.2), (s.1, s.2)),
         order => order,
     }
+}
+
+// How two items are ordered by recency.
+fn items_by_recency(a: &Ranked, b: &Ranked) -> Ordering
+    ensures { result ≡ recency_cmp a.now b.now }
+{
+    by_rank_and_place(
+        (&a.rank(), &a.subspace, &a.path),
+        (&b.rank(), &b.subspace, &b.path),
+    )
+}
+
+/// How two entries of one namespace are ordered by recency: the more recent first, which is the one of the greater
+/// timestamp, then digest, then payload length, and of equal ranks the one of the lower subspace, then path.
+pub fn by_recency(e: &Entry, f: &Entry) -> Ordering
+    ensures { result ≡ recency_cmp (ranked_of e.now) (ranked_of f.now) }
+{
+    by_rank_and_place(
+        (&e.rank(), &e.subspace, &e.path),
+        (&f.rank(), &f.subspace, &f.path),
+    )
 }
 
 impl Twice for Ranked {
@@ -96,6 +119,6 @@ impl Twice for Ranked {
 
     fn by_rank<L: Ledger>(&self, other: &Ranked, steps: &mut Steps<L>) -> Ordering {
         steps.tick();
-        by_recency(self, other)
+        items_by_recency(self, other)
     }
 }

@@ -1,4 +1,5 @@
-use Rattle.std.proofs.Common.{◌≤◌}
+use Rattle.std.proofs.Common.{◌≡◌, ◌≤◌, length}
+use Rattle.peer_listing.specs.Generator.{generator_namespace}
 use Rattle.peer_rows.specs.RowLogs.{HasTaken}
 use Rattle.peer_rows.specs.Logged.{entry_row}
 use Rattle.peer_rows.specs.Drilled.{generated_rows}
@@ -9,13 +10,16 @@ invariant-both l =
     record {
       whole : HasTaken entry_row (generated_rows l.i) l.whole;
       half : HasTaken entry_row (generated_rows l.i) l.half;
-      whole_few : l.whole.stored ≤ l.i;
-      half_few : l.half.stored ≤ l.i;
+      whole_few : length l.whole.log ≤ l.i;
+      half_few : length l.half.log ≤ l.i;
+      whole_namespace : l.whole.namespace ≡ generator_namespace;
+      half_namespace : l.half.namespace ≡ generator_namespace;
     }
 
 abbrev pub invariant-others : goal.invariant-others
 invariant-others l =
     record {
       whole : HasTaken entry_row (generated_rows l.i) l.whole;
-      whole_few : l.whole.stored ≤ l.i;
+      whole_few : length l.whole.log ≤ l.i;
+      whole_namespace : l.whole.namespace ≡ generator_namespace;
     }

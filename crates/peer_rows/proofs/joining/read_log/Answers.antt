@@ -54,7 +54,7 @@ pieces-preserved g c =
     record {
       read =
           has_read_on c.args.namespace.now (g.I.Source.facts c.args.input.now) (g.I.Source.facts c.pieces.input) (g.I.Source.facts c.read.new.self) c.pieces.left c.pieces.stream c.pieces.log c.pieces.invariant.read (take n buf) c.in-Ok.ensures.bytes.0 few (c.in-Ok.ensures.end.gave_some some)
-          (c.pieces.left - n) c.take_piece.new.stream c.take_piece.new.log (ap (λ (k : ℕ). c.pieces.left - k) c.in-Ok.ensures.bound.1) (rw given at (c.in_ok-take_piece-in-Ok.ensures c.pieces.invariant.read.bytes c.pieces.invariant.read.seen)) c.in-Ok.ensures.cause;
+          (c.pieces.left - n) c.take_piece.new.stream c.take_piece.new.log (ap (λ (k : ℕ). c.pieces.left - k) c.in-Ok.ensures.bound.1) (rw given at (c.in_ok-take_piece-in-Ok.ensures c.args.namespace.now c.pieces.invariant.read.bytes c.pieces.invariant.read.seen)) c.in-Ok.ensures.cause;
       room = subst (λ (l : List ℕ). 0 < length l) c.deref.ensures.value (omega (arith, ap length given, some, c.in-Ok.ensures.bound));
     }
 
@@ -69,4 +69,4 @@ returns-in_err-take_piece-in-Ok-clause-logs g c =
     let e = c.in_err-take_piece-in-Ok.field-0.0 in
     let p = err_from_is_err_and c.from_residual-in_err-take_piece-in-Ok.result c.from_residual-in_err-take_piece-in-Ok.ensures.1 in
     rw (p.1, p.2) (piece_stops c.args.namespace.now (g.I.Source.facts c.args.input.now) (g.I.Source.facts c.pieces.input) (g.I.Source.facts c.read.new.self) c.pieces.left c.pieces.stream c.pieces.log c.pieces.invariant.read (take n buf) c.in-Ok.ensures.bytes.0 few (c.in-Ok.ensures.end.gave_some some)
-    e c.take_piece.new.stream c.take_piece.new.log (subst (λ (l : List ℕ). TakesPiece c.args.namespace.now (c.pieces.invariant.read.bytes ++ take n l) c.take_piece.new.stream c.take_piece.new.log (Err e)) given (c.in_err-take_piece-in-Ok.ensures c.pieces.invariant.read.bytes c.pieces.invariant.read.seen)))
+    e c.take_piece.new.stream c.take_piece.new.log (subst (λ (l : List ℕ). TakesPiece c.args.namespace.now (c.pieces.invariant.read.bytes ++ take n l) c.take_piece.new.stream c.take_piece.new.log (Err e)) given (c.in_err-take_piece-in-Ok.ensures c.args.namespace.now c.pieces.invariant.read.bytes c.pieces.invariant.read.seen)))

@@ -7,5 +7,5 @@ invariant-loop-row l = record {
   can : (goal.iterator-loop-row).can_next l.row-iterator;
   ends : (goal.iterator-loop-row).is_finite l.row-iterator;
   all : l.yielded ++ l.row-iterator.rest.items ≡ l.fn.rows.items;
-  offered : HasOffered l.namespace l.yielded l.fn.log l.log;
+  offered : HasOffered l.yielded l.fn.log l.log;
 }

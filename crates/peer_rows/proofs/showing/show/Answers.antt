@@ -14,7 +14,7 @@ returns-in_err-write_both g c =
     let e = c.in_err-write_both.field-0.0 in
     let bytes : List ℕ = c.in_ok-head.head.items ++ c.in_ok-head.lines.items in
     let same : c.deref.result.now ++ c.deref-2.result.now ≡ bytes = rw (c.deref.ensures.value, c.deref-2.ensures.value) refl in
-    rw (p.1, p.2) (λ others. reads_and_writes ShowsInput (λ x. x.0.items ++ x.1.items) (λ x. done.Shown x.2) others (g.I.Source.facts c.args.input.now) (g.I.Source.facts c.show_input.new.input) o o'
+    rw (p.1, p.2) (λ others. reads_and_writes (ShowsInput c.args.newest) (λ x. x.0.items ++ x.1.items) (λ x. done.Shown x.2) others (g.I.Source.facts c.args.input.now) (g.I.Source.facts c.show_input.new.input) o o'
     (c.in_ok-head.head, c.in_ok-head.lines, c.in_ok-head.counts) (Err e) c.in_ok-head.ensures.shows c.in_ok-head.ensures.faults c.show_input.ensures.ends
     (stops_writing bytes (c.deref.result.now ++ c.deref-2.result.now) (done.Shown c.in_ok-head.counts) o o' e same c.in_err-write_both.ensures.writes) c.in_err-write_both.ensures.faults)
 
@@ -25,6 +25,6 @@ returns g c =
     let bytes : List ℕ = c.in_ok-head.head.items ++ c.in_ok-head.lines.items in
     let same : c.deref.result.now ++ c.deref-2.result.now ≡ bytes = rw (c.deref.ensures.value, c.deref-2.ensures.value) refl in
     let is_done = done.Shown c.in_ok-head.counts in
-    λ others. reads_and_writes ShowsInput (λ x. x.0.items ++ x.1.items) (λ x. done.Shown x.2) others (g.I.Source.facts c.args.input.now) (g.I.Source.facts c.show_input.new.input) o o'
+    λ others. reads_and_writes (ShowsInput c.args.newest) (λ x. x.0.items ++ x.1.items) (λ x. done.Shown x.2) others (g.I.Source.facts c.args.input.now) (g.I.Source.facts c.show_input.new.input) o o'
     (c.in_ok-head.head, c.in_ok-head.lines, c.in_ok-head.counts) (Ok is_done) c.in_ok-head.ensures.shows c.in_ok-head.ensures.faults c.show_input.ensures.ends
     (has_written bytes (c.deref.result.now ++ c.deref-2.result.now) is_done o o' same c.in_ok-write_both.ensures.writes) c.in_ok-write_both.ensures.faults

@@ -1,0 +1,178 @@
+//! The log of one namespace, with what is live of it by place.
+
+ghost use Rattle.std.specs.Prelude.{◌≡◌, ◌↔◌, ℕ, ◌<◌, ◌≤◌, [], ◌∷◌, ◌++◌, length, map, take, drop, slice_get, IfOk, IfSome, IfNone, IsTrue, OnOk, OnErr, Some, MatchOption};
+ghost use Rattle.willow_entry.specs.Row.{live, new, HasCovering, IsCoveringAt};
+ghost use Rattle.ns_state.specs.Log.{IsLog, values, plain_row};
+ghost use Rattle.ns_state.specs.Answer.{IsGrown, IsPlaced};
+
+use crate::log::{first_cover, read_rows};
+use block_store::{BlockStore, Snapshot};
+use std::alloc::Global;
+use std::marker::Model;
+use std::sync::Arc;
+use willow_entry::{LogRow, Placed, Row};
+use willow_path::{End, NamespaceKey, NoMemory};
+
+/// The greatest number of rows of a log.
+pub const LOG_LIMIT: usize = 65_536;
+
+/// The log has no room for a further row.
+#[derive(Clone, Copy, Debug, PartialEq, Eq)]
+pub struct LogFull {
+    /// The length of the log.
+    pub front: u32,
+}
+
+/// The log of a namespace, with what is live of it by place. The log and the store share each row.
+/// A contract sees the namespace and the log.
+#[derive(Drop)]
+pub struct LiveLog<R: Row> {
+    namespace: NamespaceKey,
+    log: Vec<LogRow<Arc<R>>>,
+    store: BlockStore<R>,
+}
+
+impl<R: Row> Model for LiveLog<R> {
+    ghost use Rattle.std.specs.Prelude.{◌≡◌, map};
+    ghost use Rattle.willow_entry.specs.Row.{live};
+    ghost use Rattle.ns_state.specs.Log.{StateValue, IsLog, values, plain_row};
+
+    ghost Value = { StateValue R };
+
+    ghost view = { λ l. record { namespace = l.namespace; log = map plain_row l.log.items } };
+
+    ghost invariant = { λ l. IsLog R.value l.namespace (map plain_row l.log.items) × (map R.value l.store ≡ live (values R.value (map plain_row l.log.items))) };
+}
+
+impl<R: Row> LiveLog<R> {
+    /// The log without rows.
+    pub fn new(alloc: Global, namespace: NamespaceKey) -> LiveLog<R>
+        ensures namespace { result.namespace ≡ namespace }
+        ensures empty { result.log ≡ [] }
+    {
+        LiveLog {
+            namespace,
+            log: Vec::new(alloc),
+            store: BlockStore::new(alloc),
+        }
+    }
+
+    /// The namespace.
+    pub fn namespace(&self) -> NamespaceKey
+        ensures { result ≡ self.now.namespace }
+    {
+        self.namespace
+    }
+
+    /// The length of the log.
+    pub fn front(&self) -> u32
+        ensures front { result ≡ length self.now.log }
+        ensures log { IsLog R.value self.now.namespace self.now.log }
+    {
+        self.log.len() as u32
+    }
+
+    /// The row of the log at this position, counted from 0, with the number of its pass; None exactly from the front on.
+    pub fn log_row(&self, at: u32) -> Option<&LogRow<Arc<R>>>
+        ensures { MatchOption result (length self.now.log ≤ at) (λ held. slice_get self.now.log at ≡ Some (plain_row held.now)) }
+    {
+        self.log.get(at as usize)
+    }
+
+    /// At most `most` rows of the log from the position on, fewer only at the log's end. No row is copied.
+    pub fn read_log(&self, from: u32, most: u32) -> Result<Vec<LogRow<Arc<R>>>, NoMemory>
+        ensures { IfOk result (λ rows. map plain_row rows.items ≡ take most (drop from self.now.log)) }
+    {
+        let alloc = *self.log.allocator();
+        read_rows(alloc, &self.log, from as usize, most as usize)
+    }
+
+    /// The live rows of the log, by rising place.
+    pub fn store(&self) -> &BlockStore<R>
+        ensures live { map R.value result.now ≡ live (values R.value self.now.log) }
+        ensures log { IsLog R.value self.now.namespace self.now.log }
+    {
+        &self.store
+    }
+
+    /// The live rows of the log as they are now, by rising place.
+    pub fn snapshot(&self) -> Result<Snapshot<R>, NoMemory>
+        ensures live { IfOk result (λ snapshot. map R.value snapshot ≡ live (values R.value self.now.log)) }
+        ensures log { IsLog R.value self.now.namespace self.now.log }
+    {
+        self.store.snapshot()
+    }
+
+    /// Whether a row of the log equals or dominates the row. The store tells it by search, without a walk over the log.
+    pub fn covers(&self, row: &R) -> bool
+        ensures { IsTrue result ↔ HasCovering (values R.value self.now.log) (R.value row.now) }
+    {
+        self.store.covered_by(row).is_some()
+    }
+
+    // A position of the log whose row equals or dominates the row; None exactly where there is none.
+    pub(crate) fn cover(&self, row: &R) -> Option<u32>
+        ensures log { IsLog R.value self.now.namespace self.now.log }
+        ensures found { IfSome result (λ at. IsCoveringAt (values R.value self.now.log) at (R.value row.now)) }
+        ensures none { IfNone result (HasCovering (values R.value self.now.log) (R.value row.now) → ⊥) }
+    {
+        self.store.covered_by(row)?;
+        match first_cover(&self.log, row) {
+            Some(at) => Some(at as u32),
+            None => unreachable!(),
+        }
+    }
+
+    /// Offers a row by the pass of this number. Where a row of the log equals or dominates it, nothing changes and the
+    /// answer is None. Else, where the log is full, nothing changes. Else the row is the log's last, at the position
+    /// answered. All memory is taken before any change, so an error leaves the log as it was. The store is searched
+    /// once, and the log is not walked over.
+    pub fn offer(&mut self, pass: u32, row: R) -> Result<Option<u32>, End<LogFull>>
+        requires { (R.value row).entry.namespace ≡ self.old.namespace }
+        ensures answer { IsGrown R.value self.old.log (record { pass = pass; row = row }) self.new.log result }
+        ensures namespace { self.new.namespace ≡ self.old.namespace }
+        ensures log { IsLog R.value self.new.namespace self.new.log }
+        ensures new { OnOk result (values R.value self.new.log ≡ new (values R.value self.old.log ++ R.value row ∷ [])) }
+        ensures err { OnErr result (self.new ≡ self.old) }
+    {
+        if self.log.len() >= LOG_LIMIT {
+            return self.offer_full(&row);
+        }
+        Ok(self.place(pass, row)?)
+    }
+
+    // Refuses a row that is offered to a full log, where none covers it.
+    fn offer_full(&self, row: &R) -> Result<Option<u32>, End<LogFull>>
+        requires { LOG_LIMIT ≤ length self.now.log }
+        ensures { (pass : ℕ) → IsGrown R.value self.now.log (record { pass = pass; row = row.now }) self.now.log result }
+    {
+        if self.covers(row) {
+            return Ok(None);
+        }
+        Err(End::Refused(LogFull {
+            front: self.front(),
+        }))
+    }
+
+    // Adds a row to a log that has room, unless a row of the log covers it, and answers its position.
+    fn place(&mut self, pass: u32, row: R) -> Result<Option<u32>, NoMemory>
+        requires namespace { (R.value row).entry.namespace ≡ self.old.namespace }
+        requires room { length self.old.log < LOG_LIMIT }
+        ensures placed { IfOk result (λ at. IsPlaced R.value self.old.log (record { pass = pass; row = row }) self.new.log at) }
+        ensures namespace { self.new.namespace ≡ self.old.namespace }
+        ensures log { IsLog R.value self.new.namespace self.new.log }
+        ensures err { OnErr result (self.new ≡ self.old) }
+    {
+        self.log.reserve(1)?;
+        let held = Arc::new(*self.log.allocator(), row)?;
+        let shared = held.clone()?;
+        match self.store.ingest_shared(shared)? {
+            Placed::Kept { by: _ } => Ok(None),
+            Placed::Stored { pruned: _ } => {
+                let at = self.log.len();
+                self.log.push_reserved(LogRow { pass, row: held });
+                Ok(Some(at as u32))
+            }
+        }
+    }
+}

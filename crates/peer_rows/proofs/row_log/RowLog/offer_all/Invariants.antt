@@ -1,6 +1,0 @@
-use Rattle.std.specs.Vec.Iter.{into_iter_items}
-use Rattle.peer_rows.proofs.Taken.{HasOffered}
-use Rattle.peer_rows.proofs.row_log.RowLog.offer_all.Given as goal
-
-abbrev pub invariant-loop-row : goal.invariant-loop-row
-invariant-loop-row g l = HasOffered g.R.Row.value l.initial.self l.fn.rows.items l.yielded (into_iter_items l.row-iterator) l.self
