@@ -6,8 +6,8 @@ ghost use Rattle.ns_state.specs.Log.{IsLog, values, logged, plain_row};
 ghost use Rattle.ns_state.specs.Recent.{recent};
 ghost use Rattle.ns_state.specs.Answer.{IsAnswer, IsOffer};
 
-use crate::ranking::{gone_items, recency_of};
 use crate::live_log::{LiveLog, LogFull};
+use crate::ranking::{gone_items, recency_of};
 use block_store::Snapshot;
 use recency_index::{Ranked, Recency};
 use std::alloc::Global;

@@ -12,11 +12,7 @@ use spelling::End;
 use std::alloc::Global;
 
 // Offers the rows to the log, one after the other, up to the first that meets a full log.
-pub(crate) fn offer_all(
-    alloc: Global,
-    log: &mut Log,
-    rows: Vec<RawRow>,
-) -> Result<(), End<LogFull>>
+pub(crate) fn offer_all(alloc: Global, log: &mut Log, rows: Vec<RawRow>) -> Result<(), End<LogFull>>
     requires few { (namespace : List ℕ) × (seen : List RawValue) × IsLogOf namespace seen log.old.kept log.old.counts × (length seen + length rows.items < 2 ^ 64) }
     requires fits { log.old.counts.stored ≤ LOG_LIMIT }
     ensures offers { (namespace : List ℕ) (seen : List RawValue) → IsLogOf namespace seen log.old.kept log.old.counts

@@ -34,7 +34,7 @@ returns-in-Kept-clause-placed g c =
     let is_row = ap value c.in_ok-shared.ensures.cases ∙ ap value c.in_ok-held.ensures.ok in
     let covered = covering_from_at (map value inside.store) _ _ (rw c.in-Kept.is at c.in_ok-ingest_shared.ensures.placed) in (
       subst (λ l. HasCovering (values value l) (value c.args.row)) (ap (λ s. s.log) c.self.view_is)
-      (log_covers value (map plain_row inside.log.items) inside.store c.self.invariant.1 (value c.args.row) (subst (HasCovering (map value inside.store)) is_row covered)),
+          (log_covers value (map plain_row inside.log.items) inside.store c.self.invariant.1 (value c.args.row) (subst (HasCovering (map value inside.store)) is_row covered)),
       ap (map plain_row) c.in_ok-reserve.ensures.items ∙ ap (λ s. s.log) c.self.view_is,
     )
 
