@@ -98,6 +98,7 @@ impl<R: Row> LiveLog<R> {
     /// The live rows of the log as they are now, by rising place.
     pub fn snapshot(&self) -> Result<Snapshot<R>, NoMemory>
         ensures live { IfOk result (λ snapshot. map R.value snapshot ≡ live (values R.value self.now.log)) }
+        ensures few { IfOk result (λ snapshot. length snapshot ≤ LOG_LIMIT) }
         ensures log { IsLog R.value self.now.namespace self.now.log }
     {
         self.store.snapshot()

@@ -5,33 +5,30 @@ use Rattle.std.proofs.lemmas.List.{length-map}
 use Rattle.std.proofs.lemmas.List.Elements.{All-from_recursion}
 use Rattle.willow_entry.specs.Frame.{HasFrame}
 use Rattle.willow_entry.specs.Row.{RowValue, live}
-use Rattle.block_store.specs.BoxKinds.{IsOfOneNamespace}
 use Rattle.auth_entry.specs.Authorised.{AuthorisedValue}
 use Rattle.sync_pair.specs.Meeting.{turn_bytes}
-use Rattle.peer_listing.specs.Generator.{generator_namespace}
 use Rattle.peer_listing.specs.Summary.{drill_summary}
 use Rattle.peer_listing.specs.declared.summary.DrillCounts.{DrillCounts}
 use Rattle.peer_rows.specs.Drilled.{generated_rows}
-use Rattle.peer_rows.specs.Logged.{entry_row, stored_rows}
-use Rattle.peer_rows.specs.RowLogs.{LogRows, HasTaken}
+use Rattle.peer_rows.specs.Logged.{entry_row, live_rows}
+use Rattle.ns_state.specs.Log.{StateValue}
+use Rattle.peer_rows.specs.RowLogs.{HasTaken}
+use Rattle.peer_rows.proofs.Taken.{taken_live}
 use Rattle.peer_run.specs.Drill.{drilled, drill_counts, drill_text, full_area}
 use Rattle.peer_run.specs.Exchanged.{boxed, AreMet}
 use Rattle.peer_run.specs.declared.exchanging.Exchanged.{Exchanged}
-use Rattle.peer_run.proofs.DrilledRows.{generated_framed, generated_own}
-use Rattle.peer_run.proofs.Members.{live_all, one_namespace}
+use Rattle.peer_run.proofs.DrilledRows.{generated_framed}
+use Rattle.peer_run.proofs.Members.{live_all}
 
 -- ---- what a log holds
 
-module _ (n : ℕ) (log : LogRows AuthorisedValue) (takes : HasTaken entry_row (generated_rows n) log) where
-  pub drilled_one : IsOfOneNamespace (stored_rows log.rows)
-  drilled_one = subst IsOfOneNamespace (sym takes.held) (one_namespace generator_namespace (live (generated_rows n)) (live_all (λ r. r.entry.namespace ≡ generator_namespace) (generated_rows n) (generated_own n)))
-
-  pub drilled_framed : All HasFrame (stored_rows log.rows)
-  drilled_framed = subst (All HasFrame) (sym takes.held) (All-from_recursion HasFrame (live (generated_rows n)) (live_all HasFrame (generated_rows n) (generated_framed n)))
+module _ (n : ℕ) (log : StateValue AuthorisedValue) (takes : HasTaken entry_row (generated_rows n) log) where
+  pub drilled_framed : All HasFrame (live_rows log)
+  drilled_framed = subst (All HasFrame) (sym (taken_live entry_row (generated_rows n) log takes)) (All-from_recursion HasFrame (live (generated_rows n)) (live_all HasFrame (generated_rows n) (generated_framed n)))
 
 -- as many are held as are live of those offered
-held_count : (seen : List RowValue) (log : LogRows AuthorisedValue) (count : ℕ) → HasTaken entry_row seen log → count ≡ length log.rows → count ≡ length (live seen)
-held_count seen log count takes is = is ∙ sym (length-map log.rows entry_row) ∙ ap length takes.held
+held_count : (seen : List RowValue) (log : StateValue AuthorisedValue) (count : ℕ) → HasTaken entry_row seen log → count ≡ length (live_rows log) → count ≡ length (live seen)
+held_count seen log count takes is = is ∙ ap length (taken_live entry_row seen log takes)
 
 -- ---- the text
 
@@ -46,9 +43,9 @@ same_counts : (a b : DrillCounts) → a.rows ≡ b.rows → a.left ≡ b.left �
 unfolding counts_of
 same_counts a b rows left right left_after right_after items turns = same_numbers a b rows left right left_after right_after items turns
 
-module _ (n : ℕ) (left right left' right' : LogRows AuthorisedValue) (x : Exchanged) (takes : HasTaken entry_row (generated_rows n) left) (takes_too : HasTaken entry_row (generated_rows (n / 2)) right)
+module _ (n : ℕ) (left right left' right' : StateValue AuthorisedValue) (x : Exchanged) (takes : HasTaken entry_row (generated_rows n) left) (takes_too : HasTaken entry_row (generated_rows (n / 2)) right)
     (is : AreMet (generated_rows n) (generated_rows (n / 2)) (boxed (Some full_area)) left' right' x) where
-  pub is_drill_text : (counts : DrillCounts) (text : List ℕ) → counts.rows ≡ n → counts.left ≡ length left.rows → counts.right ≡ length right.rows → counts.left_after ≡ length left'.rows → counts.right_after ≡ length right'.rows
+  pub is_drill_text : (counts : DrillCounts) (text : List ℕ) → counts.rows ≡ n → counts.left ≡ length (live_rows left) → counts.right ≡ length (live_rows right) → counts.left_after ≡ length (live_rows left') → counts.right_after ≡ length (live_rows right')
       → counts.items ≡ x.items → counts.turns ≡ length x.turns.items → text ≡ drill_summary counts → text ≡ drill_text n
   unfolding drill_text
   is_drill_text counts text rows one other one_after other_after items turns text_is =

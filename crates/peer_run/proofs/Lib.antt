@@ -20,3 +20,4 @@ pub mod WholeMeeting
 pub mod Complete
 pub mod Reported
 pub mod Keeps
+pub mod Swapped

@@ -1,6 +1,6 @@
 -- What holds of all rows of two stores holds of the rows that they exchange, and of what they then hold.
-use Rattle.std.proofs.Common.{◌≡◌, ℕ, List, ◌++◌, Option, Some, None}
-use Rattle.std.specs.List.{AllByRecursion, Contains}
+use Rattle.std.proofs.Common.{◌≡◌, ℕ, List, ◌++◌, Option, Some, None, subst}
+use Rattle.std.specs.List.{All, AllByRecursion, Contains}
 use Rattle.std.proofs.lemmas.List.Elements.{All-from_recursion}
 use Rattle.spelling.proofs.Lists.{All-append}
 use Rattle.willow_area.specs.Boxes.{Ranges}
@@ -31,11 +31,11 @@ module _ (P : RowValue → Type 0) where
   in_box area rows sent all holds =
       all_from_members place_cmp P sent (λ r m. all_member place_cmp P rows all r (filter_member (is_in area) rows r (member_from_contains (rows_in area rows) r (holds r (contains_from_member sent r m)))).0)
 
-  sent_left : (a b : List RowValue) (area : Option Ranges) → AllByRecursion P b → AllByRecursion P (to_left (exchange sync_rules a b area))
+  pub sent_left : (a b : List RowValue) (area : Option Ranges) → AllByRecursion P b → AllByRecursion P (to_left (exchange sync_rules a b area))
   sent_left a b None all = tt
   sent_left a b (Some area) all = in_box area b (to_left (exchange sync_rules a b (Some area))) all (left_only sync_rules deciding disjoint a b area)
 
-  sent_right : (a b : List RowValue) (area : Option Ranges) → AllByRecursion P a → AllByRecursion P (to_right (exchange sync_rules a b area))
+  pub sent_right : (a b : List RowValue) (area : Option Ranges) → AllByRecursion P a → AllByRecursion P (to_right (exchange sync_rules a b area))
   sent_right a b None all = tt
   sent_right a b (Some area) all = in_box area a (to_right (exchange sync_rules a b (Some area))) all (right_only sync_rules deciding disjoint a b area)
 
@@ -45,6 +45,12 @@ module _ (P : RowValue → Type 0) where
 
   pub all_right : (a b : List RowValue) (area : Option Ranges) → AllByRecursion P a → AllByRecursion P b → AllByRecursion P (b ++ to_right (met a b area))
   all_right a b area one other = All-append P b (to_right (met a b area)) other (sent_right (live a) (live b) area (live_all a one))
+
+-- what is live of rows of a namespace is of it
+pub log_own : (n : List ℕ) (rows : List RowValue) → All (λ (r : RowValue). r.entry.namespace ≡ n) rows → AllByRecursion (λ r. r.entry.namespace ≡ n) (live rows)
+log_own n rows all = all_from_members place_cmp (λ r. r.entry.namespace ≡ n) (live rows) (λ r m.
+    let at = contains_from_member rows r (pruned_member is_dominating place_cmp rows_prune rows r m).0 in
+    subst (λ (s : RowValue). s.entry.namespace ≡ n) at.2 (all at.0 r at.1))
 
 pub one_namespace : (n : List ℕ) (rows : List RowValue) → AllByRecursion (λ r. r.entry.namespace ≡ n) rows → IsOfOneNamespace rows
 one_namespace n rows all = (n, All-from_recursion (λ r. r.entry.namespace ≡ n) rows all)

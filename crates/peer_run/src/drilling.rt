@@ -5,8 +5,8 @@ ghost use Rattle.peer_stage.specs.World.{World};
 ghost use Rattle.peer_run.specs.Drill.{Drills, drill_text};
 
 use crate::exchanging::exchange;
-use peer_listing::{DrillCounts, GENERATED_ROWS, drill_summary};
 use ns_state::LogFull;
+use peer_listing::{DrillCounts, GENERATED_ROWS, drill_summary};
 use peer_rows::generated_logs;
 use peer_stage::{Done, Stop, write_output};
 use spelling::{End, NoMemory};

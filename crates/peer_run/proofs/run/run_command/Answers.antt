@@ -4,7 +4,7 @@ pub returns-in-Join : goal.returns-in-Join
 returns-in-Join g c = rw c.in-Join.is (λ others. c.join.ensures (record others { shelf = g.H.Shelf.facts c.args.shelf.now; noise = g.N.Noise.facts c.args.noise.now }))
 
 pub returns-in-Show : goal.returns-in-Show
-returns-in-Show g c = rw c.in-Show.is (λ others. c.run_show.ensures (record others { shelf = g.H.Shelf.facts c.args.shelf.now; noise = g.N.Noise.facts c.args.noise.now }))
+returns-in-Show g c = rw c.in-Show.is (λ others. c.show.ensures (record others { shelf = g.H.Shelf.facts c.args.shelf.now; noise = g.N.Noise.facts c.args.noise.now }))
 
 pub returns-in-Key : goal.returns-in-Key
 returns-in-Key g c = rw c.in-Key.is (λ others. c.make_key.ensures (record others { input = g.I.Source.facts c.args.input.now }))
