@@ -1,6 +1,6 @@
 //! A link in memory behind a gate.
 
-ghost use Rattle.std.specs.Prelude.{◌≡◌, ◌<◌, ◌≤◌, ◌×◌, ◌⊎◌, ◌↔◌, Some, IfOk, length, min, true, false};
+ghost use Rattle.std.specs.Prelude.{◌≡◌, ◌<◌, ◌≤◌, ◌⊎◌, ◌↔◌, Some, IfOk, length, min, true, false};
 ghost use Rattle.std.specs.Io.{ReadsAtMost, WritesAtMost};
 ghost use Rattle.std.specs.Io.KnownBytes.{ReadConsumes, WriteAppends};
 ghost use Rattle.willow_outside.specs.Counts.{CountsFault, EndHasCause, TakesSome};
@@ -85,10 +85,10 @@ impl GateLink {
     }
 
     // Reads where the gate is open.
-    fn read_behind(&mut self, open: bool, buf: &mut [u8]) -> Result<usize, Fault>
-        requires { self.old.opens_at ≡ 0 ⊎ open ≡ true }
-        ensures shut { open ≡ false → MetShut self.old self.new result }
-        ensures open { open ≡ true → WentOn self.old self.new result buf.new }
+    fn read_behind(&mut self, may_go: bool, buf: &mut [u8]) -> Result<usize, Fault>
+        requires { self.old.opens_at ≡ 0 ⊎ may_go ≡ true }
+        ensures shut { may_go ≡ false → MetShut self.old self.new result }
+        ensures goes_on { may_go ≡ true → WentOn self.old self.new result buf.new }
         ensures bound { ReadsAtMost result buf.new }
         ensures bytes { ReadConsumes (Some self.old.link.left) (Some self.new.link.left) result buf.new }
         ensures taken { WriteAppends (Some self.old.link.taken) (Some self.new.link.taken) result buf.new }
@@ -98,7 +98,7 @@ impl GateLink {
         ensures write_faults { self.new.link.write_faults ≡ self.old.link.write_faults }
         ensures kept { (self.new.link.most ≡ self.old.link.most) × (self.new.opens_at ≡ self.old.opens_at) × (self.new.turns ≡ self.old.turns) }
     {
-        if !open {
+        if !may_go {
             self.shut = self.shut.saturating_add(1);
             return Err(Fault::Failed);
         }
@@ -123,8 +123,8 @@ impl Link for GateLink {
         ensures write_faults { self.new.link.write_faults ≡ self.old.link.write_faults }
         ensures kept { (self.new.link.most ≡ self.old.link.most) × (self.new.opens_at ≡ self.old.opens_at) × (self.new.turns ≡ self.old.turns) }
     {
-        let open = self.may_read();
-        self.read_behind(open, buf)
+        let may_go = self.may_read();
+        self.read_behind(may_go, buf)
     }
 
     /// Writes as the link does.
