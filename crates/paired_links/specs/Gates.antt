@@ -1,5 +1,5 @@
 -- A link in memory behind a gate.
-use Rattle.std.specs.Prelude.{◌≡◌, ℕ, ◌+◌, ◌<◌, min, List, length, Result, Err, Some, ◌⊎◌}
+use Rattle.std.specs.Prelude.{◌≡◌, ℕ, ◌+◌, min, List, length, Result, Err, Some}
 use Rattle.willow_outside.specs.Counts.{one_more}
 use Rattle.willow_outside.specs.Facts.{LinkFacts}
 use Rattle.willow_outside.specs.InMemory.{MemoryLink}
@@ -19,12 +19,11 @@ pub record GatedLink : Type 0 where
 abbrev pub gated_facts : GatedLink → LinkFacts
 gated_facts s = record { left = Some s.link.left; taken = Some s.link.taken; held = Some s.link.held; read_faults = s.link.read_faults + s.shut; write_faults = s.link.write_faults; ends = s.link.ends }
 
--- a read met a shut gate: it failed, and the link is as it was
-pub record MetShut (old new : GatedLink) (result : Result ℕ Fault) : Type 0 where
+-- a read met a shut gate: it failed and was counted, and the link is as it was
+pub record MetShut {A : Type 0} (old new : GatedLink) (result : Result A Fault) : Type 0 where
   pub waits : old.opens_at ≡ 0
   pub failed : result ≡ Err Failed
-  pub shut : new.shut ≡ one_more old.shut
-  pub link : new.link ≡ old.link
+  pub counted : new ≡ record { link = old.link; shut = one_more old.shut; opens_at = old.opens_at; turns = old.turns }
 
 -- a read went on: it answered what the link answers
 pub record WentOn (old new : GatedLink) (result : Result ℕ Fault) (buf : List ℕ) : Type 0 where

@@ -1,6 +1,6 @@
 //! A link in memory behind a gate.
 
-ghost use Rattle.std.specs.Prelude.{◌≡◌, ◌<◌, ◌≤◌, ◌⊎◌, ◌↔◌, Some, IfOk, length, min, true, false};
+ghost use Rattle.std.specs.Prelude.{◌≡◌, ◌<◌, ◌≤◌, ◌⊎◌, ◌↔◌, Some, IfOk, IsOk, length, min, true, false};
 ghost use Rattle.std.specs.Io.{ReadsAtMost, WritesAtMost};
 ghost use Rattle.std.specs.Io.KnownBytes.{ReadConsumes, WriteAppends};
 ghost use Rattle.willow_outside.specs.Counts.{CountsFault, EndHasCause, TakesSome};
@@ -84,25 +84,17 @@ impl GateLink {
         0 < self.opens_at && self.opens_at <= self.link.held().len() as u64
     }
 
-    // Reads where the gate is open.
-    fn read_behind(&mut self, may_go: bool, buf: &mut [u8]) -> Result<usize, Fault>
+    // Lets a read go on, or counts that it met a shut gate.
+    fn pass(&mut self, may_go: bool) -> Result<(), Fault>
         requires { self.old.opens_at ≡ 0 ⊎ may_go ≡ true }
         ensures shut { may_go ≡ false → MetShut self.old self.new result }
-        ensures goes_on { may_go ≡ true → WentOn self.old self.new result buf.new }
-        ensures bound { ReadsAtMost result buf.new }
-        ensures bytes { ReadConsumes (Some self.old.link.left) (Some self.new.link.left) result buf.new }
-        ensures taken { WriteAppends (Some self.old.link.taken) (Some self.new.link.taken) result buf.new }
-        ensures cause { CountsFault (gated_facts self.old).read_faults (gated_facts self.new).read_faults result }
-        ensures end { EndHasCause self.old.link.ends self.new.link.ends result buf.new }
-        ensures held { self.new.link.held ≡ self.old.link.held }
-        ensures write_faults { self.new.link.write_faults ≡ self.old.link.write_faults }
-        ensures kept { (self.new.link.most ≡ self.old.link.most) × (self.new.opens_at ≡ self.old.opens_at) × (self.new.turns ≡ self.old.turns) }
+        ensures goes_on { may_go ≡ true → IsOk result × (self.new ≡ self.old) }
     {
         if !may_go {
             self.shut = self.shut.saturating_add(1);
             return Err(Fault::Failed);
         }
-        self.link.read(buf)
+        Ok(())
     }
 }
 
@@ -124,7 +116,8 @@ impl Link for GateLink {
         ensures kept { (self.new.link.most ≡ self.old.link.most) × (self.new.opens_at ≡ self.old.opens_at) × (self.new.turns ≡ self.old.turns) }
     {
         let may_go = self.may_read();
-        self.read_behind(may_go, buf)
+        self.pass(may_go)?;
+        self.link.read(buf)
     }
 
     /// Writes as the link does.

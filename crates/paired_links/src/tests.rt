@@ -11,13 +11,30 @@ use willow_outside::{Door, Fault, Link, MemDoor, MemLink};
 /// How many bytes are echoed.
 const COUNT: usize = 100_000;
 
-/// Writes all of some bytes.
+/// Writes all of some bytes, of which each write takes at least one.
 fn write_all<L: Link>(link: &mut L, bytes: &[u8]) -> Result<(), Fault> {
-    let mut at = 0;
-    while at < bytes.len() {
-        at += link.write(&bytes[at..])?;
+    let mut rest = bytes;
+    for _ in 0..bytes.len() {
+        if !rest.is_empty() {
+            rest = &rest[link.write(rest)?..];
+        }
     }
     Ok(())
+}
+
+/// Whether the next bytes that come are these.
+fn reads<L: Link>(link: &mut L, wanted: &[u8]) -> Result<bool, Fault> {
+    let mut buf = [0u8; 1000];
+    let mut rest = wanted;
+    for _ in 0..wanted.len() {
+        let room = rest.len().min(buf.len());
+        let came = link.read(&mut buf[..room])?;
+        if buf[..came] != rest[..came] {
+            return Ok(false);
+        }
+        rest = &rest[came..];
+    }
+    Ok(rest.is_empty())
 }
 
 /// Writes back all that comes up to the end, and tells how many bytes came.
@@ -35,25 +52,11 @@ fn echo<L: Link>(mut link: L) -> Result<usize, Fault> {
     Err(Fault::Failed)
 }
 
-/// Reads until `buf` is full, and tells whether it became so.
-fn read_full<L: Link>(link: &mut L, buf: &mut [u8]) -> Result<bool, Fault> {
-    let mut at = 0;
-    while at < buf.len() {
-        let came = link.read(&mut buf[at..])?;
-        if came == 0 {
-            return Ok(false);
-        }
-        at += came;
-    }
-    Ok(true)
-}
-
 /// Writes the bytes in pieces of a thousand, and tells whether each came back as it was.
 fn is_echoed<L: Link>(mut link: L, bytes: &[u8]) -> Result<bool, Fault> {
-    let mut buf = [0u8; 1000];
     for piece in bytes.chunks(1000) {
         write_all(&mut link, piece)?;
-        if !read_full(&mut link, &mut buf[..piece.len()])? || &buf[..piece.len()] != piece {
+        if !reads(&mut link, piece)? {
             return Ok(false);
         }
     }
