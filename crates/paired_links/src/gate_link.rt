@@ -89,6 +89,7 @@ impl GateLink {
         requires { self.old.opens_at ≡ 0 ⊎ may_go ≡ true }
         ensures shut { may_go ≡ false → MetShut self.old self.new result }
         ensures goes_on { may_go ≡ true → IsOk result × (self.new ≡ self.old) }
+        ensures cause { CountsFault (gated_facts self.old).read_faults (gated_facts self.new).read_faults result }
     {
         if !may_go {
             self.shut = self.shut.saturating_add(1);
