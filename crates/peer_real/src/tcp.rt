@@ -84,6 +84,7 @@ impl Link for TcpLink {
 }
 
 /// The network, with a count of the faults. The places asked for and the links that came back are not told.
+/// `accept` waits until somebody asks for a link, and `connect` for as long as the machine does.
 #[derive(Drop)]
 pub struct TcpDoor<N> {
     net: N,
