@@ -35,7 +35,7 @@ impl Model for GateLink {
 impl GateLink {
     /// Puts `link` behind `gate`. Where `opens_at` is above 0, a write behind which the link holds at least so many bytes
     /// opens the gate. Where it is 0, each read first looks at the gate, at most `turns` times, and fails where it is
-    /// still shut.
+    /// still shut; that is no call of `link`.
     pub fn new(link: MemLink, gate: Arc<AtomicU64>, opens_at: u64, turns: u64) -> GateLink
         ensures value { result ≡ record { link = link; shut = 0; opens_at = opens_at; turns = turns } }
         ensures facts { ⟦<GateLink as Link>⟧.facts result ≡ ⟦<MemLink as Link>⟧.facts link }
