@@ -8,9 +8,14 @@ use crate::faults::{counted, raised};
 use std::io;
 use std::io::{ErrorKind, Read, Write};
 use std::net::{Net, TcpListener, TcpStream};
+use std::time::Duration;
 use willow_outside::{Door, Fault, Link};
 
-/// A connection over TCP, with counts of its faults and of its ends. A write of nothing counts as a fault.
+/// How many seconds a read or a write of a link waits for the other side before it fails.
+const PATIENCE: u64 = 60;
+
+/// A connection over TCP, with counts of its faults and of its ends. A write of nothing counts as a fault, and so does a
+/// read or a write that waited for 60 seconds, as for a peer that went away without closing the connection.
 /// What it gives and takes is not told.
 #[derive(Drop)]
 pub struct TcpLink {
@@ -21,17 +26,27 @@ pub struct TcpLink {
 }
 
 impl TcpLink {
-    /// A link over the connection, with counts 0. What is written goes out at once, where the machine offers that.
-    pub fn new(stream: TcpStream) -> TcpLink
-        ensures { ⟦<TcpLink as Link>⟧.facts result ≡ record { left = None; taken = None; held = None; read_faults = 0; write_faults = 0; ends = 0 } }
+    /// A link over the connection, with counts 0, where the machine sets its limits of time. What is written goes out at
+    /// once, where the machine offers that.
+    pub fn new(stream: TcpStream) -> io::Result<TcpLink>
+        ensures { IfOk result (λ link. ⟦<TcpLink as Link>⟧.facts link ≡ record { left = None; taken = None; held = None; read_faults = 0; write_faults = 0; ends = 0 }) }
     {
+        TcpLink::within(stream, Duration::from_secs(PATIENCE))
+    }
+
+    // A link that waits for so long.
+    fn within(stream: TcpStream, limit: Duration) -> io::Result<TcpLink>
+        ensures { IfOk result (λ link. ⟦<TcpLink as Link>⟧.facts link ≡ record { left = None; taken = None; held = None; read_faults = 0; write_faults = 0; ends = 0 }) }
+    {
+        stream.set_read_timeout(Some(limit))?;
+        stream.set_write_timeout(Some(limit))?;
         let _ = stream.set_nodelay(true);
-        TcpLink {
+        Ok(TcpLink {
             stream,
             read_faults: 0,
             write_faults: 0,
             ends: 0,
-        }
+        })
     }
 }
 
@@ -69,6 +84,7 @@ impl Link for TcpLink {
 }
 
 /// The network, with a count of the faults. The places asked for and the links that came back are not told.
+/// `accept` waits until somebody asks for a link, and `connect` for as long as the machine does.
 #[derive(Drop)]
 pub struct TcpDoor<N> {
     net: N,
@@ -96,10 +112,10 @@ impl<N: Net<Listener = TcpListener, Stream = TcpStream> + Drop> TcpDoor<N> {
         ensures out { HandsOutLink self.old.out self.new.out result }
         ensures cause { CountsFault self.old.faults self.new.faults result }
     {
-        match (stream, self.out.checked_add(1)) {
-            (Ok(stream), Some(out)) => {
+        match (stream.and_then(TcpLink::new), self.out.checked_add(1)) {
+            (Ok(link), Some(out)) => {
                 self.out = out;
-                Ok(TcpLink::new(stream))
+                Ok(link)
             }
             (Ok(_), None) => {
                 self.faults = raised(self.faults);
@@ -143,3 +159,6 @@ impl<N: Net<Listener = TcpListener, Stream = TcpStream> + Drop> Door for TcpDoor
         self.out -= 1;
     }
 }
+
+#[cfg(test)]
+mod tests;

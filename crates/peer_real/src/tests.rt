@@ -1,12 +1,12 @@
 //! What no clause says: that calls on real files, noise and streams succeed, and what comes back.
 
-use crate::{FileShelf, RandomNoise, StdReport, StdSink, StdSource, TcpDoor};
+use crate::{FileShelf, RandomNoise, StdReport, StdSink, StdSource};
 use std::fs::Permissions;
 use std::os::unix::fs::PermissionsExt;
 use std::rt::{Env, Files};
 use std::test::Fail;
 use std::{env, fs, io};
-use willow_outside::{Door, Fault, Link, Noise, Shelf, Sink, Source};
+use willow_outside::{Fault, Noise, Shelf, Sink, Source};
 
 /// The folder of the test with files.
 const FOLDER: &str = "peer-real-own-folder";
@@ -91,30 +91,4 @@ fn the_report_passes_bytes_on(rt: HostRuntime) {
     assert_eq!(rt; report.write(&[7, 8]), Ok(2));
     assert_eq!(rt; report.write(&[9]), Ok(1));
     assert_eq!(rt; room, [7, 8, 9]);
-}
-
-/// Listens at the first place on this machine that is free, of some that are seldom taken.
-fn listen_somewhere<D: Door>(door: &mut D) -> Option<&'static str> {
-    let places = ["127.0.0.1:47611", "127.0.0.1:47623", "127.0.0.1:47639"];
-    places.into_iter().find(|place| door.listen(place).is_ok())
-}
-
-/// Whether what is written to one end is read at the other.
-fn passes<L: Link>(from: &mut L, to: &mut L) -> bool {
-    let mut buf = [0u8; 3];
-    from.write(&[7, 8]) == Ok(2) && to.read(&mut buf) == Ok(2) && buf == [7, 8, 0]
-}
-
-#[test]
-fn links_pass_bytes_both_ways_and_end(rt: HostRuntime) -> Result<(), Fail> {
-    let mut door = TcpDoor::new(&rt);
-    assert!(rt; door.accept().is_err());
-    let place = listen_somewhere(&mut door).ok_or(Fault::Failed)?;
-    let mut near = TcpDoor::new(&rt).connect(place)?;
-    let mut far = door.accept()?;
-    assert!(rt; passes(&mut near, &mut far));
-    assert!(rt; passes(&mut far, &mut near));
-    door.give_back(far);
-    assert!(rt; near.read(&mut [0; 3]) == Ok(0));
-    Ok(())
 }
