@@ -1,9 +1,8 @@
 -- What holds of a log, its store and its index of recency, and how one more row keeps it.
-use Rattle.std.proofs.Common.{◌≡◌, ℕ, ◌<◌, ◌≤◌, List, [], ◌∷◌, ◌++◌, false, map, filter, length, Contains, sym, ap, ap₂, ◌∙◌, subst, arith}
+use Rattle.std.proofs.Common.{◌≡◌, ℕ, ◌≤◌, List, [], ◌∷◌, ◌++◌, false, map, filter, length, Contains, sym, ap, ap₂, ◌∙◌, subst, arith}
 use Rattle.std.specs.List.{All, IsDistinct}
 use Rattle.std.specs.Ordering.{eq_by_cmp}
-use Rattle.std.specs.declared.sync.Arc.{Arc}
-use Rattle.std.proofs.lemmas.List.{map-append, length-map}
+use Rattle.std.proofs.lemmas.List.{length-map}
 use Rattle.willow_entry.specs.declared.row.LogRow.{LogRow}
 use Rattle.willow_entry.specs.Row.{RowValue, is_dominating, place_cmp, live, HasCovering}
 use Rattle.willow_entry.proofs.Members.{Member, contains_from_member}
@@ -12,9 +11,8 @@ use Rattle.willow_entry.proofs.Pruning.{pruned_member}
 use Rattle.willow_entry.proofs.RowLaws.{rows_prune}
 use Rattle.recency_index.specs.declared.ranked.Ranked.{Ranked}
 use Rattle.recency_index.specs.Recency.{ranked_of, recency_cmp, newest, has_at, without}
-use Rattle.ns_state.specs.Log.{IsLog, values, plain_row}
+use Rattle.ns_state.specs.Log.{IsLog, values}
 use Rattle.ns_state.specs.Recent.{items_of, recent}
-use Rattle.ns_state.specs.declared.live_log.TheConstants.{LOG_LIMIT}
 use Rattle.ns_state.proofs.NewRows.{covering_of_live}
 use Rattle.willow_entry.proofs.Live.{live_early_left}
 use Rattle.ns_state.proofs.Logs.{values_more, live_short, rising_short}

@@ -1,5 +1,5 @@
 -- Live rows that are sorted by recency.
-use Rattle.std.proofs.Common.{◌≡◌, inl, inr, ℕ, ◌+◌, zero, suc, ◌<◌, Bool, true, false, Bor, List, [], ◌∷◌, ◌++◌, map, length, get_or, Ordering, Less, Equal, Greater, is_lt, refl, sym, ap, ◌∙◌, subst, append_assoc, append-nil, arith, Contains}
+use Rattle.std.proofs.Common.{◌≡◌, ℕ, ◌+◌, zero, suc, ◌<◌, Bool, false, Bor, List, [], ◌∷◌, map, length, get_or, Ordering, Less, Equal, Greater, is_lt, refl, sym, ap, ◌∙◌, subst, arith, Contains}
 use Rattle.std.specs.List.{AllByRecursion, IsDistinct}
 use Rattle.std.specs.List.Sorted.{IsPermutation, IsSortedBy, IsStrictlySortedBy}
 use denote.Param.Members.{Mut}
@@ -8,18 +8,17 @@ use Rattle.std.specs.Fn.{Called, ComparesAs}
 use Rattle.std.specs.Ordering.{is_eq, eq_by_cmp, ordering_reverse, match_ordering}
 use Rattle.std.proofs.lemmas.Cmp.{on_total}
 use Rattle.std.proofs.lemmas.Fn.{always_returns_same}
-use Rattle.std.proofs.lemmas.List.{map-append, length-map}
+use Rattle.std.proofs.lemmas.List.{length-map}
 use Rattle.std.proofs.lemmas.List.Sorted.{ranks_by, IsPermutation-map, IsPermutation-sym, Contains-permutation}
 use Rattle.std.proofs.lemmas.Map.Keys.{IsDistinct-IsPermutation, apart_from_distinct, sorted_from_all_adjacent}
 use Rattle.willow_entry.specs.declared.row.LogRow.{LogRow}
-use Rattle.willow_entry.specs.Pruning.{placed, rising}
+use Rattle.willow_entry.specs.Pruning.{placed}
 use Rattle.willow_entry.specs.Row.{RowValue, is_dominating, place_cmp, live}
 use Rattle.willow_entry.proofs.Members.{Member, contains_from_member, member_from_contains}
 use Rattle.willow_entry.proofs.Pruning.{pruned_member}
 use Rattle.willow_entry.proofs.RowLaws.{rows_prune}
 use Rattle.willow_entry.proofs.Rising.{rising-rises, same_rising, member_from_rising, member_rising}
 use Rattle.willow_entry.proofs.Between.{rising_live, live-again}
-use Rattle.recency_index.specs.declared.ranked.Ranked.{Ranked}
 use Rattle.recency_index.specs.Recency.{ranked_of, recency_cmp, newest}
 use Rattle.recency_index.proofs.Order.{recency_total, recency_tie}
 use Rattle.ns_state.specs.Log.{IsLog, values}

@@ -64,6 +64,11 @@ impl<R: Row> LiveLog<R> {
         self.namespace
     }
 
+    // The allocator that the log keeps.
+    pub(crate) fn allocator(&self) -> Global {
+        *self.log.allocator()
+    }
+
     /// The length of the log.
     pub fn front(&self) -> u32
         ensures front { result ≡ length self.now.log }
@@ -83,8 +88,7 @@ impl<R: Row> LiveLog<R> {
     pub fn read_log(&self, from: u32, most: u32) -> Result<Vec<LogRow<Arc<R>>>, NoMemory>
         ensures { IfOk result (λ rows. map plain_row rows.items ≡ take most (drop from self.now.log)) }
     {
-        let alloc = *self.log.allocator();
-        read_rows(alloc, &self.log, from as usize, most as usize)
+        read_rows(self.allocator(), &self.log, from as usize, most as usize)
     }
 
     /// The live rows of the log, by rising place.

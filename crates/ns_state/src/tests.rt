@@ -153,7 +153,7 @@ fn written(alloc: Global) -> Option<LiveLog<BareRow>> {
 
 // Whether so many are the newest rows where `most` are asked for.
 fn are_newest(alloc: Global, log: &LiveLog<BareRow>, most: u32, count: usize) -> Option<bool> {
-    let rows = log.newest(alloc, most).ok()?;
+    let rows = log.newest(most).ok()?;
     for at in 0..rows.len() {
         let (parts, time) = *NEWEST.get(at)?;
         if !same(rows[at], &row_at(alloc, parts, time)?) {

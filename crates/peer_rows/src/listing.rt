@@ -47,7 +47,7 @@ fn list_all(alloc: Global, log: &EntryLog) -> Result<(Vec<u8>, Vec<u8>), NoMemor
 fn list_newest(alloc: Global, most: u32, log: &EntryLog) -> Result<(Vec<u8>, Vec<u8>), NoMemory>
     ensures { IfOk result (λ made. AreText made (rows_listing log.now.namespace (take most (newest_rows (live_rows log.now))))) }
 {
-    let rows = log.newest(alloc, most)?;
+    let rows = log.newest(most)?;
     let lines = lines_of(alloc, &rows)?;
     let head = head_of(alloc, &log.namespace(), rows.len() as u64)?;
     Ok((head, lines))

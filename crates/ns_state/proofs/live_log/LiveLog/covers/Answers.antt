@@ -1,4 +1,4 @@
-use Rattle.std.proofs.Common.{IsTrue, ap, map, subst, sym}
+use Rattle.std.proofs.Common.{ap, map, subst, sym}
 use Rattle.willow_entry.specs.Row.{HasCovering}
 use Rattle.ns_state.specs.Log.{values, plain_row}
 use Rattle.ns_state.proofs.Growing.{told_covered, log_covers, store_covers}

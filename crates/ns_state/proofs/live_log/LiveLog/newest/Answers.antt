@@ -1,4 +1,4 @@
-use Rattle.std.proofs.Common.{◌≡◌, Bor, map, take, sym, ap, ◌∙◌, rules}
+use Rattle.std.proofs.Common.{Bor, map, take, sym, ap, ◌∙◌, rules}
 use Rattle.std.proofs.lemmas.List.{take-map}
 use Rattle.willow_entry.specs.Row.{RowValue}
 use Rattle.ns_state.specs.Recent.{row_recency_cmp}

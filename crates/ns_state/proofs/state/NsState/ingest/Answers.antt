@@ -1,5 +1,5 @@
-use Rattle.std.proofs.Common.{◌≡◌, Ok, refl, sym, subst}
-use Rattle.willow_entry.specs.Row.{new, IsCoveringAt}
+use Rattle.std.proofs.Common.{Ok, refl, subst}
+use Rattle.willow_entry.specs.Row.{IsCoveringAt}
 use Rattle.ns_state.specs.declared.state.Told.TheVariants.{Kept}
 use Rattle.ns_state.specs.Log.{IsLog, values}
 use Rattle.ns_state.proofs.Offers.{offer_from_answer, answer_new, answer_live, answer_covers}
