@@ -23,7 +23,7 @@ use willow_outside::{Fault, Sink, Source};
 use willow_path::NamespaceKey;
 
 /// How many bytes are asked for in one read.
-const PIECE: usize = 65_536;
+const PIECE: usize = 16_384;
 
 /// Reads row frames from the input, keeps the live rows of those that are authorised in the namespace, and
 /// writes their image. Neither all of the input nor all of the image stands in memory.
