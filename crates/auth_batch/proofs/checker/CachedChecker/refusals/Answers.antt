@@ -1,0 +1,32 @@
+use Rattle.std.proofs.Common.{◌≡◌, List, All, map, Option, ap, sym, subst, ◌∙◌}
+use Rattle.std.specs.Prelude.{IfOk}
+use Rattle.std.specs.List.{AllZip}
+use Rattle.mc_cap.specs.declared.refusal.RowRefusal.{RowRefusal}
+use Rattle.auth_entry.specs.Authorised.{capability_refusal}
+use Rattle.auth_batch.specs.Batch.{pending_refusal}
+use Rattle.auth_batch.specs.Standings.{IsStood, IsStoodBy}
+use Rattle.auth_batch.proofs.Settling.{all_stood_by, all_pending}
+use Rattle.auth_batch.proofs.checker.CachedChecker.refusals.Goals as goal
+
+pub all_settled-requires : goal.all_settled-requires
+all_settled-requires g c =
+    let rules = g.S.Verify.rules in
+    let n = c.args.self.now.namespace in
+    let causes = c.deref-2.ensures.value ∙ c.in_ok-causes.ensures ∙ ap (map (capability_refusal rules)) c.rows.ensures in (
+      rules,
+      n,
+      subst (All (IsStoodBy rules n c.deref-2.result.now)) (sym c.deref-3.ensures.value)
+          (all_stood_by rules n c.all_stand.new.unknown c.deref-2.result.now causes c.args.rows.now c.in_ok-stood.stood.items c.in_ok-stood.ensures),
+    )
+
+pub returns-clause-refusals : goal.returns-clause-refusals
+returns-clause-refusals g c =
+    let rules = g.S.Verify.rules in
+    let n = c.args.self.now.namespace in
+    let causes = c.deref-2.ensures.value ∙ c.in_ok-causes.ensures ∙ ap (map (capability_refusal rules)) c.rows.ensures in
+    let all = subst (All (IsStoodBy rules n c.deref-2.result.now)) (sym c.deref-3.ensures.value)
+    (all_stood_by rules n c.all_stand.new.unknown c.deref-2.result.now causes c.args.rows.now c.in_ok-stood.stood.items c.in_ok-stood.ensures) in
+    let stood = subst (AllZip (IsStood rules n c.all_stand.new.unknown) c.args.rows.now) (sym c.deref-3.ensures.value) c.in_ok-stood.ensures in
+    subst (λ (l : List (Option RowRefusal)). IfOk c.row_causes.result (λ refusals. refusals.items ≡ l))
+    (ap (map (pending_refusal rules)) c.deref-4.ensures.value ∙ all_pending rules n c.all_stand.new.unknown c.args.rows.now c.deref-3.result.now c.in_ok-pending.pending.items stood (c.in_ok-pending.ensures rules n all))
+    c.row_causes.ensures
