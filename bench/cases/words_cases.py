@@ -208,7 +208,6 @@ NOT_BUILT = [
     words("of-show-with-the-newest", "show", "--newest", "3"),
     words("of-show-with-none-of-the-newest", "show", "--newest", "0"),
     words("of-show-without-the-number-of-the-newest", "show", "--newest"),
-    words("of-sync", "sync", "--image", "a", "--cap", "c", "--key", BY_U, "--to", "localhost:7000"),
     words("of-serve", "serve", "--image", "a", "--cap", "c", "--key", BY_U, "--at", "localhost:7000", "--links", "2"),
     words("of-watch", "watch", "--image", "a"),
 ]

@@ -96,7 +96,7 @@ unfolding hello_seen
 hello_parts bytes are begins = parts_by draft-reads hello_seen (λ held e. seen_part hello_drafted (draft_at held) e) [] bytes ((draft_reader.part bytes are).1 begins)
 
 pub finds_hello : (bytes : List ℕ) (result : Result HelloStep NoMemory) → AreBytes bytes → ReadsHello bytes result → FindsHello bytes result
-finds_hello bytes (Ok (hellos.Whole hello taken)) are t = record { within = t.within; reads = subst (λ l. IsReadAs hello_seen l hello) (sym t.spelled) (hello_as hello t.fits) }
+finds_hello bytes (Ok (hellos.Whole hello taken)) are t = (record { within = t.within; reads = subst (λ l. IsReadAs hello_seen l hello) (sym t.spelled) (hello_as hello t.fits) }, t.fits)
 finds_hello bytes (Ok hellos.More) are begins = hello_parts bytes are begins
 finds_hello bytes (Ok hellos.Bad) are none =
     all_wrong hello_seen bytes

@@ -9,6 +9,7 @@ use Rattle.sync_msg.specs.Reader.{ReaderState, moved_on}
 use Rattle.sync_msg.specs.declared.reader.BadItem.{BadItem}
 use Rattle.sync_msg.specs.declared.reader.Step.{Step}
 use Rattle.sync_msg.specs.declared.reader.Step.TheVariants.{Got, More}
+use Rattle.sync_hello.specs.HelloForm.{IsHello}
 use Rattle.sync_hello.specs.declared.hello.Hello.{Hello}
 use Rattle.sync_hello.specs.declared.read.HelloStep.{HelloStep}
 use Rattle.sync_hello.specs.declared.read.HelloStep.TheVariants as hellos
@@ -30,7 +31,7 @@ GoWrong sees held (byte ∷ bytes) = (sees (held ++ byte ∷ []) ≡ Wrong) ⊎ 
 
 -- a hello, a part of one, or neither; for want of memory nothing is said
 abbrev pub FindsHello : List ℕ → Result HelloStep NoMemory → Type 0
-FindsHello bytes (Ok (hellos.Whole hello taken)) = IsFound hello_seen bytes hello taken
+FindsHello bytes (Ok (hellos.Whole hello taken)) = IsFound hello_seen bytes hello taken × IsHello hello
 FindsHello bytes (Ok hellos.More) = ArePart hello_seen [] bytes
 FindsHello bytes (Ok hellos.Bad) = GoWrong hello_seen [] bytes
 FindsHello bytes (Err e) = Unit {0}
