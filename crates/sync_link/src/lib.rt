@@ -4,10 +4,30 @@
 //! the bytes that it reads.
 #![tactic(auto)]
 
+mod due;
+mod ear;
 mod find;
+mod greet;
 mod hear;
+mod intake;
 pub mod laws;
+mod opening;
+mod piece;
+mod plan;
 mod proof;
+mod run;
+mod sending;
 mod speak;
+mod speaker;
+mod standing;
+mod take;
+mod take_all;
+mod talker;
+
+pub use mc_cap::RefusedRow;
+pub use plan::{SessionPlan, SessionReport, VERSION};
+pub use run::run_session;
+pub use session_end::SessionEnd;
+
 #[cfg(test)]
 mod tests;
