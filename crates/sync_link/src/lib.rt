@@ -4,6 +4,8 @@
 //! the bytes that it reads.
 #![tactic(auto)]
 
+#[cfg(test)]
+mod checks;
 mod due;
 mod ear;
 mod find;
@@ -31,3 +33,5 @@ pub use session_end::SessionEnd;
 
 #[cfg(test)]
 mod tests;
+#[cfg(test)]
+mod trials;
