@@ -1,5 +1,5 @@
 pub mod PathLimits
-pub mod PathVectors
+pub mod PathBytes
 pub mod PathOrder
 pub mod PathReading
 pub mod PathReads

@@ -1,7 +1,7 @@
 -- What the limits of a path say when a component is added.
-use Rattle.std.proofs.Common.{◌≡◌, ℕ, zero, suc, ◌+◌, ◌-◌, ◌<◌, ◌≤◌, min, Bool, true, false, List, [], ◌∷◌, ◌++◌, length, take, drop, get_or, map, Some, None, nat_lt, nat_le, if◌then◌else◌, refl, ap, ◌∙◌, arith, lit≤}
+use Rattle.std.proofs.Common.{◌≡◌, ℕ, zero, suc, ◌+◌, ◌-◌, ◌<◌, ◌≤◌, min, Bool, true, false, List, [], ◌∷◌, ◌++◌, length, take, drop, get_or, Some, None, nat_lt, nat_le, if◌then◌else◌, refl, ap, ◌∙◌, arith, lit≤}
 use Rattle.std.specs.List.{AllByRecursion}
-use Rattle.std.proofs.lemmas.List.{length_push, map-append, take_more, take-append-drop, length-take}
+use Rattle.std.proofs.lemmas.List.{length_push, take_more, take-append-drop, length-take}
 use Rattle.spelling.specs.Spelling.{IsText}
 use Rattle.std.proofs.lemmas.Bool.Decides.{nat_tests}
 use Rattle.spelling.specs.Form.{AreBytes}
@@ -35,13 +35,6 @@ IsPath-push path part p r b = record {
 
 pub IsPath-empty : IsPath []
 IsPath-empty = record { few = lit≤ tt; parts_fit = tt; short = lit≤ tt }
-
--- the same for components that are kept as vectors
-pub IsPath-push_map : {V : Type 0} (items : V → List ℕ) (parts : List V) (added : V) (part : List ℕ) (count : ℕ)
-    → IsPath (map items parts) × (count ≡ total (map items parts)) → HasRoom (map items parts) part → AreBytes part → items added ≡ part
-    → IsPath (map items (parts ++ added ∷ [])) × (count + length part ≡ total (map items (parts ++ added ∷ [])))
-IsPath-push_map items parts added part count p h b e =
-    rw (map-append items parts (added ∷ []), e) (IsPath-push _ part p.0 h b, omega (arith, total-append (map items parts) (part ∷ []), p.1))
 
 -- ---- the components of a path
 

@@ -1,13 +1,15 @@
 //! Paths, by which entries are named within a subspace.
 
-ghost use Rattle.std.specs.Prelude.{◌≡◌, ℕ, ◌+◌, ◌<◌, ◌≤◌, List, [], ◌∷◌, ◌++◌, length, slice_index_or, map, nat_eq, OnOk, OnErr, IfOk};
+ghost use Rattle.std.specs.Prelude.{◌≡◌, ℕ, ◌+◌, ◌<◌, ◌≤◌, List, [], ◌∷◌, ◌++◌, length, slice_index_or, nat_eq, OnOk, OnErr, IfOk, MatchOption};
 ghost use Rattle.std.specs.Ordering.{as_partial_cmp};
 ghost use Rattle.std.specs.Cmp.Lexicographic.{pointwise, lists_ties, texts_ties};
 ghost use Rattle.std.specs.Cmp.Rules.{comparing};
 ghost use Rattle.std.specs.Cmp.{partial_order_from_own_ties};
 ghost use Rattle.std.proofs.Common.{rules};
 ghost use Rattle.willow_path.specs.Path.{IsPath, total, is_prefix, part_cmp, path_cmp};
+ghost use Rattle.willow_path.specs.PathBytes.{AreOfParts, AreOfPath, IsFirstPart, parts_of, parts_spelling};
 ghost use Rattle.willow_path.specs.PathPush.{HasRoom, push_refusal};
+ghost use Rattle.willow_path.specs.PathSpelling.{path_spelling};
 ghost use Rattle.spelling.specs.Answers.{JudgesFirst};
 
 use crate::limits::{MAX_PART, MAX_PARTS, MAX_TOTAL};
@@ -18,10 +20,8 @@ use std::cmp::Ordering;
 use std::marker::Model;
 use thiserror::Error;
 
-// Most paths have a few short components. So many, of so many bytes each, stand in the path itself and take no memory.
-const INLINE_PARTS: usize = 2;
-
-const INLINE_PART: usize = 14;
+// So many bytes stand in the path itself and take no memory: most paths have few short components.
+const INLINE: usize = 16;
 
 /// Why a component cannot be added to a path.
 #[derive(Debug, Clone, Copy, PartialEq, Eq, Error)]
@@ -42,20 +42,20 @@ pub enum PathRefusal {
 /// A path is below its extensions; else the first components that differ decide, as byte strings.
 #[derive(Debug, Drop)]
 pub struct Path {
-    parts: SmallVec<SmallVec<u8, INLINE_PART>, INLINE_PARTS>,
-    byte_count: usize,
+    // The components one after the other, each behind a byte for its length.
+    bytes: SmallVec<u8, INLINE>,
 }
 
 impl Model for Path {
-    ghost use Rattle.std.specs.Prelude.{◌≡◌, ℕ, List, map};
+    ghost use Rattle.std.specs.Prelude.{ℕ, List};
 
     ghost Value = { List (List ℕ) };
 
-    ghost use Rattle.willow_path.specs.Path.{IsPath, total};
+    ghost use Rattle.willow_path.specs.PathBytes.{AreOfPath, parts_of};
 
-    ghost view = { λ p. map (λ part. part.items) p.parts.items };
+    ghost view = { λ p. parts_of p.bytes.items };
 
-    ghost invariant = { λ p. IsPath (map (λ part. part.items) p.parts.items) × (p.byte_count ≡ total (map (λ part. part.items) p.parts.items)) };
+    ghost invariant = { λ p. AreOfPath p.bytes.items };
 }
 
 impl Path {
@@ -65,9 +65,28 @@ impl Path {
         ensures path { IsPath result }
     {
         Path {
-            parts: SmallVec::new(alloc),
-            byte_count: 0,
+            bytes: SmallVec::new(alloc),
         }
+    }
+
+    // The path whose components stand in the bytes.
+    pub(crate) fn from_bytes(alloc: Global, bytes: &[u8]) -> Result<Path, NoMemory>
+        requires { AreOfPath bytes.now }
+        ensures { IfOk result (λ path. path ≡ parts_of bytes.now) }
+    {
+        Ok(Path {
+            bytes: SmallVec::from_slice(alloc, bytes)?,
+        })
+    }
+
+    // The bytes in which the components stand.
+    pub(crate) fn bytes(&self) -> &[u8]
+        ensures spelled { result.now ≡ parts_spelling self.now }
+        ensures whole { AreOfParts result.now }
+        ensures parts { parts_of result.now ≡ self.now }
+        ensures path { IsPath self.now }
+    {
+        self.bytes.as_slice()
     }
 
     /// Adds a component at the end. Of several refusals the first is given: a component of more than
@@ -94,9 +113,9 @@ impl Path {
         ensures path { IsPath self.new }
         ensures err { OnErr result (self.new ≡ self.old) }
     {
-        let added = SmallVec::from_slice(*self.parts.allocator(), part)?;
-        self.parts.push(added)?;
-        self.byte_count += part.len();
+        self.bytes.reserve_exact(1 + part.len())?;
+        self.bytes.push_reserved(part.len() as u8);
+        self.bytes.extend_from_slice(part)?;
         Ok(())
     }
 
@@ -106,11 +125,12 @@ impl Path {
         ensures cause { result ≡ push_refusal self.now part.now }
         ensures path { IsPath self.now }
     {
-        let total = self.byte_count + part.len();
+        let count = self.count();
+        let total = self.total() + part.len();
         if part.len() > MAX_PART {
             return Some(PathRefusal::ComponentTooLong { len: part.len() });
         }
-        if self.parts.len() >= MAX_PARTS {
+        if count >= MAX_PARTS {
             return Some(PathRefusal::TooManyComponents);
         }
         if total > MAX_TOTAL {
@@ -121,22 +141,36 @@ impl Path {
 
     // The allocator that the path takes its memory from.
     pub(crate) fn allocator(&self) -> Global {
-        *self.parts.allocator()
+        *self.bytes.allocator()
     }
 
     /// The number of components.
     pub fn count(&self) -> usize
         ensures { result ≡ length self.now }
     {
-        self.parts.len()
+        let mut rest = self.bytes();
+        let mut count = 0;
+        while let Some((_, behind)) = first_part(rest) {
+            rest = behind;
+            count += 1;
+        }
+        count
     }
 
     /// The number of bytes of all components.
+    #[tactic(auto, using(crate::proofs::PathBytes::length_parts))]
     pub fn total(&self) -> usize
         ensures total { result ≡ total self.now }
         ensures path { IsPath self.now }
     {
-        self.byte_count
+        self.bytes().len() - self.count()
+    }
+
+    /// The number of bytes of the path's spelling.
+    pub fn spelled_len(&self) -> usize
+        ensures { result ≡ length (path_spelling self.now) }
+    {
+        1 + self.bytes().len()
     }
 
     /// The bytes of the component at place i, counted from 0.
@@ -144,24 +178,41 @@ impl Path {
         requires { i < length self.now }
         ensures { result.now ≡ slice_index_or self.now i [] }
     {
-        self.parts[i].as_slice()
+        let mut rest = self.bytes();
+        let mut before = i;
+        while let Some((part, behind)) = first_part(rest) {
+            if before == 0 {
+                return part;
+            }
+            before -= 1;
+            rest = behind;
+        }
+        &[]
     }
 
     /// Whether the other path is this one followed by further components, or by none.
     pub fn is_prefix_of(&self, other: &Path) -> bool
         ensures { result ≡ is_prefix self.now other.now }
     {
-        other.parts.as_slice().starts_with(self.parts.as_slice())
+        other.bytes().starts_with(self.bytes())
     }
 
     /// An equal path.
     pub fn copy(&self) -> Result<Path, NoMemory>
         ensures { IfOk result (λ path. path ≡ self.now) }
     {
-        Ok(Path {
-            parts: self.parts.clone()?,
-            byte_count: self.byte_count,
-        })
+        Path::from_bytes(self.allocator(), self.bytes())
+    }
+}
+
+// The first component that stands in the bytes, and the bytes of the others; None where there is none.
+fn first_part(bytes: &[u8]) -> Option<(&[u8], &[u8])>
+    requires { AreOfParts bytes.now }
+    ensures { MatchOption result (parts_of bytes.now ≡ []) (λ x. IsFirstPart bytes.now x.0.now x.1.now) }
+{
+    match bytes {
+        [] => None,
+        [len, rest @ ..] => Some(rest.split_at(usize::from(*len))),
     }
 }
 
@@ -171,7 +222,7 @@ impl PartialEq for Path {
     ghost laws = { Prim.search (comparing, rules) };
 
     fn eq(&self, other: &Path) -> bool {
-        self.parts == other.parts
+        self.bytes() == other.bytes()
     }
 }
 
@@ -189,7 +240,24 @@ impl Ord for Path {
     ghost matches_eq = { lists_ties part_cmp texts_ties };
 
     fn cmp(&self, other: &Path) -> Ordering {
-        self.parts.cmp(&other.parts)
+        let (mut left, mut right) = (self.bytes(), other.bytes());
+        while let Some((part, behind)) = first_part(left) {
+            match first_part(right) {
+                None => return Ordering::Greater,
+                Some((other, others)) => match part.cmp(other) {
+                    Ordering::Equal => {
+                        left = behind;
+                        right = others;
+                    }
+                    order => return order,
+                },
+            }
+        }
+        if right.is_empty() {
+            Ordering::Equal
+        } else {
+            Ordering::Less
+        }
     }
 }
 

@@ -18,8 +18,10 @@ impl Path {
         ensures spelled { OnOk result (out.new.items ≡ out.old.items ++ path_spelling self.now) }
         ensures err { OnErr result (out.new.items ≡ out.old.items) }
     {
-        let text = spelled(*out.allocator(), self)?;
-        out.extend_from_slice(&text)?;
+        let bytes = self.bytes();
+        out.reserve(1 + bytes.len())?;
+        out.push_reserved(self.count() as u8);
+        out.extend_from_slice(bytes)?;
         Ok(())
     }
 
@@ -43,17 +45,18 @@ pub fn read_path(alloc: Global, input: &mut Input) -> Result<Path, Unread>
     read_parts(alloc, input, count)
 }
 
-// Reads so many components.
+// Reads so many components. They stand in the path as they are spelled.
 fn read_parts(alloc: Global, input: &mut Input, count: usize) -> Result<Path, Unread>
     requires { count ≤ MAX_PARTS }
     ensures { Gives (λ path. path) result input.new (parts_at MAX_TOTAL count input.old) }
 {
-    let mut path = Path::empty(alloc);
+    let whole = input.front();
+    let mut room = MAX_TOTAL;
     for i in 0..count {
-        let part = read_part(input, MAX_TOTAL - path.total())?;
-        path.add(part)?;
+        room -= read_part(input, room)?.len();
     }
-    Ok(path)
+    let taken = input.taken_of(whole);
+    Ok(Path::from_bytes(alloc, &whole[..taken])?)
 }
 
 // Reads a component of a path that has room for so many bytes.
@@ -66,19 +69,4 @@ fn read_part<'a>(input: &mut Input<'a>, room: usize) -> Result<&'a [u8], Unread>
     let limit = MAX_PART.min(room) as u8;
     let len = usize::from(input.byte_up_to(limit)?);
     input.slice(len)
-}
-
-// The path's spelling.
-fn spelled(alloc: Global, path: &Path) -> Result<Vec<u8>, NoMemory>
-    ensures { IfOk result (λ text. text.items ≡ path_spelling path.now) }
-{
-    let (total, count) = (path.total(), path.count());
-    let mut text = Vec::with_capacity(alloc, 1 + count + total)?;
-    text.push(count as u8)?;
-    for i in 0..count {
-        let part = path.part(i);
-        text.push(part.len() as u8)?;
-        text.extend_from_slice(part)?;
-    }
-    Ok(text)
 }

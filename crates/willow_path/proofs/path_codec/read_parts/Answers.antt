@@ -1,29 +1,32 @@
-use Rattle.std.proofs.Common.{◌≡◌, ◌-◌, ◌+◌, length, ap, ◌∙◌, arith}
-use Rattle.std.proofs.lemmas.List.{length_push}
+use Rattle.std.proofs.Common.{rules, arith}
 use Rattle.std.proofs.lemmas.Result.{err_from_is_err_and}
-use Rattle.willow_path.specs.declared.limits.TheConstants.{MAX_TOTAL}
-use Rattle.willow_path.specs.Path.{total}
-use Rattle.willow_path.specs.PathSpelling.{part_at}
-use Rattle.spelling.specs.Reading.{Fails}
-use Rattle.spelling.specs.Front.{Whole}
-use Rattle.willow_path.proofs.PathReading.{read_on, read_ends, read_all}
+use Rattle.spelling.proofs.Lists.{are_bytes}
+use Rattle.spelling.specs.Form.{AreBytes}
+use Rattle.willow_path.proofs.PathReading.{HasRead-none, HasRead-one, HasRead-ends, HasRead-all}
 use Rattle.willow_path.proofs.path_codec.read_parts.Goals as goal
 
-pub returns-in_err-part : goal.returns-in_err-part
-returns-in_err-part c =
-    let e : Fails c.in_err-part.field-0.0 (part_at (MAX_TOTAL - total c.loop-i.path) c.loop-i.input) = rw (← c.total.ensures.total) c.in_err-part.ensures.read in
-    let f = read_ends c.in_err-part.field-0.0 _ c.loop-i.path c.args.count c.loop-i.i c.loop-i.input _ (omega arith) e c.loop-i.invariant.so_far in
+pub loop-i-init : goal.loop-i-init
+loop-i-init c =
+    let are : AreBytes c.args.input.now = rw (← c.front-whole.ensures) (are_bytes c.front-whole.result.now (λ i. search (rules, c.type_inv.whole i))) in
+    HasRead-none c.args.input.now c.args.count are
+
+pub returns-in_err-room : goal.returns-in_err-room
+returns-in_err-room c =
+    let f = HasRead-ends c.in_err-room.field-0.0 c.args.input.now c.loop-i.input c.args.count c.loop-i.i c.loop-i.room c.loop-i.invariant (omega arith) c.in_err-room.ensures.read in
     let p = err_from_is_err_and c.from_residual.result c.from_residual.ensures.1 in
     rw (p.1, p.2) f
 
 pub loop-i-preserved : goal.loop-i-preserved
 loop-i-preserved c =
-    let w : part_at (MAX_TOTAL - total c.loop-i.path) c.loop-i.input ≡ Whole c.in_ok-part.part.now c.read_part.new.input = rw (← c.total.ensures.total) c.in_ok-part.ensures.read in
-    let added = c.in_ok-add.ensures.added in
-    record {
-      so_far = rw added (read_on MAX_TOTAL c.loop-i.path c.args.count c.loop-i.i c.loop-i.input c.read_part.new.input c.in_ok-part.part.now _ (omega arith) w c.loop-i.invariant.so_far);
-      placed = ap length added ∙ length_push c.loop-i.path c.in_ok-part.part.now ∙ ap (λ n. n + 1) c.loop-i.invariant.placed;
-    }
+    HasRead-one c.args.input.now c.loop-i.input c.read_part.new.input c.in_ok-room.field-0.now c.args.count c.loop-i.i c.loop-i.room c.loop-i.invariant (omega arith) c.in_ok-room.ensures.read
+
+pub from_bytes-requires : goal.from_bytes-requires
+from_bytes-requires c =
+    let taken = rw c.front-whole.ensures at c.taken_of-taken.ensures in
+    rw c.front-whole.ensures (HasRead-all c.args.input.now c.loop-i.input c.args.count c.loop-i.i c.loop-i.room c.taken_of-taken.result c.loop-i.invariant c.requires (omega arith) taken).path
 
 pub returns : goal.returns
-returns c = read_all (MAX_TOTAL - total c.loop-i.path) c.loop-i.path c.args.count c.loop-i.i c.loop-i.input _ (omega arith) c.loop-i.invariant.so_far
+returns c =
+    let taken = rw c.front-whole.ensures at c.taken_of-taken.ensures in
+    let parts = rw c.front-whole.ensures at c.in_ok-from_bytes.ensures in
+    rw parts (HasRead-all c.args.input.now c.loop-i.input c.args.count c.loop-i.i c.loop-i.room c.taken_of-taken.result c.loop-i.invariant c.requires (omega arith) taken).reads

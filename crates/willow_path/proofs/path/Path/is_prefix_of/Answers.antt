@@ -1,6 +1,6 @@
 use Rattle.std.proofs.Common.{◌∙◌}
-use Rattle.willow_path.proofs.PathVectors.{is_prefix-map}
+use Rattle.willow_path.proofs.PathBytes.{prefix_bytes}
 use Rattle.willow_path.proofs.path.Path.is_prefix_of.Goals as goal
 
 pub returns : goal.returns
-returns c = rw (← c.self.view_is, ← c.other.view_is) (rw (c.as_slice.ensures, c.as_slice-2.ensures) at c.starts_with.ensures.value ∙ is_prefix-map (λ part. part.items) _ _)
+returns c = rw (c.bytes.ensures.spelled, c.bytes-2.ensures.spelled) at c.starts_with.ensures.value ∙ prefix_bytes c.args.self.now c.args.other.now

@@ -1,0 +1,14 @@
+use Rattle.std.proofs.Common.{◌≡◌, length}
+use Rattle.willow_path.specs.Path.{path_cmp}
+use Rattle.willow_path.specs.PathBytes.{AreOfParts, parts_of}
+use Rattle.willow_path.proofs.path.PathOrd.cmp.Given as goal
+
+abbrev pub invariant-loop-part : goal.invariant-loop-part
+invariant-loop-part l = record {
+  left_whole : AreOfParts l.left;
+  right_whole : AreOfParts l.right;
+  so_far : path_cmp (parts_of l.left) (parts_of l.right) ≡ path_cmp l.self l.other;
+}
+
+abbrev pub decreases-loop-part : goal.decreases-loop-part
+decreases-loop-part l = length l.left
