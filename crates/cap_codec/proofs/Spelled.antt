@@ -1,5 +1,5 @@
 -- A row is told by its entry and its body's bytes.
-use Rattle.std.proofs.Common.{◌≡◌, ℕ, List, length, sym, ap, subst, ◌∙◌}
+use Rattle.std.proofs.Common.{◌≡◌, ℕ, List, length, refl, sym, ap, subst, ◌∙◌}
 use Rattle.spelling.proofs.Joining.{alone}
 use Rattle.willow_entry.specs.EntryForm.{entry_spelling}
 use Rattle.cap_codec.specs.declared.token.WriteToken.{WriteToken}
@@ -13,14 +13,13 @@ unfolding token_of
 token_again t fits = ap (whole_or no_token) (alone token-reads t fits)
 
 -- nothing is lost where the token is kept as bytes
-pub spelled_again : (body : List ℕ) (r : RawValue) (n : ℕ) → IsRaw r → body ≡ raw_spelling r → n ≡ length (entry_spelling r.entry) → spelled_row r.entry body n ≡ r
-spelled_again body r n fits spelled long =
+pub spelled_again : (body : List ℕ) (r : RawValue) → IsRaw r → body ≡ raw_spelling r → spelled_row r.entry body ≡ r
+spelled_again body r fits spelled =
     let with_token : WriteToken → RawValue = λ t. record { entry = r.entry; token = t } in
-    ap with_token (ap token_of (token_part body r n spelled long) ∙ token_again r.token fits.token_fits)
+    ap with_token (ap token_of (token_part body r (length (entry_spelling r.entry)) spelled refl) ∙ token_again r.token fits.token_fits)
 
 -- the entry and the body of a row are those of a row that keeps no more
-pub spelled_fits : (body : List ℕ) (r : RawValue) (n : ℕ) → IsRaw r → body ≡ raw_spelling r → n ≡ length (entry_spelling r.entry)
-    → IsRaw (spelled_row r.entry body n) × (body ≡ raw_spelling (spelled_row r.entry body n)) × (n ≡ length (entry_spelling r.entry))
-spelled_fits body r n fits spelled long =
-    let same = sym (spelled_again body r n fits spelled long) in
-    (subst IsRaw same fits, spelled ∙ ap raw_spelling same, long)
+pub spelled_fits : (body : List ℕ) (r : RawValue) → IsRaw r → body ≡ raw_spelling r → IsRaw (spelled_row r.entry body) × (body ≡ raw_spelling (spelled_row r.entry body))
+spelled_fits body r fits spelled =
+    let same = sym (spelled_again body r fits spelled) in
+    (subst IsRaw same fits, spelled ∙ ap raw_spelling same)

@@ -1,6 +1,7 @@
 -- The token that bytes spell, and the row whose entry and whose body are kept.
-use Rattle.std.specs.Prelude.{ℕ, List, [], drop, None}
+use Rattle.std.specs.Prelude.{ℕ, List, [], drop, length, None}
 use Rattle.spelling.specs.Front.{Front, Whole, Part, Wrong}
+use Rattle.willow_entry.specs.EntryForm.{entry_spelling}
 use Rattle.willow_entry.specs.declared.entry.Entry.{Entry}
 use Rattle.mc_cap.specs.declared.capability.Mode.TheVariants.{Read}
 use Rattle.cap_codec.specs.declared.token.WriteToken.{WriteToken}
@@ -21,6 +22,6 @@ whole_or other Wrong = other
 unfoldable pub token_of : List ℕ → WriteToken
 token_of bytes = whole_or no_token (token_at bytes)
 
--- the entry, with the token that a body spells behind its first n bytes
-abbrev pub spelled_row : Entry → List ℕ → ℕ → RawValue
-spelled_row entry body n = record { entry = entry; token = token_of (drop n body) }
+-- the entry, with the token that a body spells behind the entry's bytes
+abbrev pub spelled_row : Entry → List ℕ → RawValue
+spelled_row entry body = record { entry = entry; token = token_of (drop (length (entry_spelling entry)) body) }

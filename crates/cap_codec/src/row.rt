@@ -5,8 +5,8 @@ ghost use Rattle.std.specs.Prelude.{◌≡◌, IfOk};
 ghost use Rattle.mc_cap.specs.Forms.{capability_spelling};
 ghost use Rattle.cap_codec.specs.Rows.{RawValue, row_of, raw_spelling, IsRaw, IsRawRow, IsToken, ReadsWhole};
 
-use crate::token::{WriteToken, put_signature, read_measured};
-use spelling::{End, Input, NoMemory, NotHere};
+use crate::token::{SIGNATURE_FIELD, WriteToken, put_signature, read_measured};
+use spelling::{End, Input, NoMemory, NotHere, put_bytes};
 use std::alloc::Global;
 use std::marker::Model;
 use willow_entry::{Entry, Row, RowForm, SharedRow, read_entry};
@@ -44,11 +44,13 @@ impl RawRow {
         ensures entry { IfOk result (λ row. row.entry ≡ entry) }
         ensures token { IfOk result (λ row. row.token ≡ token) }
     {
-        let mut body = Vec::new(alloc);
+        let mut capability = Vec::new(alloc);
+        token.capability.encode(&mut capability)?;
+        let (entry_len, capability_len) = (entry.spelled_len(), capability.len());
+        let signature_len = SIGNATURE_FIELD + token.signature.as_slice().len();
+        let mut body = Vec::with_capacity(alloc, entry_len + capability_len + signature_len)?;
         entry.encode(&mut body)?;
-        let entry_len = body.len();
-        token.capability.encode(&mut body)?;
-        let capability_len = body.len() - entry_len;
+        put_bytes(&mut body, &capability)?;
         put_signature(&token.signature, &mut body)?;
         token.known();
         Ok(RawRow {
@@ -108,17 +110,9 @@ impl RawRow {
     pub fn into_spelled(self) -> SpelledRow
         ensures { result ≡ self }
     {
-        let RawRow {
-            entry,
-            token: _,
-            body,
-            entry_len,
-            capability_len: _,
-        } = self;
         SpelledRow {
-            entry,
-            body,
-            entry_len,
+            entry: self.entry,
+            body: self.body,
         }
     }
 
@@ -164,22 +158,19 @@ impl SharedRow for RawRow {}
 pub struct SpelledRow {
     entry: Entry,
     body: Vec<u8>,
-    entry_len: usize,
 }
 
 impl Model for SpelledRow {
-    ghost use Rattle.std.specs.Prelude.{◌≡◌, length};
-    ghost use Rattle.willow_entry.specs.EntryForm.{entry_spelling};
+    ghost use Rattle.std.specs.Prelude.{◌≡◌};
     ghost use Rattle.cap_codec.specs.Rows.{RawValue, IsRaw, raw_spelling};
     ghost use Rattle.cap_codec.specs.Spelled.{spelled_row};
 
     ghost Value = { RawValue };
 
-    ghost view = { λ r. spelled_row r.entry r.body.items r.entry_len };
+    ghost view = { λ r. spelled_row r.entry r.body.items };
 
-    ghost invariant = { λ r. IsRaw (spelled_row r.entry r.body.items r.entry_len)
-        × (r.body.items ≡ raw_spelling (spelled_row r.entry r.body.items r.entry_len))
-        × (r.entry_len ≡ length (entry_spelling r.entry)) };
+    ghost invariant = { λ r. IsRaw (spelled_row r.entry r.body.items)
+        × (r.body.items ≡ raw_spelling (spelled_row r.entry r.body.items)) };
 }
 
 impl SpelledRow {
@@ -197,7 +188,6 @@ impl SpelledRow {
         Ok(SpelledRow {
             entry: self.entry.copy()?,
             body: Vec::from_slice(*self.body.allocator(), &self.body)?,
-            entry_len: self.entry_len,
         })
     }
 }
@@ -210,11 +200,11 @@ impl Row for SpelledRow {
     }
 
     fn entry_bytes(&self) -> &[u8] {
-        &self.body[..self.entry_len]
+        &self.body[..self.entry.spelled_len()]
     }
 
     fn token_bytes(&self) -> &[u8] {
-        &self.body[self.entry_len..]
+        &self.body[self.entry.spelled_len()..]
     }
 
     fn copy(&self) -> Result<SpelledRow, NoMemory> {

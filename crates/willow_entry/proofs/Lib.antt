@@ -10,3 +10,4 @@ pub mod Covering
 pub mod Placing
 pub mod Local
 pub mod EntryReads
+pub mod SpelledLength

@@ -1,6 +1,6 @@
 //! How entries are spelled as bytes, and read back.
 
-ghost use Rattle.std.specs.Prelude.{◌≡◌, ◌<◌, ◌≤◌, ◌^◌, ◌++◌, take, vec_len, OnOk, OnErr};
+ghost use Rattle.std.specs.Prelude.{◌≡◌, ◌<◌, ◌≤◌, ◌^◌, ◌++◌, length, take, vec_len, OnOk, OnErr};
 ghost use Rattle.std.specs.Int.{w64, to_be_bytes};
 ghost use Rattle.spelling.specs.Form.{Decodes};
 ghost use Rattle.spelling.specs.Reading.{Gives};
@@ -12,7 +12,19 @@ use spelling::{End, Input, NoMemory, NotHere, Unread, put_bytes, put_u64};
 use std::alloc::Global;
 use willow_path::{read_digest, read_namespace_key, read_path, read_user_key};
 
+// How many bytes of an entry's spelling are not its path's: two keys of 33 bytes, two numbers of 8 and a digest of 32.
+const BESIDE_PATH: usize = 33 + 33 + 8 + 8 + 32;
+
 impl Entry {
+    /// The number of bytes of the entry's spelling.
+    #[tactic(auto, using(crate::proofs::SpelledLength::entry_length, crate::proofs::SpelledLength::path_long))]
+    pub fn spelled_len(&self) -> usize
+        ensures { result ≡ length (entry_spelling self.now) }
+    {
+        see_limits(self);
+        BESIDE_PATH + self.path.spelled_len()
+    }
+
     /// Appends the spelling of the entry to `out`: the 33 bytes of the namespace key and of the subspace key,
     /// the path, the timestamp and the payload length in 8 bytes each, and the 32 bytes of the digest.
     /// An error leaves `out` as it was.

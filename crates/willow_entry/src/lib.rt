@@ -17,7 +17,7 @@ pub use bare_row::{BareRow, BareRows};
 pub use entry::{Entry, newer};
 pub use entry_codec::read_entry;
 pub use frame::{MAX_FRAME, encode_row_frame};
-pub use message::{entry_message, row_message};
+pub use message::{entry_message, put_row_message, row_message};
 pub use placed::{MAX_ROWS, Placed};
 pub use rank::{Rank, by_rank};
 pub use row::{
