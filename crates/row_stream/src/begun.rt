@@ -1,6 +1,6 @@
 //! The frame that the end of a piece has cut.
 
-ghost use Rattle.std.specs.Prelude.{◌≡◌, length, take, IfOk};
+ghost use Rattle.std.specs.Prelude.{◌≡◌, length, take, IfOk, OnErr, OnOk};
 ghost use Rattle.row_stream.specs.Places.{IsUnfinished};
 ghost use Rattle.row_stream.specs.Steps.{IsCompleted, IsFilled};
 
@@ -32,4 +32,16 @@ fn fill<'a>(begun: &mut Vec<u8>, upto: usize, piece: &'a [u8]) -> Result<&'a [u8
     let (front, rest) = piece.split_at(due.min(piece.len()));
     begun.extend_from_slice(front)?;
     Ok(rest)
+}
+
+// Puts the bytes in place of what has begun, in the same memory where they find room. Without memory what has begun stays
+// as it was.
+pub(crate) fn begin_with(begun: &mut Vec<u8>, bytes: &[u8]) -> Result<(), NoMemory>
+    ensures begins { OnOk result (begun.new.items ≡ bytes.now) }
+    ensures err { OnErr result (begun.new.items ≡ begun.old.items) }
+{
+    begun.reserve(bytes.len().saturating_sub(begun.len()))?;
+    begun.clear();
+    begun.extend_from_slice(bytes)?;
+    Ok(())
 }

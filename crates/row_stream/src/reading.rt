@@ -1,15 +1,15 @@
 //! Reading the frames of a piece.
 
-ghost use Rattle.std.specs.Prelude.{◌≡◌, ◌+◌, ◌^◌, ◌<◌, [], ◌++◌, length, take, OnErr};
+ghost use Rattle.std.specs.Prelude.{◌≡◌, ◌+◌, ◌^◌, ◌<◌, ◌≤◌, [], ◌++◌, length, take, OnErr};
 ghost use Rattle.row_stream.specs.Places.{IsUnfinished};
 ghost use Rattle.row_stream.specs.Steps.{ReadsFrames, ReadsOn, ReadsRow};
 
-use crate::begun::complete;
+use crate::begun::{begin_with, complete};
 use crate::frame::{FIELD, split_frame};
 use crate::refusal::StreamRefusal;
 use spelling::{End, Unread};
 use std::alloc::Global;
-use willow_entry::RowForm;
+use willow_entry::{LEAST_ENTRY, RowForm};
 
 // Reads a piece behind the bytes that have begun, of which the first has this offset. Answers the rows that became
 // whole and the offset behind their frames, and leaves what then has begun. Where that does not end well, what had
@@ -55,8 +55,9 @@ fn read_on<F: RowForm>(
     ensures reads { ReadsOn F.IsRow F.R.value at bytes.now rows.items begun.new.items result }
     ensures kept { OnErr result (begun.new.items ≡ begun.old.items) }
 {
+    rows.reserve(count_rows(bytes))?;
     let (here, left) = read_frames::<F>(alloc, at, bytes, &mut rows)?;
-    *begun = Vec::from_slice(alloc, left)?;
+    begin_with(begun, left)?;
     Ok((rows, here))
 }
 
@@ -87,6 +88,22 @@ fn read_frames<'a, F: RowForm>(
             Err(Unread::NoMemory) => return Err(End::NoMemory),
         }
     }
+}
+
+// How many whole frames stand in front of the bytes, up to the first that is too short for a row.
+fn count_rows(bytes: &[u8]) -> usize
+    ensures { result ≤ length bytes.now }
+{
+    let mut count = 0;
+    let mut left = bytes;
+    'frames: while let Ok((body, behind)) = split_frame(left) {
+        if body.len() < LEAST_ENTRY {
+            break;
+        }
+        count += 1;
+        left = behind;
+    }
+    count
 }
 
 // The row of the body of the frame at this offset.

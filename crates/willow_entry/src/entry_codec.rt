@@ -15,6 +15,9 @@ use willow_path::{read_digest, read_namespace_key, read_path, read_user_key};
 // How many bytes of an entry's spelling are not its path's: two keys of 33 bytes, two numbers of 8 and a digest of 32.
 const BESIDE_PATH: usize = 33 + 33 + 8 + 8 + 32;
 
+/// No entry's spelling has fewer bytes: one whose path has no component has so many.
+pub const LEAST_ENTRY: usize = BESIDE_PATH + 1;
+
 impl Entry {
     /// The number of bytes of the entry's spelling.
     #[tactic(auto, using(crate::proofs::SpelledLength::entry_length, crate::proofs::SpelledLength::path_long))]

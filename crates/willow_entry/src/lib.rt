@@ -15,7 +15,7 @@ mod row_form;
 
 pub use bare_row::{BareRow, BareRows};
 pub use entry::{Entry, newer};
-pub use entry_codec::read_entry;
+pub use entry_codec::{LEAST_ENTRY, read_entry};
 pub use frame::{MAX_FRAME, encode_row_frame};
 pub use message::{entry_message, put_row_message, row_message};
 pub use placed::{MAX_ROWS, Placed};

@@ -3,7 +3,7 @@
 use crate::{
     BareRow, BareRows, Entry, LogRow, Placed, Rank, Row, RowForm, SharedRow, by_inner_place,
     by_place, by_rank, by_subspace_path, cover, covers, dominates, encode_row_frame, entry_message,
-    newer, read_entry, row_message, same,
+    newer, put_row_message, read_entry, row_message, same,
 };
 use spelling::Input;
 use std::alloc::Global;
@@ -236,6 +236,10 @@ fn messages_and_frames(rt: HostRuntime) -> Result<(), Fail> {
     assert_eq!(rt; message.len(), 118);
     assert!(rt; message.starts_with(b"E") && message.ends_with(made.entry_bytes()));
     assert!(rt; message.as_slice() == again.as_slice());
+    assert_eq!(rt; made.entry().spelled_len(), 117);
+    let mut behind = again;
+    put_row_message(&made, &mut behind).ok().ok_or("memory")?;
+    assert!(rt; behind.len() == 236 && behind.ends_with(&message));
     let frame = frame_of(rt.alloc(), &made)?;
     assert_eq!(rt; frame.len(), 122);
     assert!(rt; frame.starts_with(&[0, 0, 0, 118]) && frame.ends_with(&[9]));
