@@ -113,20 +113,20 @@ impl Path {
         ensures path { IsPath self.new }
         ensures err { OnErr result (self.new ≡ self.old) }
     {
-        self.bytes.reserve_exact(1 + part.len())?;
+        self.bytes.reserve(1 + part.len())?;
         self.bytes.push_reserved(part.len() as u8);
         self.bytes.extend_from_slice(part)?;
         Ok(())
     }
 
     // Why the component cannot be added.
-    #[tactic(auto, unfolding(crate::specs::PathPush::push_refusal))]
+    #[tactic(auto, using(crate::proofs::PathBytes::length_parts), unfolding(crate::specs::PathPush::push_refusal))]
     fn refusal(&self, part: &[u8]) -> Option<PathRefusal>
         ensures cause { result ≡ push_refusal self.now part.now }
         ensures path { IsPath self.now }
     {
         let count = self.count();
-        let total = self.total() + part.len();
+        let total = self.bytes().len() - count + part.len();
         if part.len() > MAX_PART {
             return Some(PathRefusal::ComponentTooLong { len: part.len() });
         }

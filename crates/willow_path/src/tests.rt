@@ -9,6 +9,15 @@ const HIGH: &[u8] = &[0xff; 255];
 
 const LONG: &[u8] = &[0x61; 255];
 
+// As many components as a path may have.
+const MANY: &[&[u8]] = &[
+    b"a", b"", b"ccc", b"d", b"e", b"f", b"g", b"h", b"i", b"j", b"k", b"l", b"m", b"n", b"o",
+    b"pp",
+];
+
+// Components of as many bytes as a path may have.
+const WIDE: &[&[u8]] = &[LONG, HIGH, LONG, HIGH, b"abcd"];
+
 // The path of these components; None where one cannot be added.
 fn path_of(alloc: Global, parts: &[&[u8]]) -> Option<Path> {
     let mut path = Path::empty(alloc);
@@ -87,6 +96,8 @@ fn limits_of_paths(rt: HostRuntime) {
     let full = Err(End::Refused(PathRefusal::TooManyComponents));
     assert_eq!(rt; pushed_onto_most(alloc), Some((16, full)));
     assert_eq!(rt; numbers_of(alloc, &[LONG, b"", b"bc"]), Some((3, 257)));
+    assert_eq!(rt; numbers_of(alloc, MANY), Some((16, 18)));
+    assert_eq!(rt; numbers_of(alloc, WIDE), Some((5, 1024)));
 }
 
 // How many bytes the path in front of the bytes takes, and its spelling behind a byte 09.
@@ -117,6 +128,15 @@ fn joined_parts(alloc: Global, bytes: &[u8]) -> Option<Vec<u8>> {
     Some(text)
 }
 
+// Whether the path of these components is read back from its spelling, which is as long as the path tells.
+fn is_read_back(alloc: Global, parts: &[&[u8]]) -> Option<bool> {
+    let path = path_of(alloc, parts)?;
+    let mut text = Vec::new(alloc);
+    path.encode(&mut text).ok()?;
+    let (again, taken) = Path::decode(alloc, &text).ok()?;
+    Some(again == path && taken == text.len() && taken == path.spelled_len())
+}
+
 #[test]
 fn spellings_of_paths(rt: HostRuntime) {
     let alloc = rt.alloc();
@@ -130,6 +150,15 @@ fn spellings_of_paths(rt: HostRuntime) {
         read_again(alloc, &[1, 2, 0x61]),
         Err(End::Refused(NotHere))
     );
+    for parts in [
+        MANY,
+        WIDE,
+        &[b""],
+        &[b"fifteen letters"],
+        &[b"sixteen letters!"],
+    ] {
+        assert_eq!(rt; is_read_back(alloc, parts), Some(true));
+    }
 }
 
 // Whether the first path is a prefix of the second, and how they are ordered.
@@ -147,19 +176,31 @@ fn is_copied(alloc: Global, parts: &[&[u8]]) -> Option<bool> {
 #[test]
 fn order_of_some_paths(rt: HostRuntime) {
     let alloc = rt.alloc();
-    let rows: [(&[&[u8]], &[&[u8]], bool, Ordering); 4] = [
+    let rows: [(&[&[u8]], &[&[u8]], bool, Ordering); 13] = [
         (&[b"a"], &[b"a", b"b"], true, Ordering::Less),
         (&[b"a", b"b"], &[b"a"], false, Ordering::Greater),
         (&[b"a"], &[b"ab"], false, Ordering::Less),
         (&[b"a", b"b"], &[b"ab"], false, Ordering::Less),
+        (&[b"b"], &[b"aa"], false, Ordering::Greater),
+        (&[b"b"], &[b"aa", b"c"], false, Ordering::Greater),
+        (&[b"x", b"aa"], &[b"x", b"b", b""], false, Ordering::Less),
+        (&[b"x"], &[b"x", b"aa"], true, Ordering::Less),
+        (&[], &[b""], true, Ordering::Less),
+        (&[b""], &[b"", b"a"], true, Ordering::Less),
+        (&[b""], &[b"a"], false, Ordering::Less),
+        (MANY, MANY, true, Ordering::Equal),
+        (WIDE, MANY, false, Ordering::Greater),
     ];
     for (one, other, prefix, order) in rows {
         assert_eq!(rt; compared(alloc, one, other), Some((prefix, order)));
     }
-    assert_eq!(rt;
-        is_copied(alloc, &[b"a", b"a component of more than a few bytes", b""]),
-        Some(true)
-    );
+    for parts in [
+        MANY,
+        WIDE,
+        &[b"a", b"a component of more than a few bytes", b""],
+    ] {
+        assert_eq!(rt; is_copied(alloc, parts), Some(true));
+    }
 }
 
 #[test]
