@@ -1,10 +1,14 @@
 //! Keys of users and namespaces, and digests.
 
-ghost use Rattle.std.specs.Prelude.{◌≡◌, ℕ, ◌<◌, ◌≤◌, List, slice_index, replicate, MatchBool, MatchOption, IfOk};
+ghost use Rattle.std.specs.Prelude.{◌≡◌, ℕ, ◌<◌, ◌≤◌, List, slice_index, replicate, MatchBool, MatchOption, IfOk, Some, refl};
+ghost use Rattle.std.specs.Ordering.{nat_cmp};
+ghost use Rattle.std.specs.Cmp.{unsigned_po};
+ghost use Rattle.std.specs.Cmp.Lexicographic.{slice_cmp, slice_partial_cmp, lists_agrees, lists_po, nat_list_cmp_total, texts_ties};
 ghost use Rattle.spelling.specs.Reading.{Gives, NeedsNoMemory, bytes_at};
 ghost use Rattle.willow_path.specs.Key.{IsKey, key_at};
 
 use spelling::{Input, Unread};
+use std::cmp::Ordering;
 use std::marker::Model;
 
 // Whether the bytes are a key's.
@@ -16,7 +20,7 @@ fn is_key(bytes: &[u8; 33]) -> bool
 
 /// The key of a user, who owns a subspace: a kind (0 or 1) and a body of 32 bytes.
 /// Keys are ordered by their bytes.
-#[derive(Clone, Copy, Debug, PartialEq, Eq, PartialOrd, Ord)]
+#[derive(Clone, Copy, Debug, PartialEq, Eq)]
 pub struct UserKey {
     bytes: [u8; 33],
 }
@@ -29,6 +33,31 @@ impl Model for UserKey {
     ghost invariant = { λ k. IsKey k.bytes };
 
     ghost inverse = { λ v. record { bytes = v } };
+}
+
+impl Ord for UserKey {
+    ghost cmp = { slice_cmp nat_cmp };
+
+    ghost total = { nat_list_cmp_total };
+
+    ghost matches_partial_cmp = { lists_agrees (λ x y. refl) };
+
+    ghost matches_eq = { texts_ties };
+
+    fn cmp(&self, other: &UserKey) -> Ordering {
+        self.bytes.cmp(&other.bytes)
+    }
+}
+
+impl PartialOrd for UserKey {
+    ghost partial_cmp = { slice_partial_cmp (λ x y. Some (nat_cmp x y)) };
+
+    ghost laws = { lists_po unsigned_po };
+
+    // By `cmp`, which compares words: the partial order of arrays goes byte by byte.
+    fn partial_cmp(&self, other: &UserKey) -> Option<Ordering> {
+        Some(self.cmp(other))
+    }
 }
 
 impl UserKey {
@@ -61,7 +90,7 @@ impl UserKey {
 }
 
 /// The key of a namespace: a kind (0 or 1) and a body of 32 bytes. Keys are ordered by their bytes.
-#[derive(Clone, Copy, Debug, PartialEq, Eq, PartialOrd, Ord)]
+#[derive(Clone, Copy, Debug, PartialEq, Eq)]
 pub struct NamespaceKey {
     bytes: [u8; 33],
 }
@@ -74,6 +103,31 @@ impl Model for NamespaceKey {
     ghost invariant = { λ k. IsKey k.bytes };
 
     ghost inverse = { λ v. record { bytes = v } };
+}
+
+impl Ord for NamespaceKey {
+    ghost cmp = { slice_cmp nat_cmp };
+
+    ghost total = { nat_list_cmp_total };
+
+    ghost matches_partial_cmp = { lists_agrees (λ x y. refl) };
+
+    ghost matches_eq = { texts_ties };
+
+    fn cmp(&self, other: &NamespaceKey) -> Ordering {
+        self.bytes.cmp(&other.bytes)
+    }
+}
+
+impl PartialOrd for NamespaceKey {
+    ghost partial_cmp = { slice_partial_cmp (λ x y. Some (nat_cmp x y)) };
+
+    ghost laws = { lists_po unsigned_po };
+
+    // By `cmp`, which compares words: the partial order of arrays goes byte by byte.
+    fn partial_cmp(&self, other: &NamespaceKey) -> Option<Ordering> {
+        Some(self.cmp(other))
+    }
 }
 
 impl NamespaceKey {

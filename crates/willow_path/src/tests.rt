@@ -203,6 +203,29 @@ fn order_of_some_paths(rt: HostRuntime) {
     }
 }
 
+// A key of zeros with this byte at a place, and another at all places behind it.
+fn key_of(place: usize, byte: u8, behind: u8) -> Option<UserKey> {
+    let mut bytes = [0; 33];
+    bytes.get_mut(place..)?.fill(behind);
+    *bytes.get_mut(place)? = byte;
+    UserKey::from_bytes(bytes)
+}
+
+// How two keys are ordered that differ first at this place, and whether the first is less, and equal.
+fn keys_compared(place: usize) -> Option<(Ordering, bool, bool)> {
+    let (low, high) = (key_of(place, 0, 0xff)?, key_of(place, 1, 0)?);
+    Some((low.cmp(&high), low < high, low == high))
+}
+
+#[test]
+fn order_of_keys(rt: HostRuntime) {
+    for place in 0..33 {
+        assert_eq!(rt; keys_compared(place), Some((Ordering::Less, true, false)));
+    }
+    let (one, same) = (key_of(7, 1, 9), key_of(7, 1, 9));
+    assert!(rt; one == same && one.cmp(&same) == Ordering::Equal && !(one < same));
+}
+
 #[test]
 fn keys(rt: HostRuntime) -> Result<(), Fail> {
     let mut bytes = [0xff; 33];
