@@ -9,14 +9,14 @@ use Rattle.scheme_core.specs.Rules.{Rules}
 use Rattle.scheme_core.specs.declared.signer.TheConstants.{MAX_SIGNATURE}
 use Rattle.willow_path.specs.declared.limits.TheConstants.{MAX_PARTS, MAX_TOTAL}
 use Rattle.willow_path.specs.Key.{IsKey}
-use Rattle.willow_path.specs.Path.{IsPath, total}
-use Rattle.willow_path.specs.PathSpelling.{part_spelling, path_spelling}
+use Rattle.willow_path.specs.PathSpelling.{path_spelling}
 use Rattle.willow_area.specs.TimesSpelling.{times_spelling}
 use Rattle.willow_area.specs.Area.{IsArea}
 use Rattle.willow_area.specs.AreaSpelling.{area_spelling}
 use Rattle.willow_area.specs.declared.area.Area.{Area}
 use Rattle.willow_entry.specs.EntryForm.{entry_spelling, IsEntry}
 use Rattle.willow_entry.specs.declared.entry.Entry.{Entry}
+use Rattle.willow_entry.proofs.SpelledLength.{entry_length, path_long}
 use Rattle.mc_cap.specs.Signature.{IsSignature, signature_spelling}
 use Rattle.mc_cap.specs.Forms.{delegation_spelling, IsDelegation, chain_spelling, initial_spelling, capability_spelling, IsCapability}
 use Rattle.mc_cap.specs.declared.chain.Delegation.{Delegation}
@@ -49,27 +49,8 @@ most_of_capability = 1 + 33 + 33 + most_of_signature + 1 + most_of_delegation * 
 abbrev most_of_row : ℕ
 most_of_row = most_of_entry + most_of_capability + most_of_signature
 
-parts_long : (path : List (List ℕ)) → length (flat_map part_spelling path) ≡ length path + total path
-parts_long [] = refl
-parts_long (part ∷ path) = omega (arith, length-append (part_spelling part) (flat_map part_spelling path), parts_long path)
-
-path_long : (path : List (List ℕ)) → IsPath path → length (path_spelling path) ≤ most_of_path
-path_long path fits = omega (arith, parts_long path, fits.few, fits.short)
-
 entry_long : (e : Entry) → IsEntry e → length (entry_spelling e) ≤ most_of_entry
-unfolding entry_spelling
-entry_long e fits =
-    let numbers = to_be_bytes w64 e.timestamp ++ (to_be_bytes w64 e.length ++ e.digest.0) in
-    omega (
-      arith,
-      length-append e.namespace (e.subspace ++ (path_spelling e.path ++ numbers)),
-      length-append e.subspace (path_spelling e.path ++ numbers),
-      length-append (path_spelling e.path) numbers,
-      fits.namespace.whole,
-      fits.subspace.whole,
-      path_long e.path fits.path,
-      fits.digest.0,
-    )
+entry_long e fits = omega (arith, entry_length e fits, path_long e.path fits.path)
 
 signature_long : (signature : List ℕ) → IsSignature signature → length (signature_spelling signature) ≤ most_of_signature
 signature_long signature fits = omega (arith, fits.0)

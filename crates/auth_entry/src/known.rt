@@ -7,7 +7,7 @@ ghost use Rattle.mc_cap.specs.Valid.{beginning_refusal};
 ghost use Rattle.auth_entry.specs.Authorised.{capability_refusal, early_refusal, row_refusal};
 ghost use Rattle.auth_entry.specs.Known.{IsKnown};
 
-use crate::refusal::{check_capability, check_entry, claim_refusal};
+use crate::refusal::{check_capability, check_entry_in, claim_refusal};
 use cap_codec::RawRow;
 use mc_cap::RowRefusal;
 use scheme_core::Verify;
@@ -26,6 +26,8 @@ pub struct KnownCapabilities<S: Verify> {
     spellings: Vec<Vec<u8>>,
     // Where the last one that was asked for stands: the next rows are often by the same author, or the next one.
     last: usize,
+    // Room for what is signed of an entry, which each row uses again.
+    message: Vec<u8>,
     ghost valid: { All (IsKnown S.rules) spellings.items },
 }
 
@@ -36,6 +38,7 @@ impl<S: Verify> KnownCapabilities<S> {
             scheme,
             spellings: Vec::new(alloc),
             last: 0,
+            message: Vec::new(alloc),
         }
     }
 
@@ -55,7 +58,7 @@ impl<S: Verify> KnownCapabilities<S> {
             return Err(End::Refused(refusal));
         }
         self.check_capability(alloc, row)?;
-        check_entry(alloc, &self.scheme, row)
+        check_entry_in(&mut self.message, &self.scheme, row)
     }
 
     // Whether the row's capability is valid: it is known, or it is checked and then known.

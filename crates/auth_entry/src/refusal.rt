@@ -11,7 +11,7 @@ use mc_cap::{Capability, Mode, RowRefusal};
 use scheme_core::Verify;
 use spelling::End;
 use std::alloc::Global;
-use willow_entry::{Row, row_message};
+use willow_entry::{Row, put_row_message};
 use willow_path::NamespaceKey;
 
 /// Whether the row is authorised in the namespace by the rules of the scheme (Willow Data Model,
@@ -68,9 +68,22 @@ pub fn check_capability<S: Verify>(
 
 /// The last two conditions, which matter once the capability is valid: whether its grant includes the
 /// entry, and its receiver signed it. Only the signature needs memory.
-#[tactic(auto, unfolding(crate::specs::Authorised::entry_refusal))]
 pub fn check_entry<S: Verify>(
     alloc: Global,
+    scheme: &S,
+    row: &RawRow,
+) -> Result<(), End<RowRefusal>>
+    ensures answer { Judges result (entry_refusal S.rules row.now) }
+    ensures granted { IsErrOf result ends.NoMemory → grant_refusal row.now.token.capability row.now.entry ≡ None }
+{
+    let mut message = Vec::new(alloc);
+    check_entry_in(&mut message, scheme, row)
+}
+
+// The same, where the vector gives the room for what is signed: whatever stands there is lost.
+#[tactic(auto, unfolding(crate::specs::Authorised::entry_refusal))]
+pub(crate) fn check_entry_in<S: Verify>(
+    message: &mut Vec<u8>,
     scheme: &S,
     row: &RawRow,
 ) -> Result<(), End<RowRefusal>>
@@ -85,9 +98,10 @@ pub fn check_entry<S: Verify>(
     {
         return Err(End::Refused(RowRefusal::OutsideGrant));
     }
-    let message = row_message(alloc, row)?;
+    message.clear();
+    put_row_message(row, message)?;
     let receiver = token.capability.receiver();
-    if !scheme.verify_user(&receiver, &message, token.signature.as_slice()) {
+    if !scheme.verify_user(&receiver, message, token.signature.as_slice()) {
         return Err(End::Refused(RowRefusal::BadEntrySignature));
     }
     Ok(())

@@ -3,7 +3,7 @@ use Rattle.std.proofs.Common.{◌≡◌, ℕ, ◌-◌, ◌≤◌, ◌<◌, List,
 use Rattle.std.proofs.lemmas.List.{append-nil, length-append, take_at, drop_at}
 use Rattle.std.specs.Result.{IsErrAnd}
 use Rattle.std.proofs.lemmas.Result.{err_from_is_err_and}
-use Rattle.spelling.specs.Front.{Front, Whole, Part, Wrong, ◌>>=◌}
+use Rattle.spelling.specs.Front.{Front, Whole, ◌>>=◌}
 use Rattle.spelling.specs.Form.{AreBytes}
 use Rattle.spelling.specs.Reading.{Fails, IsEndOf}
 use Rattle.spelling.specs.declared.ending.End.{End}
@@ -11,7 +11,6 @@ use Rattle.spelling.specs.declared.ending.End.TheVariants.{Refused}
 use Rattle.spelling.specs.declared.ending.NotHere.{NotHere}
 use Rattle.spelling.specs.declared.input.Unread.{Unread}
 use Rattle.spelling.specs.declared.input.Unread.TheVariants as unread
-use Rattle.spelling.proofs.Lists.{take_front}
 use Rattle.spelling.proofs.Joining.{Reads, Reads-then, Reads-last, Reads-is, any_follows, alone, whole_rest, whole_not_part, whole_not_wrong}
 use Rattle.willow_entry.specs.EntryForm.{entry_spelling, entry_at}
 use Rattle.willow_entry.specs.declared.entry.Entry.{Entry}

@@ -5,7 +5,7 @@ ghost use Rattle.std.specs.Prelude.{◌≡◌, IfOk};
 ghost use Rattle.mc_cap.specs.Forms.{capability_spelling};
 ghost use Rattle.cap_codec.specs.Rows.{RawValue, row_of, raw_spelling, IsRaw, IsRawRow, IsToken, ReadsWhole};
 
-use crate::token::{SIGNATURE_FIELD, WriteToken, put_signature, read_measured};
+use crate::token::{WriteToken, put_signature, read_measured};
 use spelling::{End, Input, NoMemory, NotHere, put_bytes};
 use std::alloc::Global;
 use std::marker::Model;
@@ -44,14 +44,14 @@ impl RawRow {
         ensures entry { IfOk result (λ row. row.entry ≡ entry) }
         ensures token { IfOk result (λ row. row.token ≡ token) }
     {
-        let mut capability = Vec::new(alloc);
-        token.capability.encode(&mut capability)?;
-        let (entry_len, capability_len) = (entry.spelled_len(), capability.len());
-        let signature_len = SIGNATURE_FIELD + token.signature.as_slice().len();
-        let mut body = Vec::with_capacity(alloc, entry_len + capability_len + signature_len)?;
+        let mut spelled = Vec::new(alloc);
+        token.capability.encode(&mut spelled)?;
+        let capability_len = spelled.len();
+        put_signature(&token.signature, &mut spelled)?;
+        let entry_len = entry.spelled_len();
+        let mut body = Vec::with_capacity(alloc, entry_len.saturating_add(spelled.len()))?;
         entry.encode(&mut body)?;
-        put_bytes(&mut body, &capability)?;
-        put_signature(&token.signature, &mut body)?;
+        put_bytes(&mut body, &spelled)?;
         token.known();
         Ok(RawRow {
             entry,

@@ -12,9 +12,6 @@ use mc_cap::{Capability, Signature};
 use spelling::{Input, NoMemory, Unread, put_bytes, put_u16};
 use std::alloc::Global;
 
-// The length of a signature's length field.
-pub(crate) const SIGNATURE_FIELD: usize = 2;
-
 /// The authorisation of an entry (Meadowcap): a capability, and the signature of its receiver.
 #[derive(Debug, Drop)]
 pub struct WriteToken {
