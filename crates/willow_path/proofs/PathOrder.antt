@@ -1,10 +1,12 @@
 -- The order of paths, and their prefixes.
-use Rattle.std.proofs.Common.{◌≡◌, ℕ, Bool, true, false, ◌&&◌, List, [], ◌∷◌, ◌++◌, nat_eq, refl, sym, ap, ◌∙◌}
+use Rattle.std.proofs.Common.{◌≡◌, ◌≢◌, ℕ, zero, suc, ◌+◌, ◌<◌, min, Bool, true, false, ◌&&◌, List, [], ◌∷◌, ◌++◌, length, get_or, drop, nat_eq, refl, sym, ap, ◌∙◌, arith, ◌⊎◌, inl, inr}
+use Rattle.std.proofs.lemmas.List.{drop_more, length-drop}
+use Rattle.std.proofs.lemmas.Bool.Decides.{nat_tests}
 use Rattle.std.specs.declared.cmp.Ordering.{Ordering}
 use Rattle.std.specs.declared.cmp.Ordering.TheVariants.{Less, Equal, Greater}
-use Rattle.std.specs.Ordering.{ordering_then, ordering_reverse, is_gt, is_eq}
+use Rattle.std.specs.Ordering.{nat_cmp, ordering_then, ordering_reverse, is_gt, is_eq}
 use Rattle.std.specs.Bool.{Decides}
-use Rattle.std.specs.Cmp.{IsTotalOrder}
+use Rattle.std.specs.Cmp.{IsTotalOrder, nat_cmp_total}
 use Rattle.std.specs.Cmp.Lexicographic.{pointwise, lists_ties, texts_ties, lists_total, nat_list_cmp_total, bytes_decides, pointwise_decides}
 use Rattle.std.proofs.lemmas.Cmp.{tied_itself}
 use Rattle.willow_path.specs.Path.{part_cmp, path_cmp, is_prefix, IsPrefix}
@@ -94,3 +96,39 @@ prefix_between (part ∷ parts) (x ∷ a) (y ∷ b) (z ∷ c) p q h k =
     let both = squeezed (part_cmp x y) (path_cmp a b) (path_cmp b c) h (rw back at k) in
     let y' = (part_cmp_equal x y).0 both.0 in
     rw ((part_eq_decides part y).1 (x' ∙ y')) (prefix_between parts a b c p'.1 q'.1 both.1 both.2)
+
+-- ---- components, byte by byte
+
+not_tied : (x y : ℕ) (o : Ordering) → x ≢ y → ordering_then (nat_cmp x y) o ≡ nat_cmp x y
+not_tied x y o ne = grind (arith, nat_tests)
+
+pub part_cmp-here : (a b : List ℕ) (i : ℕ) → i < length a → i < length b → get_or a i 0 ≢ get_or b i 0 → part_cmp (drop i a) (drop i b) ≡ nat_cmp (get_or a i 0) (get_or b i 0)
+part_cmp-here a b i la lb ne = rw (drop_more a i 0 la, drop_more b i 0 lb) (not_tied _ _ _ ne)
+
+pub part_cmp-behind : (a b : List ℕ) (i : ℕ) → i < length a → i < length b → get_or a i 0 ≡ get_or b i 0 → part_cmp (drop i a) (drop i b) ≡ part_cmp (drop (i + 1) a) (drop (i + 1) b)
+part_cmp-behind a b i la lb e =
+    let x = get_or b i 0 in
+    let tied : nat_cmp x x ≡ Equal = tied_itself nat_cmp_total x in
+    rw (drop_more a i 0 la, drop_more b i 0 lb, e, tied) refl
+
+part_cmp-lengths : (a b : List ℕ) (k : ℕ) → (length a ≡ 0) ⊎ (length b ≡ 0) → part_cmp a b ≡ nat_cmp (length a + k) (length b + k)
+part_cmp-lengths [] [] k h = sym (tied_itself nat_cmp_total (0 + k))
+part_cmp-lengths [] (y ∷ ys) k h = grind (arith, nat_tests)
+part_cmp-lengths (x ∷ xs) [] k h = grind (arith, nat_tests)
+part_cmp-lengths (x ∷ xs) (y ∷ ys) k (inl e) = absurd (omega (arith, e))
+part_cmp-lengths (x ∷ xs) (y ∷ ys) k (inr e) = absurd (omega (arith, e))
+
+one_is_none : (m n : ℕ) → min m n ≡ 0 → (m ≡ 0) ⊎ (n ≡ 0)
+one_is_none zero n e = inl refl
+one_is_none (suc m) zero e = inr refl
+one_is_none (suc m) (suc n) e = absurd (omega (arith, e))
+
+same_cmp : (x y m n : ℕ) → x ≡ m → y ≡ n → nat_cmp x y ≡ nat_cmp m n
+same_cmp x y m n e f = ap (λ k. nat_cmp k y) e ∙ ap (nat_cmp m) f
+
+pub part_cmp-end : (a b : List ℕ) (i : ℕ) → i ≡ min (length a) (length b) → part_cmp (drop i a) (drop i b) ≡ nat_cmp (length a) (length b)
+part_cmp-end a b i e =
+    let m : length (drop i a) + i ≡ length a = omega (arith, length-drop i a, e) in
+    let n : length (drop i b) + i ≡ length b = omega (arith, length-drop i b, e) in
+    let none = one_is_none (length (drop i a)) (length (drop i b)) (omega (arith, m, n, e)) in
+    part_cmp-lengths (drop i a) (drop i b) i none ∙ same_cmp _ _ _ _ m n

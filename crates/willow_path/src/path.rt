@@ -216,6 +216,18 @@ fn first_part(bytes: &[u8]) -> Option<(&[u8], &[u8])>
     }
 }
 
+// How two components are ordered. Most have a few bytes, for which one byte after the other is fastest.
+fn part_order(part: &[u8], other: &[u8]) -> Ordering
+    ensures { result ≡ part_cmp part.now other.now }
+{
+    for i in 0..part.len().min(other.len()) {
+        if part[i] != other[i] {
+            return part[i].cmp(&other[i]);
+        }
+    }
+    part.len().cmp(&other.len())
+}
+
 impl PartialEq for Path {
     ghost eq = { pointwise (pointwise nat_eq) };
 
@@ -240,11 +252,15 @@ impl Ord for Path {
     ghost matches_eq = { lists_ties part_cmp texts_ties };
 
     fn cmp(&self, other: &Path) -> Ordering {
+        // Equal paths are told by their bytes, with no walk.
+        if self == other {
+            return Ordering::Equal;
+        }
         let (mut left, mut right) = (self.bytes(), other.bytes());
         while let Some((part, behind)) = first_part(left) {
             match first_part(right) {
                 None => return Ordering::Greater,
-                Some((other, others)) => match part.cmp(other) {
+                Some((other, others)) => match part_order(part, other) {
                     Ordering::Equal => {
                         left = behind;
                         right = others;

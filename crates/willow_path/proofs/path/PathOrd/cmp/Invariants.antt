@@ -7,7 +7,7 @@ abbrev pub invariant-loop-part : goal.invariant-loop-part
 invariant-loop-part l = record {
   left_whole : AreOfParts l.left;
   right_whole : AreOfParts l.right;
-  so_far : path_cmp (parts_of l.left) (parts_of l.right) ≡ path_cmp l.self l.other;
+  so_far : path_cmp (parts_of l.left) (parts_of l.right) ≡ path_cmp l.fn.self l.fn.other;
 }
 
 abbrev pub decreases-loop-part : goal.decreases-loop-part
