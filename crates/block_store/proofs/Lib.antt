@@ -10,7 +10,6 @@ mod Putting
 mod Packs
 mod Growing
 mod Pieces
-mod Fronts
 mod Covered
 mod Extensions
 mod Extending

@@ -1,9 +1,8 @@
 //! Where a row stands among rows that rise by place: its own place, those of the fronts of its path, and the run of
 //! its extensions.
 
-ghost use Rattle.std.specs.Prelude.{◌≡◌, ℕ, ◌+◌, ◌-◌, ◌^◌, ◌<◌, ◌≤◌, ◌||◌, length, take, drop, position, slice_index_or, false, IsTrue, IfOk, IfErr, IfSome, IfNone, None, Some};
+ghost use Rattle.std.specs.Prelude.{◌≡◌, ℕ, ◌+◌, ◌-◌, ◌^◌, ◌<◌, ◌≤◌, ◌||◌, length, drop, position, slice_index_or, false, IsTrue, IfOk, IfErr, IfSome, IfNone, None, Some};
 ghost use Rattle.std.specs.Ordering.{is_lt};
-ghost use Rattle.willow_path.specs.Path.{path_cmp};
 ghost use Rattle.willow_entry.specs.Pruning.{IsPlace};
 ghost use Rattle.willow_entry.specs.Row.{RowValue, AreLive, IsRising, HasCovering, IsCoveringAt, is_at_prefix, is_covering, left_of, inner_place_cmp, place_cmp};
 ghost use Rattle.block_store.specs.Blocks.{block_rows, block_values, index_of, IsSpot};
@@ -15,22 +14,6 @@ use crate::search::{Test, partition_point, partition_point_near};
 use crate::spot::Spot;
 use std::cmp::Ordering;
 use willow_entry::{Row, covers};
-use willow_path::Path;
-
-// How a path is ordered against the first components of another, so many as `count` says, or all if it has fewer.
-fn path_by_front(path: &Path, longer: &Path, count: usize) -> Ordering
-    ensures { result ≡ path_cmp path.now (take count longer.now) }
-{
-    let front = count.min(longer.count());
-    let shared = front.min(path.count());
-    for i in 0..shared {
-        let order = path.part(i).cmp(longer.part(i));
-        if order != Ordering::Equal {
-            return order;
-        }
-    }
-    path.count().cmp(&front)
-}
 
 // How the subspace and the path of a row are ordered against those of another's front of so many components.
 fn inner_by_front<R: Row>(held: &R, row: &R, count: usize) -> Ordering
@@ -38,7 +21,7 @@ fn inner_by_front<R: Row>(held: &R, row: &R, count: usize) -> Ordering
 {
     let (e, f) = (held.entry(), row.entry());
     match e.subspace.cmp(&f.subspace) {
-        Ordering::Equal => path_by_front(&e.path, &f.path, count),
+        Ordering::Equal => e.path.cmp_front(&f.path, count),
         order => order,
     }
 }

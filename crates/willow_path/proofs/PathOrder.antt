@@ -1,5 +1,5 @@
 -- The order of paths, and their prefixes.
-use Rattle.std.proofs.Common.{◌≡◌, ◌≢◌, ℕ, zero, suc, ◌+◌, ◌<◌, min, Bool, true, false, ◌&&◌, List, [], ◌∷◌, ◌++◌, length, get_or, drop, nat_eq, refl, sym, ap, ◌∙◌, arith, ◌⊎◌, inl, inr}
+use Rattle.std.proofs.Common.{◌≡◌, ◌≢◌, ℕ, zero, suc, ◌+◌, ◌-◌, ◌<◌, min, Bool, true, false, ◌&&◌, List, [], ◌∷◌, ◌++◌, length, get_or, take, drop, nat_eq, refl, sym, ap, ◌∙◌, arith, ◌⊎◌, inl, inr}
 use Rattle.std.proofs.lemmas.List.{drop_more, length-drop}
 use Rattle.std.proofs.lemmas.Bool.Decides.{nat_tests}
 use Rattle.std.specs.declared.cmp.Ordering.{Ordering}
@@ -96,6 +96,12 @@ prefix_between (part ∷ parts) (x ∷ a) (y ∷ b) (z ∷ c) p q h k =
     let both = squeezed (part_cmp x y) (path_cmp a b) (path_cmp b c) h (rw back at k) in
     let y' = (part_cmp_equal x y).0 both.0 in
     rw ((part_eq_decides part y).1 (x' ∙ y')) (prefix_between parts a b c p'.1 q'.1 both.1 both.2)
+
+-- components that are equal decide nothing between a path and a front of another
+pub next_of_front : (part other : List ℕ) (left right : List (List ℕ)) (most : ℕ) → part_cmp part other ≡ Equal → 0 < most
+    → path_cmp (part ∷ left) (take most (other ∷ right)) ≡ path_cmp left (take (most - 1) right)
+next_of_front part other left right zero e lt = absurd (omega (arith, lt))
+next_of_front part other left right (suc most) e lt = rw e (ap (λ (n : ℕ). path_cmp left (take n right)) (omega arith))
 
 -- ---- components, byte by byte
 

@@ -1,6 +1,6 @@
 //! Paths, by which entries are named within a subspace.
 
-ghost use Rattle.std.specs.Prelude.{◌≡◌, ℕ, ◌+◌, ◌<◌, ◌≤◌, List, [], ◌∷◌, ◌++◌, length, slice_index_or, nat_eq, OnOk, OnErr, IfOk, MatchOption};
+ghost use Rattle.std.specs.Prelude.{◌≡◌, ℕ, ◌+◌, ◌<◌, ◌≤◌, List, [], ◌∷◌, ◌++◌, length, take, slice_index_or, nat_eq, OnOk, OnErr, IfOk, MatchOption};
 ghost use Rattle.std.specs.Ordering.{as_partial_cmp};
 ghost use Rattle.std.specs.Cmp.Lexicographic.{pointwise, lists_ties, texts_ties};
 ghost use Rattle.std.specs.Cmp.Rules.{comparing};
@@ -197,6 +197,34 @@ impl Path {
         other.bytes().starts_with(self.bytes())
     }
 
+    /// How the path is ordered against the first components of another, so many as `count` says, or all if it has fewer.
+    pub fn cmp_front(&self, longer: &Path, count: usize) -> Ordering
+        ensures { result ≡ path_cmp self.now (take count longer.now) }
+    {
+        let (mut left, mut right, mut most) = (self.bytes(), longer.bytes(), count);
+        while let Some((part, behind)) = first_part(left) {
+            if most == 0 {
+                return Ordering::Greater;
+            }
+            match first_part(right) {
+                None => return Ordering::Greater,
+                Some((other, others)) => match part_order(part, other) {
+                    Ordering::Equal => {
+                        left = behind;
+                        right = others;
+                        most -= 1;
+                    }
+                    order => return order,
+                },
+            }
+        }
+        if most == 0 || right.is_empty() {
+            Ordering::Equal
+        } else {
+            Ordering::Less
+        }
+    }
+
     /// An equal path.
     pub fn copy(&self) -> Result<Path, NoMemory>
         ensures { IfOk result (λ path. path ≡ self.now) }
@@ -256,24 +284,9 @@ impl Ord for Path {
         if self == other {
             return Ordering::Equal;
         }
-        let (mut left, mut right) = (self.bytes(), other.bytes());
-        while let Some((part, behind)) = first_part(left) {
-            match first_part(right) {
-                None => return Ordering::Greater,
-                Some((other, others)) => match part_order(part, other) {
-                    Ordering::Equal => {
-                        left = behind;
-                        right = others;
-                    }
-                    order => return order,
-                },
-            }
-        }
-        if right.is_empty() {
-            Ordering::Equal
-        } else {
-            Ordering::Less
-        }
+        // No path has more components, so the front is the whole path.
+        let _bytes = other.bytes();
+        self.cmp_front(other, MAX_PARTS)
     }
 }
 

@@ -203,6 +203,27 @@ fn order_of_some_paths(rt: HostRuntime) {
     }
 }
 
+// How the first path is ordered against so many components of the second.
+fn front_compared(alloc: Global, one: &[&[u8]], other: &[&[u8]], count: usize) -> Option<Ordering> {
+    Some(path_of(alloc, one)?.cmp_front(&path_of(alloc, other)?, count))
+}
+
+#[test]
+fn order_against_fronts(rt: HostRuntime) {
+    let alloc = rt.alloc();
+    let rows: [(&[&[u8]], &[&[u8]], usize, Ordering); 6] = [
+        (&[], &[b"a"], 0, Ordering::Equal),
+        (&[b"a", b"b"], &[b"a", b"b", b"c"], 2, Ordering::Equal),
+        (&[b"a", b"b"], &[b"a", b"b", b"c"], 3, Ordering::Less),
+        (&[b"a", b"b"], &[b"a", b"b"], 1, Ordering::Greater),
+        (&[b"b"], &[b"aa"], 5, Ordering::Greater),
+        (MANY, MANY, 99, Ordering::Equal),
+    ];
+    for (one, other, count, order) in rows {
+        assert_eq!(rt; front_compared(alloc, one, other, count), Some(order));
+    }
+}
+
 // A key of zeros with this byte at a place, and another at all places behind it.
 fn key_of(place: usize, byte: u8, behind: u8) -> Option<UserKey> {
     let mut bytes = [0; 33];
