@@ -18,6 +18,16 @@ fn is_key(bytes: &[u8; 33]) -> bool
     bytes.as_slice()[0] <= 1
 }
 
+// How the bytes of two keys are ordered. Most keys that are compared are equal, which is told at once.
+fn order(bytes: &[u8; 33], others: &[u8; 33]) -> Ordering
+    ensures { result ≡ slice_cmp nat_cmp bytes.now others.now }
+{
+    if bytes == others {
+        return Ordering::Equal;
+    }
+    bytes.cmp(others)
+}
+
 /// The key of a user, who owns a subspace: a kind (0 or 1) and a body of 32 bytes.
 /// Keys are ordered by their bytes.
 #[derive(Clone, Copy, Debug, PartialEq, Eq)]
@@ -45,7 +55,7 @@ impl Ord for UserKey {
     ghost matches_eq = { texts_ties };
 
     fn cmp(&self, other: &UserKey) -> Ordering {
-        self.bytes.cmp(&other.bytes)
+        order(&self.bytes, &other.bytes)
     }
 }
 
@@ -115,7 +125,7 @@ impl Ord for NamespaceKey {
     ghost matches_eq = { texts_ties };
 
     fn cmp(&self, other: &NamespaceKey) -> Ordering {
-        self.bytes.cmp(&other.bytes)
+        order(&self.bytes, &other.bytes)
     }
 }
 
