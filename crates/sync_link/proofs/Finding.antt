@@ -1,6 +1,5 @@
 -- What readers find at the front of bytes, told byte by byte.
-use Rattle.std.proofs.Common.{◌≡◌, ◌⊎◌, inl, inr, ℕ, zero, suc, ◌+◌, ◌-◌, ◌≤◌, ◌<◌, Bool, true, false, List, [], ◌∷◌, ◌++◌, length, take, drop, append_assoc, append-nil, Option, Some, None, Result, Ok, Err, refl, sym, ap, ◌∙◌, subst, arith}
-use Rattle.std.proofs.lemmas.List.{take-append-drop, length-take}
+use Rattle.std.proofs.Common.{◌≡◌, ◌⊎◌, inl, inr, ℕ, zero, suc, ◌-◌, ◌≤◌, List, [], ◌∷◌, ◌++◌, length, take, append_assoc, append-nil, Option, Some, None, Result, Ok, Err, refl, sym, ap, ◌∙◌, subst, arith}
 use Rattle.spelling.specs.Front.{Front}
 use Rattle.spelling.specs.Front as front
 use Rattle.spelling.specs.Form.{AreBytes}
@@ -12,9 +11,7 @@ use Rattle.spelling.specs.Spelling.{text_spelling, IsText}
 use Rattle.spelling.specs.declared.ending.End.{End}
 use Rattle.spelling.specs.declared.ending.End.TheVariants as ends
 use Rattle.spelling.specs.declared.ending.NoMemory.{NoMemory}
-use Rattle.spelling.specs.declared.input.Unread.{Unread}
-use Rattle.spelling.specs.declared.input.Unread.TheVariants as unread
-use Rattle.spelling.proofs.Joining.{Reads, part_before, whole_not_part, whole_not_wrong}
+use Rattle.spelling.proofs.Joining.{Reads, part_before, whole_not_wrong}
 use Rattle.spelling.proofs.Lists.{All-left, take_front}
 use Rattle.cap_codec.specs.Reading.{signature_at, raw_at}
 use Rattle.cap_codec.specs.Rows.{RawValue, IsRawRow, raw_spelling, row_of}
@@ -23,7 +20,7 @@ use Rattle.cap_codec.proofs.RowReads.{raw-reads}
 use Rattle.willow_entry.specs.Frame.{row_frame}
 use Rattle.willow_entry.specs.RowBody.{row_body}
 use Rattle.willow_entry.specs.declared.frame.TheConstants.{MAX_FRAME}
-use Rattle.mc_cap.specs.Signature.{signature_spelling, IsSignature}
+use Rattle.mc_cap.specs.Signature.{signature_spelling}
 use Rattle.sync_msg.specs.Items.{ItemValue, IsHead, IsRowItem, item_spelling, item_value}
 use Rattle.sync_msg.specs.declared.item.Item.TheVariants.{Row}
 use Rattle.sync_msg.specs.declared.reader.BadItem.{BadItem}
@@ -33,10 +30,8 @@ use Rattle.sync_msg.specs.ItemReading.{head_at, body_at}
 use Rattle.sync_msg.specs.Reader.{ReaderState, MayCome, BeginsFrame, BeginsItem, TakesItem, HasNoItem, StepsItem}
 use Rattle.sync_msg.proofs.HeadReads.{head-reads, head_reader, body-reads, body_reader}
 use Rattle.sync_msg.proofs.InFront.{row_of as this_row}
-use Rattle.sync_hello.specs.HelloForm.{hello_spelling}
 use Rattle.sync_hello.specs.HelloReading.{draft_at}
-use Rattle.sync_hello.specs.HelloSteps.{BeginsHello, TakesHello, HasNoHello, ReadsHello}
-use Rattle.sync_hello.specs.declared.hello.Hello.{Hello}
+use Rattle.sync_hello.specs.HelloSteps.{BeginsHello, ReadsHello}
 use Rattle.sync_hello.specs.declared.read.HelloStep.{HelloStep}
 use Rattle.sync_hello.specs.declared.read.HelloStep.TheVariants as hellos
 use Rattle.sync_hello.proofs.HelloReads.{draft-reads, draft_reader}
@@ -96,7 +91,7 @@ unfolding hello_seen
 hello_parts bytes are begins = parts_by draft-reads hello_seen (λ held e. seen_part hello_drafted (draft_at held) e) [] bytes ((draft_reader.part bytes are).1 begins)
 
 pub finds_hello : (bytes : List ℕ) (result : Result HelloStep NoMemory) → AreBytes bytes → ReadsHello bytes result → FindsHello bytes result
-finds_hello bytes (Ok (hellos.Whole hello taken)) are t = record { within = t.within; reads = subst (λ l. IsReadAs hello_seen l hello) (sym t.spelled) (hello_as hello t.fits) }
+finds_hello bytes (Ok (hellos.Whole hello taken)) are t = (record { within = t.within; reads = subst (λ l. IsReadAs hello_seen l hello) (sym t.spelled) (hello_as hello t.fits) }, t.fits)
 finds_hello bytes (Ok hellos.More) are begins = hello_parts bytes are begins
 finds_hello bytes (Ok hellos.Bad) are none =
     all_wrong hello_seen bytes

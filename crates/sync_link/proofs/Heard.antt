@@ -91,7 +91,7 @@ reads_it place next item e f = subst (λ b. IsReadAs (item_seen b) (item_spellin
 
 -- ---- a side that still reads
 
-reading_on : (doing : Doing) → stage_of doing ≡ stage.Reading → has_finished doing ≡ false
+pub reading_on : (doing : Doing) → stage_of doing ≡ stage.Reading → has_finished doing ≡ false
 reading_on (Saying items asks) e = refl
 reading_on Replying e = refl
 reading_on Beginning e = refl

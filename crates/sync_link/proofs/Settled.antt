@@ -54,10 +54,10 @@ filter_twice keep (x ∷ xs) = by_test (keep x) refl (filter_twice keep xs)
     by_test true is rest = ap (λ b. cond b (x ∷ filter keep (filter keep xs)) (filter keep (filter keep xs))) is ∙ ap (λ l. x ∷ l) rest
     by_test false is rest = rest
 
-abbrev inside : Option Ranges → List RowValue → List RowValue
+abbrev pub inside : Option Ranges → List RowValue → List RowValue
 inside box rows = talk.rows_in places box rows
 
-same_exchange : (box : Option Ranges) (rows others : List RowValue) → exchange sync_rules (inside box rows) (inside box others) box ≡ exchange sync_rules rows others box
+pub same_exchange : (box : Option Ranges) (rows others : List RowValue) → exchange sync_rules (inside box rows) (inside box others) box ≡ exchange sync_rules rows others box
 same_exchange None rows others = refl
 same_exchange (Some x) rows others =
     exchange_alike sync_rules disjoint x (rows_in x rows) rows (rows_in x others) others (filter_twice (is_in x) rows) (filter_twice (is_in x) others)
@@ -66,35 +66,35 @@ module _ (namespace : List ℕ) (rows : List RowValue) (opening : IsOpening name
   pub rises : IsStrictlySortedBy inner_place_cmp rows
   rises = live_rows_rise rows opening.live (namespace, opening.own)
 
-  sendable : AllByRecursion IsSendable rows
+  pub sendable : AllByRecursion IsSendable rows
   sendable = recursion_from_All IsSendable rows (λ k d within. (opening.read_out k d within, opening.framed k d within))
 
-  inside_rises : (box : Option Ranges) → IsStrictlySortedBy inner_place_cmp (inside box rows)
+  pub inside_rises : (box : Option Ranges) → IsStrictlySortedBy inner_place_cmp (inside box rows)
   unfolding IsStrictlySortedBy
   inside_rises None = tt
   inside_rises (Some x) = IsStrictlySortedBy-filter inner_place_cmp (is_in x) rows rises
 
-  inside_few : (box : Option Ranges) → length (inside box rows) ≤ SNAPSHOT_MAX
+  pub inside_few : (box : Option Ranges) → length (inside box rows) ≤ SNAPSHOT_MAX
   inside_few None = omega arith
   inside_few (Some x) = omega (arith, rows_in-le x rows, opening.few)
 
-  inside_sendable : (box : Option Ranges) → AllByRecursion IsSendable (inside box rows)
+  pub inside_sendable : (box : Option Ranges) → AllByRecursion IsSendable (inside box rows)
   inside_sendable None = tt
   inside_sendable (Some x) = all_kept IsSendable (is_in x) rows sendable
 
 -- ---- a caller and an answerer
 
 module _ (rules : Rules) (namespace : List ℕ) (hello other : Hello) (signature proof : List ℕ) where
-  abbrev caller : Party
+  abbrev pub caller : Party
   caller = record { rules = rules; namespace = namespace; role = roles.Caller; hello = hello; signature = signature }
 
-  abbrev answerer : Party
+  abbrev pub answerer : Party
   answerer = record { rules = rules; namespace = namespace; role = roles.Answerer; hello = other; signature = proof }
 
-  abbrev pair : List RowValue → List RowValue → Pair Hello (List ℕ) Ranges HelloRefusal RowValue Place ItemValue CoreRefusal
+  abbrev pub pair : List RowValue → List RowValue → Pair Hello (List ℕ) Ranges HelloRefusal RowValue Place ItemValue CoreRefusal
   pair rows others = record { greeting = greeting rules namespace; talk = places; caller = own_part caller; answerer = own_part answerer; caller_rows = rows; answerer_rows = others }
 
-  greet : (rows others : List RowValue) → Accepts caller answerer → Accepts answerer caller → GreetEachOther (pair rows others)
+  pub greet : (rows others : List RowValue) → Accepts caller answerer → Accepts answerer caller → GreetEachOther (pair rows others)
   greet rows others accepts accepted = record {
     calls = refl;
     answers = refl;
@@ -113,10 +113,10 @@ module _ (rules : Rules) (namespace : List ℕ) (hello other : Hello) (signature
   }
 
   module _ (rows others : List RowValue) (own : IsOpening namespace rows) (theirs : IsOpening namespace others) (accepts : Accepts caller answerer) (accepted : Accepts answerer caller) where
-    abbrev box : Option Ranges
+    abbrev pub box : Option Ranges
     box = box_with caller other
 
-    exchanged : (left right : List ℕ) → Meet (out caller rows) (out answerer others) left right → AreExchanged (pair rows others) by_items (exchange sync_rules (inside box rows) (inside box others) box) left right
+    pub exchanged : (left right : List ℕ) → Meet (out caller rows) (out answerer others) left right → AreExchanged (pair rows others) by_items (exchange sync_rules (inside box rows) (inside box others) box) left right
     exchanged left right meet =
         let up = inside_rises namespace rows own box in
         let down = inside_rises namespace others theirs box in
@@ -140,10 +140,10 @@ abbrev Settles : Party → Party → Type 0
 Settles p q = (rows others : List RowValue) (left right : List ℕ) → Accepts p q → Accepts q p → IsOpening p.namespace rows → IsOpening p.namespace others → Meet (out p rows) (out q others) left right → AreDone p q rows others left right
 
 module _ (p q : Party) (can : CanMeet p q) where
-  calling : record p { role = roles.Caller } ≡ p
+  pub calling : record p { role = roles.Caller } ≡ p
   calling = ap (λ role. record p { role = role }) (sym can.calls)
 
-  answering : record q { rules = p.rules; namespace = p.namespace; role = roles.Answerer } ≡ q
+  pub answering : record q { rules = p.rules; namespace = p.namespace; role = roles.Answerer } ≡ q
   answering =
       ap (λ rules. record q { rules = rules; namespace = p.namespace; role = roles.Answerer }) (sym can.same_rules)
       ∙ ap (λ namespace. record q { namespace = namespace; role = roles.Answerer }) (sym can.same_namespace)

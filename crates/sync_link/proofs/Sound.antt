@@ -1,20 +1,18 @@
 -- What a side of an exchange keeps to, and that it goes by its rows in the area alone.
-use Rattle.std.proofs.Common.{◌≡◌, ℕ, zero, suc, ◌+◌, ◌*◌, ◌-◌, ◌≤◌, Bool, true, false, cond, not, nat_le, List, [], ◌∷◌, ◌++◌, length, filter, Option, Some, None, Result, Ok, Err, refl, sym, ap, ap₂, ◌∙◌, subst, arith}
+use Rattle.std.proofs.Common.{◌≡◌, ℕ, zero, suc, ◌+◌, ◌*◌, ◌-◌, Bool, true, false, cond, not, nat_le, List, [], ◌∷◌, ◌++◌, length, Option, Some, None, Result, Ok, Err, refl, sym, ap, ap₂, ◌∙◌, subst}
 use Rattle.std.specs.Prelude.{option_map}
 use Rattle.std.specs.List.{AllByRecursion}
-use Rattle.std.specs.List.Sorted.{IsStrictlySortedBy}
 use Rattle.spelling.specs.Answers.{cause_if}
 use Rattle.willow_area.specs.Boxes.{Ranges}
 use Rattle.willow_area.specs.Cuts.{can_cut, lower_part, upper_part}
 use Rattle.willow_area.specs.declared.cut.CutAt.{CutAt}
 use Rattle.willow_area.proofs.Cutting.{lower_part_has, upper_part_has}
-use Rattle.willow_entry.specs.Frame.{HasFrame}
-use Rattle.willow_entry.specs.Row.{RowValue, inner_place_cmp}
+use Rattle.willow_entry.specs.Row.{RowValue}
 use Rattle.block_store.specs.InBox.{is_in, rows_in}
 use Rattle.exchange_rules.specs.Items as rules
-use Rattle.exchange_rules.specs.Answer.{opened, turn}
+use Rattle.exchange_rules.specs.Answer.{opened}
 use Rattle.exchange_rules.proofs.Members.{all-append}
-use Rattle.exchange_rules.proofs.Worlds.{Inside, IsInside, opened_inside, opened_alike, turn_alike}
+use Rattle.exchange_rules.proofs.Worlds.{IsInside, opened_inside, opened_alike, turn_alike}
 use Rattle.sync_msg.specs.Items.{ItemValue, HasSpelling}
 use Rattle.sync_msg.specs.declared.item.Item.TheVariants.{First, Agree, Split, Entries, Rest, Row, EndTurn, Bye}
 use Rattle.sync_msg.specs.declared.role.Role.{Role}
@@ -23,7 +21,7 @@ use Rattle.sync_msg.specs.declared.refusal.CoreRefusal.{CoreRefusal}
 use Rattle.sync_msg.specs.declared.refusal.CoreRefusal.TheVariants.{BadCut, ItemMismatch, EntryOutside, RowsOutOfOrder, TooManyItems}
 use Rattle.sync_core.specs.declared.stage.TheConstants.{SNAPSHOT_MAX}
 use Rattle.sync_core.specs.SyncRules.{sync_rules}
-use Rattle.sync_core.specs.Flat.{AskValue, TurnValue, turn_items}
+use Rattle.sync_core.specs.Flat.{AskValue, TurnValue}
 use Rattle.sync_core.specs.Place.{Doing, Saying, Replying, Beginning, Hearing, HearingRows, Parting, Finished, Refused, Place, rows_of_area, most_items, saying, answering, first_doing, first_place}
 use Rattle.sync_core.specs.Steps.{count_one, hearing_rows, remembered, box_of, row_cause, unless, waiting, going_on, next_said, said_at, said, end_heard, next_heard, items_with, heard_within, heard}
 use Rattle.sync_core.specs.Runs.{said_from, says, left_to_say, says_all}
@@ -31,7 +29,7 @@ use Rattle.sync_core.proofs.Lawful.{disjoint}
 use Rattle.sync_core.proofs.SpelledTurns.{spelled_turn}
 use Rattle.sync_link.specs.Sound.{IsIn, AreIn, AsksIn, GoesOn, AreSound, IsSound}
 use Rattle.sync_link.specs.Standing.{within}
-use Rattle.sync_link.proofs.Cases.{AreCases, by_cases, heard_to, IsHeardTo, heard_as}
+use Rattle.sync_link.proofs.Cases.{AreCases, by_cases, heard_to, heard_as}
 use Rattle.sync_link.proofs.Own.{same_some, same_ok, not_err, unless_ok}
 use Rattle.sync_link.proofs.Settled.{filter_twice}
 

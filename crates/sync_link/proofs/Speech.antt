@@ -1,11 +1,11 @@
 -- A side that says items, and their bytes.
-use Rattle.std.proofs.Common.{◌≡◌, ℕ, ◌+◌, ◌<◌, List, [], ◌∷◌, ◌++◌, flat_map, option_map, append_assoc, append-nil, Option, Some, None, refl, sym, ap, ◌∙◌, subst, arith}
+use Rattle.std.proofs.Common.{◌≡◌, ℕ, List, ◌++◌, flat_map, option_map, append_assoc, append-nil, Option, Some, None, refl, sym, ap, ◌∙◌, subst, arith}
 use Rattle.std.specs.Prelude.{IsSomeAnd}
 use Rattle.sync_msg.specs.Items.{ItemValue, HasSpelling, item_spelling}
 use Rattle.sync_core.specs.declared.stage.Stage.TheVariants as stage
 use Rattle.sync_core.specs.Place.{Place, stage_of}
 use Rattle.sync_core.specs.Steps.{said}
-use Rattle.sync_core.specs.Runs.{says_all, left_to_say}
+use Rattle.sync_core.specs.Runs.{says_all}
 use Rattle.sync_core.proofs.OneByOne.{says_first, says_nothing}
 use Rattle.sync_link.specs.Sound.{IsSound}
 use Rattle.sync_link.specs.Speaking.{with_speech, SaysOn, SaysAll}

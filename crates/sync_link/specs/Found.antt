@@ -4,15 +4,15 @@ use Rattle.spelling.specs.declared.ending.End.{End}
 use Rattle.spelling.specs.declared.ending.End.TheVariants as ends
 use Rattle.spelling.specs.declared.ending.NoMemory.{NoMemory}
 use Rattle.cap_codec.specs.Rows.{RawValue, row_of}
-use Rattle.sync_msg.specs.Items.{item_value, due_behind}
+use Rattle.sync_msg.specs.Items.{item_value}
 use Rattle.sync_msg.specs.Reader.{ReaderState, moved_on}
 use Rattle.sync_msg.specs.declared.reader.BadItem.{BadItem}
 use Rattle.sync_msg.specs.declared.reader.Step.{Step}
 use Rattle.sync_msg.specs.declared.reader.Step.TheVariants.{Got, More}
-use Rattle.sync_hello.specs.declared.hello.Hello.{Hello}
+use Rattle.sync_hello.specs.HelloForm.{IsHello}
 use Rattle.sync_hello.specs.declared.read.HelloStep.{HelloStep}
 use Rattle.sync_hello.specs.declared.read.HelloStep.TheVariants as hellos
-use Rattle.session_rules.specs.Machine.{Seen, Whole, Part, Wrong}
+use Rattle.session_rules.specs.Machine.{Seen, Part, Wrong}
 use Rattle.session_rules.specs.Messages.{IsReadAs, ArePart}
 use Rattle.sync_link.specs.Readers.{hello_seen, proof_seen, item_seen}
 use Rattle.sync_link.specs.declared.proof.ProofStep.{ProofStep}
@@ -30,7 +30,7 @@ GoWrong sees held (byte ∷ bytes) = (sees (held ++ byte ∷ []) ≡ Wrong) ⊎ 
 
 -- a hello, a part of one, or neither; for want of memory nothing is said
 abbrev pub FindsHello : List ℕ → Result HelloStep NoMemory → Type 0
-FindsHello bytes (Ok (hellos.Whole hello taken)) = IsFound hello_seen bytes hello taken
+FindsHello bytes (Ok (hellos.Whole hello taken)) = IsFound hello_seen bytes hello taken × IsHello hello
 FindsHello bytes (Ok hellos.More) = ArePart hello_seen [] bytes
 FindsHello bytes (Ok hellos.Bad) = GoWrong hello_seen [] bytes
 FindsHello bytes (Err e) = Unit {0}

@@ -1,5 +1,5 @@
 -- What comes of an item that a side of an exchange reads, as bytes and rows.
-use Rattle.std.specs.Prelude.{◌≡◌, ℕ, List, ◌++◌, Option, None, Some, Result, Ok, Err, option_to_list}
+use Rattle.std.specs.Prelude.{◌≡◌, ℕ, List, ◌++◌, Option, None, Some, Ok, Err, option_to_list}
 use Rattle.willow_entry.specs.Row.{RowValue}
 use Rattle.sync_msg.specs.Items.{ItemValue}
 use Rattle.sync_msg.specs.declared.refusal.CoreRefusal.{CoreRefusal}

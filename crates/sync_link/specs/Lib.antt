@@ -9,3 +9,16 @@ pub mod Speaking
 pub mod Hearing
 pub mod Found
 pub mod Standing
+pub mod Due
+pub mod Talking
+pub mod Taking
+pub mod Fed
+pub mod Held
+pub mod TakingAll
+pub mod Signing
+pub mod Plans
+pub mod Kept
+pub mod Run
+pub mod Tallies
+pub mod UnderWay
+pub mod Ran

@@ -1,13 +1,12 @@
 -- What a side of an exchange keeps to.
-use Rattle.std.specs.Prelude.{◌≡◌, ℕ, true, ◌≤◌, List, length, Option, None, Some}
+use Rattle.std.specs.Prelude.{◌≡◌, true, ◌≤◌, List, length, Option, None, Some}
 use Rattle.std.specs.List.{AllByRecursion}
 use Rattle.std.specs.List.Sorted.{IsStrictlySortedBy}
 use Rattle.willow_area.specs.Boxes.{Ranges}
 use Rattle.willow_entry.specs.Frame.{HasFrame}
 use Rattle.willow_entry.specs.Row.{RowValue, inner_place_cmp}
 use Rattle.block_store.specs.InBox.{is_in}
-use Rattle.exchange_rules.specs.Items.{Print, Sent}
-use Rattle.sync_msg.specs.Items.{ItemValue, HasSpelling}
+use Rattle.sync_msg.specs.Items.{HasSpelling}
 use Rattle.sync_core.specs.declared.stage.TheConstants.{SNAPSHOT_MAX}
 use Rattle.sync_core.specs.Flat.{AskValue}
 use Rattle.sync_core.specs.Place.{Doing, Saying, Replying, Beginning, Hearing, HearingRows, Parting, Finished, Refused, Place}

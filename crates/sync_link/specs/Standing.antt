@@ -5,8 +5,8 @@ use Rattle.willow_entry.specs.Row.{RowValue}
 use Rattle.sync_msg.specs.declared.role.Role.{Role}
 use Rattle.sync_hello.specs.declared.hello.Hello.{Hello}
 use Rattle.sync_core.specs.Place.{Place, rows_of_area}
-use Rattle.session_rules.specs.Reading.{Stand, Move, read}
-use Rattle.sync_link.specs.Sessions.{Party, SessionStage, SessionMessage, SessionCause, session_of}
+use Rattle.session_rules.specs.Reading.{Stand, read}
+use Rattle.sync_link.specs.Sessions.{Party, SessionStage, SessionCause, session_of}
 
 -- What contracts see of a side of a session: what it brings, with its signature once that is made; the rows that it has as
 -- the session begins; and how it stands.

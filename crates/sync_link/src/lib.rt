@@ -4,10 +4,41 @@
 //! the bytes that it reads.
 #![tactic(auto)]
 
+#[cfg(test)]
+mod checks;
+mod due;
+mod ear;
 mod find;
+mod greet;
 mod hear;
+mod intake;
 pub mod laws;
+mod opening;
+mod piece;
+mod plan;
 mod proof;
+mod run;
+pub mod run_laws;
+mod sending;
 mod speak;
+mod speaker;
+mod standing;
+mod take;
+mod take_all;
+mod talker;
+
+pub use mc_cap::RefusedRow;
+pub use plan::{SessionPlan, SessionReport, VERSION};
+pub use run::run_session;
+pub use session_end::SessionEnd;
+
+#[cfg(test)]
+mod fakes;
+#[cfg(test)]
+mod meetings;
+#[cfg(test)]
+mod runs;
 #[cfg(test)]
 mod tests;
+#[cfg(test)]
+mod trials;

@@ -1,0 +1,124 @@
+-- A session that has read nothing yet.
+use Rattle.std.proofs.Common.{◌≡◌, inr, ℕ, ◌<◌, ◌≤◌, List, [], length, take, drop, Option, None, Some, refl, sym, ap, ◌∙◌, subst, arith, append-nil}
+use Rattle.std.proofs.lemmas.List.{take-append-drop}
+use Rattle.std.specs.Io.KnownBytes.{Consumes, Appends}
+use mathlib.Core.List.{IsPrefix}
+use Rattle.willow_outside.specs.Counts.{HasRisen}
+use Rattle.willow_outside.specs.Facts.{LinkFacts}
+use Rattle.willow_entry.specs.Row.{RowValue, live}
+use Rattle.auth_entry.specs.Authorised.{AuthorisedValue}
+use Rattle.log_rule.proofs.Prefixes.{prefix_self}
+use Rattle.ns_cell.specs.Passes.{PassValue, IsLater}
+use Rattle.session_end.specs.declared.end.SessionEnd.TheVariants as ends
+use Rattle.session_rules.specs.Rounds.{IsFront}
+use Rattle.session_rules.proofs.Growing.{front_by, front_none}
+use Rattle.sync_hello.specs.HelloForm.{hello_spelling}
+use Rattle.sync_link.specs.Sessions.{out, got}
+use Rattle.sync_link.specs.Settling.{IsOpening}
+use Rattle.sync_link.specs.Fed.{Fed, begun, fed_in, first_bytes}
+use Rattle.sync_link.specs.Kept.{log_rows}
+use Rattle.sync_link.specs.Tallies.{HasGrown}
+use Rattle.sync_link.specs.UnderWay.{Start, brought, IsReady, Reached, IsUnderWay, ReadsNothing, EndsSo}
+use Rattle.sync_link.proofs.ReadOn.{begun_read}
+use Rattle.sync_link.proofs.Tallying.{tally_none}
+use Rattle.sync_link.proofs.Outcomes.{cut_off}
+
+none_is_some : (signature : List ℕ) → None ≡ Some signature → ⊥
+none_is_some signature e = cc
+
+told_none : (known : Option (List ℕ)) → Consumes known known [] × Appends known known []
+told_none None = (tt, tt)
+told_none (Some xs) = (refl, sym (append-nil xs))
+
+module _ (start : Start) (rows : List RowValue) (pass : PassValue AuthorisedValue) (ready : IsReady start rows pass) where
+  abbrev first : Fed
+  first = fed_in start.rules (begun start.namespace start.role start.hello rows)
+
+  abbrev due : List ℕ
+  due = first_bytes start.role start.hello
+
+  reached : Reached start first [] due []
+  reached = record {
+    side_is = ap (λ (l : List RowValue). (fed_in start.rules (begun start.namespace start.role start.hello l)).side) ready.rows_are;
+    read = begun_read start.rules start.namespace start.role start.hello rows;
+    read_out = λ k d within. absurd (omega arith);
+    signed = λ signature e. absurd (none_is_some signature e);
+  }
+
+  opens : IsOpening start.namespace (live (log_rows start.log))
+  opens = subst (IsOpening start.namespace) ready.rows_are ready.opens
+
+  opening : IsPrefix start.pass.seen start.log × IsPrefix start.log pass.seen
+  opening = (subst (IsPrefix start.pass.seen) ready.seen ready.later.seen, subst (λ l. IsPrefix start.log l) (sym ready.seen) (prefix_self start.log))
+
+  grew : HasGrown start.rules start.namespace start.pass [] pass
+  grew = record { grown = []; own = ready.own ∙ sym (append-nil start.pass.own); part = tt; later = ready.later }
+
+  module _ (link : LinkFacts) (rest : ReadsNothing start.link link) where
+    taken : Consumes start.link.left link.left [] × Appends start.link.taken link.taken []
+    taken = (subst (λ l. Consumes start.link.left l []) (sym rest.left) (told_none start.link.left).0, subst (λ l. Appends start.link.taken l []) (sym rest.taken) (told_none start.link.taken).1)
+
+    pub begins : Appends start.link.held link.held due → link.write_faults ≡ start.link.write_faults
+        → IsUnderWay start (record { fed = first; tally = record { rows = 0; stored = 0; kept = 0; missed = 0; refused = 0; first = None }; count = 0; pass = pass; link = link; left = start.left; faults = start.faults })
+    begins held writes = record {
+      bytes = [];
+      written = due;
+      rows = [];
+      reached = reached;
+      opens = opens;
+      opening = opening;
+      taken = taken;
+      held = held;
+      count = refl;
+      unsigned = λ none. refl;
+      tally = tally_none start.rules start.namespace start.pass pass ready.later ready.own ready.pass;
+      reads = rest.faults;
+      writes = writes;
+      ends = rest.ends;
+      faults = omega arith;
+    }
+
+    front : (k : ℕ) → IsFront (take k due) due
+    front k = front_by (take k due) due (drop k due) (sym (take-append-drop k due))
+
+    pub unwritten : ((k : ℕ) × (k < length due) × Appends start.link.held link.held (take k due)) → HasRisen start.link.write_faults link.write_faults → EndsSo start pass link start.faults ends.LinkWrite
+    unwritten held rose =
+        cut_off start first [] due [] reached opens pass link start.faults opening grew [] (take held.0 due) ends.LinkWrite tt (front held.0) taken held.2
+        (record { reads = rest.faults; writes = rose; ends = rest.ends; signs = omega arith })
+
+    pub unwritten_unkept : ((k : ℕ) × (k < length due) × Appends start.link.held link.held (take k due)) → start.link.write_faults ≤ link.write_faults → EndsSo start pass link start.faults ends.NoMemory
+    unwritten_unkept held more =
+        cut_off start first [] due [] reached opens pass link start.faults opening grew [] (take held.0 due) ends.NoMemory tt (front held.0) taken held.2
+        (record { reads = omega (arith, rest.faults); writes = more; ends = rest.ends; signs = omega arith })
+
+  pub unbegun : EndsSo start pass start.link start.faults ends.NoMemory
+  unbegun =
+      cut_off start first [] due [] reached opens pass start.link start.faults opening grew [] [] ends.NoMemory tt (front_none due)
+      ((told_none start.link.left).0, (told_none start.link.taken).1) (told_none start.link.held).1
+      (record { reads = omega arith; writes = omega arith; ends = refl; signs = omega arith })
+
+-- ---- no snapshot was had
+
+pub no_snapshot : (start : Start) (pass : PassValue AuthorisedValue) → IsLater start.pass pass → pass.own ≡ start.pass.own → EndsSo start pass start.link start.faults ends.NoMemory
+no_snapshot start pass later own = record {
+  signature = [];
+  log = pass.seen;
+  bytes = [];
+  written = [];
+  rows = [];
+  grown = [];
+  later = later;
+  opening = (later.seen, prefix_self pass.seen);
+  opens = λ some. absurd (some refl);
+  taken = ((told_none start.link.left).0, (told_none start.link.taken).1);
+  held = (told_none start.link.held).1;
+  signed = inr (front_none (hello_spelling start.hello));
+  wrote = front_none (out (brought start []) (live (log_rows pass.seen)) []);
+  ended = tt;
+  sent = front_none (got (brought start []) (live (log_rows pass.seen)) []);
+  read_out = λ k d within. absurd (omega arith);
+  grew = (own ∙ sym (append-nil start.pass.own), tt);
+  covers = tt;
+  reported = tt;
+  counted_faults = record { reads = omega arith; writes = omega arith; ends = refl; signs = omega arith };
+}

@@ -1,0 +1,178 @@
+-- How a session that is under way ends.
+use Rattle.std.proofs.Common.{◌≡◌, inl, inr, ℕ, zero, suc, ◌<◌, ◌≤◌, ◌^◌, ◌==◌, length-append, List, [], length, All, Option, None, Some, Ok, Err, IfOk, refl, sym, ap, ◌∙◌, subst, arith, append-nil}
+use Rattle.std.specs.Io.KnownBytes.{Consumes, Appends, Keeps}
+use Rattle.std.proofs.lemmas.List.{length-map}
+use Rattle.std.proofs.lemmas.List.Sums.{length-filter, count_by-le-length}
+use Rattle.log_rule.specs.Views.{rows_of_pass}
+use Rattle.std.proofs.KnownBytes.{Consumes-trans, Appends-trans}
+use Rattle.std.proofs.lemmas.List.Elements.{All-from_recursion}
+use Rattle.willow_outside.specs.Counts.{HasRisen}
+use Rattle.willow_outside.specs.Facts.{LinkFacts}
+use Rattle.willow_entry.specs.Row.{RowValue, HasCovering}
+use Rattle.willow_entry.specs.declared.row.LogRow.{LogRow}
+use Rattle.auth_entry.specs.Authorised.{AuthorisedValue}
+use Rattle.session_end.specs.declared.end.SessionEnd.TheVariants as ends
+use Rattle.session_end.specs.declared.refusal.HelloRefusal.{HelloRefusal}
+use Rattle.sync_msg.specs.declared.refusal.CoreRefusal.{CoreRefusal}
+use Rattle.session_rules.specs.Reading.{Stand, Waits, Over, Broken, Refused, ending_of}
+use Rattle.session_rules.specs.Reading as reading
+use Rattle.session_rules.specs.Session.{InGreeting, InTalk}
+use Rattle.session_rules.proofs.Growing.{front_self}
+use Rattle.sync_link.specs.Sessions.{SessionStage, SessionCause}
+use Rattle.sync_link.specs.Fed.{GoesWell, standing_as}
+use Rattle.sync_link.specs.declared.standing.Standing.TheVariants as standings
+use Rattle.sync_link.specs.Kept.{entry_row, log_rows, authorised_rows}
+use Rattle.sync_link.specs.Run.{Answer, CoversOrIsFull, Ends, Covers, Counts, Reports, Runs}
+use Rattle.sync_link.specs.UnderWay.{Start, Now, brought, IsUnderWay, EndsSo}
+use Rattle.sync_link.specs.declared.plan.SessionReport.{SessionReport}
+use Rattle.sync_link.proofs.CoveredRows.{covered_all}
+use Rattle.sync_link.proofs.Reaching.{chosen, may_chosen, has_read}
+use Rattle.sync_link.proofs.Outcomes.{complete, cut_off}
+
+pub keeps_none : (old new : Option (List ℕ)) → Keeps old new → Consumes old new [] × Appends old new []
+keeps_none None new h = (tt, tt)
+keeps_none (Some xs) None h = absurd h
+keeps_none (Some xs) (Some ys) h = (sym h, h ∙ sym (append-nil xs))
+
+-- ---- how a session stands, as it is told
+
+pub as_more : (e : reading.Ending SessionCause) → standings.More ≡ standing_as e → e ≡ reading.More
+as_more reading.Done h = cc
+as_more reading.More h = refl
+as_more (reading.BadMessage at) h = cc
+as_more (reading.Refusal (InGreeting cause)) h = cc
+as_more (reading.Refusal (InTalk cause)) h = cc
+
+pub as_bad : (e : reading.Ending SessionCause) (at : ℕ) → standings.BadMessage at ≡ standing_as e → e ≡ reading.BadMessage at
+as_bad reading.Done at h = cc
+as_bad reading.More at h = cc
+as_bad (reading.BadMessage other) at h = cc
+as_bad (reading.Refusal (InGreeting cause)) at h = cc
+as_bad (reading.Refusal (InTalk cause)) at h = cc
+
+pub as_hello : (e : reading.Ending SessionCause) (cause : HelloRefusal) → standings.Hello cause ≡ standing_as e → e ≡ reading.Refusal (InGreeting cause)
+as_hello reading.Done cause h = cc
+as_hello reading.More cause h = cc
+as_hello (reading.BadMessage other) cause h = cc
+as_hello (reading.Refusal (InGreeting other)) cause h = cc
+as_hello (reading.Refusal (InTalk other)) cause h = cc
+
+pub as_core : (e : reading.Ending SessionCause) (cause : CoreRefusal) → standings.Core cause ≡ standing_as e → e ≡ reading.Refusal (InTalk cause)
+as_core reading.Done cause h = cc
+as_core reading.More cause h = cc
+as_core (reading.BadMessage other) cause h = cc
+as_core (reading.Refusal (InGreeting other)) cause h = cc
+as_core (reading.Refusal (InTalk other)) cause h = cc
+
+of_pass_few : (number : ℕ) (log : List (LogRow AuthorisedValue)) → length (rows_of_pass number log) ≤ length log
+of_pass_few number log = omega (arith, length-filter (λ (l : LogRow AuthorisedValue). number == l.pass) log, count_by-le-length (λ (l : LogRow AuthorisedValue). number == l.pass) log)
+
+module _ (start : Start) (now : Now) (u : IsUnderWay start now) where
+  abbrev covering : List RowValue
+  covering = log_rows now.pass.seen
+
+  abbrev rows : List RowValue
+  rows = authorised_rows start.rules start.namespace u.rows
+
+  rows_long : length covering ≡ length now.pass.seen
+  rows_long = length-map now.pass.seen (λ (l : LogRow AuthorisedValue). entry_row l.row)
+
+  all_covered : now.tally.missed ≡ 0 → All (HasCovering covering) rows
+  all_covered none = All-from_recursion (HasCovering covering) rows (covered_all covering rows (sym u.tally.missed ∙ none))
+
+  covers : CoversOrIsFull covering rows
+  covers = by_number now.tally.missed refl
+    where
+      by_number : (n : ℕ) → now.tally.missed ≡ n → CoversOrIsFull covering rows
+      by_number zero e = inl (all_covered e)
+      by_number (suc n) e = inr (rows_long ∙ u.tally.full (omega arith))
+
+  -- the link gave no more
+  module _ (link : LinkFacts) (left : Consumes now.link.left link.left []) (taken : Appends now.link.taken link.taken []) (held : link.held ≡ now.link.held) where
+    taken_still : Consumes start.link.left link.left u.bytes × Appends start.link.taken link.taken u.bytes
+    taken_still =
+        subst (λ l. Consumes start.link.left link.left l × Appends start.link.taken link.taken l) (append-nil u.bytes)
+        (Consumes-trans start.link.left now.link.left link.left u.bytes [] u.taken.0 left, Appends-trans start.link.taken now.link.taken link.taken u.bytes [] u.taken.1 taken)
+
+    held_still : Appends start.link.held link.held u.written
+    held_still = subst (λ h. Appends start.link.held h u.written) (sym held) u.held
+
+    pub closed_early : ending_of now.fed.side.stand ≡ reading.More → link.read_faults ≡ now.link.read_faults → link.write_faults ≡ now.link.write_faults → HasRisen now.link.ends link.ends → EndsSo start now.pass link now.faults (ends.ClosedEarly now.count)
+    closed_early more reads writes rose =
+        complete start now.fed u.bytes u.written u.rows u.reached u.opens now.pass link now.faults u.opening u.tally.grew
+        (Err (ends.ClosedEarly now.count)) taken_still held_still (more, u.count) covers tt
+        (record { reads = reads ∙ u.reads; writes = writes ∙ u.writes; ends = subst (λ n. HasRisen n link.ends) u.ends rose; signs = u.faults })
+
+    pub read_failed : ending_of now.fed.side.stand ≡ reading.More → HasRisen now.link.read_faults link.read_faults → link.write_faults ≡ now.link.write_faults → link.ends ≡ now.link.ends → EndsSo start now.pass link now.faults ends.LinkRead
+    read_failed more rose writes same =
+        complete start now.fed u.bytes u.written u.rows u.reached u.opens now.pass link now.faults u.opening u.tally.grew
+        (Err ends.LinkRead) taken_still held_still more covers tt
+        (record { reads = subst (λ n. HasRisen n link.read_faults) u.reads rose; writes = writes ∙ u.writes; ends = same ∙ u.ends; signs = u.faults })
+
+    pub read_unkept : now.link.read_faults ≤ link.read_faults → link.write_faults ≡ now.link.write_faults → link.ends ≡ now.link.ends → EndsSo start now.pass link now.faults ends.NoMemory
+    read_unkept reads writes same =
+        cut_off start now.fed u.bytes u.written u.rows u.reached u.opens now.pass link now.faults u.opening u.tally.grew
+        [] u.written ends.NoMemory tt (front_self u.written)
+        (subst (λ l. Consumes start.link.left link.left l × Appends start.link.taken link.taken l) (sym (append-nil u.bytes)) taken_still) held_still
+        (record { reads = omega (arith, reads, u.reads); writes = omega (arith, writes, u.writes); ends = same ∙ u.ends; signs = u.faults })
+
+  pub unkept_room : EndsSo start now.pass now.link now.faults ends.NoMemory
+  unkept_room =
+      cut_off start now.fed u.bytes u.written u.rows u.reached u.opens now.pass now.link now.faults u.opening u.tally.grew
+      [] u.written ends.NoMemory tt (front_self u.written)
+      (subst (λ l. Consumes start.link.left now.link.left l × Appends start.link.taken now.link.taken l) (sym (append-nil u.bytes)) u.taken) u.held
+      (record { reads = omega (arith, u.reads); writes = omega (arith, u.writes); ends = u.ends; signs = u.faults })
+
+  -- ---- behind the end
+
+  ended : (answer : Answer) → Ends (ending_of now.fed.side.stand) (length u.bytes) answer → Covers covering rows answer
+      → IfOk answer (Reports (brought start (chosen now.fed.side.signature)) start.log u.bytes u.rows (length u.tally.grew.grown) (length now.pass.seen)) → Counts start.link now.link start.faults now.faults answer
+      → Runs (brought start) start.gives start.pass now.pass start.link now.link start.faults now.faults answer
+  ended answer ends covers reported counts =
+      complete start now.fed u.bytes u.written u.rows u.reached u.opens now.pass now.link now.faults u.opening u.tally.grew answer u.taken u.held ends covers reported counts
+
+  pub bad_message : (at : ℕ) → ending_of now.fed.side.stand ≡ reading.BadMessage at → EndsSo start now.pass now.link now.faults (ends.BadMessage at)
+  bad_message at e = ended (Err (ends.BadMessage at)) e covers tt (record { reads = u.reads; writes = u.writes; ends = u.ends; signs = u.faults })
+
+  pub hello_refused : (cause : HelloRefusal) → ending_of now.fed.side.stand ≡ reading.Refusal (InGreeting cause) → EndsSo start now.pass now.link now.faults (ends.Hello cause)
+  hello_refused cause e = ended (Err (ends.Hello cause)) e covers tt (record { reads = u.reads; writes = u.writes; ends = u.ends; signs = u.faults })
+
+  pub item_refused : (cause : CoreRefusal) → ending_of now.fed.side.stand ≡ reading.Refusal (InTalk cause) → EndsSo start now.pass now.link now.faults (ends.Core cause)
+  item_refused cause e = ended (Err (ends.Core cause)) e covers tt (record { reads = u.reads; writes = u.writes; ends = u.ends; signs = u.faults })
+
+  pub log_full : ending_of now.fed.side.stand ≡ reading.Done → 0 < now.tally.missed → EndsSo start now.pass now.link now.faults (ends.LogFull now.tally.missed)
+  log_full e some =
+      ended (Err (ends.LogFull now.tally.missed)) e (record { full = rows_long ∙ u.tally.full some; counted = u.tally.missed; some = omega arith }) tt
+      (record { reads = u.reads; writes = u.writes; ends = u.ends; signs = u.faults })
+
+  went_well : (q : Stand SessionStage SessionCause) → ending_of q ≡ reading.Done → GoesWell q
+  went_well (Waits s at held) e = tt
+  went_well Over e = tt
+  went_well (Broken at) e = cc
+  went_well (Refused cause) e = cc
+
+  pub done : (report : SessionReport) → ending_of now.fed.side.stand ≡ reading.Done → now.tally.missed ≡ 0
+      → report.opened ≡ length start.log → report.closed ≡ length now.pass.seen → report.stored ≡ now.tally.stored → report.kept ≡ now.tally.kept → report.refused ≡ now.tally.refused → report.first ≡ now.tally.first
+      → report.sent ≡ now.fed.sent → report.read ≡ now.fed.read
+      → Runs (brought start) start.gives start.pass now.pass start.link now.link start.faults now.faults (Ok report)
+  done report e none opened closed stored kept refused first sent read =
+      let s = chosen now.fed.side.signature in
+      let h = has_read start now.fed u.bytes u.written u.rows u.reached s (may_chosen now.fed.side.signature) in
+      let well = went_well now.fed.side.stand e in
+      ended (Ok report) e (all_covered none)
+      (record {
+        opened = opened;
+        closed_at = closed;
+        stored = stored ∙ u.tally.stored;
+        kept = omega (arith, stored, kept, u.tally.kept, none);
+        refused = omega (arith, refused, u.tally.refused);
+        first = first ∙ u.tally.first;
+        sent = sent ∙ h.sent well;
+        read = read ∙ h.read well;
+      })
+      (record { reads = u.reads; writes = u.writes; ends = u.ends; signs = u.faults })
+
+  -- a row that is stored stands in the log that the pass has seen
+  pub stored_few : now.tally.stored < 2 ^ 32
+  stored_few =
+      omega (arith, u.tally.stored, ap length u.tally.grew.own, length-append start.pass.own u.tally.grew.grown, ap length u.tally.pass.own, of_pass_few now.pass.number now.pass.seen, u.tally.pass.log.few)

@@ -1,0 +1,49 @@
+use Rattle.std.proofs.Common.{refl, sym, ◌∙◌, arith}
+use Rattle.std.proofs.lemmas.List.{length-take, length-append, length-drop}
+use Rattle.sync_link.specs.UnderWay.{now_of}
+use Rattle.sync_link.proofs.LinkEnds.{unkept_room}
+use Rattle.sync_link.proofs.Talked.{Keeps, keeps_self, keeps_on}
+use Rattle.sync_link.proofs.run.talk.Goals as goal
+
+pub returns-in-Err-clause-goes_on : goal.returns-in-Err-clause-goes_on
+returns-in-Err-clause-goes_on g c start a b d e u =
+    unkept_room start (now_of g.S.Verify.rules c.args.session.now c.args.pass.now (g.L.Link.facts c.args.link.now) (g.K.Signer.left c.args.signer.now) (g.K.Signer.faults c.args.signer.now)) u
+
+pub talking-init : goal.talking-init
+talking-init g c = record {
+  pass = c.requires.pass;
+  namespace = refl;
+  counted = c.requires.counted;
+  gives = refl;
+  room = omega (arith, c.in-Ok.ensures.len, c.in-Ok.room.ok.0);
+  keeps = keeps_self g.S.Verify.rules c.args.cell.now.namespace (g.K.Signer.gives c.args.signer.now) (now_of g.S.Verify.rules c.args.session.now c.args.pass.now (g.L.Link.facts c.args.link.now) (g.K.Signer.left c.args.signer.now) (g.K.Signer.faults c.args.signer.now));
+}
+
+pub hear_piece-requires-clause-open : goal.hear_piece-requires-clause-open
+hear_piece-requires-clause-open g c κs within = c.is_open.ensures.open c.talking-test.true
+
+pub talking-preserved : goal.talking-preserved
+talking-preserved g c =
+    let i = c.talking.invariant in
+    record {
+      pass = c.in-Ok-hear_piece.ensures.pass;
+      namespace = c.in-Ok-hear_piece.ensures.namespace ∙ i.namespace;
+      counted = c.in-Ok-hear_piece.ensures.counted;
+      gives = c.in-Ok-hear_piece.ensures.gives ∙ i.gives;
+      room = simp (length-take, length-append, length-drop) (omega (arith, i.room, c.deref_mut.ensures.len, c.hear_piece.auto.room, c.talking.room.ok.0));
+      keeps = keeps_on g.S.Verify.rules c.args.cell.now.namespace (g.K.Signer.gives c.args.signer.now) (g.K.Signer.gives c.talking.signer)
+          (now_of g.S.Verify.rules c.args.session.now c.args.pass.now (g.L.Link.facts c.args.link.now) (g.K.Signer.left c.args.signer.now) (g.K.Signer.faults c.args.signer.now))
+          (now_of g.S.Verify.rules c.talking.session c.talking.pass (g.L.Link.facts c.talking.link) (g.K.Signer.left c.talking.signer) (g.K.Signer.faults c.talking.signer))
+          (now_of g.S.Verify.rules c.hear_piece.new.session c.hear_piece.new.pass (g.L.Link.facts c.hear_piece.new.link) (g.K.Signer.left c.hear_piece.new.signer) (g.K.Signer.faults c.hear_piece.new.signer))
+          i.gives i.keeps c.in-Ok-hear_piece.ensures.goes_on;
+    }
+
+pub returns-in-Err-hear_piece-clause-goes_on : goal.returns-in-Err-hear_piece-clause-goes_on
+unfolding Keeps
+returns-in-Err-hear_piece-clause-goes_on g c start a b d e u =
+    let i = c.talking.invariant in
+    c.in-Err-hear_piece.ensures.goes_on start a b (d ∙ sym i.gives) e (i.keeps start a b d e u)
+
+pub returns-clause-goes_on : goal.returns-clause-goes_on
+unfolding Keeps
+returns-clause-goes_on g c start a b d e u = c.talking.invariant.keeps start a b d e u

@@ -1,0 +1,5 @@
+use Rattle.sync_link.proofs.GrantedRuns.{runs_granted}
+use Rattle.sync_link.proofs.run_laws.runs_granted.Goals as goal
+
+pub returns : goal.returns
+returns c = λ p ran are own_fits wanting_fits. runs_granted p ran are own_fits wanting_fits

@@ -1,0 +1,13 @@
+use Rattle.std.proofs.Common.{None, refl, sym, subst}
+use Rattle.sync_link.specs.Held.{IsHeld}
+use Rattle.sync_link.specs.declared.due.Due.TheVariants as dues
+use Rattle.sync_link.specs.declared.talker.Talker.{Talker}
+use Rattle.sync_link.proofs.Feeding.{begun_held}
+use Rattle.sync_link.proofs.speaker.Speaker.begin.Goals as goal
+
+pub invariant_of-result : goal.invariant_of-result
+invariant_of-result g c =
+    let a = c.args in
+    let talker : Talker g.row.R.Denot g.row.S.Denot = record { alloc = a.alloc; scheme = a.scheme; namespace = a.namespace; role = a.role; hello = a.hello; signature = None; snapshot = a.snapshot } in
+    subst (λ held. IsHeld g.S.Verify.rules g.R.Row.value talker dues.Hello 0 held) (sym c.new.ensures.items)
+    (begun_held g.S.Verify.rules g.R.Row.value talker c.requires.own c.requires.rows refl)

@@ -1,0 +1,181 @@
+-- Sessions that were run, and what holds of them where the other side is one of the same kind.
+use Rattle.std.specs.Prelude.{◌≡◌, ◌⊎◌, ℕ, ◌+◌, ◌*◌, max, Bool, true, List, length, Option, map, All, Contains, flat_map, Ok, Err, IsTrue}
+use Rattle.scheme_core.specs.Rules.{Rules}
+use Rattle.willow_outside.specs.Counts.{HasRisen}
+use Rattle.willow_outside.specs.Facts.{LinkFacts}
+use Rattle.willow_area.specs.Boxes.{Ranges}
+use Rattle.willow_entry.specs.Row.{RowValue, live}
+use Rattle.mc_cap.specs.Grant.{receiver_of}
+use Rattle.mc_cap.specs.Signature.{IsSignature}
+use Rattle.cap_codec.specs.Rows.{RawValue, IsRaw, row_of}
+use Rattle.auth_entry.specs.Authorised.{AuthorisedValue, IsAuthorised}
+use Rattle.ns_cell.specs.Passes.{PassValue}
+use Rattle.session_end.specs.declared.end.SessionEnd.{SessionEnd}
+use Rattle.session_end.specs.declared.end.SessionEnd.TheVariants.{LinkRead, LinkWrite, ClosedEarly, BadMessage, Hello, Core, SignFault, LogFull, NoMemory}
+use Rattle.sync_msg.specs.Items.{ItemValue}
+use Rattle.sync_msg.specs.declared.item.Item.TheVariants.{Row}
+use Rattle.sync_msg.specs.declared.role.Role.{Role}
+use Rattle.sync_msg.specs.declared.role.Role.TheVariants.{Caller, Answerer}
+use Rattle.sync_hello.specs.Checked.{Passes}
+use Rattle.sync_hello.specs.HelloForm.{IsHello}
+use Rattle.sync_core.specs.Place.{rows_of_area}
+use Rattle.session_rules.specs.Reading as reading
+use Rattle.session_rules.specs.Rounds.{IsFront}
+use Rattle.session_rules.specs.Session.{Item}
+use Rattle.sync_link.specs.Sessions.{Party, SessionMessage, SessionCause, session_of, out, box_with}
+use Rattle.sync_link.specs.Granting.{IsGranted, GrantsRow}
+use Rattle.sync_link.specs.Settling.{IsOpening, Accepts, CanMeet, AreApartIn}
+use Rattle.sync_link.specs.Kept.{log_rows}
+use Rattle.sync_link.specs.Run.{Answer, IsAllOf, Ends, Runs}
+
+-- ---- a session that was run
+
+-- A session of a side that brings this, each by its signature: which signatures its signer may give; its pass, its link and
+-- its signer's count of faults before it and after; what it answered; and what it did.
+pub record Ran (p : List ℕ → Party) : Type 0 where
+  pub gives : List ℕ → List ℕ → Bool
+  pub before : PassValue AuthorisedValue
+  pub after : PassValue AuthorisedValue
+  pub link : LinkFacts
+  pub link' : LinkFacts
+  pub faults : ℕ
+  pub faults' : ℕ
+  pub answer : Answer
+  pub did : Runs p gives before after link link' faults faults' answer
+
+-- what it brought, with its signature
+abbrev pub side : {p : List ℕ → Party} → Ran p → Party
+side {p} ran = p ran.did.signature
+
+-- its rows as it began: what is live of the log
+abbrev pub opening_of : {p : List ℕ → Party} → Ran p → List RowValue
+opening_of ran = live (log_rows ran.did.log)
+
+-- ---- two worlds
+
+-- neither a fault came nor was memory wanting
+abbrev pub IsUnfailed : Answer → Type 0
+IsUnfailed (Ok report) = Unit {0}
+IsUnfailed (Err LinkRead) = ⊥
+IsUnfailed (Err LinkWrite) = ⊥
+IsUnfailed (Err (ClosedEarly at)) = Unit {0}
+IsUnfailed (Err (BadMessage at)) = Unit {0}
+IsUnfailed (Err (Hello cause)) = Unit {0}
+IsUnfailed (Err (Core cause)) = Unit {0}
+IsUnfailed (Err SignFault) = ⊥
+IsUnfailed (Err (LogFull missed)) = Unit {0}
+IsUnfailed (Err NoMemory) = ⊥
+
+-- the exchange was done, whether or not the log had room
+abbrev pub IsDone : Answer → Type 0
+IsDone (Ok report) = Unit {0}
+IsDone (Err LinkRead) = ⊥
+IsDone (Err LinkWrite) = ⊥
+IsDone (Err (ClosedEarly at)) = ⊥
+IsDone (Err (BadMessage at)) = ⊥
+IsDone (Err (Hello cause)) = ⊥
+IsDone (Err (Core cause)) = ⊥
+IsDone (Err SignFault) = ⊥
+IsDone (Err (LogFull missed)) = Unit {0}
+IsDone (Err NoMemory) = ⊥
+
+-- both are done, or both ended so
+abbrev pub EndAlike : Answer → Answer → Type 0
+EndAlike one other = (IsDone one × IsDone other) ⊎ ((end : SessionEnd) × (one ≡ Err end) × (other ≡ Err end))
+
+-- Two sessions did alike: there are the bytes of which each wrote all, or a front where it failed, and the rows of which each
+-- was sent all, or a front; and how the session ends to what both read is one. Where neither failed they answer alike.
+pub record AreAlike {p q : List ℕ → Party} (one : Ran p) (other : Ran q) : Type 0 where
+  pub bytes : List ℕ
+  pub wrote : IsAllOf bytes one.did.written one.answer × IsAllOf bytes other.did.written other.answer
+  pub rows : List RowValue
+  pub sent : IsAllOf rows (map row_of one.did.rows) one.answer × IsAllOf rows (map row_of other.did.rows) other.answer
+  pub end : reading.Ending SessionCause
+  pub ended : Ends end (length one.did.bytes) one.answer × Ends end (length other.did.bytes) other.answer
+  pub answered : IsUnfailed one.answer → IsUnfailed other.answer → EndAlike one.answer other.answer
+
+-- ---- granted reading
+
+-- What was written is a front of the bytes of some messages. An item is among these, be it a row or a fingerprint, only
+-- where what was read begins with the other side's hello and a proof that is accepted; and each row among them is one of the
+-- own, which what that hello's capability grants includes.
+pub record TellsGranted {p : List ℕ → Party} (ran : Ran p) : Type 0 where
+  pub messages : List SessionMessage
+  pub wrote : IsFront ran.did.written (flat_map (session_of (side ran) (opening_of ran)).spelling messages)
+  pub items : (item : ItemValue) → Contains messages (Item item) → IsGranted (side ran) ran.did.bytes
+  pub rows : (row : RowValue) → Contains messages (Item (Row row))
+      → (granted : IsGranted (side ran) ran.did.bytes) × (Contains (opening_of ran) row × GrantsRow granted.hello row)
+
+-- ---- the other side
+
+-- The row is authorised in the namespace, with its token read out.
+pub record IsAuthorisedRow (rules : Rules) (namespace : List ℕ) (row : RowValue) : Type 0 where
+  pub raw : RawValue
+  pub fits : IsRaw raw
+  pub read_out : row_of raw ≡ row
+  pub authorised : IsAuthorised rules namespace raw
+
+-- a side of the other role, by the same scheme and in the same namespace; each accepts the other
+abbrev pub CanMeetAs : Party → Party → Type 0
+CanMeetAs p q = CanMeet p q ⊎ CanMeet q p
+
+-- The session read what the other side, which has these rows, writes to what this one wrote, or a front of that.
+abbrev pub HearsFrom : {p : List ℕ → Party} → Ran p → Party → List RowValue → Type 0
+HearsFrom ran q others = IsFront ran.did.bytes (out q others ran.did.written)
+
+-- The other side of a session: a store with these rows, whose bytes the session read.
+pub record IsOther {p : List ℕ → Party} (ran : Ran p) (q : Party) (others : List RowValue) : Type 0 where
+  pub can_meet : CanMeetAs (side ran) q
+  pub opens : IsOpening (side ran).namespace others
+  pub hears : HearsFrom ran q others
+
+-- each of the rows is authorised by the rules of the session, in its namespace
+abbrev pub AreAuthorised : {p : List ℕ → Party} → Ran p → List RowValue → Type 0
+AreAuthorised ran others = All (IsAuthorisedRow (side ran).rules (side ran).namespace) others
+
+-- the fingerprints of the exchange of a caller's rows and an answerer's tell rows apart
+abbrev pub AreApartAs : Role → Option Ranges → List RowValue → List RowValue → Type 0
+AreApartAs Caller box rows others = AreApartIn box rows others
+AreApartAs Answerer box rows others = AreApartIn box others rows
+
+-- the own rows and the other side's in the area that both may read
+abbrev pub own_common : {p : List ℕ → Party} → Ran p → Party → List RowValue
+own_common ran q = rows_of_area (box_with (side ran) q.hello) (opening_of ran)
+
+abbrev pub other_common : {p : List ℕ → Party} → Ran p → Party → List RowValue → List RowValue
+other_common ran q others = rows_of_area (box_with (side ran) q.hello) others
+
+-- of so many rows of both sides there are at most so many counted items
+abbrev pub most_counted : ℕ → ℕ → ℕ
+most_counted own other = max 3 (3 * (own + other))
+
+-- ---- a session that comes to its end
+
+-- whatever signature the signer may give of a message is one of the own capability's receiver
+abbrev pub SignsWell : {p : List ℕ → Party} → Ran p → Type 0
+SignsWell ran = (message signature : List ℕ) → ran.gives message signature ≡ true
+    → IsSignature signature × IsTrue ((side ran).rules.user (receiver_of (side ran).hello.capability) message signature)
+
+-- no count of faults rose, of reads, of writes or of the signer
+pub record IsFaultless {p : List ℕ → Party} (ran : Ran p) : Type 0 where
+  pub reads : HasRisen ran.link.read_faults ran.link'.read_faults → ⊥
+  pub writes : HasRisen ran.link.write_faults ran.link'.write_faults → ⊥
+  pub signs : HasRisen ran.faults ran.faults' → ⊥
+
+-- the one calls and the other answers
+abbrev pub AreBothRoles : Role → Role → Type 0
+AreBothRoles one other = ((one ≡ Caller) × (other ≡ Answerer)) ⊎ ((one ≡ Answerer) × (other ≡ Caller))
+
+-- The other side is one that can meet this one, if only the own signer signs well: it is of the other role, by the same
+-- scheme and in the same namespace; the own hello passes, and so do its hello and proof. The session read what it writes, or a
+-- front of that; and a read met the end only where all of it was read.
+pub record HasOther {p : List ℕ → Party} (ran : Ran p) (q : Party) (others : List RowValue) : Type 0 where
+  pub roles : AreBothRoles (side ran).role q.role
+  pub same_rules : q.rules ≡ (side ran).rules
+  pub same_namespace : q.namespace ≡ (side ran).namespace
+  pub hello_fits : IsHello (side ran).hello
+  pub hello_passes : Passes (side ran).rules (side ran).namespace (side ran).hello
+  pub accepts : Accepts (side ran) q
+  pub opens : IsOpening (side ran).namespace others
+  pub hears : HearsFrom ran q others
+  pub hears_all : HasRisen ran.link.ends ran.link'.ends → ran.did.bytes ≡ out q others ran.did.written

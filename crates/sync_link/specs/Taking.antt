@@ -1,0 +1,159 @@
+-- One message of a session, taken from the front of bytes.
+use Rattle.std.specs.Prelude.{◌≡◌, ℕ, ◌+◌, ◌<◌, ◌≤◌, List, [], length, map, take, Option, None, Some}
+use Rattle.scheme_core.specs.Rules.{Rules}
+use Rattle.willow_entry.specs.Row.{RowValue}
+use Rattle.sync_msg.specs.Items.{ItemValue}
+use Rattle.sync_msg.specs.Reader.{moved_on}
+use Rattle.sync_msg.specs.declared.role.Role.{Role}
+use Rattle.sync_hello.specs.Checked.{hello_refusal}
+use Rattle.sync_hello.specs.HelloForm.{HasSpelling, IsHello}
+use Rattle.sync_hello.specs.declared.hello.Hello.{Hello}
+use Rattle.sync_core.specs.Place.{Doing, Saying, Replying, Beginning, Hearing, HearingRows, Parting, Finished, Refused, stage_of}
+use Rattle.sync_core.specs.declared.stage.Stage.TheVariants.{Reading, Writing}
+use Rattle.session_rules.specs.Messages.{ArePart}
+use Rattle.session_rules.specs.Reading.{Stand, read, stay}
+use Rattle.sync_link.specs.Readers.{hello_seen, proof_seen, item_seen}
+use Rattle.sync_link.specs.Sessions.{Party, SessionStage, SessionCause, session_of}
+use Rattle.sync_link.specs.Sound.{IsSound}
+use Rattle.sync_link.specs.Found.{IsFound, GoWrong, is_due}
+use Rattle.sync_link.specs.Hearing.{HearsItem, RefusesItem}
+use Rattle.sync_link.specs.Standing.{Side, Feeds, party_of}
+use Rattle.sync_link.specs.Fed.{noting}
+use Rattle.sync_link.specs.Due.{stand_of}
+use Rattle.sync_link.specs.Talking.{HearsHello, HearsProof, UnsignedIf, proof_cause, side_with}
+use Rattle.sync_link.specs.declared.due.Cause.TheVariants as causes
+use Rattle.sync_link.specs.declared.due.Due.{Due}
+use Rattle.sync_link.specs.declared.due.Due.TheVariants as dues
+use Rattle.sync_link.specs.declared.due.Exchange.{Exchange}
+use Rattle.sync_link.specs.declared.take.Came.{Came}
+use Rattle.sync_link.specs.declared.take.Came.TheVariants as came
+use Rattle.sync_link.specs.declared.take.ItemCame.{ItemCame}
+use Rattle.sync_link.specs.declared.take.ItemCame.TheVariants as items
+use Rattle.sync_link.specs.declared.talker.Talker.{Talker}
+
+-- ---- what there is to know of a side that waits
+
+-- so many rows are due, by what a side of an exchange is doing
+abbrev pub AreDueIn : ℕ → Doing → Type 0
+AreDueIn due (Saying items asks) = due ≡ 0
+AreDueIn due Replying = due ≡ 0
+AreDueIn due Beginning = due ≡ 0
+AreDueIn due (Hearing asks opens) = due ≡ 0
+AreDueIn due (HearingRows asks left read opens) = (due ≡ left) × (0 < due)
+AreDueIn due Parting = due ≡ 0
+AreDueIn due Finished = due ≡ 0
+AreDueIn due (Refused cause) = due ≡ 0
+
+-- An exchange that has said what it says until it reads, and whose reader knows how many rows are due.
+pub record IsExchange {R : Type 0} (exchange : Exchange R) : Type 0 where
+  pub sound : IsSound exchange.core
+  pub silent : stage_of exchange.core.doing ≡ Writing → ⊥
+  pub due : AreDueIn exchange.reader.due exchange.core.doing
+
+-- what is due of a side that is this one and has this signature
+abbrev pub Fits : {R : Type 0} → Role → Option (List ℕ) → Due R → Type 0
+Fits role made dues.Hello = made ≡ None
+Fits role made (dues.Proof other) = HasSpelling other × UnsignedIf role made
+Fits role made (dues.Items exchange) = IsExchange exchange
+Fits role made (dues.Nothing cause) = Unit {0}
+
+-- how many bytes the reader of items took
+abbrev pub read_by : {R : Type 0} → Due R → ℕ
+read_by dues.Hello = 0
+read_by (dues.Proof other) = 0
+read_by (dues.Items exchange) = exchange.reader.taken
+read_by (dues.Nothing cause) = 0
+
+-- a message is due, or nothing was
+abbrev pub IsOpen : {R : Type 0} → Due R → Type 0
+IsOpen dues.Hello = Unit {0}
+IsOpen (dues.Proof other) = Unit {0}
+IsOpen (dues.Items exchange) = stage_of exchange.core.doing ≡ Reading
+IsOpen (dues.Nothing cause) = ⊥
+
+-- ---- what came
+
+-- nothing is said or signed
+abbrev pub Stays : {R S : Type 0} → Talker R S → Talker R S → List ℕ → List ℕ → Type 0
+Stays old new out_old out_new = (new ≡ old) × (out_new ≡ out_old)
+
+-- where a hello is due
+abbrev pub ComesHello : {R S : Type 0} → Rules → Talker R S → Talker R S → List ℕ → List ℕ → List ℕ → Came R → Type 0
+ComesHello rules old new bytes out_old out_new came.More = ArePart hello_seen [] bytes × Stays old new out_old out_new
+ComesHello rules old new bytes out_old out_new came.Bad = GoWrong hello_seen [] bytes × Stays old new out_old out_new
+ComesHello rules old new bytes out_old out_new (came.Next due taken) =
+    (other : Hello) × (IsFound hello_seen bytes other taken × (IsHello other × HearsHello old new other due out_old out_new (hello_refusal rules old.namespace other)))
+
+-- where the proof is due of the side that said a hello
+abbrev pub ComesProof : {R S : Type 0} → Rules → (R → RowValue) → Talker R S → Talker R S → Hello → List ℕ → List ℕ → List ℕ → Came R → Type 0
+ComesProof rules value old new other bytes out_old out_new came.More = ArePart proof_seen [] bytes × Stays old new out_old out_new
+ComesProof rules value old new other bytes out_old out_new came.Bad = GoWrong proof_seen [] bytes × Stays old new out_old out_new
+ComesProof rules value old new other bytes out_old out_new (came.Next due taken) =
+    (proof : List ℕ) × (IsFound proof_seen bytes proof taken × HearsProof value old new other due out_old out_new (proof_cause rules old.role old.hello other proof))
+
+-- An item stands in front, and is heard.
+pub record TakesItem {R : Type 0} (old new : Exchange R) (bytes : List ℕ) (taken : ℕ) (out_old out_new : List ℕ) (rows_old rows_new : List RowValue) : Type 0 where
+  pub item : ItemValue
+  pub found : IsFound (item_seen (is_due old.reader.due)) bytes item taken
+  pub reader : new.reader ≡ moved_on old.reader item taken
+  pub hears : HearsItem old.core new.core item out_old out_new rows_old rows_new
+  pub silent : stage_of new.core.doing ≡ Writing → ⊥
+
+-- where an item is due
+abbrev pub ComesItem : {R : Type 0} → Exchange R → Exchange R → List ℕ → List ℕ → List ℕ → List RowValue → List RowValue → ItemCame → Type 0
+ComesItem old new bytes out_old out_new rows_old rows_new items.More = ArePart (item_seen (is_due old.reader.due)) [] bytes × ((new ≡ old) × ((out_new ≡ out_old) × (rows_new ≡ rows_old)))
+ComesItem old new bytes out_old out_new rows_old rows_new items.Bad = GoWrong (item_seen (is_due old.reader.due)) [] bytes × ((out_new ≡ out_old) × (rows_new ≡ rows_old))
+ComesItem old new bytes out_old out_new rows_old rows_new (items.Taken taken) = TakesItem old new bytes taken out_old out_new rows_old rows_new
+ComesItem old new bytes out_old out_new rows_old rows_new (items.Refused cause taken) =
+    (item : ItemValue) × (IsFound (item_seen (is_due old.reader.due)) bytes item taken × RefusesItem old.core item cause out_old out_new rows_old rows_new)
+
+-- ---- the step of a side
+
+-- A message is taken in so many bytes, and the next begins behind them; or the bytes are all read, with no message whole.
+-- The side is seen by the offset of what is due, and what is held of that.
+abbrev pub Steps : (ℕ → List ℕ → Side) → (ℕ → List ℕ → Side) → ℕ → List ℕ → Option ℕ → List ℕ → List ℕ → List RowValue → List RowValue → Type 0
+Steps old new at bytes None out_old out_new rows_old rows_new = Feeds (old at []) (new at bytes) bytes out_old out_new rows_old rows_new
+Steps old new at bytes (Some taken) out_old out_new rows_old rows_new =
+    (0 < taken) × ((taken ≤ length bytes) × Feeds (old at []) (new (at + taken) []) (take taken bytes) out_old out_new rows_old rows_new)
+
+-- a side that waits for what is due
+abbrev pub waiting_side : {R S : Type 0} → Rules → (R → RowValue) → Talker R S → Due R → ℕ → List ℕ → Side
+waiting_side rules value talker due at held = side_with rules value talker (stand_of due at held)
+
+-- so many bytes were taken
+abbrev pub taken_of : Option ℕ → ℕ
+taken_of None = 0
+taken_of (Some taken) = taken
+
+-- what is due then, and how many bytes were taken of a message that is whole
+abbrev pub due_after : {R : Type 0} → Due R → Came R → Due R
+due_after due came.More = due
+due_after due came.Bad = dues.Nothing causes.Bad
+due_after due (came.Next next taken) = next
+
+abbrev pub taken_after : {R : Type 0} → Came R → Option ℕ
+taken_after came.More = None
+taken_after came.Bad = None
+taken_after (came.Next next taken) = Some taken
+
+abbrev pub due_behind : {R : Type 0} → Due R → ItemCame → Due R
+due_behind due items.More = due
+due_behind due items.Bad = dues.Nothing causes.Bad
+due_behind due (items.Taken taken) = due
+due_behind due (items.Refused cause taken) = dues.Nothing (causes.Core cause)
+
+abbrev pub taken_behind : ItemCame → Option ℕ
+taken_behind items.More = None
+taken_behind items.Bad = None
+taken_behind (items.Taken taken) = Some taken
+taken_behind (items.Refused cause taken) = Some taken
+
+-- nothing is said to the bytes, and no message is whole in them
+abbrev pub IsSilent : Party → List RowValue → Stand SessionStage SessionCause → List ℕ → Stand SessionStage SessionCause → Type 0
+IsSilent p rows from bytes to = (read (session_of p rows) from bytes ≡ stay to) × (read (noting (session_of p rows)) from bytes ≡ stay to)
+
+-- the bytes are a part of the message that is due; where nothing is due they do not count
+abbrev pub Holds : {R S : Type 0} → Rules → (R → RowValue) → Talker R S → Due R → List ℕ → Type 0
+Holds rules value talker due bytes =
+    (at : ℕ) (signature : List ℕ)
+    → IsSilent (party_of (waiting_side rules value talker due at []) signature) (map value talker.snapshot) (stand_of due at []) bytes (stand_of due at bytes)

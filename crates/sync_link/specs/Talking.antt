@@ -1,0 +1,144 @@
+-- How a side in memory greets the other.
+use Rattle.std.specs.Prelude.{◌≡◌, ◌⊎◌, ℕ, Bool, true, List, [], ◌++◌, map, flat_map, Option, None, Some, option_map}
+use Rattle.willow_outside.specs.Counts.{Rose}
+use Rattle.scheme_core.specs.Rules.{Rules}
+use Rattle.willow_area.specs.AreaBox.{area_box}
+use Rattle.willow_area.specs.Boxes.{Ranges}
+use Rattle.willow_entry.specs.Row.{RowValue}
+use Rattle.mc_cap.specs.Signature.{signature_spelling}
+use Rattle.sync_msg.specs.Items.{item_spelling}
+use Rattle.sync_msg.specs.Reader.{at_start}
+use Rattle.sync_msg.specs.declared.role.Role.{Role}
+use Rattle.sync_msg.specs.declared.role.Role.TheVariants.{Caller, Answerer}
+use Rattle.session_end.specs.declared.refusal.HelloRefusal.{HelloRefusal}
+use Rattle.sync_hello.specs.Common.{common_area}
+use Rattle.sync_hello.specs.HelloForm.{hello_spelling}
+use Rattle.sync_hello.specs.Proof.{proof_message, proof_refusal}
+use Rattle.sync_hello.specs.declared.hello.Hello.{Hello}
+use Rattle.sync_core.specs.Place.{Place, first_place, stage_of}
+use Rattle.sync_core.specs.Runs.{says_all}
+use Rattle.sync_core.specs.declared.stage.Stage.TheVariants.{Writing}
+use Rattle.session_rules.specs.Reading.{Stand}
+use Rattle.sync_link.specs.Sessions.{SessionStage, SessionCause}
+use Rattle.sync_link.specs.Sound.{IsSound}
+use Rattle.sync_link.specs.Standing.{Side, MayBe}
+use Rattle.sync_link.specs.declared.due.Cause.TheVariants as causes
+use Rattle.sync_link.specs.declared.due.Due.{Due}
+use Rattle.sync_link.specs.declared.due.Due.TheVariants as dues
+use Rattle.sync_link.specs.declared.due.Exchange.{Exchange}
+use Rattle.sync_link.specs.declared.talker.Talker.{Talker}
+
+-- ---- what is signed and judged, by which side it is: the own hello, and the other one
+
+-- the message of the own proof
+abbrev pub own_message : Role → Hello → Hello → List ℕ
+own_message Caller own other = proof_message Caller own other
+own_message Answerer own other = proof_message Answerer other own
+
+-- why the other side's proof is refused, if it is
+abbrev pub proof_cause : Rules → Role → Hello → Hello → List ℕ → Option HelloRefusal
+proof_cause rules Caller own other proof = proof_refusal rules Answerer own other proof
+proof_cause rules Answerer own other proof = proof_refusal rules Caller other own proof
+
+-- the box of the area that both may read
+abbrev pub box_between : Role → Hello → Hello → Option Ranges
+box_between Caller own other = option_map area_box (common_area own other)
+box_between Answerer own other = option_map area_box (common_area other own)
+
+-- ---- what is said
+
+-- to a hello that passes the answerer says its hello and its proof, to a proof that is accepted the caller its own
+abbrev pub said_to_hello : Role → Hello → List ℕ → List ℕ
+said_to_hello Caller own signature = []
+said_to_hello Answerer own signature = hello_spelling own ++ signature_spelling signature
+
+abbrev pub said_to_proof : Role → List ℕ → List ℕ
+said_to_proof Caller signature = signature_spelling signature
+said_to_proof Answerer signature = []
+
+-- this is written, whatever the signature may be
+abbrev pub Writes : Option (List ℕ) → (List ℕ → List ℕ) → List ℕ → List ℕ → Type 0
+Writes made spoken out_old out_new = (signature : List ℕ) → MayBe made signature → out_new ≡ out_old ++ spoken signature
+
+-- the signature that was made stays
+abbrev pub Once : Option (List ℕ) → Option (List ℕ) → Type 0
+Once old new = (signature : List ℕ) → MayBe new signature → MayBe old signature
+
+-- none was made yet by a caller
+abbrev pub UnsignedIf : Role → Option (List ℕ) → Type 0
+UnsignedIf Caller made = made ≡ None
+UnsignedIf Answerer made = Unit {0}
+
+-- ---- a side
+
+-- what is seen of a side that stands so
+abbrev pub side_with : {R S : Type 0} → Rules → (R → RowValue) → Talker R S → Stand SessionStage SessionCause → Side
+side_with rules value talker stand = record {
+  rules = rules;
+  namespace = talker.namespace;
+  role = talker.role;
+  hello = talker.hello;
+  signature = talker.signature;
+  rows = map value talker.snapshot;
+  stand = stand;
+}
+
+-- but for its signature it is as it was
+abbrev pub Keeps : {R S : Type 0} → Talker R S → Talker R S → Type 0
+Keeps old new = new ≡ record old { signature = new.signature }
+
+-- It signed its proof, by what its signer may give, and wrote it.
+pub record Proves {R S : Type 0} (gives : List ℕ → List ℕ → Bool) (old new : Talker R S) (other : Hello) (out_old out_new : List ℕ) : Type 0 where
+  pub signature : List ℕ
+  pub made : new.signature ≡ Some signature
+  pub given : gives (own_message old.role old.hello other) signature ≡ true
+  pub wrote : out_new ≡ out_old ++ signature_spelling signature
+
+-- its signature is the one that it had, or its signer may give it for its proof to the side with this hello
+abbrev pub IsSigned : {R S : Type 0} → (List ℕ → List ℕ → Bool) → Talker R S → Talker R S → Hello → Type 0
+IsSigned gives old new other =
+    (signature : List ℕ) → new.signature ≡ Some signature → (old.signature ≡ Some signature) ⊎ (gives (own_message old.role old.hello other) signature ≡ true)
+
+-- the signature of a side with this hello is the one that it had, or the signer may give it for the side's proof to one that said
+-- a hello
+abbrev pub SignsBy : (List ℕ → List ℕ → Bool) → Role → Hello → Option (List ℕ) → Option (List ℕ) → Type 0
+SignsBy gives role own made_old made_new =
+    (signature : List ℕ) → made_new ≡ Some signature → (made_old ≡ Some signature) ⊎ ((other : Hello) × (gives (own_message role own other) signature ≡ true))
+
+-- a signer fails only where its count of faults rose or nothing was left of it
+abbrev pub CanFail : ℕ → ℕ → ℕ → Type 0
+CanFail left faults_old faults_new = (left ≡ 0) ⊎ Rose faults_old faults_new
+
+-- it fails only a side that is not signed
+abbrev pub FailsSign : Option (List ℕ) → ℕ → ℕ → ℕ → Type 0
+FailsSign made left faults_old faults_new = (made ≡ None) × CanFail left faults_old faults_new
+
+-- while a side is not signed nothing is taken from the signer
+abbrev pub AsksOnce : Option (List ℕ) → ℕ → ℕ → Type 0
+AsksOnce made left_old left_new = made ≡ None → left_new ≡ left_old
+
+-- What is due behind a hello, by why it is refused, if it is.
+abbrev pub HearsHello : {R S : Type 0} → Talker R S → Talker R S → Hello → Due R → List ℕ → List ℕ → Option HelloRefusal → Type 0
+HearsHello old new other due out_old out_new (Some cause) = (due ≡ dues.Nothing (causes.Hello cause)) × (new ≡ old) × (out_new ≡ out_old)
+HearsHello old new other due out_old out_new None = (due ≡ dues.Proof other) × (Writes new.signature (said_to_hello old.role old.hello) out_old out_new × UnsignedIf old.role new.signature)
+
+-- An exchange has begun over the rows of a side, and said what is due first.
+pub record BeginsExchange {R : Type 0} (place : Place) (exchange : Exchange R) (out_old out_new : List ℕ) : Type 0 where
+  pub reader : exchange.reader ≡ at_start
+  pub core : exchange.core ≡ (says_all place).1
+  pub said : out_new ≡ out_old ++ flat_map item_spelling (says_all place).0
+  pub sound : IsSound exchange.core
+  pub silent : stage_of exchange.core.doing ≡ Writing → ⊥
+
+-- the same behind a proof
+pub record AcceptsProof {R S : Type 0} (value : R → RowValue) (old new : Talker R S) (other : Hello) (due : Due R) (out_old out_new : List ℕ) : Type 0 where
+  pub between : List ℕ
+  pub proved : Writes new.signature (said_to_proof old.role) out_old between
+  pub once : Once old.signature new.signature
+  pub exchange : Exchange R
+  pub begins : BeginsExchange (first_place old.role (map value old.snapshot) (box_between old.role old.hello other)) exchange between out_new
+  pub due_is : due ≡ dues.Items exchange
+
+abbrev pub HearsProof : {R S : Type 0} → (R → RowValue) → Talker R S → Talker R S → Hello → Due R → List ℕ → List ℕ → Option HelloRefusal → Type 0
+HearsProof value old new other due out_old out_new (Some cause) = (due ≡ dues.Nothing (causes.Hello cause)) × (new ≡ old) × (out_new ≡ out_old)
+HearsProof value old new other due out_old out_new None = AcceptsProof value old new other due out_old out_new

@@ -1,0 +1,59 @@
+//! What a session is run with, and what it reports.
+
+ghost use Rattle.std.specs.Prelude.{◌≡◌, IfOk};
+ghost use Rattle.sync_link.specs.Plans.{own_hello};
+
+use mc_cap::{Capability, RefusedRow};
+use spelling::NoMemory;
+use sync_hello::Hello;
+use sync_msg::Role;
+use willow_area::Area;
+
+/// The version that a session speaks.
+pub const VERSION: u8 = 1;
+
+/// What a side brings to a session.
+#[derive(Drop)]
+pub struct SessionPlan<S> {
+    /// What signatures are verified by.
+    pub scheme: S,
+    /// Whether it calls or answers.
+    pub role: Role,
+    /// The capability that lets it read. Its receiver signs the proof.
+    pub capability: Capability,
+    /// The area that it wants to compare.
+    pub ask: Area,
+}
+
+/// What came of a session that was done.
+#[derive(Clone, Copy, Debug, PartialEq, Eq)]
+pub struct SessionReport {
+    /// How many rows the log had as the session began.
+    pub opened: u32,
+    /// How many rows of the log the pass has seen at the end.
+    pub closed: u32,
+    /// How many of the rows received are now in the log by this session.
+    pub stored: u32,
+    /// How many were authorised and covered by a row of the log.
+    pub kept: u64,
+    /// How many were not authorised.
+    pub refused: u64,
+    /// The first of these: its number among the rows received, from 1, and why.
+    pub first: Option<RefusedRow>,
+    /// How many counted items were sent: First, Agree, Split, Entries and Rest.
+    pub sent: u32,
+    /// How many were read.
+    pub read: u32,
+}
+
+// The hello of a side with this plan.
+pub(crate) fn own_hello<S>(plan: &SessionPlan<S>, nonce: [u8; 16]) -> Result<Hello, NoMemory>
+    ensures { IfOk result (λ hello. hello ≡ own_hello plan.now nonce) }
+{
+    Ok(Hello {
+        version: VERSION,
+        nonce,
+        ask: plan.ask.copy()?,
+        capability: plan.capability.copy()?,
+    })
+}

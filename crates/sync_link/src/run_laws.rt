@@ -1,0 +1,62 @@
+//! What holds of sessions that were run. These functions do nothing: each is called, if at all, for its clauses.
+
+ghost use Rattle.std.specs.Prelude.{◌≡◌, ◌⊎◌, ℕ, ◌+◌, ◌≤◌, List, All, length, Ok, Err};
+ghost use Rattle.spelling.specs.Form.{AreBytes};
+ghost use Rattle.willow_area.specs.Area.{IsArea};
+ghost use Rattle.willow_entry.specs.EntryForm.{IsEntry};
+ghost use Rattle.willow_entry.specs.Row.{RowValue, HasCovering};
+ghost use Rattle.session_end.specs.declared.end.SessionEnd.TheVariants.{NoMemory};
+ghost use Rattle.session_rules.specs.Rounds.{IsFront};
+ghost use Rattle.sync_link.specs.Sessions.{Party, AreSameInCommon, box_with};
+ghost use Rattle.sync_link.specs.Kept.{log_rows};
+ghost use Rattle.sync_link.specs.Ran.{Ran, side, opening_of, AreAlike, TellsGranted, CanMeetAs, IsOther, AreAuthorised, AreApartAs, most_counted, own_common, other_common, HasOther, SignsWell, IsFaultless, IsDone};
+ghost use Rattle.sync_link.specs.declared.plan.SessionReport.{SessionReport};
+
+/// Two sessions with the same plan and the same proof, whose stores have the same rows in the area that both sides may read,
+/// and that read the same bytes: they do alike. Rows elsewhere, the links and the logs change nothing of what is written, of
+/// the rows that come and of how the session ends.
+pub fn runs_alike()
+    ensures { (p : List ℕ → Party) (one other : Ran p)
+        → other.did.signature ≡ one.did.signature → other.did.bytes ≡ one.did.bytes
+        → AreSameInCommon (side one) one.did.bytes (opening_of one) (opening_of other)
+        → AreAlike one other }
+{}
+
+/// A session tells rows and fingerprints only to one that may read them: what it wrote is a front of the bytes of messages
+/// of which each item stands behind an accepted hello and proof, and each row is one that the hello's capability grants.
+pub fn runs_granted()
+    ensures { (p : List ℕ → Party) (ran : Ran p)
+        → AreBytes ran.did.bytes → IsArea (side ran).hello.ask
+        → (ran.answer ≡ Err NoMemory → All (λ row. IsEntry row.entry) (opening_of ran))
+        → TellsGranted ran }
+{}
+
+/// Of two sessions that can meet, where each read what the other wrote or a front of that, the one is the other side of the
+/// other, if that had memory: then what is told below of another side holds of it.
+pub fn runs_meet()
+    ensures { (p q : List ℕ → Party) (one : Ran p) (other : Ran q)
+        → CanMeetAs (side one) (side other) → (other.answer ≡ Err NoMemory → ⊥)
+        → IsFront one.did.bytes other.did.written → IsFront other.did.bytes one.did.written
+        → IsOther one (side other) (opening_of other) }
+{}
+
+/// Where a session answers Ok that read what such another side writes, at most so many counted items were sent and read: 3,
+/// or thrice the rows that both have in the area that both may read. The log that its pass has seen covers all that the other
+/// has there, if its rows are authorised and the fingerprints of their exchange tell rows apart.
+pub fn runs_cover()
+    ensures counted { (p : List ℕ → Party) (ran : Ran p) (report : SessionReport) (q : Party) (others : List RowValue)
+        → ran.answer ≡ Ok report → IsOther ran q others
+        → report.sent + report.read ≤ most_counted (length (own_common ran q)) (length (other_common ran q others)) }
+    ensures covers { (p : List ℕ → Party) (ran : Ran p) (report : SessionReport) (q : Party) (others : List RowValue)
+        → ran.answer ≡ Ok report → IsOther ran q others → AreAuthorised ran others
+        → AreApartAs (side ran).role (box_with (side ran) q.hello) (opening_of ran) others
+        → All (HasCovering (log_rows ran.after.seen)) (other_common ran q others) }
+{}
+
+/// A session that has such another side, whose signer signs well and of which no count of faults rose, comes to its end: it
+/// answers Ok, that the log is full, or that memory was wanting.
+pub fn runs_end()
+    ensures { (p : List ℕ → Party) (ran : Ran p) (q : Party) (others : List RowValue)
+        → HasOther ran q others → SignsWell ran → IsFaultless ran → AreBytes ran.did.bytes
+        → IsDone ran.answer ⊎ (ran.answer ≡ Err NoMemory) }
+{}
