@@ -53,7 +53,6 @@ module _ (p : List ℕ → Party) (ran : Ran p) (are : AreBytes ran.did.bytes) (
       let party = side ran in
       let rows = opening_of ran in
       record {
-        messages = said party rows ran.did.bytes;
         wrote = front_of (out party rows ran.did.bytes) ran.did.written ran.answer ran.did.wrote;
         items = λ item c. item_granted party rows ran.did.bytes are item c;
         rows = λ row c. row_told party rows ran.did.bytes are own_fits entries_fit row c;

@@ -69,6 +69,7 @@ module _ (p : Party) (bytes : List ℕ) (are : AreBytes bytes) (greeted : IsGree
         ∙ ap (λ l. l ++ greeted.greets.behind) hello_spelled.1
         ∙ ap (λ l. hello_spelling greeted.hello ++ l) (greeted.joined ∙ ap (λ l. l ++ greeted.behind) (proof_back greeted.proof_bytes greeted.proof proof_are greeted.is_proof).1);
     fits = hello_spelled.0;
+    proof_fits = (proof_back greeted.proof_bytes greeted.proof proof_are greeted.is_proof).0;
     passes = passes p.rules p.namespace greeted.hello greeted.greets.passes;
     proved = accepted_by p.role greeted.accepted;
   }

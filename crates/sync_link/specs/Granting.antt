@@ -3,7 +3,7 @@ use Rattle.std.specs.Prelude.{◌≡◌, ℕ, List, ◌++◌, IsTrue}
 use Rattle.willow_area.specs.Area.{in_area}
 use Rattle.willow_entry.specs.Row.{RowValue}
 use Rattle.mc_cap.specs.Grant.{granted, receiver_of}
-use Rattle.mc_cap.specs.Signature.{signature_spelling}
+use Rattle.mc_cap.specs.Signature.{IsSignature, signature_spelling}
 use Rattle.sync_msg.specs.declared.role.Role.{Role}
 use Rattle.sync_msg.specs.declared.role.Role.TheVariants.{Caller, Answerer}
 use Rattle.sync_hello.specs.HelloForm.{hello_spelling, IsHello}
@@ -25,6 +25,7 @@ pub record IsGranted (p : Party) (bytes : List ℕ) : Type 0 where
   pub behind : List ℕ
   pub joined : bytes ≡ hello_spelling hello ++ (signature_spelling signature ++ behind)
   pub fits : IsHello hello
+  pub proof_fits : IsSignature signature
   pub passes : Passes p.rules p.namespace hello
   pub proved : IsTrue (p.rules.user (receiver_of hello.capability) (message_due p.role p.hello hello) signature)
 

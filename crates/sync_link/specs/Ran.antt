@@ -1,5 +1,5 @@
 -- Sessions that were run, and what holds of them where the other side is one of the same kind.
-use Rattle.std.specs.Prelude.{◌≡◌, ◌⊎◌, ℕ, ◌+◌, ◌*◌, max, Bool, true, List, length, Option, map, All, Contains, flat_map, Ok, Err, IsTrue}
+use Rattle.std.specs.Prelude.{◌≡◌, ◌⊎◌, ℕ, ◌+◌, ◌*◌, max, Bool, true, List, length, Option, map, All, Contains, Ok, Err, IsTrue}
 use Rattle.scheme_core.specs.Rules.{Rules}
 use Rattle.willow_outside.specs.Counts.{HasRisen}
 use Rattle.willow_outside.specs.Facts.{LinkFacts}
@@ -22,7 +22,7 @@ use Rattle.sync_core.specs.Place.{rows_of_area}
 use Rattle.session_rules.specs.Reading as reading
 use Rattle.session_rules.specs.Rounds.{IsFront}
 use Rattle.session_rules.specs.Session.{Item}
-use Rattle.sync_link.specs.Sessions.{Party, SessionMessage, SessionCause, session_of, out, box_with}
+use Rattle.sync_link.specs.Sessions.{Party, SessionCause, said, out, box_with}
 use Rattle.sync_link.specs.Granting.{IsGranted, GrantsRow}
 use Rattle.sync_link.specs.Settling.{IsOpening, Accepts, CanMeet, AreApartIn}
 use Rattle.sync_link.specs.Kept.{log_rows}
@@ -96,14 +96,13 @@ pub record AreAlike {p q : List ℕ → Party} (one : Ran p) (other : Ran q) : T
 
 -- ---- granted reading
 
--- What was written is a front of the bytes of some messages. An item is among these, be it a row or a fingerprint, only
--- where what was read begins with the other side's hello and a proof that is accepted; and each row among them is one of the
--- own, which what that hello's capability grants includes.
+-- What was written is what is due to the bytes that were read, or a front of it. An item is among the messages of that, be it
+-- a row or a fingerprint, only where what was read begins with the other side's hello and a proof that is accepted; and each
+-- row among them is one of the own, which what that hello's capability grants includes.
 pub record TellsGranted {p : List ℕ → Party} (ran : Ran p) : Type 0 where
-  pub messages : List SessionMessage
-  pub wrote : IsFront ran.did.written (flat_map (session_of (side ran) (opening_of ran)).spelling messages)
-  pub items : (item : ItemValue) → Contains messages (Item item) → IsGranted (side ran) ran.did.bytes
-  pub rows : (row : RowValue) → Contains messages (Item (Row row))
+  pub wrote : IsFront ran.did.written (out (side ran) (opening_of ran) ran.did.bytes)
+  pub items : (item : ItemValue) → Contains (said (side ran) (opening_of ran) ran.did.bytes) (Item item) → IsGranted (side ran) ran.did.bytes
+  pub rows : (row : RowValue) → Contains (said (side ran) (opening_of ran) ran.did.bytes) (Item (Row row))
       → (granted : IsGranted (side ran) ran.did.bytes) × (Contains (opening_of ran) row × GrantsRow granted.hello row)
 
 -- ---- the other side

@@ -12,9 +12,9 @@ ghost use Rattle.sync_link.specs.Kept.{log_rows};
 ghost use Rattle.sync_link.specs.Ran.{Ran, side, opening_of, AreAlike, TellsGranted, CanMeetAs, IsOther, AreAuthorised, AreApartAs, most_counted, own_common, other_common, HasOther, SignsWell, IsFaultless, IsDone};
 ghost use Rattle.sync_link.specs.declared.plan.SessionReport.{SessionReport};
 
-/// Two sessions with the same plan and the same proof, whose stores have the same rows in the area that both sides may read,
-/// and that read the same bytes: they do alike. Rows elsewhere, the links and the logs change nothing of what is written, of
-/// the rows that come and of how the session ends.
+/// Two sessions that bring the same plan, namespace, nonce and signature, whose stores have the same rows in the area that both
+/// sides may read, and that read the same bytes: they do alike. Rows elsewhere, the links and the logs change nothing of what
+/// is written, of the rows that come and of how a session ends that did not fail.
 pub fn runs_alike()
     ensures { (p : List ℕ → Party) (one other : Ran p)
         → other.did.signature ≡ one.did.signature → other.did.bytes ≡ one.did.bytes
@@ -22,8 +22,9 @@ pub fn runs_alike()
         → AreAlike one other }
 {}
 
-/// A session tells rows and fingerprints only to one that may read them: what it wrote is a front of the bytes of messages
-/// of which each item stands behind an accepted hello and proof, and each row is one that the hello's capability grants.
+/// A session tells rows and fingerprints only to one that may read them: what it wrote is due to the bytes that it read, or a
+/// front of that; there each item stands behind an accepted hello and proof, and each row is one that the hello's capability
+/// grants.
 pub fn runs_granted()
     ensures { (p : List ℕ → Party) (ran : Ran p)
         → AreBytes ran.did.bytes → IsArea (side ran).hello.ask
@@ -32,7 +33,7 @@ pub fn runs_granted()
 {}
 
 /// Of two sessions that can meet, where each read what the other wrote or a front of that, the one is the other side of the
-/// other, if that had memory: then what is told below of another side holds of it.
+/// other, if that had memory. So the bound below holds of both, and covering where its further premises do.
 pub fn runs_meet()
     ensures { (p q : List ℕ → Party) (one : Ran p) (other : Ran q)
         → CanMeetAs (side one) (side other) → (other.answer ≡ Err NoMemory → ⊥)
@@ -53,8 +54,9 @@ pub fn runs_cover()
         → All (HasCovering (log_rows ran.after.seen)) (other_common ran q others) }
 {}
 
-/// A session that has such another side, whose signer signs well and of which no count of faults rose, comes to its end: it
-/// answers Ok, that the log is full, or that memory was wanting.
+/// A session whose other side keeps to the rules, whose reads meet the end only where all that the other side writes was read,
+/// whose signer signs well and of which no count of faults rose, comes to its end: it answers Ok, that the log is full, or that
+/// memory was wanting.
 pub fn runs_end()
     ensures { (p : List ℕ → Party) (ran : Ran p) (q : Party) (others : List RowValue)
         → HasOther ran q others → SignsWell ran → IsFaultless ran → AreBytes ran.did.bytes
