@@ -1,11 +1,12 @@
 -- What the log covers behind a session that was done.
 use Rattle.std.proofs.Common.{◌≡◌, ◌⊎◌, inl, inr, ℕ, List, [], ◌∷◌, ◌++◌, All, Contains, Option, Some, None, Ok, get_or, map, not, is_some, true, refl, sym, ap, ◌∙◌, subst}
-use Rattle.std.proofs.lemmas.List.Elements.{All-contains, All-contains_itself}
+use Rattle.std.proofs.lemmas.List.Elements.{All-contains, All-contains_itself, Contains-push, Contains-append_cases}
 use Rattle.scheme_core.specs.Rules.{Rules}
 use Rattle.willow_area.specs.Boxes.{Ranges}
 use Rattle.willow_entry.specs.EntryForm.{entry_spelling}
-use Rattle.willow_entry.specs.Row.{RowValue, HasCovering}
-use Rattle.willow_entry.proofs.Live.{covers_live_front}
+use Rattle.willow_entry.specs.Row.{RowValue, HasCovering, live, join}
+use Rattle.willow_entry.proofs.Live.{covers_live_front, live_covers, live-covered}
+use Rattle.willow_entry.proofs.RowLaws.{IsLive-live}
 use Rattle.willow_entry.proofs.Members.{Member, contains_from_member, member_from_contains, member_filter}
 use Rattle.block_store.specs.InBox.{rows_in}
 use Rattle.spelling.proofs.Joining.{one_spelling}
@@ -27,7 +28,7 @@ use Rattle.sync_link.specs.Sessions.{Party, box_with}
 use Rattle.sync_link.specs.Settling.{IsOpening, CanMeet, AreApartIn}
 use Rattle.sync_link.specs.Kept.{log_rows, authorised_rows}
 use Rattle.sync_link.specs.Run.{Covers}
-use Rattle.sync_link.specs.Ran.{Ran, side, opening_of, IsDone, IsOther, IsAuthorisedRow, AreAuthorised, AreApartAs, other_common}
+use Rattle.sync_link.specs.Ran.{Ran, side, opening_of, store_of, LiesAbove, IsDone, IsOther, IsAuthorisedRow, AreAuthorised, AreApartAs, other_common}
 use Rattle.sync_link.specs.declared.plan.SessionReport.{SessionReport}
 use Rattle.sync_link.proofs.CoveredRows.{rows_behind}
 use Rattle.sync_link.proofs.Grants.{in_rows}
@@ -173,3 +174,38 @@ module _ (p : List ℕ → Party) (ran : Ran p) (report : SessionReport) (q : Pa
       in_area_of : (box : Option Ranges) (r : RowValue) → Contains (rows_of_area box others) r → Contains others r
       in_area_of None r c = absurd (none_in r c)
       in_area_of (Some x) r c = in_rows others (Some x) r c
+
+-- ---- the store
+
+-- what is live of rows covers all that the rows cover
+live_above : (rows : List RowValue) (r : RowValue) → HasCovering rows r → HasCovering (live rows) r
+live_above rows r h = subst (λ l. HasCovering l r) (live-covered rows r h) (live_covers (rows ++ r ∷ []) r (Contains-push rows r))
+
+-- whatever is answered, nothing of the opening store is lost
+pub runs_keep : (p : List ℕ → Party) (ran : Ran p) → LiesAbove (store_of ran) (opening_of ran)
+runs_keep p ran k d within =
+    let rows = opening_of ran in
+    let r = get_or rows k d in
+    let front = ran.did.opening.1 in
+    live_above (log_rows ran.after.seen) r
+    (subst (λ l. HasCovering l r) (sym (rows_behind ran.did.log ran.after.seen front)) (covers_live_front (log_rows ran.did.log) (log_rows front.0) r (All-contains_itself rows k d within)))
+
+module _ (p : List ℕ → Party) (ran : Ran p) (report : SessionReport) (q : Party) (others : List RowValue) (ok : ran.answer ≡ Ok report) (other : IsOther ran q others) (leave : AreAuthorised ran others)
+    (apart : AreApartAs (side ran).role (box_with (side ran) q.hello) (opening_of ran) others) where
+  abbrev own : List RowValue
+  own = opening_of ran
+
+  abbrev common : List RowValue
+  common = other_common ran q others
+
+  of_both : (r : RowValue) → Contains own r ⊎ Contains common r → HasCovering (store_of ran) r
+  of_both r (inl c) = All-contains (HasCovering (store_of ran)) own r (runs_keep p ran) c
+  of_both r (inr c) =
+      live_above (log_rows ran.after.seen) r
+      (All-contains (HasCovering (log_rows ran.after.seen)) common r (runs_cover p ran report q others ok other leave apart) c)
+
+  pub runs_join : LiesAbove (store_of ran) (join own common)
+  runs_join k d within =
+      let r = get_or (join own common) k d in
+      let both = (((IsLive-live (own ++ common)).members r).0 (All-contains_itself (join own common) k d within)).0 in
+      of_both r (Contains-append_cases own common r both)

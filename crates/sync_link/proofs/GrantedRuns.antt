@@ -6,7 +6,7 @@ use Rattle.willow_entry.specs.EntryForm.{IsEntry}
 use Rattle.session_end.specs.declared.end.SessionEnd.TheVariants.{LinkRead, LinkWrite, ClosedEarly, BadMessage, Hello, Core, SignFault, LogFull, NoMemory}
 use Rattle.session_rules.specs.Rounds.{IsFront}
 use Rattle.session_rules.proofs.Growing.{front_self, front_is}
-use Rattle.sync_link.specs.Sessions.{Party, said, out}
+use Rattle.sync_link.specs.Sessions.{Party, out}
 use Rattle.sync_link.specs.Run.{Answer, IsAllOf}
 use Rattle.sync_link.specs.Ran.{Ran, side, opening_of, TellsGranted}
 use Rattle.sync_link.proofs.Grants.{item_granted, row_told}

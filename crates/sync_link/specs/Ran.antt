@@ -4,7 +4,7 @@ use Rattle.scheme_core.specs.Rules.{Rules}
 use Rattle.willow_outside.specs.Counts.{HasRisen}
 use Rattle.willow_outside.specs.Facts.{LinkFacts}
 use Rattle.willow_area.specs.Boxes.{Ranges}
-use Rattle.willow_entry.specs.Row.{RowValue, live}
+use Rattle.willow_entry.specs.Row.{RowValue, HasCovering, live}
 use Rattle.mc_cap.specs.Grant.{receiver_of}
 use Rattle.mc_cap.specs.Signature.{IsSignature}
 use Rattle.cap_codec.specs.Rows.{RawValue, IsRaw, row_of}
@@ -50,6 +50,14 @@ side {p} ran = p ran.did.signature
 -- its rows as it began: what is live of the log
 abbrev pub opening_of : {p : List ℕ → Party} → Ran p → List RowValue
 opening_of ran = live (log_rows ran.did.log)
+
+-- the store behind it: what is live of the log that its pass has then seen
+abbrev pub store_of : {p : List ℕ → Party} → Ran p → List RowValue
+store_of ran = live (log_rows ran.after.seen)
+
+-- the store covers each of the rows
+abbrev pub LiesAbove : List RowValue → List RowValue → Type 0
+LiesAbove store rows = All (HasCovering store) rows
 
 -- ---- two worlds
 

@@ -4,12 +4,12 @@ ghost use Rattle.std.specs.Prelude.{◌≡◌, ◌⊎◌, ℕ, ◌+◌, ◌≤�
 ghost use Rattle.spelling.specs.Form.{AreBytes};
 ghost use Rattle.willow_area.specs.Area.{IsArea};
 ghost use Rattle.willow_entry.specs.EntryForm.{IsEntry};
-ghost use Rattle.willow_entry.specs.Row.{RowValue, HasCovering};
+ghost use Rattle.willow_entry.specs.Row.{RowValue, HasCovering, join};
 ghost use Rattle.session_end.specs.declared.end.SessionEnd.TheVariants.{NoMemory};
 ghost use Rattle.session_rules.specs.Rounds.{IsFront};
 ghost use Rattle.sync_link.specs.Sessions.{Party, AreSameInCommon, box_with};
 ghost use Rattle.sync_link.specs.Kept.{log_rows};
-ghost use Rattle.sync_link.specs.Ran.{Ran, side, opening_of, AreAlike, TellsGranted, CanMeetAs, IsOther, AreAuthorised, AreApartAs, most_counted, own_common, other_common, HasOther, SignsWell, IsFaultless, IsDone};
+ghost use Rattle.sync_link.specs.Ran.{Ran, side, opening_of, store_of, LiesAbove, AreAlike, TellsGranted, CanMeetAs, IsOther, AreAuthorised, AreApartAs, most_counted, own_common, other_common, HasOther, SignsWell, IsFaultless, IsDone};
 ghost use Rattle.sync_link.specs.declared.plan.SessionReport.{SessionReport};
 
 /// Two sessions that bring the same plan, namespace, nonce and signature, whose stores have the same rows in the area that both
@@ -52,6 +52,17 @@ pub fn runs_cover()
         → ran.answer ≡ Ok report → IsOther ran q others → AreAuthorised ran others
         → AreApartAs (side ran).role (box_with (side ran) q.hello) (opening_of ran) others
         → All (HasCovering (log_rows ran.after.seen)) (other_common ran q others) }
+{}
+
+/// Whatever a session answers, the store behind it covers its opening store. Where it answers Ok that read what such another
+/// side writes, and with the premises of covering, the store lies at or above the join of the opening store with the other's
+/// rows in the area that both may read.
+pub fn runs_join()
+    ensures keeps { (p : List ℕ → Party) (ran : Ran p) → LiesAbove (store_of ran) (opening_of ran) }
+    ensures above { (p : List ℕ → Party) (ran : Ran p) (report : SessionReport) (q : Party) (others : List RowValue)
+        → ran.answer ≡ Ok report → IsOther ran q others → AreAuthorised ran others
+        → AreApartAs (side ran).role (box_with (side ran) q.hello) (opening_of ran) others
+        → LiesAbove (store_of ran) (join (opening_of ran) (other_common ran q others)) }
 {}
 
 /// A session whose other side keeps to the rules, whose reads meet the end only where all that the other side writes was read,

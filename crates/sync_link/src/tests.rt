@@ -26,6 +26,7 @@ fn the_laws_can_be_called() {
     crate::run_laws::runs_granted();
     crate::run_laws::runs_meet();
     crate::run_laws::runs_cover();
+    crate::run_laws::runs_join();
     crate::run_laws::runs_end();
 }
 
