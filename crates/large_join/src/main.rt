@@ -85,7 +85,10 @@ fn main(rt: HostRuntime) -> io::Result<()> {
     let alloc = rt.alloc();
     let few = generated(&rt, alloc, "20000")?;
     print!(rt; "gen of 20000 rows: {}", lines_of(alloc, &few)?)?;
-    print!(rt; "join of these: {}", joined(&rt, alloc, few.output.held(), &[])?)?;
+    print!(rt;
+        "join of these: {}",
+        joined(&rt, alloc, few.output.held(), &[])?
+    )?;
 
     let full = generated(&rt, alloc, "65536")?;
     let rows = full.output.held();

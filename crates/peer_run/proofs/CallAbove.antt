@@ -9,8 +9,8 @@ use Rattle.willow_entry.proofs.Rising.{all_from_members}
 use Rattle.auth_entry.specs.Authorised.{AuthorisedValue}
 use Rattle.ns_state.proofs.NewRows.{live_covering}
 use Rattle.sync_link.specs.Kept.{log_rows}
-use Rattle.sync_link.specs.Ran.{Ran, AreApartAs, AreAuthorised, IsOther, other_common, opening_of, side}
-use Rattle.sync_link.specs.Sessions.{Party, box_with}
+use Rattle.sync_link.specs.Ran.{Ran, other_common, opening_of}
+use Rattle.sync_link.specs.Sessions.{Party}
 use Rattle.sync_link.specs.declared.plan.SessionReport.{SessionReport}
 use Rattle.sync_link.proofs.CoveredRows.{rows_behind}
 use Rattle.sync_link.proofs.CoveringRuns.{runs_cover}

@@ -1,29 +1,22 @@
 -- What a call got and reserved before it called anyone, and what it left where it stopped before.
-use Rattle.std.proofs.Common.{◌≡◌, ◌∙◌, ℕ, List, Option, Some, inl, inr, refl, sym, subst, ap}
-use Rattle.std.specs.Prelude.{Result, Ok, Err, None}
+use Rattle.std.proofs.Common.{◌≡◌, ◌∙◌, ℕ, Option, inl, inr, sym, subst, ap}
+use Rattle.std.specs.Prelude.{Ok, Err, None}
 use Rattle.std.specs.Global.{Vec}
 use Rattle.std.specs.String.{string_bytes}
 use Rattle.std.specs.declared.string.String.{String}
 use Rattle.std.specs.declared.alloc.Global.{Global}
-use Rattle.willow_outside.specs.Facts.{Names, ShelfFacts, DoorFacts}
-use Rattle.lms_core.specs.Key.{Key, raised}
-use Rattle.lms_core.specs.Reserve.{KeepsNames, PutsKey}
-use Rattle.cap_codec.specs.Rows.{RawValue}
+use Rattle.willow_outside.specs.Facts.{Names, ShelfFacts}
+use Rattle.lms_core.specs.Reserve.{KeepsNames}
 use Rattle.mc_cap.specs.declared.capability.Capability.{Capability}
 use Rattle.sync_hello.specs.declared.hello.Hello.{Hello}
-use Rattle.sync_link.specs.declared.plan.SessionPlan.{SessionPlan}
-use Rattle.lms_core.specs.declared.scheme.PeerScheme.{PeerScheme}
 use Rattle.peer_image.specs.declared.read.Image.{Image}
 use Rattle.peer_make.specs.KeySigners.{HandsSigner, IsSignerOf}
-use Rattle.peer_make.specs.Reading.{ReadsCapabilityFrom}
-use Rattle.peer_make.specs.Signing.{IsUsed, StopsNext}
+use Rattle.peer_make.specs.Signing.{StopsNext}
 use Rattle.peer_make.specs.declared.key_signer.KeySigner.{KeySigner}
 use Rattle.peer_make.specs.declared.key_signer.KeySigner.TheVariants.{Open, Once}
-use Rattle.peer_rows.specs.Images.{ReadsImageFrom}
 use Rattle.peer_stage.specs.Shelves.{GetsBytes}
-use Rattle.peer_stage.specs.Steps.{Step, OnShelf}
+use Rattle.peer_stage.specs.Steps.{OnShelf}
 use Rattle.peer_stage.specs.World.{World}
-use Rattle.peer_stage.specs.declared.outcome.Origin.TheVariants as origin
 use Rattle.peer_stage.specs.declared.outcome.Stop.{Stop}
 use Rattle.peer_stage.specs.declared.outcome.Stop.TheVariants as stop
 use Rattle.peer_words.specs.declared.command.AreaWords.{AreaWords}
@@ -156,22 +149,22 @@ beginning_keeps image cap key area old new e begins =
     elim begins [
       | inl s ↦ image_keeps key image old new e s
       | inr p ↦
-        let one = image_same image old p.between p.value p.given in
-        elim p.rest [
-          | inl s ↦ same_keeps key old new (s.1 ∙ one)
-          | inr q ↦
-            let two = q.given.1 ∙ one in
-            elim q.rest [
-              | inl s ↦ told_before key old q.between new two (capability_keeps key cap q.between new e s)
-              | inr r ↦
-                let three = capability_same cap q.between r.between r.value r.given ∙ two in
-                elim r.rest [
-                  | inl s ↦ same_keeps key old new (s.1 ∙ three)
-                  | inr t ↦ elim t.rest [
-                    | inl s ↦ told_before key old t.between new (t.given.1 ∙ three) (reserving_keeps key t.between.shelf new.shelf e s.does)
-                    | inr u ↦ absurd u.rest.0
-                  ]
+          let one = image_same image old p.between p.value p.given in
+          elim p.rest [
+            | inl s ↦ same_keeps key old new (s.1 ∙ one)
+            | inr q ↦
+                let two = q.given.1 ∙ one in
+                elim q.rest [
+                  | inl s ↦ told_before key old q.between new two (capability_keeps key cap q.between new e s)
+                  | inr r ↦
+                      let three = capability_same cap q.between r.between r.value r.given ∙ two in
+                      elim r.rest [
+                        | inl s ↦ same_keeps key old new (s.1 ∙ three)
+                        | inr t ↦ elim t.rest [
+                          | inl s ↦ told_before key old t.between new (t.given.1 ∙ three) (reserving_keeps key t.between.shelf new.shelf e s.does)
+                          | inr u ↦ absurd u.rest.0
+                        ]
+                      ]
                 ]
-            ]
-        ]
+          ]
     ]

@@ -1,16 +1,13 @@
 -- A call that is ready comes to its end.
-use Rattle.std.proofs.Common.{◌≡◌, ◌≢◌, ◌∙◌, ◌⊎◌, ℕ, ◌≤◌, ◌<◌, Bool, true, false, List, length, map, Option, None, Some, inl, inr, refl, sym, subst, ap, arith}
+use Rattle.std.proofs.Common.{◌≡◌, ◌≢◌, ◌∙◌, ◌⊎◌, ℕ, ◌≤◌, ◌<◌, Bool, true, false, List, length, Option, None, Some, inl, inr, refl, sym, subst, ap, arith}
 use Rattle.std.specs.Prelude.{Result, Ok, Err}
-use Rattle.std.specs.Global.{Vec}
 use Rattle.std.specs.String.{string_bytes}
 use Rattle.std.specs.declared.string.String.{String}
 use Rattle.std.specs.declared.alloc.Global.{Global}
 use Rattle.std.proofs.lemmas.List.{length-map}
-use Rattle.willow_outside.specs.Counts.{HasRisen}
 use Rattle.willow_outside.specs.Facts.{Names, LinkFacts, ShelfFacts, DoorFacts}
 use Rattle.willow_outside.specs.Links.{list_with}
 use Rattle.willow_outside.specs.Names.{GetsName}
-use Rattle.willow_entry.specs.Row.{RowValue}
 use Rattle.willow_entry.specs.declared.row.LogRow.{LogRow}
 use Rattle.cap_codec.specs.Rows.{RawValue}
 use Rattle.auth_entry.specs.Authorised.{AuthorisedValue}
@@ -20,7 +17,6 @@ use Rattle.mc_cap.specs.declared.capability.Capability.{Capability}
 use Rattle.mc_cap.specs.declared.refusal.RefusedRow.{RefusedRow}
 use Rattle.session_end.specs.declared.end.SessionEnd.{SessionEnd}
 use Rattle.session_end.specs.declared.end.SessionEnd.TheVariants as ending
-use Rattle.session_end.specs.declared.refusal.HelloRefusal.{HelloRefusal}
 use Rattle.ns_state.specs.declared.live_log.TheConstants.{LOG_LIMIT}
 use Rattle.sync_link.specs.Kept.{entry_row, log_rows, authorised_rows}
 use Rattle.sync_link.specs.Plans.{planned}
@@ -34,17 +30,16 @@ use Rattle.peer_image.specs.ImageReading.{IsImage}
 use Rattle.peer_image.specs.declared.read.Image.{Image}
 use Rattle.peer_image.proofs.Stops.{one_image}
 use Rattle.peer_make.specs.Deeds.{CanSign}
-use Rattle.peer_make.specs.KeySigners.{gives_of, HandsSigner}
+use Rattle.peer_make.specs.KeySigners.{gives_of}
 use Rattle.peer_make.specs.Making.{DrawsOne}
 use Rattle.peer_make.specs.Reading.{IsSpelled, ReadsCapabilityFrom}
 use Rattle.peer_make.proofs.Deeds.{same_capability}
 use Rattle.peer_make.proofs.Signers.{given, signer_ready}
 use Rattle.peer_rows.specs.Images.{ReadsImageFrom}
-use Rattle.peer_rows.specs.Logged.{PassesLog}
 use Rattle.peer_stage.specs.Deed.{IsLawful}
-use Rattle.peer_stage.specs.Shelves.{GetsBytes, PutsBytes}
+use Rattle.peer_stage.specs.Shelves.{GetsBytes}
 use Rattle.peer_stage.specs.Status.{status_of}
-use Rattle.peer_stage.specs.Steps.{OnShelf, OnNoise, OnDoor}
+use Rattle.peer_stage.specs.Steps.{OnNoise, OnDoor}
 use Rattle.peer_stage.specs.World.{World}
 use Rattle.peer_stage.specs.declared.outcome.Done.{Done}
 use Rattle.peer_stage.specs.declared.outcome.Done.TheVariants as done
@@ -58,8 +53,7 @@ use Rattle.peer_run.specs.Calling.{Calls, IsCalled}
 use Rattle.peer_run.specs.Getting.{GetsImage, GetsCapability}
 use Rattle.peer_run.specs.Greeting.{Greets, own_hello, own_refusal}
 use Rattle.peer_run.specs.Opening.{OpensLog}
-use Rattle.peer_run.specs.PairDeeds.{HasImage, HoldsCapability}
-use Rattle.peer_run.specs.Sync.{Begins, Finishes, IsForWant, Syncs, image_behind, counts_of, no_nonce, nonce_of, put_answer, synced_of}
+use Rattle.peer_run.specs.Sync.{Begins, Finishes, IsForWant, Syncs, counts_of, no_nonce, nonce_of, synced_of}
 use Rattle.peer_run.specs.SyncDeed.{CanSync, IsAnswered, SyncReads, SyncWrites, sync_deed}
 use Rattle.peer_run.specs.SyncGiven.{CallGiven, calling_party}
 use Rattle.peer_run.specs.SyncRun.{WasRun, as_ran}
@@ -128,26 +122,26 @@ module _ (words : SyncWords) (old new : World) (can : CanSync words old new) whe
       elim begins [
         | inl s ↦ image_free w e condition s
         | inr p ↦
-          let image = image_is p.between p.value p.given in
-          let one = image_same words.image old p.between p.value p.given in
-          elim p.rest [
-            | inl s ↦ opens_free p.value e image condition s.0
-            | inr q ↦
-              let two = q.given.1 ∙ one in
-              elim q.rest [
-                | inl s ↦ capability_free q.between w e two condition s
-                | inr r ↦
-                  let cap = capability_is q.between r.between r.value two r.given in
-                  let three = capability_same words.cap q.between r.between r.value r.given ∙ two in
-                  elim r.rest [
-                    | inl s ↦ greets_free p.value r.value e image cap condition s.0
-                    | inr t ↦ elim t.rest [
-                      | inl s ↦ signer_ready words.key t.between.shelf w.shelf e (subst (λ (u : World). CanSign words.key u.shelf) (sym (t.given.1 ∙ three)) can.signs) condition s.does
-                      | inr u ↦ u.rest.0
-                    ]
+            let image = image_is p.between p.value p.given in
+            let one = image_same words.image old p.between p.value p.given in
+            elim p.rest [
+              | inl s ↦ opens_free p.value e image condition s.0
+              | inr q ↦
+                  let two = q.given.1 ∙ one in
+                  elim q.rest [
+                    | inl s ↦ capability_free q.between w e two condition s
+                    | inr r ↦
+                        let cap = capability_is q.between r.between r.value two r.given in
+                        let three = capability_same words.cap q.between r.between r.value r.given ∙ two in
+                        elim r.rest [
+                          | inl s ↦ greets_free p.value r.value e image cap condition s.0
+                          | inr t ↦ elim t.rest [
+                            | inl s ↦ signer_ready words.key t.between.shelf w.shelf e (subst (λ (u : World). CanSign words.key u.shelf) (sym (t.given.1 ∙ three)) can.signs) condition s.does
+                            | inr u ↦ u.rest.0
+                          ]
+                        ]
                   ]
-              ]
-          ]
+            ]
       ]
 
   -- ---- nor from its session

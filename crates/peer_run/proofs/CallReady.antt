@@ -19,7 +19,7 @@ use Rattle.peer_words.specs.Areas.{is_empty}
 use Rattle.peer_words.specs.declared.command.AreaWords.{AreaWords}
 use Rattle.peer_words.specs.declared.command.SignerWord.{SignerWord}
 use Rattle.peer_words.specs.declared.command.SignerWord.TheVariants.{OpenKey, LmsFile}
-use Rattle.peer_run.specs.Greeting.{empty_refusal, hello_of, own_hello, own_refusal}
+use Rattle.peer_run.specs.Greeting.{empty_refusal, own_hello, own_refusal}
 use Rattle.peer_run.specs.Sync.{no_nonce, plan_of}
 
 -- ---- the hello

@@ -6,7 +6,6 @@ use Rattle.willow_outside.specs.Facts.{LinkFacts, DoorFacts}
 use Rattle.willow_outside.specs.Links.{list_with}
 use Rattle.willow_entry.specs.declared.row.LogRow.{LogRow}
 use Rattle.willow_entry.proofs.Members.{member_from_contains}
-use Rattle.log_rule.specs.Views.{AreOf, rows_of_pass}
 use Rattle.log_rule.proofs.Books.{rows_of_pass-own}
 use Rattle.lms_core.specs.Use.{peer_rules}
 use Rattle.lms_core.specs.declared.scheme.PeerScheme.{PeerScheme}

@@ -1,13 +1,12 @@
 -- How the log of an image goes on by one row.
 use Rattle.std.proofs.Common.{◌≡◌, ℕ, ◌+◌, ◌<◌, ◌^◌, true, List, [], ◌∷◌, ◌++◌, length, Option, Some, None, refl, sym, ap, ◌∙◌, subst, append_assoc, arith, length-append}
 use Rattle.std.specs.Prelude.{Ok, Err}
-use Rattle.std.specs.List.{AllByRecursion}
 use Rattle.spelling.specs.Answers.{or_else, first_some}
 use Rattle.spelling.specs.declared.ending.End.{End}
 use Rattle.spelling.specs.declared.ending.End.TheVariants.{Refused, NoMemory}
 use Rattle.willow_entry.specs.declared.row.LogRow.{LogRow}
 use Rattle.willow_entry.specs.Pruning.{new_after}
-use Rattle.willow_entry.specs.Row.{RowValue, new, HasCovering}
+use Rattle.willow_entry.specs.Row.{new, HasCovering}
 use Rattle.lms_core.specs.Use.{peer_rules}
 use Rattle.cap_codec.specs.Rows.{RawValue, row_of}
 use Rattle.auth_entry.specs.Authorised.{AuthorisedValue, row_refusal}

@@ -1,5 +1,5 @@
 -- What `sync` owes as a command, but for its completeness.
-use Rattle.std.proofs.Common.{◌≡◌, ◌≢◌, ◌∙◌, ℕ, ◌≤◌, Bool, true, false, List, Option, None, Some, inl, inr, refl, sym, subst, ap, arith}
+use Rattle.std.proofs.Common.{◌≡◌, ◌≢◌, ◌∙◌, ℕ, Bool, true, false, List, Option, None, Some, inl, inr, refl, sym, subst, ap, arith}
 use Rattle.std.specs.Prelude.{Result, Ok, Err}
 use Rattle.std.specs.String.{string_bytes}
 use Rattle.std.specs.declared.string.String.{String}
@@ -7,7 +7,7 @@ use Rattle.std.specs.declared.alloc.Global.{Global}
 use Rattle.lms_core.specs.Use.{peer_rules}
 use Rattle.mc_cap.specs.declared.refusal.RefusedRow.{RefusedRow}
 use Rattle.willow_outside.specs.Counts.{Rose}
-use Rattle.willow_outside.specs.Facts.{LinkFacts, ShelfFacts, DoorFacts}
+use Rattle.willow_outside.specs.Facts.{ShelfFacts, DoorFacts}
 use Rattle.willow_outside.specs.Links.{list_with}
 use Rattle.auth_entry.specs.Authorised.{AuthorisedValue}
 use Rattle.ns_state.specs.Log.{StateValue}
@@ -30,7 +30,7 @@ use Rattle.peer_make.specs.declared.key_signer.KeySigner.{KeySigner}
 use Rattle.peer_make.proofs.Signers.{signer_rose, signer_wrote}
 use Rattle.peer_stage.specs.World.{World, NeverFall, Unfailed}
 use Rattle.peer_stage.specs.Shelves.{GetsBytes, PutsBytes}
-use Rattle.peer_stage.specs.Status.{status_of, session_status}
+use Rattle.peer_stage.specs.Status.{status_of}
 use Rattle.peer_stage.specs.Steps.{Step, Then, Inside, OnShelf, OnNoise, OnDoor}
 use Rattle.peer_stage.specs.declared.outcome.Done.{Done}
 use Rattle.peer_stage.specs.declared.outcome.Done.TheVariants as done
@@ -49,7 +49,7 @@ use Rattle.peer_run.specs.Greeting.{Greets}
 use Rattle.peer_run.specs.Meet.{Gives}
 use Rattle.peer_run.specs.Opening.{OpensLog}
 use Rattle.peer_run.specs.Sync.{Begins, Finishes, Syncs, image_behind, no_nonce, nonce_of, plan_of, put_answer, synced_of}
-use Rattle.peer_run.specs.SyncDeed.{HasFailedLink, SyncReads, SyncWrites}
+use Rattle.peer_run.specs.SyncDeed.{SyncReads, SyncWrites}
 use Rattle.peer_run.specs.declared.calling.Called.{Called}
 use Rattle.peer_run.specs.declared.syncing.Caller as caller
 use Rattle.peer_run.specs.declared.syncing.SyncWords.{SyncWords}

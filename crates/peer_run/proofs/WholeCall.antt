@@ -32,7 +32,7 @@ use Rattle.peer_make.specs.Signing.{IsUsed}
 use Rattle.peer_make.specs.declared.key_signer.KeySigner.{KeySigner}
 use Rattle.peer_make.specs.declared.key_signer.KeySigner.TheVariants.{Open, Once}
 use Rattle.peer_report.specs.Report.{Reports, report_of, synced_lines}
-use Rattle.peer_rows.specs.Logged.{authorised_rows, first_refused}
+use Rattle.peer_rows.specs.Logged.{first_refused}
 use Rattle.peer_stage.specs.Shelves.{PutsBytes}
 use Rattle.peer_stage.specs.Status.{status_of, first_status}
 use Rattle.peer_stage.specs.Steps.{OnShelf, OnNoise, OnDoor}
@@ -351,19 +351,20 @@ module _ (words : SyncWords) (run : Run) where
       elim syncs [
         | inl s ↦ uncalled e (small_stop e (inl s)) (door_unasked (deeds.beginning_keeps words.image words.cap words.key words.area run.old after (Err e) s)) (beginning_keeps words.image words.cap words.key words.area run.old after e s)
         | inr p ↦
-          let begun = has_begun words.image words.cap words.key words.area run.old p.between p.value p.given in
-          let door = ap (λ (w : World). w.door) begun.others in
-          elim p.rest [
-            | inl s ↦ behind_begun e p.value p.between (inr p) begun (ap (λ (w : World). w.shelf) s.others) (door_unasked (ap (λ (w : World). w.door) s.others ∙ door))
-            | inr q ↦
-              let before = ap (λ (w : World). w.door) q.given.others ∙ door in
-              elim q.rest [
-                | inl s ↦
-                  behind_begun e p.value p.between (inr p) begun (ap (λ (w : World). w.shelf) s.others ∙ ap (λ (w : World). w.shelf) q.given.others) (unasked_before q.between before (call_stops (string_bytes words.to) (planned peer_rules p.value.opening.state.namespace p.value.plan (nonce_of q.value)) p.value.signer p.value.opening.state q.between.door after.door e s.does))
-                | inr r ↦ finish_stops e (string_bytes words.image) p.value.opening.rows p.value.opening.first r.value r.between after r.rest
-              ]
-          ]
+            let begun = has_begun words.image words.cap words.key words.area run.old p.between p.value p.given in
+            let door = ap (λ (w : World). w.door) begun.others in
+            elim p.rest [
+              | inl s ↦ behind_begun e p.value p.between (inr p) begun (ap (λ (w : World). w.shelf) s.others) (door_unasked (ap (λ (w : World). w.door) s.others ∙ door))
+              | inr q ↦
+                  let before = ap (λ (w : World). w.door) q.given.others ∙ door in
+                  elim q.rest [
+                    | inl s ↦
+                        behind_begun e p.value p.between (inr p) begun (ap (λ (w : World). w.shelf) s.others ∙ ap (λ (w : World). w.shelf) q.given.others) (unasked_before q.between before (call_stops (string_bytes words.to) (planned peer_rules p.value.opening.state.namespace p.value.plan (nonce_of q.value)) p.value.signer p.value.opening.state q.between.door after.door e s.does))
+                    | inr r ↦ finish_stops e (string_bytes words.image) p.value.opening.rows p.value.opening.first r.value r.between after r.rest
+                  ]
+            ]
       ]
+
   finished : (d : Done) → Syncs words run.old after (Ok d) → Keeps words run (Ok d)
   finished d p =
       let begun = has_begun words.image words.cap words.key words.area run.old p.between p.value p.given in

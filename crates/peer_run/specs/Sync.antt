@@ -7,7 +7,6 @@ use Rattle.spelling.specs.Answers.{or_else}
 use Rattle.spelling.specs.declared.ending.NoMemory.{NoMemory}
 use Rattle.lms_core.specs.Use.{peer_rules}
 use Rattle.lms_core.specs.declared.scheme.PeerScheme.{PeerScheme}
-use Rattle.lms_core.specs.declared.scheme.PeerScheme as scheme
 use Rattle.mc_cap.specs.declared.refusal.RefusedRow.{RefusedRow}
 use Rattle.willow_entry.specs.Row.{live}
 use Rattle.session_end.specs.declared.end.SessionEnd.{SessionEnd}
@@ -25,7 +24,6 @@ use Rattle.peer_make.specs.KeySigners.{HandsSigner}
 use Rattle.peer_make.specs.Making.{DrawsOne}
 use Rattle.peer_stage.specs.Shelves.{PutsBytes}
 use Rattle.peer_stage.specs.Steps.{Step, Then, Inside, OnShelf, OnNoise, OnDoor}
-use Rattle.peer_stage.specs.World.{World}
 use Rattle.peer_stage.specs.declared.outcome.Done.{Done}
 use Rattle.peer_stage.specs.declared.outcome.Done.TheVariants as done
 use Rattle.peer_stage.specs.declared.outcome.SessionCounts.{SessionCounts}

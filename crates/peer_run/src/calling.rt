@@ -52,7 +52,17 @@ pub(crate) fn call<R: Wait + Threads + Sync, D: Door>(
     let namespace = state.namespace();
     let (cell, mut passes) = NsCell::new(alloc, state, 1)?;
     let mut link = connect(door, place)?;
-    let end = talk(rt, alloc, namespace, &cell, &mut passes[0], plan, signer, nonce, &mut link);
+    let end = talk(
+        rt,
+        alloc,
+        namespace,
+        &cell,
+        &mut passes[0],
+        plan,
+        signer,
+        nonce,
+        &mut link,
+    );
     door.give_back(link);
     Ok(Called {
         end,

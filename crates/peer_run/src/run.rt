@@ -119,15 +119,7 @@ pub fn run_local<R: Threads + Sync, H: Shelf, I: Source, O: Sink, E: Sink, N: No
 /// file without an index left. The report gets the lines of that end. What a command does not call stays as it was.
 ///
 /// In `sync` it waits for the one that it calls. Of every other command it answers what `run_local` answers.
-pub fn peer_run<
-    R: Wait + Threads + Sync,
-    H: Shelf,
-    I: Source,
-    O: Sink,
-    E: Sink,
-    D: Door,
-    N: Noise,
->(
+pub fn peer_run<R: Wait + Threads + Sync, H: Shelf, I: Source, O: Sink, E: Sink, D: Door, N: Noise>(
     rt: &R,
     alloc: Global,
     words: &[String],
@@ -160,13 +152,15 @@ pub fn peer_run<
     }) }
 {
     match read_words(alloc, words) {
-        Ok(Command::Sync {
-            image,
-            cap,
-            key,
-            to,
-            area,
-        }) => {
+        Ok(
+            Command::Sync {
+                image,
+                cap,
+                key,
+                to,
+                area,
+            },
+        ) => {
             let words = SyncWords {
                 image,
                 cap,

@@ -128,7 +128,9 @@ fn plan_of(hello: Hello) -> SessionPlan<PeerScheme>
     ensures { result ≡ plan_of hello }
 {
     let Hello {
-        ask, capability, ..
+        ask,
+        capability,
+        ..
     } = hello;
     SessionPlan {
         scheme: PeerScheme,

@@ -23,7 +23,7 @@ struct Expected<'a> {
 /// The status of the run of the words.
 fn run<R: Wait + Threads + Sync>(
     rt: &R,
-    alloc: Global, 
+    alloc: Global,
     words: &[String],
     objects: &mut Objects,
 ) -> u8 {

@@ -11,8 +11,8 @@
 //!    is not there is absent.
 //! 6. Where the door leads to a link: the bytes that it gives, and those that it holds behind the run.
 //!
-//! Input, output and link move at most 100 bytes a call, the report 7. The cases are made by `bench/cases/make.py`, which shares
-//! no code with this program. It promises nothing: what a run does is the contract of `peer_run`.
+//! Input, output and link move at most 100 bytes a call, the report 7. The cases are made by `bench/cases/make.py`, which
+//! shares no code with this program. It promises nothing: what a run does is the contract of `peer_run`.
 #![tactic(auto)]
 
 mod case;

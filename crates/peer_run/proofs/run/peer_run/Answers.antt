@@ -16,13 +16,15 @@ returns-in-Ok-Sync g c =
       noise = g.N.Noise.facts c.args.noise.now;
     } in
     let x = c.in-Ok-Sync in
-    record { promises = keeps _ (inl (record {
-      command = cmd.Sync x.image x.cap x.key x.to x.area;
-      is_words = rw x.field-0-is at x.ensures;
-      end = c.sync-end.result;
-      meets = c.sync-end.ensures others;
-      reports = c.end_run.ensures.reports;
-    })) c.end_run.ensures.faults }
+    record {
+      promises = keeps _ (inl (record {
+        command = cmd.Sync x.image x.cap x.key x.to x.area;
+        is_words = rw x.field-0-is at x.ensures;
+        end = c.sync-end.result;
+        meets = c.sync-end.ensures others;
+        reports = c.end_run.ensures.reports;
+      })) c.end_run.ensures.faults;
+    }
 
 pub returns-in-Ok : goal.returns-in-Ok
 returns-in-Ok g c =
