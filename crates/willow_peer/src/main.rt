@@ -72,9 +72,7 @@ fn run<R: Wait + Threads + Sync, H: Shelf, D: Door, N: Noise>(
     }) }
 {
     let words = behind_name(all);
-    let status = peer_run(
-        rt, alloc, words, shelf, input, output, report, door, noise,
-    );
+    let status = peer_run(rt, alloc, words, shelf, input, output, report, door, noise);
     ExitCode::from(status)
 }
 
