@@ -11,6 +11,8 @@ from outside import Fault, Objects
 from report import (BAD_INPUT, KEY_SPENT, LOG_FULL, MISSING, NOT_RISING, PRUNED, READ_FAULT, REFUSED, TAKEN, USAGE,
                     SESSION_REFUSED, WRITE_FAULT, Stop, first_refused)
 from rows import OWNED, BadBytes, Frames, NotRising, Pruned, Row, generated, image, read_image
+from rows import image as rows_image
+from sessions import VERSION, Caller, Hello
 from grammar import NONE, ANY, Usage, read_words
 
 LOG_LIMIT = 65_536
@@ -23,6 +25,7 @@ class End:
     """A command that came to its end: the lines of its report, and whether something was refused."""
     lines: str = ""
     refused: bool = False
+    status: int = 0  # of a session that was not done
 
 
 def taken(read):
@@ -273,8 +276,59 @@ def meet(objects: Objects, left: str, right: str, left_cap: str, right_cap: str,
     return End(lines + first_refused(refusals), bool(refusals))
 
 
+def talked(link, caller: Caller):
+    """Runs the session over the link: what came, and the line of its end and its status where it was not done."""
+    stand, data = caller.after(b""), b""
+    try:
+        link.write_whole(stand.out)
+    except Fault:
+        return stand, WRITE_FAULT, None
+    while stand.end is None:
+        try:
+            piece = link.read()
+        except Fault:
+            return stand, READ_FAULT, None
+        if not piece:
+            return stand, SESSION_REFUSED, f"ClosedEarly {len(data)}"
+        said, data = len(stand.out), data + piece
+        stand = caller.after(data)
+        try:
+            link.write_whole(stand.out[said:])
+        except Fault:
+            return stand, WRITE_FAULT, None
+    return (stand, None, None) if stand.end == "done" else (stand, SESSION_REFUSED, stand.end)
+
+
+def sync(objects: Objects, image: str, cap: str, key, to: str, **words) -> End:
+    namespace, rows = image_in(named(objects, image), image)
+    authorised, refusals = judged(rows, namespace)
+    store = Store()
+    take(store, authorised)
+    capability = capability_in(named(objects, cap), cap)
+    ask = asked_by(capability, namespace, words)
+    signer = Signer(objects, key)
+    nonce = taken(objects.noise.words)[:16]
+    link = taken(objects.door.connect)
+    before = store.live()
+    stand, kind, text = talked(link, Caller(namespace, Hello(VERSION, nonce, ask, capability), signer.sign, before))
+    came, left_out = judged(stand.came, namespace)
+    opened, kept = store.stored, store.kept
+    take(store, came)
+    counts = (f"opened {opened} closed {store.stored} stored {store.stored - opened} kept {store.kept - kept} "
+              f"refused {len(left_out)} sent {stand.sent} read {stand.read}\n")
+    line = counts if kind is None else kind.line.format(text=text)
+    try:
+        objects.shelf.put(image, rows_image(namespace, store.live()))
+    except Fault:
+        return End(line + WRITE_FAULT.line, status=3 if kind is READ_FAULT else 4)
+    if kind is not None:
+        return End(line, status=kind.status)
+    refusals += [(len(rows) + at, refusal) for at, refusal in left_out]
+    return End(line + first_refused(refusals), bool(refusals))
+
+
 COMMANDS = {"join": join, "show": show, "key": key, "grant": grant, "delegate": delegate, "write": write, "gen": gen,
-            "drill": drill, "meet": meet}
+            "drill": drill, "meet": meet, "sync": sync}
 
 
 def run(words: list, objects: Objects) -> int:
@@ -289,8 +343,8 @@ def run(words: list, objects: Objects) -> int:
     try:
         objects.report.write_whole(end.lines.encode())
     except Fault:
-        return WRITE_FAULT.status
-    return 1 if end.refused else 0
+        return end.status or WRITE_FAULT.status
+    return 1 if end.refused else end.status
 
 
 def stopped(objects: Objects, stop: Stop) -> int:

@@ -20,10 +20,11 @@ OPTIONS = {
     "gen": "rows",
     "drill": "rows",
     "meet": "left right left-cap right-cap left-out right-out [subspace] [under] [from] [until]",
+    "sync": "image cap key to [subspace] [under] [from] [until]",
 }
 
 
-NAMES = ("left", "right", "left-cap", "right-cap", "left-out", "right-out")
+NAMES = ("left", "right", "left-cap", "right-cap", "left-out", "right-out", "image", "cap")
 
 
 class Usage(Exception):
@@ -89,6 +90,13 @@ def signer(word: str):
     return (kind, b"\x00" + digest(rest)) if kind == "open" else (kind, name(rest))
 
 
+def place(word: str) -> str:
+    host, colon, port = word.rpartition(":")
+    demand(len(word.encode()) <= 255 and host and colon and ":" not in host)
+    demand(1 <= number(port) <= 65_535)
+    return word
+
+
 def any_or_key(word: str):
     return ANY if word == ANY else key(word)
 
@@ -98,7 +106,7 @@ def until(word: str):
 
 
 VALUES = {
-    "namespace": key, "user": key, "to": key, "name": name, "height": height, "mode": mode, "key": signer,
+    "namespace": key, "user": key, "name": name, "height": height, "mode": mode, "key": signer,
     "path": path, "time": number, "length": number, "digest": digest, "rows": count, "newest": count,
     "under": path, "from": number, "until": until, **{option: name for option in NAMES},
 }
@@ -107,6 +115,8 @@ VALUES = {
 def value_of(command: str, option: str, word: str):
     if option == "subspace":
         return key(word) if command == "write" else any_or_key(word)
+    if option == "to":
+        return place(word) if command == "sync" else key(word)
     return VALUES[option](word)
 
 

@@ -6,8 +6,9 @@ the program that shares no code with it and knows only the rules that docs/FORMA
     python3 bench/cases/make.py --covers F  tells which cases of a file F are none of these, or have another outcome
 
 The model: `octets` (bytes and readers), `entries` (paths, entries, stores), `lms` (LMS keys), `capabilities`, `rows`
-(tokens, frames, images, the generator), `exchange` (two stores that meet), `grammar` (the words), `outside` (the objects), `commands`, `report`. The cases:
-`situations` (what they are made of) and a module a command; `large` and `samples`.
+(tokens, frames, images, the generator), `exchange` (two stores that meet), `sessions` (a session over bytes), `grammar`
+(the words), `outside` (the objects), `commands`, `report`. The cases: `situations` (what they are made of) and a module
+a command; `large` and `samples`.
 
 Two things are taken from the program, since what a run must do leaves them open: that each read of the input offers
 room for all that a call may give, and that a listing is written in two pieces. Only cases in which a call fails rest on
@@ -28,6 +29,7 @@ import large
 import meet_cases
 import samples
 import show_cases
+import sync_cases
 import words_cases
 import write_cases
 
@@ -42,6 +44,7 @@ COMMANDS = {
     "gen": gen_cases,
     "drill": drill_cases,
     "meet": meet_cases,
+    "sync": sync_cases,
     "words": words_cases,
 }
 

@@ -5,6 +5,10 @@ class NotSpelled(Exception):
     """No value of the format is spelled by these bytes."""
 
 
+class Short(NotSpelled):
+    """The bytes end before a value does."""
+
+
 def number(width: int, value: int) -> bytes:
     """A number in `width` bytes, the greatest place first."""
     return value.to_bytes(width, "big")
@@ -19,7 +23,7 @@ class Reader:
 
     def take(self, count: int) -> bytes:
         if count > self.left():
-            raise NotSpelled
+            raise Short
         piece = self.data[self.taken:self.taken + count]
         self.taken += count
         return piece

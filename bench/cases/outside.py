@@ -1,10 +1,10 @@
-"""The objects that a run is over: input, output, report, shelf and noise, each with the calls of it that fail.
+"""The objects that a run is over: input, output, report, shelf, noise, door and link, each with the calls of it that fail.
 
 A call is counted from 1, all kinds of call of one object together. A call that fails reads or writes nothing, but for
 the put of a shelf, which leaves the new bytes.
 """
 
-INPUT_PIECE, OUTPUT_PIECE, REPORT_PIECE = 100, 100, 7  # the most bytes a call
+INPUT_PIECE, OUTPUT_PIECE, REPORT_PIECE, LINK_PIECE = 100, 100, 7, 100  # the most bytes a call
 
 # How much room each read of the input offers is not part of what a run must do: it is taken from the program. The cases
 # in which a call of the input fails rest on it, and those of `join` in which rows stand behind what stops it.
@@ -87,12 +87,47 @@ class Noise(Counted):
         return self.draws.pop(0)
 
 
+class Link(Counted):
+    """A link that gives known bytes; reads and writes are counted together."""
+
+    def __init__(self, data: bytes, fails=()):
+        super().__init__(fails)
+        self.source = Source(data, (), LINK_PIECE)
+        self.held = bytearray()
+
+    def read(self) -> bytes:
+        if self.call():
+            raise Fault
+        return self.source.read()
+
+    def write_whole(self, data: bytes) -> None:
+        for begin in range(0, len(data), LINK_PIECE):
+            if self.call():
+                raise Fault
+            self.held += data[begin:begin + LINK_PIECE]
+
+
+class Door(Counted):
+    """A door to one link, or to none."""
+
+    def __init__(self, link, fails=()):
+        super().__init__(fails)
+        self.link = link
+
+    def connect(self) -> Link:
+        if self.call() or self.link is None:
+            raise Fault
+        return self.link
+
+
 class Objects:
     """All of them. `fails` has the numbers of the calls that fail, by the object's letter."""
 
-    def __init__(self, names: dict, draws, given: bytes, fails: dict, piece: int = INPUT_PIECE):
+    def __init__(self, names: dict, draws, given: bytes, fails: dict, piece: int = INPUT_PIECE, link=None):
         self.shelf = Shelf(names, fails.get("s", ()))
         self.noise = Noise(draws, fails.get("n", ()))
         self.input = Source(given, fails.get("i", ()), piece)
         self.output = Sink(OUTPUT_PIECE, fails.get("o", ()))
         self.report = Sink(REPORT_PIECE, fails.get("r", ()))
+        self.link = None if link is None else Link(link, fails.get("l", ()))
+        self.door = Door(self.link, fails.get("d", ()))

@@ -1,6 +1,7 @@
 """What cases are made of: keys, capabilities, rows, and the case itself. The modules of cases take all of it."""
 from dataclasses import dataclass, field, replace
 from pathlib import Path
+from typing import Optional
 
 import lms
 from capabilities import (READ, WRITE, Area, Capability, Delegation, entry_message, initial_message,
@@ -155,6 +156,7 @@ class Case:
     names: dict = field(default_factory=dict)
     draws: tuple = ()
     fails: str = ""  # as `i1 r2`: a letter for the object and the number of its call
+    link: Optional[bytes] = None  # what the link gives to which the door leads, if it leads to one
 
     def situation(self) -> str:
         """The fields of the case's line that say what is run."""
@@ -166,7 +168,7 @@ class Case:
         fails = {}
         for call in self.fails.split():
             fails.setdefault(call[0], []).append(int(call[1:]))
-        return Objects(self.names, self.draws, self.given, fails)
+        return Objects(self.names, self.draws, self.given, fails, link=self.link)
 
     def line(self) -> str:
         """The case's line: its name, what is run, and what comes of it."""
@@ -174,7 +176,11 @@ class Case:
         status = run(list(self.words), objects)
         return " ".join((
             self.name, self.situation(), hexadecimal(objects.output.held), hexadecimal(objects.report.held), str(status),
-            listed(f"{name}:{data.hex()}" for name, data in sorted(objects.shelf.names.items()))))
+            listed(f"{name}:{data.hex()}" for name, data in sorted(objects.shelf.names.items())), *self.traffic(objects)))
+
+    def traffic(self, objects: Objects) -> list:
+        """What the link gives, and what it holds behind the run; nothing where the door leads to none."""
+        return [] if self.link is None else [hexadecimal(self.link), hexadecimal(objects.link.held)]
 
 
 def word_of(value) -> str:

@@ -215,7 +215,6 @@ NEWEST = [
 
 # These are commands of the grammar, but none that is built.
 NOT_BUILT = [
-    words("of-sync", "sync", "--image", "a", "--cap", "c", "--key", BY_U, "--to", "localhost:7000"),
     words("of-serve", "serve", "--image", "a", "--cap", "c", "--key", BY_U, "--at", "localhost:7000", "--links", "2"),
     words("of-watch", "watch", "--image", "a"),
 ]

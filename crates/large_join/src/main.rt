@@ -10,6 +10,8 @@ use run::Outcome;
 use sha2::{Digest, Sha256};
 use std::alloc::{AllocError, Global};
 use std::io;
+use std::sync::Wait;
+use std::thread::Threads;
 
 // The namespace of the generator's rows, and an author who has none of them.
 const NAMESPACE: &str = "004f4f4f4f4f4f4f4f4f4f4f4f4f4f4f4f4f4f4f4f4f4f4f4f4f4f4f4f4f4f4f4f";
@@ -35,22 +37,31 @@ fn lines_of(alloc: Global, outcome: &Outcome) -> Result<String, AllocError> {
     format!(in alloc; "status {status} bytes {length} sha256 {digest}\n{report}")
 }
 
-fn generated(alloc: Global, rows: &str) -> Result<Outcome, AllocError> {
-    run::over(alloc, &["gen", "--rows", rows], &[])
+fn generated<R: Wait + Threads + Sync>(
+    rt: &R,
+    alloc: Global,
+    rows: &str,
+) -> Result<Outcome, AllocError> {
+    run::over(rt, alloc, &["gen", "--rows", rows], &[])
 }
 
 /// What a join of the rows and the bytes behind them comes to.
-fn joined(alloc: Global, rows: &[u8], behind: &[&[u8]]) -> Result<String, AllocError> {
+fn joined<R: Wait + Threads + Sync>(
+    rt: &R,
+    alloc: Global,
+    rows: &[u8],
+    behind: &[&[u8]],
+) -> Result<String, AllocError> {
     let mut input = Vec::from_slice(alloc, rows)?;
     for piece in behind {
         input.extend_from_slice(*piece)?;
     }
-    let outcome = run::over(alloc, &["join", "--namespace", NAMESPACE], &input)?;
+    let outcome = run::over(rt, alloc, &["join", "--namespace", NAMESPACE], &input)?;
     lines_of(alloc, &outcome)
 }
 
 /// The frame of a row by an author who has none of the generator's rows.
-fn further_row(alloc: Global) -> Result<Outcome, AllocError> {
+fn further_row<R: Wait + Threads + Sync>(rt: &R, alloc: Global) -> Result<Outcome, AllocError> {
     let grant = [
         "grant",
         "--namespace",
@@ -66,37 +77,40 @@ fn further_row(alloc: Global) -> Result<Outcome, AllocError> {
         "write", "--key", SIGNER, "--path", "/61", "--time", "5", "--length", "1", "--digest",
         DIGEST,
     ];
-    let capability = run::over(alloc, &grant, &[])?;
-    run::over(alloc, &write, capability.output.held())
+    let capability = run::over(rt, alloc, &grant, &[])?;
+    run::over(rt, alloc, &write, capability.output.held())
 }
 
 fn main(rt: HostRuntime) -> io::Result<()> {
     let alloc = rt.alloc();
-    let few = generated(alloc, "20000")?;
+    let few = generated(&rt, alloc, "20000")?;
     print!(rt; "gen of 20000 rows: {}", lines_of(alloc, &few)?)?;
-    print!(rt; "join of these: {}", joined(alloc, few.output.held(), &[])?)?;
+    print!(rt;
+        "join of these: {}",
+        joined(&rt, alloc, few.output.held(), &[])?
+    )?;
 
-    let full = generated(alloc, "65536")?;
+    let full = generated(&rt, alloc, "65536")?;
     let rows = full.output.held();
-    let first = generated(alloc, "1")?;
+    let first = generated(&rt, alloc, "1")?;
     let first = first.output.held();
-    let row = further_row(alloc)?;
+    let row = further_row(&rt, alloc)?;
     let row = row.output.held();
     print!(rt; "gen of 65536 rows: {}", lines_of(alloc, &full)?)?;
-    print!(rt; "join of these: {}", joined(alloc, rows, &[])?)?;
+    print!(rt; "join of these: {}", joined(&rt, alloc, rows, &[])?)?;
     print!(rt;
         "join of these and of the first one again: {}",
-        joined(alloc, rows, &[first])?
+        joined(&rt, alloc, rows, &[first])?
     )?;
     print!(rt;
         "join of these and of a row of another author: {}",
-        joined(alloc, rows, &[row])?
+        joined(&rt, alloc, rows, &[row])?
     )?;
     print!(rt;
         "join of these, of that row and of a wrong frame: {}",
-        joined(alloc, rows, &[row, &WRONG])?
+        joined(&rt, alloc, rows, &[row, &WRONG])?
     )?;
-    let again = generated(alloc, "300")?;
-    let behind = joined(alloc, rows, &[row, again.output.held(), &WRONG])?;
+    let again = generated(&rt, alloc, "300")?;
+    let behind = joined(&rt, alloc, rows, &[row, again.output.held(), &WRONG])?;
     print!(rt; "join of these, of that row, of 300 of them again and of a wrong frame: {behind}")
 }

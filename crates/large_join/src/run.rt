@@ -3,6 +3,8 @@
 use peer_run::peer_run;
 use std::alloc::{AllocError, Global};
 use std::collections::BTreeMap;
+use std::sync::Wait;
+use std::thread::Threads;
 use willow_outside::{MemDoor, MemLink, MemNoise, MemShelf, MemSink, MemSource};
 
 /// What came out of a run.
@@ -39,7 +41,12 @@ fn sink_of(alloc: Global) -> MemSink {
 }
 
 /// Runs the words over the input, with nothing on the shelf, no noise and no links, and without faults.
-pub(crate) fn over(alloc: Global, words: &[&str], input: &[u8]) -> Result<Outcome, AllocError> {
+pub(crate) fn over<R: Wait + Threads + Sync>(
+    rt: &R,
+    alloc: Global,
+    words: &[&str],
+    input: &[u8],
+) -> Result<Outcome, AllocError> {
     let words = owned(alloc, words)?;
     let left = Vec::from_slice(alloc, input)?;
     let mut input = MemSource::new(alloc, left, Vec::new(alloc), PIECE);
@@ -49,6 +56,7 @@ pub(crate) fn over(alloc: Global, words: &[&str], input: &[u8]) -> Result<Outcom
     let mut door = MemDoor::<MemLink>::new(alloc, Vec::new(alloc), Vec::new(alloc));
     let mut noise = MemNoise::new(alloc, Vec::new(alloc), Vec::new(alloc));
     let status = peer_run(
+        rt,
         alloc,
         &words,
         &mut shelf,

@@ -22,12 +22,11 @@ use Rattle.peer_stage.specs.World.{World}
 use Rattle.peer_stage.specs.Deed.{IsLawful}
 use Rattle.peer_stage.specs.Steps.{Inside, OnInput, OnShelf, OnNoise}
 use Rattle.peer_stage.specs.declared.outcome.Done.TheVariants as done
-use Rattle.peer_stage.specs.declared.outcome.Origin.TheVariants as origin
 use Rattle.peer_stage.specs.declared.outcome.Stop.{Stop}
 use Rattle.peer_stage.specs.declared.outcome.Stop.TheVariants as stop
 use Rattle.peer_stage.proofs.Ends.{IsCondition}
 use Rattle.peer_stage.proofs.Inputs.{not_too_far, is_all}
-use Rattle.peer_stage.proofs.Owing.{Owes, IsLasting, then_owes, writes_owe, inside_counts, input_counts, shelf_counts, noise_counts, inside_unfailed, input_unfailed, shelf_unfailed, noise_unfailed, rose_behind, lawful}
+use Rattle.peer_stage.proofs.Owing.{Owes, IsLasting, then_owes, writes_owe, inside_counts, input_counts, shelf_counts, noise_counts, inside_unfailed, input_unfailed, shelf_unfailed, noise_unfailed, rose_behind, then_local, writes_local, lawful}
 use Rattle.peer_words.specs.declared.command.SignerWord.{SignerWord}
 use Rattle.peer_words.specs.declared.command.SignerWord.TheVariants.{OpenKey, LmsFile}
 use Rattle.peer_words.specs.declared.command.AreaWords.{AreaWords}
@@ -116,6 +115,7 @@ putting_owes name k =
 pub key_is_lawful : (name : String Global) (height : Height) → IsLawful (key_deed name height)
 key_is_lawful name height =
     lawful (key_deed name height) (λ old. IsFree old.shelf (string_bytes name)) (λ d new. Unit {0}) (λ unbuilt. unbuilt) (λ old new ready. ready)
+    (then_local _ _ (λ free. then_local _ _ (λ k. then_local _ _ (λ put. writes_local (key_line (own_user_key k)) done.Made tt))))
     (then_owes MakerReads MakerWrote _ (λ free new. Unit {0}) _ _ _ maker_reads_last maker_writes_last (finding_owes name)
     (λ free. then_owes MakerReads MakerWrote _ (λ k new. Unit {0}) _ _ _ maker_reads_last maker_writes_last (drawing_owes height)
     (λ k. then_owes MakerReads MakerWrote _ (λ put new. Unit {0}) _ _ _ maker_reads_last maker_writes_last (putting_owes (string_bytes free) k)
@@ -220,6 +220,7 @@ beginning_owes key message =
 pub grant_is_lawful : (n : List ℕ) (mode : Mode) (user : List ℕ) (key : Option SignerWord) → IsLawful (grant_deed n mode user key)
 grant_is_lawful n mode user key =
     lawful (grant_deed n mode user key) (λ old. CanBegin key old.shelf) (λ d new. Unit {0}) (λ unbuilt. unbuilt) (λ old new ready. ready)
+    (then_local _ _ (λ initial. then_local _ _ (λ valid. writes_local _ done.Made tt)))
     (then_owes (BeginningReads key) (BeginningWrote key) _ (λ initial new. Unit {0}) _ _ _ (beginning_reads_last key) (beginning_writes_last key) (beginning_owes key (initial_message mode user))
     (λ initial. telling_owes (BeginningReads key) (BeginningWrote key) (beginning_reads_last key) (beginning_writes_last key) (λ old new rose. inr rose) (first_capability mode n user initial)))
 
@@ -314,6 +315,7 @@ asking_owes key words c =
 pub delegate_is_lawful : (key : SignerWord) (to : List ℕ) (words : AreaWords) → IsLawful (delegate_deed key to words)
 delegate_is_lawful key to words =
     lawful (delegate_deed key to words) (λ old. CanDelegate key words old.shelf old.input) (λ d new. Unit {0}) (λ unbuilt. unbuilt) (λ old new ready. ready)
+    (then_local _ _ (λ c. then_local _ _ (λ area. then_local _ _ (λ signature. then_local _ _ (λ valid. writes_local _ done.Made tt)))))
     (then_owes (SignedReads key) (SignedWrote key) _ (CanHandOn key words) _ _ _ (signed_reads_last key) (signed_writes_last key) (delegate_reading_owes key words)
     (λ c. then_owes (SignedReads key) (SignedWrote key) _ (λ area new. CanSign key new.shelf) _ _ _ (signed_reads_last key) (signed_writes_last key) (asking_owes key words c)
     (λ area. then_owes (SignedReads key) (SignedWrote key) _ (λ signature new. Unit {0}) _ _ _ (signed_reads_last key) (signed_writes_last key) (signing_owes key (handover c area to))
@@ -336,6 +338,7 @@ write_reading_owes key =
 pub write_is_lawful : (key : SignerWord) (words : EntryWords) → IsLawful (write_deed key words)
 write_is_lawful key words =
     lawful (write_deed key words) (λ old. CanWrite key old.shelf old.input) (λ d new. Unit {0}) (λ unbuilt. unbuilt) (λ old new ready. ready)
+    (then_local _ _ (λ c. then_local _ _ (λ signature. then_local _ _ (λ fine. writes_local _ done.Made tt))))
     (then_owes (SignedReads key) (SignedWrote key) _ (λ c new. CanSign key new.shelf) _ _ _ (signed_reads_last key) (signed_writes_last key) (write_reading_owes key)
     (λ c. then_owes (SignedReads key) (SignedWrote key) _ (λ signature new. Unit {0}) _ _ _ (signed_reads_last key) (signed_writes_last key) (signing_owes key (entry_message (entry_under words c)))
     (λ signature. telling_row_owes (SignedReads key) (SignedWrote key) (signed_reads_last key) (signed_writes_last key) (λ old new rose. inr rose) (row_under words c signature))))

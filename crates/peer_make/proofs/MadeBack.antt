@@ -1,5 +1,5 @@
 -- What a command wrote is read back by another.
-use Rattle.std.proofs.Common.{[], ◌∷◌, ◌++◌, refl, sym, ◌∙◌}
+use Rattle.std.proofs.Common.{[], ◌∷◌, refl, sym, ◌∙◌}
 use Rattle.std.proofs.lemmas.List.{append-nil}
 use Rattle.cap_codec.specs.Rows.{frame}
 use Rattle.cap_codec.proofs.Frames.{same_rows}

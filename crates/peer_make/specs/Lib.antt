@@ -1,4 +1,6 @@
 pub mod Signing
+pub mod KeySigners
+pub mod KeySignerLaws
 pub mod Making
 pub mod Granting
 pub mod Reading

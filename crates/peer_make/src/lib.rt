@@ -4,6 +4,7 @@
 
 mod delegating;
 mod granting;
+mod key_signer;
 mod laws;
 mod making;
 mod reading;
@@ -12,11 +13,12 @@ mod writing;
 
 pub use delegating::delegate;
 pub use granting::grant;
+pub use key_signer::{KeySigner, reserve_signer};
 pub use laws::{
     a_key_file_has_one_key, capabilities_are_read_back, empty_areas_count_as_growing,
     rows_are_read_back,
 };
-pub use making::make_key;
+pub use making::{draw, make_key};
 pub use reading::capability_from;
 pub use writing::write;
 

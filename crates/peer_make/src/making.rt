@@ -65,8 +65,8 @@ fn draw_key<N: Noise>(height: Height, noise: &mut N) -> Result<LmsKey, Stop>
     Ok(LmsKey::make(height, identifier, seed))
 }
 
-// The next draw.
-fn draw<N: Noise>(noise: &mut N) -> Result<[u8; 32], Stop>
+/// The next draw.
+pub fn draw<N: Noise>(noise: &mut N) -> Result<[u8; 32], Stop>
     ensures draws { DrawsOne (N.facts noise.old) (N.facts noise.new) result }
     ensures faults { CountsStep (N.facts noise.old).faults (N.facts noise.new).faults result }
 {

@@ -61,8 +61,12 @@ fn sign_next<H: Shelf>(
     sign_once(alloc, signer, message)
 }
 
-// The signer of the next index of a key file, which is used up.
-fn take_next<H: Shelf>(alloc: Global, shelf: &mut H, name: String) -> Result<OneUse, Stop>
+/// The signer of the next index of a key file, which is used up.
+pub(crate) fn take_next<H: Shelf>(
+    alloc: Global,
+    shelf: &mut H,
+    name: String,
+) -> Result<OneUse, Stop>
     ensures hands { HandsNext name (H.facts shelf.old) (H.facts shelf.new) result }
     ensures read_faults { CountsStep (H.facts shelf.old).read_faults (H.facts shelf.new).read_faults result }
     ensures write_faults { CountsStep (H.facts shelf.old).write_faults (H.facts shelf.new).write_faults result }

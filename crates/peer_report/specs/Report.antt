@@ -1,10 +1,11 @@
 -- The status and the report's lines for each end of a run.
-use Rattle.std.specs.Prelude.{◌≡◌, ℕ, nat_le, if◌then◌else◌, ◌⊎◌, List, [], ◌∷◌, ◌++◌, codes, Option, Some, None, Result, Ok, Err}
+use Rattle.std.specs.Prelude.{◌≡◌, ℕ, nat_le, Bool, true, false, if◌then◌else◌, ◌⊎◌, List, [], ◌∷◌, ◌++◌, codes, Option, Some, None, Result, Ok, Err}
 use Rattle.std.specs.Fmt.{decimal}
 use Rattle.std.specs.String.{string_bytes}
 use Rattle.willow_outside.specs.Counts.{Rose}
 use Rattle.willow_outside.specs.Facts.{SinkFacts}
 use Rattle.mc_cap.specs.declared.refusal.RowRefusal.{RowRefusal}
+use Rattle.session_end.specs.declared.end.SessionEnd.{SessionEnd}
 use Rattle.session_end.specs.declared.end.SessionEnd.TheVariants as ending
 use Rattle.peer_text.specs.Refusals.{row_refusal_text}
 use Rattle.peer_text.specs.Sessions.{session_end_text}
@@ -14,6 +15,8 @@ use Rattle.peer_stage.specs.declared.outcome.JoinCounts.{JoinCounts}
 use Rattle.peer_stage.specs.declared.outcome.ShowCounts.{ShowCounts}
 use Rattle.peer_stage.specs.declared.outcome.SideCounts.{SideCounts}
 use Rattle.peer_stage.specs.declared.outcome.MeetCounts.{MeetCounts}
+use Rattle.peer_stage.specs.declared.outcome.SessionCounts.{SessionCounts}
+use Rattle.peer_stage.specs.declared.outcome.Synced.{Synced}
 use Rattle.mc_cap.specs.declared.refusal.RefusedRow.{RefusedRow}
 use Rattle.peer_stage.specs.declared.outcome.Origin.{Origin}
 use Rattle.peer_stage.specs.declared.outcome.Origin.TheVariants as origin
@@ -57,6 +60,35 @@ abbrev pub first_line : Option RefusedRow → List ℕ
 first_line None = []
 first_line (Some first) = codes "first refused row " ++ (decimal first.row ++ (codes ": " ++ refused_line first.refusal))
 
+-- `opened F closed G stored S kept K refused R sent X read Y` of a session that was done
+abbrev pub log_text : SessionCounts → List ℕ
+log_text counts = codes "opened " ++ (decimal counts.opened ++ (codes " closed " ++ (decimal counts.closed ++ (codes " stored " ++ (decimal counts.stored ++ (codes " kept " ++ decimal counts.kept))))))
+
+abbrev pub items_line : SessionCounts → List ℕ
+items_line counts = line (codes " refused " ++ (decimal counts.refused ++ (codes " sent " ++ (decimal counts.sent ++ (codes " read " ++ decimal counts.read)))))
+
+abbrev pub counts_line : SessionCounts → List ℕ
+counts_line counts = log_text counts ++ items_line counts
+
+-- that line, or how else the session ended
+abbrev pub session_line : Result SessionCounts SessionEnd → List ℕ
+session_line (Ok counts) = counts_line counts
+session_line (Err end) = line (session_end_text end)
+
+-- the row that is told as the first refused one: where the session was done and the image put, so at status 1 alone
+abbrev pub told_first : Result SessionCounts SessionEnd → Bool → Option RefusedRow → Option RefusedRow
+told_first (Ok counts) true first = first
+told_first session put first = None
+
+-- `write fault` where the image was not put
+abbrev pub put_line : Bool → List ℕ
+put_line true = []
+put_line false = line (codes "write fault")
+
+-- the lines of a call: how its session ended, the first refused row, and whether the image was put
+abbrev pub synced_lines : Synced → List ℕ
+synced_lines s = session_line s.session ++ (first_line (told_first s.session s.put s.first) ++ put_line s.put)
+
 -- the name of what bytes came from, `-` for the input
 abbrev pub name_text : Origin → List ℕ
 name_text origin.Input = codes "-"
@@ -79,6 +111,7 @@ abbrev pub done_lines : Done → List ℕ
 done_lines (done.Joined counts) = rows_line counts ++ first_line counts.first
 done_lines (done.Shown counts) = shown_line counts ++ first_line counts.first
 done_lines (done.Met counts) = met_lines counts ++ first_line counts.first
+done_lines (done.Synced s) = synced_lines s
 done_lines done.Made = []
 
 -- the line of a stop

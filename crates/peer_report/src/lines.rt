@@ -1,14 +1,16 @@
 //! The report's lines for each end of a run.
 
-ghost use Rattle.std.specs.Prelude.{◌≡◌, ◌<◌, ◌++◌, length, IfOk, OnOk, OnErr};
+ghost use Rattle.std.specs.Prelude.{◌≡◌, ◌<◌, ◌++◌, length, Err, IfOk, OnOk, OnErr};
 ghost use Rattle.peer_stage.specs.declared.outcome.Done.TheVariants as done;
 ghost use Rattle.peer_stage.specs.declared.outcome.Stop.TheVariants as stop;
-ghost use Rattle.peer_report.specs.Report.{report_of, stop_line, rows_line, shown_line, side_line, exchange_line, met_lines, first_line, name_text, refused_line, bad_input_line, not_rising_line, pruned_line};
+ghost use Rattle.peer_report.specs.Report.{report_of, stop_line, rows_line, shown_line, side_line, exchange_line, met_lines, first_line, session_line, counts_line, log_text, items_line, told_first, put_line, synced_lines, name_text, refused_line, bad_input_line, not_rising_line, pruned_line};
 
 use mc_cap::{RefusedRow, RowRefusal};
-use peer_stage::{Done, JoinCounts, MeetCounts, Origin, ShowCounts, SideCounts, Stop};
+use peer_stage::{
+    Done, JoinCounts, MeetCounts, Origin, SessionCounts, ShowCounts, SideCounts, Stop, Synced,
+};
 use peer_text::{row_refusal_text, session_end_text};
-use session_end::{HelloRefusal, SessionEnd};
+use session_end::SessionEnd;
 use spelling::{NoMemory, put_byte, put_bytes};
 use std::alloc::Global;
 
@@ -21,6 +23,7 @@ pub(crate) fn report_of(alloc: Global, end: &Result<Done, Stop>) -> Result<Vec<u
         Ok(Done::Joined(counts)) => joined_lines(alloc, counts),
         Ok(Done::Shown(counts)) => shown_lines(alloc, counts),
         Ok(Done::Met(counts)) => met_lines(alloc, counts),
+        Ok(Done::Synced(synced)) => synced_lines(alloc, synced),
         Ok(Done::Made) => Ok(Vec::new(alloc)),
         Err(stop) => stop_line(alloc, stop),
     }
@@ -86,6 +89,81 @@ fn exchange_line(alloc: Global, items: u32, turns: u64) -> Result<Vec<u8>, NoMem
     Ok(format!(in alloc; "items {items} turns {turns}\n")?.into_bytes())
 }
 
+// How the session of a call ended, the first refused row where nothing else is told, and that the image was not put.
+fn synced_lines(alloc: Global, synced: &Synced) -> Result<Vec<u8>, NoMemory>
+    ensures text { IfOk result (λ text. text.items ≡ synced_lines synced.now) }
+    ensures some { 0 < length (synced_lines synced.now) }
+{
+    let mut text = ended_line(alloc, &synced.session)?;
+    put_first_line(alloc, told_first(synced), &mut text)?;
+    if !synced.put {
+        put_bytes(&mut text, b"write fault\n")?;
+    }
+    Ok(text)
+}
+
+// The numbers of a session, or how else it ended.
+fn ended_line(
+    alloc: Global,
+    session: &Result<SessionCounts, SessionEnd>,
+) -> Result<Vec<u8>, NoMemory>
+    ensures { IfOk result (λ text. text.items ≡ session_line session.now) }
+{
+    match session {
+        Ok(counts) => counts_line(alloc, counts),
+        Err(end) => end_line(alloc, end),
+    }
+}
+
+// The numbers of a session.
+fn counts_line(alloc: Global, counts: &SessionCounts) -> Result<Vec<u8>, NoMemory>
+    ensures { IfOk result (λ text. text.items ≡ counts_line counts.now) }
+{
+    let mut text = log_text(alloc, counts)?;
+    let rest = items_line(alloc, counts)?;
+    put_bytes(&mut text, &rest)?;
+    Ok(text)
+}
+
+// What of its rows came to the log.
+fn log_text(alloc: Global, counts: &SessionCounts) -> Result<Vec<u8>, NoMemory>
+    ensures { IfOk result (λ text. text.items ≡ log_text counts.now) }
+{
+    let SessionCounts {
+        opened,
+        closed,
+        stored,
+        kept,
+        ..
+    } = *counts;
+    let text = format!(in alloc; "opened {opened} closed {closed} stored {stored} kept {kept}")?;
+    Ok(text.into_bytes())
+}
+
+// What was refused, and how much was said.
+fn items_line(alloc: Global, counts: &SessionCounts) -> Result<Vec<u8>, NoMemory>
+    ensures { IfOk result (λ text. text.items ≡ items_line counts.now) }
+{
+    let SessionCounts {
+        refused,
+        sent,
+        read,
+        ..
+    } = *counts;
+    let line = format!(in alloc; " refused {refused} sent {sent} read {read}\n")?;
+    Ok(line.into_bytes())
+}
+
+// The row that is told as the first refused one: none, unless the session was done and the image put.
+fn told_first(synced: &Synced) -> Option<RefusedRow>
+    ensures { result ≡ told_first synced.now.session synced.now.put synced.now.first }
+{
+    match synced.session {
+        Ok(_) if synced.put => synced.first,
+        _ => None,
+    }
+}
+
 // Appends the line of the first refused row, where there is one.
 fn put_first_line(
     alloc: Global,
@@ -130,19 +208,19 @@ fn stop_line(alloc: Global, stop: &Stop) -> Result<Vec<u8>, NoMemory>
             put_refusal(*refusal, &mut line)?;
             Ok(line)
         }
-        Stop::SessionRefused(refusal) => session_line(alloc, *refusal),
+        Stop::SessionRefused(refusal) => end_line(alloc, &SessionEnd::Hello(*refusal)),
         Stop::NoMemory => plain_line(alloc, "no memory\n"),
         Stop::LogFull => plain_line(alloc, "log full\n"),
         Stop::KeySpent => plain_line(alloc, "key spent\n"),
     }
 }
 
-// Why a session is refused.
-fn session_line(alloc: Global, refusal: HelloRefusal) -> Result<Vec<u8>, NoMemory>
-    ensures { IfOk result (λ text. text.items ≡ stop_line (stop.SessionRefused refusal)) }
+// How a session ended that was not done.
+fn end_line(alloc: Global, end: &SessionEnd) -> Result<Vec<u8>, NoMemory>
+    ensures { IfOk result (λ text. text.items ≡ session_line (Err end.now)) }
 {
     let mut line = Vec::new(alloc);
-    session_end_text(&SessionEnd::Hello(refusal), &mut line)?;
+    session_end_text(end, &mut line)?;
     put_byte(&mut line, b'\n')?;
     Ok(line)
 }

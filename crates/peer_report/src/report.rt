@@ -1,12 +1,14 @@
 //! The status of a run, and its report.
 
-ghost use Rattle.std.specs.Prelude.{◌≡◌, ◌≤◌, Ok};
-ghost use Rattle.peer_stage.specs.Status.{status_of, stop_status, refused_status, first_status};
+ghost use Rattle.std.specs.Prelude.{◌≡◌, ◌≤◌, false, None, Ok, Err};
+ghost use Rattle.peer_stage.specs.Status.{status_of, stop_status, refused_status, first_status, end_status};
+ghost use Rattle.peer_stage.specs.declared.outcome.Done.TheVariants as done;
 ghost use Rattle.peer_report.specs.Report.{after_report_fault, Reports};
 
 use crate::lines::report_of;
 use mc_cap::RefusedRow;
-use peer_stage::{Done, Stop, write_output};
+use peer_stage::{Done, Stop, Synced, write_output};
+use session_end::SessionEnd;
 use std::alloc::Global;
 use willow_outside::Sink;
 
@@ -28,7 +30,55 @@ fn done_status(done: &Done) -> u8
         Done::Joined(counts) => refused_status(counts.refused),
         Done::Shown(counts) => refused_status(counts.refused),
         Done::Met(counts) => first_status(counts.first),
+        Done::Synced(synced) => synced_status(synced),
         Done::Made => 0,
+    }
+}
+
+/// The status of a call: the first of 7, 3, 4, 6, 8 and 1 that its session, the put of the image or a refused row gave.
+fn synced_status(synced: &Synced) -> u8
+    ensures { result ≡ status_of (Ok (done.Synced synced.now)) }
+{
+    match &synced.session {
+        Ok(_) if synced.put => first_status(synced.first),
+        Ok(_) => 4,
+        Err(end) if synced.put => end_status(end),
+        Err(end) => unput_status(end),
+    }
+}
+
+/// The status of a session that was not done, behind which the image was not put.
+#[tactic(auto, unfolding(peer_stage::specs::Status::first_met))]
+fn unput_status(end: &SessionEnd) -> u8
+    ensures { result ≡ status_of (Ok (done.Synced (record { session = Err end.now; first = None; put = false }))) }
+{
+    match end {
+        SessionEnd::LinkRead => 3,
+        SessionEnd::LinkWrite => 4,
+        SessionEnd::ClosedEarly { .. } => 4,
+        SessionEnd::BadMessage { .. } => 4,
+        SessionEnd::Hello(_) => 4,
+        SessionEnd::Core(_) => 4,
+        SessionEnd::SignFault => 4,
+        SessionEnd::LogFull { .. } => 4,
+        SessionEnd::NoMemory => 7,
+    }
+}
+
+/// The status of a session that was not done.
+fn end_status(end: &SessionEnd) -> u8
+    ensures { result ≡ end_status end.now }
+{
+    match end {
+        SessionEnd::LinkRead => 3,
+        SessionEnd::LinkWrite => 4,
+        SessionEnd::ClosedEarly { .. } => 6,
+        SessionEnd::BadMessage { .. } => 6,
+        SessionEnd::Hello(_) => 6,
+        SessionEnd::Core(_) => 6,
+        SessionEnd::SignFault => 6,
+        SessionEnd::LogFull { .. } => 8,
+        SessionEnd::NoMemory => 7,
     }
 }
 

@@ -23,7 +23,7 @@ use Rattle.peer_stage.specs.declared.outcome.Stop.{Stop}
 use Rattle.peer_stage.specs.declared.outcome.Stop.TheVariants as stop
 use Rattle.peer_stage.proofs.Ends.{IsCondition}
 use Rattle.peer_stage.proofs.Inputs.{not_too_far, is_all}
-use Rattle.peer_stage.proofs.Owing.{Owes, then_owes, writes_owe, input_counts, input_unfailed, input_lasts, output_lasts, lawful}
+use Rattle.peer_stage.proofs.Owing.{Owes, then_owes, writes_owe, input_counts, input_unfailed, input_lasts, output_lasts, then_local, writes_local, lawful}
 use Rattle.peer_rows.specs.Logged.{PassesLog}
 use Rattle.peer_rows.specs.Join.{BeginNoFrames, JoinsInput, IsBadStream, IsWrongStream, IsFullStream}
 use Rattle.peer_rows.specs.Show.{ShowsInput, IsBadImage, IsReadMisordered, IsReadFull}
@@ -95,6 +95,7 @@ joining_owes n =
 pub join_is_lawful : (n : List ℕ) → IsLawful (join_deed n)
 join_is_lawful n =
     lawful (join_deed n) (λ old. CanJoin n old.input) (λ d new. Unit {0}) (λ unbuilt. unbuilt) (λ old new ready. ready)
+    (then_local _ _ (λ x. writes_local x.0 (done.Joined x.1) tt))
     (then_owes Reads Wrote (λ old. CanJoin n old.input) (λ x new. Unit {0}) (λ d new. Unit {0}) _ _ input_lasts output_lasts (joining_owes n)
     (λ x. writes_owe Reads Wrote (λ old. Unit {0}) x.0 (done.Joined x.1) (λ old new rose. rose)))
 
@@ -143,6 +144,7 @@ showing_owes asked =
 pub show_is_lawful : (asked : Option ℕ) → IsLawful (show_deed asked)
 show_is_lawful asked =
     lawful (show_deed asked) (λ old. CanShow old.input) (λ d new. Unit {0}) (λ unbuilt. unbuilt) (λ old new ready. ready)
+    (then_local _ _ (λ x. writes_local (x.0.items ++ x.1.items) (done.Shown x.2) tt))
     (then_owes Reads Wrote (λ old. CanShow old.input) (λ x new. Unit {0}) (λ d new. Unit {0}) _ _ input_lasts output_lasts (showing_owes asked)
     (λ x. writes_owe Reads Wrote (λ old. Unit {0}) (x.0.items ++ x.1.items) (done.Shown x.2) (λ old new rose. rose)))
 
@@ -151,4 +153,5 @@ show_is_lawful asked =
 pub gen_is_lawful : (rows : ℕ) → IsLawful (gen_deed rows)
 gen_is_lawful rows =
     lawful (gen_deed rows) (λ old. Unit {0}) (λ d new. Unit {0}) (λ unbuilt. unbuilt) (λ old new ready. ready)
+    (writes_local _ done.Made tt)
     (writes_owe (λ old new. ⊥) Wrote (λ old. Unit {0}) _ done.Made (λ old new rose. rose))

@@ -11,7 +11,8 @@ use Rattle.peer_stage.specs.declared.outcome.Stop.TheVariants as stop
 use Rattle.peer_report.specs.Report.{Reports, after_report_fault, report_of}
 use Rattle.peer_run.specs.Deeds.{deed_of}
 use Rattle.peer_run.specs.Run.{Run, RunsWords, before_report}
-use Rattle.peer_run.specs.Promises.{HasEnded, HasStopped, HasTold, HasReadFault, HasWriteFault, IsNoRun, IsSomeRun, IsBadEnd, IsRefusedEnd, IsFullEnd, IsSpentEnd}
+use Rattle.peer_run.specs.Promises.{HasEnded, HasStopped, HasReadFault, HasWriteFault, IsNoRun, IsSomeRun, IsBadEnd, IsRefusedEnd, IsFullEnd, IsSpentEnd}
+use Rattle.peer_run.specs.Ending.{HasTold}
 use Rattle.peer_run.proofs.Ends.{own_status, after_is, memory_end, is_end, bad_end, refused_end, full_end, spent_end}
 use Rattle.peer_run.proofs.Laws.{laws_of}
 
@@ -46,7 +47,7 @@ ended run (inl runs) small = go runs.reports where
 -- ---- the stops
 
 -- what the report tells of an end, where no memory was wanted
-has_told : (r r' : SinkFacts) (end : Result Done Stop) (s : ℕ) → Reports r r' end s → s ≢ 7 → HasTold r r' (report_of end)
+pub has_told : (r r' : SinkFacts) (end : Result Done Stop) (s : ℕ) → Reports r r' end s → s ≢ 7 → HasTold r r' (report_of end)
 has_told r r' end s (inl told) memory = inl told.written
 has_told r r' end s (inr (inl fault)) memory = inr (fault.written, fault.fault)
 has_told r r' end s (inr (inr none)) memory = absurd (memory none.status_is)

@@ -1,15 +1,21 @@
 -- From the status of a run back to how its command ended.
-use Rattle.std.proofs.Common.{◌≡◌, ◌≢◌, ℕ, ◌≤◌, ◌<◌, Bool, true, false, cond, ◌⊎◌, inl, inr, refl, ap, ◌∙◌, arith}
-use Rattle.std.specs.Prelude.{Result, Ok, Err, nat_le}
+use Rattle.std.proofs.Common.{◌≡◌, ◌≢◌, ℕ, ◌≤◌, ◌<◌, Bool, true, false, cond, ◌⊎◌, inl, inr, refl, sym, ap, ◌∙◌, arith}
+use Rattle.std.specs.Prelude.{Option, None, Some, Result, Ok, Err, nat_le}
 use Rattle.std.proofs.lemmas.Bool.Decides.{nat_tests}
 use Rattle.willow_outside.specs.Facts.{SinkFacts}
+use Rattle.mc_cap.specs.declared.refusal.RefusedRow.{RefusedRow}
+use Rattle.session_end.specs.declared.end.SessionEnd.{SessionEnd}
+use Rattle.session_end.specs.declared.end.SessionEnd.TheVariants as ending
+use Rattle.peer_stage.specs.declared.outcome.SessionCounts.{SessionCounts}
+use Rattle.peer_stage.specs.declared.outcome.Synced.{Synced}
 use Rattle.peer_stage.specs.declared.outcome.Done.{Done}
+use Rattle.peer_stage.specs.declared.outcome.Done.TheVariants as done
 use Rattle.peer_stage.specs.declared.outcome.Stop.{Stop}
 use Rattle.peer_stage.specs.declared.outcome.Stop.TheVariants as stop
 use Rattle.peer_stage.specs.Status.{status_of}
-use Rattle.peer_stage.proofs.Ends.{done_small}
+use Rattle.peer_stage.proofs.Ends.{IsLocal, done_small, synced_status, synced_is, synced_known}
 use Rattle.peer_report.specs.Report.{Reports, after_report_fault}
-use Rattle.peer_run.specs.Promises.{IsEnd, IsBadEnd, IsRefusedEnd, IsFullEnd, IsSpentEnd}
+use Rattle.peer_run.specs.Promises.{IsEnd, IsBadEnd, IsRefusedSession, IsRefusedEnd, IsFullSession, IsFullEnd, IsSpentEnd}
 
 -- ---- what a status tells of the end
 
@@ -41,9 +47,45 @@ is_end (Ok d) small = tt
 is_end (Err (stop.Refused refusal)) small = tt
 is_end (Err e) small = absurd (omega (arith, small))
 
+-- ---- what is done, with a session or without
+
+by_done : (P : Done → Type 0) → ((d : Done) → IsLocal d → P d) → ((s : Synced) → P (done.Synced s)) → (d : Done) → P d
+by_done P local call (done.Joined counts) = local (done.Joined counts) tt
+by_done P local call (done.Shown counts) = local (done.Shown counts) tt
+by_done P local call (done.Met counts) = local (done.Met counts) tt
+by_done P local call (done.Synced s) = call s
+by_done P local call done.Made = local done.Made tt
+
+refused_session : (session : Result SessionCounts SessionEnd) (put : Bool) (first : Option RefusedRow) → synced_status session put first ≡ 6 → IsRefusedSession session
+refused_session (Err (ending.ClosedEarly at)) put first is = tt
+refused_session (Err (ending.BadMessage at)) put first is = tt
+refused_session (Err (ending.Hello refusal)) put first is = tt
+refused_session (Err (ending.Core refusal)) put first is = tt
+refused_session (Err ending.SignFault) put first is = tt
+refused_session (Err ending.NoMemory) put first is = absurd (omega (arith, is))
+refused_session (Err ending.LinkRead) put first is = absurd (omega (arith, is))
+refused_session (Err ending.LinkWrite) true first is = absurd (omega (arith, is))
+refused_session (Err ending.LinkWrite) false first is = absurd (omega (arith, is))
+refused_session (Err (ending.LogFull missed)) true first is = absurd (omega (arith, is))
+refused_session (Err (ending.LogFull missed)) false first is = absurd (omega (arith, is))
+refused_session (Ok counts) true None is = absurd (omega (arith, is))
+refused_session (Ok counts) true (Some first) is = absurd (omega (arith, is))
+refused_session (Ok counts) false first is = absurd (omega (arith, is))
+
+full_session : (session : Result SessionCounts SessionEnd) (put : Bool) (first : Option RefusedRow) → synced_status session put first ≡ 8 → IsFullSession session
+full_session (Err (ending.LogFull missed)) put first is = tt
+full_session (Err ending.NoMemory) put first is = absurd (omega (arith, is))
+full_session (Err ending.LinkRead) put first is = absurd (omega (arith, is))
+full_session (Err ending.LinkWrite) true first is = absurd (omega (arith, is))
+full_session (Err end) true first is = absurd (omega (arith, is))
+full_session (Err end) false first is = absurd (omega (arith, is))
+full_session (Ok counts) true None is = absurd (omega (arith, is))
+full_session (Ok counts) true (Some first) is = absurd (omega (arith, is))
+full_session (Ok counts) false first is = absurd (omega (arith, is))
+
 -- the ends of each status
 pub bad_end : (end : Result Done Stop) → status_of end ≡ 5 → IsBadEnd end
-bad_end (Ok d) is = absurd (omega (arith, done_small d, is))
+bad_end (Ok d) is = by_done (λ x. status_of (Ok x) ≡ 5 → IsBadEnd (Ok x)) (λ x local e. absurd (omega (arith, done_small x local, e))) (λ s e. absurd ((synced_known s).no_input e)) d is
 bad_end (Err (stop.BadInput from at)) is = tt
 bad_end (Err (stop.NotRising from row)) is = tt
 bad_end (Err (stop.Pruned from row by)) is = tt
@@ -52,16 +94,18 @@ bad_end (Err (stop.Taken name)) is = tt
 bad_end (Err e) is = absurd (omega (arith, is))
 
 pub refused_end : (end : Result Done Stop) → status_of end ≡ 6 → IsRefusedEnd end
-refused_end (Ok d) is = absurd (omega (arith, done_small d, is))
+refused_end (Ok d) is =
+    by_done (λ x. status_of (Ok x) ≡ 6 → IsRefusedEnd (Ok x)) (λ x local e. absurd (omega (arith, done_small x local, e))) (λ s e. refused_session s.session s.put s.first (sym (synced_is s.session s.put s.first) ∙ e)) d is
 refused_end (Err (stop.SessionRefused refusal)) is = tt
 refused_end (Err e) is = absurd (omega (arith, is))
 
 pub full_end : (end : Result Done Stop) → status_of end ≡ 8 → IsFullEnd end
-full_end (Ok d) is = absurd (omega (arith, done_small d, is))
+full_end (Ok d) is =
+    by_done (λ x. status_of (Ok x) ≡ 8 → IsFullEnd (Ok x)) (λ x local e. absurd (omega (arith, done_small x local, e))) (λ s e. full_session s.session s.put s.first (sym (synced_is s.session s.put s.first) ∙ e)) d is
 full_end (Err stop.LogFull) is = tt
 full_end (Err e) is = absurd (omega (arith, is))
 
 pub spent_end : (end : Result Done Stop) → status_of end ≡ 9 → IsSpentEnd end
-spent_end (Ok d) is = absurd (omega (arith, done_small d, is))
+spent_end (Ok d) is = by_done (λ x. status_of (Ok x) ≡ 9 → IsSpentEnd (Ok x)) (λ x local e. absurd (omega (arith, done_small x local, e))) (λ s e. absurd (omega (arith, (synced_known s).small, e))) d is
 spent_end (Err stop.KeySpent) is = tt
 spent_end (Err e) is = absurd (omega (arith, is))

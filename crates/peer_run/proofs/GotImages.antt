@@ -22,7 +22,7 @@ untold =
       noise = record { draws = None; faults = 0 };
     }
 
-image_got : (name : String Global) (old new : World) (image : Image) → GetsImage name old new (Ok image) → IsImageOfRows image.rows.items
+pub image_got : (name : String Global) (old new : World) (image : Image) → GetsImage name old new (Ok image) → IsImageOfRows image.rows.items
 image_got name old new image gets = record { fit = gets.rest.0.is_image.fit; count = gets.rest.0.is_image.count }
 
 module _ (left right left_cap right_cap : String Global) (old new : World) (s : Sides) (gathers : Gathers left right left_cap right_cap old new (Ok s)) where

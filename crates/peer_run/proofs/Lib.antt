@@ -21,3 +21,14 @@ pub mod Complete
 pub mod Reported
 pub mod Keeps
 pub mod Swapped
+pub mod AllNew
+pub mod NeverStops
+pub mod SyncDeeds
+pub mod Opened
+pub mod CalledAlone
+pub mod CallBegun
+pub mod WholeCall
+pub mod CallReady
+pub mod SyncSteps
+pub mod CallAbove
+pub mod CallEnds

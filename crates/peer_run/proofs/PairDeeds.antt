@@ -31,7 +31,7 @@ use Rattle.peer_stage.specs.declared.outcome.Origin.TheVariants as origin
 use Rattle.peer_stage.specs.declared.outcome.Stop.{Stop}
 use Rattle.peer_stage.specs.declared.outcome.Stop.TheVariants as stop
 use Rattle.peer_stage.proofs.Ends.{IsCondition}
-use Rattle.peer_stage.proofs.Owing.{Owes, IsLasting, then_owes, writes_owe, inside_counts, shelf_counts, inside_unfailed, shelf_unfailed, rose_behind, lawful}
+use Rattle.peer_stage.proofs.Owing.{Owes, IsLasting, then_owes, writes_owe, inside_counts, shelf_counts, inside_unfailed, shelf_unfailed, rose_behind, then_local, writes_local, lawful}
 use Rattle.peer_run.specs.Drill.{drill_text}
 use Rattle.peer_run.specs.Getting.{GetsImage, GetsCapability}
 use Rattle.peer_run.specs.ImagesMet.{MeetFullLog, MeetsImages}
@@ -47,6 +47,7 @@ use Rattle.peer_run.proofs.BothPass.{none_against}
 pub drill_is_lawful : (rows : ℕ) → IsLawful (drill_deed rows)
 drill_is_lawful rows =
     lawful (drill_deed rows) (λ old. Unit {0}) (λ d new. Unit {0}) (λ unbuilt. unbuilt) (λ old new ready. ready)
+    (writes_local (drill_text rows) done.Made tt)
     (writes_owe (λ old new. ⊥) (λ old new. Rose old.output.faults new.output.faults) (λ old. Unit {0}) (drill_text rows) done.Made (λ old new rose. rose))
 
 -- ---- what is got
@@ -137,7 +138,7 @@ misordered bytes n rows refused is wrong =
     absurd cc
 
 -- an image in order is read as itself
-image_fits : (from : Origin) (bytes n : List ℕ) (rows : List RawValue) (e : Stop) → IsImageInOrder bytes n rows → IsCondition e → ReadsImageFrom from bytes (Err e) → ⊥
+pub image_fits : (from : Origin) (bytes n : List ℕ) (rows : List RawValue) (e : Stop) → IsImageInOrder bytes n rows → IsCondition e → ReadsImageFrom from bytes (Err e) → ⊥
 image_fits from bytes n rows (stop.BadInput other at) is condition h = images.never_both bytes n rows at is.is_image h.0
 image_fits from bytes n rows (stop.NotRising other row) is condition h = misordered bytes n rows (refusal.NotRising row) is h.0
 image_fits from bytes n rows (stop.Pruned other row by) is condition h = misordered bytes n rows (refusal.Pruned row by) is h.0
@@ -149,13 +150,13 @@ pub record IsRead (n : List ℕ) (rows : List RawValue) (image : Image) : Type 0
   pub of_namespace : image.namespace ≡ n
   pub of_rows : image.rows.items ≡ rows
 
-image_reads : (from : Origin) (bytes n : List ℕ) (rows : List RawValue) (image : Image) → IsImageInOrder bytes n rows → ReadsImageFrom from bytes (Ok image) → IsRead n rows image
+pub image_reads : (from : Origin) (bytes n : List ℕ) (rows : List RawValue) (image : Image) → IsImageInOrder bytes n rows → ReadsImageFrom from bytes (Ok image) → IsRead n rows image
 image_reads from bytes n rows image is h =
     let same = one_image bytes image.namespace n image.rows.items rows h.is_image is.is_image in
     record { of_namespace = same.0; of_rows = same.1 }
 
 -- a capability is read as itself
-capability_fits : (from : Origin) (bytes : List ℕ) (c : Capability) (e : Stop) → IsSpelled bytes c → IsCondition e → ReadsCapabilityFrom from bytes (Err e) → ⊥
+pub capability_fits : (from : Origin) (bytes : List ℕ) (c : Capability) (e : Stop) → IsSpelled bytes c → IsCondition e → ReadsCapabilityFrom from bytes (Err e) → ⊥
 capability_fits from bytes c (stop.BadInput other at) is condition h = h.2 c is
 capability_fits from bytes c stop.NoMemory is condition h = condition
 capability_fits from bytes c e is condition h = h
@@ -310,6 +311,7 @@ module _ (words : MeetWords) where
   pub meet_is_lawful : IsLawful (meet_deed words)
   meet_is_lawful =
       lawful (meet_deed words) (λ old. CanMeet words old.shelf.names) (λ d new. Unit {0}) (λ unbuilt. unbuilt) (λ old new ready. ready)
+      (then_local _ _ (λ s. then_local _ _ (λ area. then_local _ _ (λ met. then_local _ _ (λ left. then_local _ _ (λ right. writes_local met.transcript.items (done.Met met.counts) tt))))))
       (then_owes Reads Wrote (λ w. CanMeet words w.shelf.names) (λ s w. CanGoOn s) (λ d w. Unit {0}) _ _ reads_last writes_last gathering_owes
       (λ s. then_owes Reads Wrote (λ w. CanGoOn s) (λ area w. MeetFullLog s.left.namespace s.left.rows.items s.right.rows.items area → ⊥) (λ d w. Unit {0}) _ _ reads_last writes_last (agreeing_owes s)
       (λ area. then_owes Reads Wrote (λ w. MeetFullLog s.left.namespace s.left.rows.items s.right.rows.items area → ⊥) (λ met w. Unit {0}) (λ d w. Unit {0}) _ _ reads_last writes_last

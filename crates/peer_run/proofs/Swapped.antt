@@ -1,5 +1,5 @@
 -- What comes to two logs that exchange what is live of them.
-use Rattle.std.proofs.Common.{◌≡◌, List, ◌++◌, map, Option, inl, inr, sym, ap, ◌∙◌, subst}
+use Rattle.std.proofs.Common.{◌≡◌, List, ◌++◌, Option, inl, inr, sym, ◌∙◌, subst}
 use Rattle.std.specs.Prelude.{Err}
 use Rattle.std.specs.List.{All, AllByRecursion}
 use Rattle.std.proofs.lemmas.List.Elements.{All-from_recursion}

@@ -1,10 +1,8 @@
 -- A run of a meeting with status 0 or 1 is a whole meeting.
-use Rattle.std.proofs.Common.{◌≡◌, ℕ, inl, inr, List, map, Option, Some, None, refl, sym, ap, ap₂, ◌∙◌, subst, arith}
+use Rattle.std.proofs.Common.{◌≡◌, ℕ, List, map, Option, Some, None, refl, sym, ap, ap₂, ◌∙◌, subst, arith}
 use Rattle.std.specs.Prelude.{Result, Ok, Err, IsNone, IsSome}
 use Rattle.std.specs.Option.{option_map}
 use Rattle.std.specs.String.{string_bytes}
-use Rattle.std.specs.declared.string.String.{String}
-use Rattle.std.specs.declared.alloc.Global.{Global}
 use Rattle.std.proofs.lemmas.List.Elements.{All-from_recursion}
 use Rattle.willow_outside.specs.Facts.{Names, SinkFacts}
 use Rattle.willow_outside.specs.Names.{name_put}
@@ -23,7 +21,6 @@ use Rattle.peer_image.specs.Order.{order_refusal}
 use Rattle.peer_rows.specs.Logged.{authorised_rows}
 use Rattle.peer_stage.specs.Stages.{IsWritten}
 use Rattle.peer_stage.specs.Status.{status_of, first_status}
-use Rattle.peer_stage.specs.Steps.{Step, Then}
 use Rattle.peer_stage.specs.World.{World}
 use Rattle.peer_stage.specs.declared.outcome.Done.{Done}
 use Rattle.peer_stage.specs.declared.outcome.Done.TheVariants as done
@@ -38,7 +35,6 @@ use Rattle.peer_words.specs.declared.command.Command.{Command}
 use Rattle.peer_words.specs.declared.command.Command.TheVariants as cmd
 use Rattle.peer_words.proofs.OneCommand.{at_most_one}
 use Rattle.peer_run.specs.Deeds.{deed_of}
-use Rattle.peer_run.specs.Getting.{GetsImage, GetsCapability}
 use Rattle.peer_run.specs.ImagesMet.{IsMeeting, AreMetCounts, image_turns}
 use Rattle.peer_run.specs.Meet.{Gathers, Meets, Puts, agreed_area, meeting_refusal}
 use Rattle.peer_run.specs.MeetHeadline.{IsWholeMeeting, HaveMet, Stores, stores_of, turns_of}
@@ -53,6 +49,7 @@ use Rattle.peer_run.proofs.BothPass.{agreed}
 use Rattle.peer_rows.proofs.AuthorisedRows.{authorised_live, of_namespace}
 use Rattle.peer_run.proofs.Gathered.{WereGot, gathered}
 use Rattle.peer_run.proofs.Meetings.{left_converges, right_converges, meet_alike}
+use Rattle.peer_run.proofs.NeverStops.{Never, then_never, no_image, no_capability}
 
 -- ---- one meeting
 
@@ -145,11 +142,11 @@ as_told words other old new d same c =
 
 -- ---- as the headline tells it
 
-none_first : (first : Option RefusedRow) → first_status first ≡ 0 → IsNone first
+pub none_first : (first : Option RefusedRow) → first_status first ≡ 0 → IsNone first
 none_first None e = refl
 none_first (Some first) e = absurd (omega (arith, e))
 
-some_first : (first : Option RefusedRow) → first_status first ≡ 1 → IsSome first
+pub some_first : (first : Option RefusedRow) → first_status first ≡ 1 → IsSome first
 some_first None e = absurd (omega (arith, e))
 some_first (Some first) e = refl
 
@@ -219,31 +216,17 @@ module _ (words : MeetWords) (run : Run) (d : Done) (c : HasCome words run.old (
 
 -- ---- the end of a meeting
 
--- the step does not stop so
-pub record Never {A : Type 0} (step : Step A) (e : Stop) : Type 0 where
-  pub never : (old new : World) → step old new (Err e) → ⊥
-
-then_never : {A B : Type 0} (first : Step A) (next : A → Step B) (e : Stop) → Never first e → ((a : A) → Never (next a) e) → Never (Then first next) e
-then_never first next e front later =
-    record { never = λ old new end. elim end [ inl s ↦ front.never old new s | inr p ↦ (later p.value).never p.between new p.rest ] }
-
 -- what a meeting makes is never refused
 module _ (words : MeetWords) (refusal : RowRefusal) where
   abbrev refused : Stop
   refused = stop.Refused refusal
 
-  no_image : (name : String Global) → Never (GetsImage name) refused
-  no_image name = then_never _ _ refused (record { never = λ old new s. s.does }) (λ got. record { never = λ old new s. s.0 })
-
-  no_capability : (name : String Global) → Never (GetsCapability name) refused
-  no_capability name = then_never _ _ refused (record { never = λ old new s. s.does }) (λ got. record { never = λ old new s. s.0 })
-
   none_gathered : Never (Gathers words.left words.right words.left_cap words.right_cap) refused
   none_gathered =
-      then_never _ _ refused (no_image words.left) (λ a.
-      then_never _ _ refused (no_image words.right) (λ b.
-      then_never _ _ refused (no_capability words.left_cap) (λ c.
-      then_never _ _ refused (no_capability words.right_cap) (λ d. record { never = λ old new s. s.0 }))))
+      then_never _ _ refused (no_image refusal words.left) (λ a.
+      then_never _ _ refused (no_image refusal words.right) (λ b.
+      then_never _ _ refused (no_capability refusal words.left_cap) (λ c.
+      then_never _ _ refused (no_capability refusal words.right_cap) (λ d. record { never = λ old new s. s.0 }))))
 
   none_put : (met : Met) → Never (Puts words.left_out words.right_out met) refused
   none_put met =

@@ -6,8 +6,17 @@ pub mod Transcript
 pub mod ImagesMet
 pub mod Meet
 pub mod PairDeeds
+pub mod Opening
+pub mod Calling
+pub mod Sync
+pub mod SyncRun
+pub mod SyncGiven
+pub mod SyncDeed
 pub mod Deeds
 pub mod Run
+pub mod Locals
 pub mod Headline
 pub mod MeetHeadline
+pub mod Ending
+pub mod SyncHeadline
 pub mod Promises

@@ -3,9 +3,12 @@ use Rattle.std.specs.Prelude.{◌≡◌, ◌≢◌, ℕ, ◌≤◌, ◌⊎◌, L
 use Rattle.willow_outside.specs.Counts.{Rose}
 use Rattle.peer_stage.specs.World.{NeverFall, Unfailed}
 use Rattle.peer_stage.specs.Status.{status_of}
-use Rattle.peer_stage.specs.Stages.{IsWritten, IsPartlyWritten}
-use Rattle.willow_outside.specs.Facts.{SinkFacts}
+use Rattle.peer_stage.specs.Stages.{IsWritten}
+use Rattle.session_end.specs.declared.end.SessionEnd.{SessionEnd}
+use Rattle.session_end.specs.declared.end.SessionEnd.TheVariants as ending
+use Rattle.peer_stage.specs.declared.outcome.SessionCounts.{SessionCounts}
 use Rattle.peer_stage.specs.declared.outcome.Done.{Done}
+use Rattle.peer_stage.specs.declared.outcome.Done.TheVariants as done
 use Rattle.peer_stage.specs.declared.outcome.Stop.{Stop}
 use Rattle.peer_stage.specs.declared.outcome.Stop.TheVariants as stop
 use Rattle.peer_report.specs.Report.{report_of}
@@ -15,6 +18,8 @@ use Rattle.peer_run.specs.Deeds.{deed_of}
 use Rattle.peer_run.specs.Run.{Run, RunsWords, before_report}
 use Rattle.peer_run.specs.Headline.{Headline}
 use Rattle.peer_run.specs.MeetHeadline.{MeetHeadline}
+use Rattle.peer_run.specs.Ending.{HasTold}
+use Rattle.peer_run.specs.SyncHeadline.{SyncHeadline}
 
 -- ---- 0 and 1
 
@@ -69,24 +74,36 @@ IsBadEnd (Err (stop.Missing name)) = Unit {0}
 IsBadEnd (Err (stop.Taken name)) = Unit {0}
 IsBadEnd end = ⊥
 
--- a session is refused before it begins
+-- what was read in a session is refused, or ended too early
+abbrev pub IsRefusedSession : Result SessionCounts SessionEnd → Type 0
+IsRefusedSession (Err (ending.ClosedEarly at)) = Unit {0}
+IsRefusedSession (Err (ending.BadMessage at)) = Unit {0}
+IsRefusedSession (Err (ending.Hello refusal)) = Unit {0}
+IsRefusedSession (Err (ending.Core refusal)) = Unit {0}
+IsRefusedSession (Err ending.SignFault) = Unit {0}
+IsRefusedSession session = ⊥
+
+-- a session is refused before it begins or in it
 abbrev pub IsRefusedEnd : Result Done Stop → Type 0
 IsRefusedEnd (Err (stop.SessionRefused refusal)) = Unit {0}
+IsRefusedEnd (Ok (done.Synced s)) = IsRefusedSession s.session
 IsRefusedEnd end = ⊥
+
+-- a session left rows uncovered for which the log had no room
+abbrev pub IsFullSession : Result SessionCounts SessionEnd → Type 0
+IsFullSession (Err (ending.LogFull missed)) = Unit {0}
+IsFullSession session = ⊥
 
 -- a row that would be stored met a full log
 abbrev pub IsFullEnd : Result Done Stop → Type 0
 IsFullEnd (Err stop.LogFull) = Unit {0}
+IsFullEnd (Ok (done.Synced s)) = IsFullSession s.session
 IsFullEnd end = ⊥
 
 -- a key file has no index left
 abbrev pub IsSpentEnd : Result Done Stop → Type 0
 IsSpentEnd (Err stop.KeySpent) = Unit {0}
 IsSpentEnd end = ⊥
-
--- the report grew by these lines, or by a front of them where it failed
-abbrev pub HasTold : SinkFacts → SinkFacts → List ℕ → Type 0
-HasTold old new lines = IsWritten old new lines ⊎ (IsPartlyWritten old new lines × Rose old.faults new.faults)
 
 -- the words are a command that ended so, which is one of these ends, and the report tells just this one
 pub record HasStopped (IsOne : Result Done Stop → Type 0) (run : Run) : Type 0 where
@@ -120,6 +137,8 @@ pub record KeepsPromises (run : Run) : Type 0 where
   pub joined : Headline run
   -- a meeting leaves each side the join of its rows with those sent to it, which the rows in the area alone decide
   pub met : MeetHeadline run
+  -- a call stores what came and is authorised, over the link that the door has back
+  pub synced : SyncHeadline run
   -- 0 and 1: the command came to its end, and its lines are reported
   pub ended : run.status ≤ 1 → HasEnded run
   -- 2: the words are no command, or one that is not built yet

@@ -2,13 +2,16 @@
 //! answers a status. Its contract says what is read, written and reported at each status, and why it comes.
 #![tactic(auto)]
 
+mod calling;
 mod drilling;
 mod exchanging;
 mod getting;
 mod greeting;
 mod images_met;
 mod meeting;
+mod opening;
 mod run;
+mod syncing;
 mod transcript;
 
-pub use run::peer_run;
+pub use run::{peer_run, run_local};

@@ -1,6 +1,7 @@
 //! The one call that `main` makes.
 
 ghost use Rattle.std.specs.Prelude.{ℕ, List, ◌≤◌};
+ghost use Rattle.peer_run.specs.Locals.{IsLocal};
 ghost use Rattle.peer_stage.specs.World.{World};
 ghost use Rattle.peer_words.specs.Words.{texts};
 ghost use Rattle.peer_words.specs.Commands.{IsWords};
@@ -10,6 +11,7 @@ ghost use Rattle.peer_run.specs.Promises.{KeepsPromises};
 
 use crate::drilling::drill;
 use crate::meeting::{MeetWords, meet};
+use crate::syncing::{SyncWords, sync};
 use peer_make::{delegate, grant, make_key, write};
 use peer_report::end_run;
 use peer_rows::{generate, join, show};
@@ -17,9 +19,11 @@ use peer_stage::{Done, Stop};
 use peer_words::{Command, Usage, read_words};
 use spelling::End;
 use std::alloc::Global;
+use std::sync::Wait;
+use std::thread::Threads;
 use willow_outside::{Door, Noise, Shelf, Sink, Source};
 
-/// Runs the command over the objects that it calls. A command that is not built yet is no command.
+/// Runs a command that calls nobody over the objects that it calls. A command that is not built yet is no command.
 fn run_command<H: Shelf, I: Source, O: Sink, N: Noise>(
     alloc: Global,
     command: Command,
@@ -28,7 +32,8 @@ fn run_command<H: Shelf, I: Source, O: Sink, N: Noise>(
     output: &mut O,
     noise: &mut N,
 ) -> Result<Done, Stop>
-    requires { (words : List (List ℕ)) × IsWords words command }
+    requires words { (words : List (List ℕ)) × IsWords words command }
+    requires local { IsLocal command }
     ensures { (others : World) → (deed_of command).meets
         (record others { shelf = H.facts shelf.old; input = I.facts input.old; output = O.facts output.old; noise = N.facts noise.old })
         (record others { shelf = H.facts shelf.new; input = I.facts input.new; output = O.facts output.new; noise = N.facts noise.new }) result }
@@ -76,46 +81,46 @@ fn run_command<H: Shelf, I: Source, O: Sink, N: Noise>(
             };
             meet(alloc, words, shelf, output)
         }
-        Command::Sync { .. } => Err(Stop::Usage),
+        Command::Sync { .. } => unreachable!(),
         Command::Serve { .. } => Err(Stop::Usage),
         Command::Watch { .. } => Err(Stop::Usage),
     }
 }
 
-/// Runs what the words ask for, and reports its end.
-fn run_words<H: Shelf, I: Source, O: Sink, E: Sink, N: Noise>(
+/// Runs a command that words ask for and that calls nobody, over the objects outside, and answers its status, as `peer_run`
+/// does. It waits for nobody.
+pub fn run_local<R: Threads + Sync, H: Shelf, I: Source, O: Sink, E: Sink, N: Noise>(
+    _rt: &R,
     alloc: Global,
-    words: &[String],
+    command: Command,
     shelf: &mut H,
     input: &mut I,
     output: &mut O,
     report: &mut E,
     noise: &mut N,
 ) -> u8
-    ensures runs { (others : World) → RunsWords (record {
-      words = texts words.now;
+    requires words { (words : List (List ℕ)) × IsWords words command }
+    requires local { IsLocal command }
+    ensures promises { (words : List (List ℕ)) (others : World) → IsWords words command → KeepsPromises (record {
+      words = words;
       old = record others { shelf = H.facts shelf.old; input = I.facts input.old; output = O.facts output.old; report = E.facts report.old; noise = N.facts noise.old };
       new = record others { shelf = H.facts shelf.new; input = I.facts input.new; output = O.facts output.new; report = E.facts report.new; noise = N.facts noise.new };
       status = result;
     }) }
-    ensures report { (E.facts report.old).faults ≤ (E.facts report.new).faults }
 {
-    match read_words(alloc, words) {
-        Ok(command) => {
-            let end = run_command(alloc, command, shelf, input, output, noise);
-            end_run(alloc, &end, report)
-        }
-        Err(End::Refused(Usage)) => end_run(alloc, &Err(Stop::Usage), report),
-        Err(End::NoMemory) => end_run(alloc, &Err(Stop::NoMemory), report),
-    }
+    let end = run_command(alloc, command, shelf, input, output, noise);
+    end_run(alloc, &end, report)
 }
 
 /// Runs what the words ask for, over the objects outside, and answers its status: 0, or 1 where a row was not
 /// authorised or what was to be made is refused; 2 for words that are no command that is built; 3 or 4 where
 /// reading or writing failed; 5 for bytes that are not in their grammar, a name that is missing or taken; 6 where
-/// a session is refused before it begins; 7 for want of memory; 8 where a row met a full log; 9 for a key file
-/// without an index left. The report gets the lines of that end. What a command does not call stays as it was.
-pub fn peer_run<H: Shelf, I: Source, O: Sink, E: Sink, D: Door, N: Noise>(
+/// a session is refused, before it begins or in it; 7 for want of memory; 8 where a row met a full log; 9 for a key
+/// file without an index left. The report gets the lines of that end. What a command does not call stays as it was.
+///
+/// In `sync` it waits for the one that it calls. Of every other command it answers what `run_local` answers.
+pub fn peer_run<R: Wait + Threads + Sync, H: Shelf, I: Source, O: Sink, E: Sink, D: Door, N: Noise>(
+    rt: &R,
     alloc: Global,
     words: &[String],
     shelf: &mut H,
@@ -146,5 +151,28 @@ pub fn peer_run<H: Shelf, I: Source, O: Sink, E: Sink, D: Door, N: Noise>(
       status = result;
     }) }
 {
-    run_words(alloc, words, shelf, input, output, report, noise)
+    match read_words(alloc, words) {
+        Ok(
+            Command::Sync {
+                image,
+                cap,
+                key,
+                to,
+                area,
+            },
+        ) => {
+            let words = SyncWords {
+                image,
+                cap,
+                key,
+                to,
+                area,
+            };
+            let end = sync(rt, alloc, words, shelf, door, noise);
+            end_run(alloc, &end, report)
+        }
+        Ok(command) => run_local(rt, alloc, command, shelf, input, output, report, noise),
+        Err(End::Refused(Usage)) => end_run(alloc, &Err(Stop::Usage), report),
+        Err(End::NoMemory) => end_run(alloc, &Err(Stop::NoMemory), report),
+    }
 }

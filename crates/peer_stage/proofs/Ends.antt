@@ -1,10 +1,14 @@
 -- From the status of an end back to the end.
-use Rattle.std.proofs.Common.{◌≡◌, ℕ, ◌≤◌, ◌<◌, Bool, true, false, cond, eqb, [], ◌∷◌, Option, Some, None, refl, sym, arith}
+use Rattle.std.proofs.Common.{◌≡◌, ◌≢◌, ℕ, ◌≤◌, ◌<◌, Bool, true, false, cond, eqb, [], ◌∷◌, Option, Some, None, refl, sym, subst, arith}
 use Rattle.std.specs.Prelude.{Result, Ok, Err}
 use Rattle.std.proofs.lemmas.Bool.{eqb-true}
 use Rattle.std.proofs.lemmas.Bool.Decides.{nat_tests}
 use Rattle.mc_cap.specs.declared.refusal.RefusedRow.{RefusedRow}
-use Rattle.peer_stage.specs.Status.{status_of, refused_status, first_status, first_met, told_order}
+use Rattle.session_end.specs.declared.end.SessionEnd.{SessionEnd}
+use Rattle.session_end.specs.declared.end.SessionEnd.TheVariants as ending
+use Rattle.peer_stage.specs.Status.{status_of, refused_status, first_status, end_status, session_status, put_status, first_met, told_order}
+use Rattle.peer_stage.specs.declared.outcome.SessionCounts.{SessionCounts}
+use Rattle.peer_stage.specs.declared.outcome.Synced.{Synced}
 use Rattle.peer_stage.specs.declared.outcome.Done.{Done}
 use Rattle.peer_stage.specs.declared.outcome.Done.TheVariants as done
 use Rattle.peer_stage.specs.declared.outcome.Stop.{Stop}
@@ -56,16 +60,123 @@ pub none_met : first_met told_order [] ≡ 0
 unfolding first_met
 none_met = refl
 
--- what is done gives 0 or 1
-pub done_small : (d : Done) → status_of (Ok d) ≤ 1
-done_small (done.Joined counts) = rw (refused_only counts.refused) (refused_small counts.refused)
-done_small (done.Shown counts) = rw (refused_only counts.refused) (refused_small counts.refused)
-done_small (done.Met counts) = rw (first_only counts.first) (first_small counts.first)
-done_small done.Made = rw none_met (omega arith)
+-- no session was run
+abbrev pub IsLocal : Done → Type 0
+IsLocal (done.Synced s) = ⊥
+IsLocal d = Unit {0}
+
+-- what is done without one gives 0 or 1
+pub done_small : (d : Done) → IsLocal d → status_of (Ok d) ≤ 1
+done_small (done.Joined counts) is = rw (refused_only counts.refused) (refused_small counts.refused)
+done_small (done.Shown counts) is = rw (refused_only counts.refused) (refused_small counts.refused)
+done_small (done.Met counts) is = rw (first_only counts.first) (first_small counts.first)
+done_small (done.Synced s) is = absurd is
+done_small done.Made is = rw none_met (omega arith)
+
+-- ---- sessions
+
+-- the status of a session and of what is behind it, by cases: want of memory and a fault of reading first, then the put
+abbrev pub synced_status : Result SessionCounts SessionEnd → Bool → Option RefusedRow → ℕ
+synced_status (Err ending.NoMemory) put first = 7
+synced_status (Err ending.LinkRead) put first = 3
+synced_status (Err end) false first = 4
+synced_status (Err end) true first = end_status end
+synced_status (Ok counts) false first = 4
+synced_status (Ok counts) true first = first_status first
+
+-- the statuses of a session, and the first of them that is told
+abbrev pub told_of : ℕ → Bool → Option RefusedRow → ℕ
+told_of session put first = first_met told_order (session ∷ (put_status put ∷ (first_status first ∷ [])))
+
+done_told : (put : Bool) (first : Option RefusedRow) → told_of 0 put first ≡ cond put (first_status first) 4
+unfolding first_met
+done_told true None = refl
+done_told true (Some first) = refl
+done_told false None = refl
+done_told false (Some first) = refl
+
+read_told : (put : Bool) (first : Option RefusedRow) → told_of 3 put first ≡ 3
+unfolding first_met
+read_told true None = refl
+read_told true (Some first) = refl
+read_told false None = refl
+read_told false (Some first) = refl
+
+write_told : (put : Bool) (first : Option RefusedRow) → told_of 4 put first ≡ 4
+unfolding first_met
+write_told true None = refl
+write_told true (Some first) = refl
+write_told false None = refl
+write_told false (Some first) = refl
+
+refused_told : (put : Bool) (first : Option RefusedRow) → told_of 6 put first ≡ cond put 6 4
+unfolding first_met
+refused_told true None = refl
+refused_told true (Some first) = refl
+refused_told false None = refl
+refused_told false (Some first) = refl
+
+memory_told : (put : Bool) (first : Option RefusedRow) → told_of 7 put first ≡ 7
+unfolding first_met
+memory_told true None = refl
+memory_told true (Some first) = refl
+memory_told false None = refl
+memory_told false (Some first) = refl
+
+full_told : (put : Bool) (first : Option RefusedRow) → told_of 8 put first ≡ cond put 8 4
+unfolding first_met
+full_told true None = refl
+full_told true (Some first) = refl
+full_told false None = refl
+full_told false (Some first) = refl
+
+pub synced_is : (session : Result SessionCounts SessionEnd) (put : Bool) (first : Option RefusedRow) → told_of (session_status session) put first ≡ synced_status session put first
+synced_is (Ok counts) true first = done_told true first
+synced_is (Ok counts) false first = done_told false first
+synced_is (Err ending.LinkRead) put first = read_told put first
+synced_is (Err ending.LinkWrite) true first = write_told true first
+synced_is (Err ending.LinkWrite) false first = write_told false first
+synced_is (Err (ending.ClosedEarly at)) true first = refused_told true first
+synced_is (Err (ending.ClosedEarly at)) false first = refused_told false first
+synced_is (Err (ending.BadMessage at)) true first = refused_told true first
+synced_is (Err (ending.BadMessage at)) false first = refused_told false first
+synced_is (Err (ending.Hello refusal)) true first = refused_told true first
+synced_is (Err (ending.Hello refusal)) false first = refused_told false first
+synced_is (Err (ending.Core refusal)) true first = refused_told true first
+synced_is (Err (ending.Core refusal)) false first = refused_told false first
+synced_is (Err ending.SignFault) true first = refused_told true first
+synced_is (Err ending.SignFault) false first = refused_told false first
+synced_is (Err (ending.LogFull missed)) true first = full_told true first
+synced_is (Err (ending.LogFull missed)) false first = full_told false first
+synced_is (Err ending.NoMemory) put first = memory_told put first
+
+-- what came of a call has no other status than these
+pub record IsCallStatus (status : ℕ) : Type 0 where
+  pub small : status ≤ 8
+  pub no_usage : status ≢ 2
+  pub no_input : status ≢ 5
+
+call_status : (session : Result SessionCounts SessionEnd) (put : Bool) (first : Option RefusedRow) → IsCallStatus (synced_status session put first)
+call_status (Err ending.NoMemory) put first = record { small = omega arith; no_usage = λ e. omega (arith, e); no_input = λ e. omega (arith, e) }
+call_status (Err ending.LinkRead) put first = record { small = omega arith; no_usage = λ e. omega (arith, e); no_input = λ e. omega (arith, e) }
+call_status (Err (ending.LogFull missed)) true first = record { small = omega arith; no_usage = λ e. omega (arith, e); no_input = λ e. omega (arith, e) }
+call_status (Err ending.LinkWrite) true first = record { small = omega arith; no_usage = λ e. omega (arith, e); no_input = λ e. omega (arith, e) }
+call_status (Err end) true first = record { small = omega arith; no_usage = λ e. omega (arith, e); no_input = λ e. omega (arith, e) }
+call_status (Err end) false first = record { small = omega arith; no_usage = λ e. omega (arith, e); no_input = λ e. omega (arith, e) }
+call_status (Ok counts) true None = record { small = omega arith; no_usage = λ e. omega (arith, e); no_input = λ e. omega (arith, e) }
+call_status (Ok counts) true (Some first) = record { small = omega arith; no_usage = λ e. omega (arith, e); no_input = λ e. omega (arith, e) }
+call_status (Ok counts) false first = record { small = omega arith; no_usage = λ e. omega (arith, e); no_input = λ e. omega (arith, e) }
+
+pub synced_known : (s : Synced) → IsCallStatus (status_of (Ok (done.Synced s)))
+synced_known s = subst IsCallStatus (sym (synced_is s.session s.put s.first)) (call_status s.session s.put s.first)
 
 -- no end has another status
 pub known : (end : Result Done Stop) → status_of end ≤ 9
-known (Ok d) = omega (arith, done_small d)
+known (Ok (done.Synced s)) = omega (arith, (synced_known s).small)
+known (Ok (done.Joined counts)) = omega (arith, done_small (done.Joined counts) tt)
+known (Ok (done.Shown counts)) = omega (arith, done_small (done.Shown counts) tt)
+known (Ok (done.Met counts)) = omega (arith, done_small (done.Met counts) tt)
+known (Ok done.Made) = omega (arith, done_small done.Made tt)
 known (Err stop.NoMemory) = omega arith
 known (Err e) = omega arith
 

@@ -2,16 +2,16 @@
 use Rattle.std.proofs.Common.{◌≡◌, ◌≢◌, ◌∙◌, ℕ, ◌≤◌, inl, inr, List, refl, sym, subst, arith}
 use Rattle.std.specs.Prelude.{Result, Ok, Err}
 use Rattle.willow_outside.specs.Counts.{Rose}
-use Rattle.willow_outside.specs.Facts.{ShelfFacts, SourceFacts, SinkFacts, NoiseFacts}
+use Rattle.willow_outside.specs.Facts.{ShelfFacts, SourceFacts, SinkFacts, NoiseFacts, DoorFacts}
 use Rattle.peer_stage.specs.World.{World, NeverFall, Unfailed}
 use Rattle.peer_stage.specs.Deed.{Deed, IsLawful, IsUnbuilt, not_built}
 use Rattle.peer_stage.specs.Stages.{Writes}
 use Rattle.peer_stage.specs.Status.{status_of}
-use Rattle.peer_stage.specs.Steps.{Step, Then, Inside, OnInput, OnOutput, OnShelf, OnNoise}
+use Rattle.peer_stage.specs.Steps.{Step, Then, Inside, OnInput, OnOutput, OnShelf, OnNoise, OnDoor}
 use Rattle.peer_stage.specs.declared.outcome.Done.{Done}
 use Rattle.peer_stage.specs.declared.outcome.Stop.{Stop}
 use Rattle.peer_stage.specs.declared.outcome.Stop.TheVariants as stop
-use Rattle.peer_stage.proofs.Ends.{IsCondition, done_small}
+use Rattle.peer_stage.proofs.Ends.{IsCondition, IsLocal, done_small}
 use Rattle.peer_stage.proofs.Faults.{EndsUnfailed, no_fault, never_falls, stood}
 
 -- ---- counts
@@ -29,7 +29,7 @@ stands w =
       noise_faults = omega arith;
     }
 
-onward : (old between new : World) → NeverFall old between → NeverFall between new → NeverFall old new
+pub onward : (old between new : World) → NeverFall old between → NeverFall between new → NeverFall old new
 onward old between new a b =
     record {
       shelf_reads = omega (arith, a.shelf_reads, b.shelf_reads);
@@ -45,7 +45,7 @@ onward old between new a b =
 pub unfailed_same : (w : World) → Unfailed w w
 unfailed_same w = record { shelf_reads = refl; shelf_writes = refl; input = refl; output = refl; report = refl; door = refl; noise = refl }
 
-unfailed_on : (old between new : World) → Unfailed old between → Unfailed between new → Unfailed old new
+pub unfailed_on : (old between new : World) → Unfailed old between → Unfailed between new → Unfailed old new
 unfailed_on old between new a b =
     record {
       shelf_reads = b.shelf_reads ∙ a.shelf_reads;
@@ -140,6 +140,9 @@ shelf_counts P old new end s = subst (λ (w : World). NeverFall old w) (sym s.ot
 pub noise_counts : {A : Type 0} (P : NoiseFacts → NoiseFacts → Result A Stop → Type 0) (old new : World) (end : Result A Stop) → OnNoise P old new end → NeverFall old new
 noise_counts P old new end s = subst (λ (w : World). NeverFall old w) (sym s.others) (record { shelf_reads = omega arith; shelf_writes = omega arith; input_faults = omega arith; input_ends = omega arith; output_faults = omega arith; report_faults = omega arith; door_faults = omega arith; noise_faults = never_falls _ _ end s.faults })
 
+pub door_counts : {A : Type 0} (P : DoorFacts → DoorFacts → Result A Stop → Type 0) (old new : World) (end : Result A Stop) → OnDoor P old new end → NeverFall old new
+door_counts P old new end s = subst (λ (w : World). NeverFall old w) (sym s.others) (record { shelf_reads = omega arith; shelf_writes = omega arith; input_faults = omega arith; input_ends = omega arith; output_faults = omega arith; report_faults = omega arith; door_faults = never_falls _ _ end s.faults; noise_faults = omega arith })
+
 -- ---- no fault of one object is passed over
 
 pub inside_unfailed : {A : Type 0} (P : Result A Stop → Type 0) (old new : World) (end : Result A Stop) → EndsUnfailed end → Inside P old new end → Unfailed old new
@@ -156,6 +159,9 @@ shelf_unfailed P old new end none s = subst (λ (w : World). Unfailed old w) (sy
 
 pub noise_unfailed : {A : Type 0} (P : NoiseFacts → NoiseFacts → Result A Stop → Type 0) (old new : World) (end : Result A Stop) → EndsUnfailed end → OnNoise P old new end → Unfailed old new
 noise_unfailed P old new end none s = subst (λ (w : World). Unfailed old w) (sym s.others) (record { shelf_reads = refl; shelf_writes = refl; input = refl; output = refl; report = refl; door = refl; noise = stood _ _ end none s.faults })
+
+pub door_unfailed : {A : Type 0} (P : DoorFacts → DoorFacts → Result A Stop → Type 0) (old new : World) (end : Result A Stop) → EndsUnfailed end → OnDoor P old new end → Unfailed old new
+door_unfailed P old new end none s = subst (λ (w : World). Unfailed old w) (sym s.others) (record { shelf_reads = refl; shelf_writes = refl; input = refl; output = refl; report = refl; door = stood _ _ end none s.faults; noise = refl })
 
 -- ---- the last stage
 
@@ -177,27 +183,40 @@ writes_owe reads writes needs bytes done rose =
       goes_on = λ old new d need s. tt;
     }
 
--- ---- commands
+-- ---- commands that run no session
+
+-- what the step does is done without one
+abbrev pub StaysLocal : Step Done → Type 0
+StaysLocal step = (old new : World) (d : Done) → step old new (Ok d) → IsLocal d
+
+pub then_local : {A : Type 0} (first : Step A) (next : A → Step Done) → ((a : A) → StaysLocal (next a)) → StaysLocal (Then first next)
+then_local first next stays old new d p = stays p.value p.between new d p.rest
+
+pub writes_local : (bytes : List ℕ) (done : Done) → IsLocal done → StaysLocal (OnOutput (Writes bytes done))
+writes_local bytes done is old new d s = subst IsLocal (sym s.does.1) is
 
 module _ (deed : Deed) (needs : World → Type 0) (leaves : Done → World → Type 0) (built : deed.unbuilt → ⊥) (ready : (old new : World) → deed.ready old new → needs old)
-    (owes : Owes deed.reads deed.writes needs leaves deed.meets) where
+    (local : StaysLocal deed.meets) (owes : Owes deed.reads deed.writes needs leaves deed.meets) where
+  done_so : (old new : World) (d : Done) → deed.meets old new (Ok d) → status_of (Ok d) ≤ 1
+  done_so old new d meets = done_small d (local old new d meets)
+
   no_usage : (old new : World) (end : Result Done Stop) → deed.meets old new end → status_of end ≡ 2 → ⊥
-  no_usage old new (Ok d) meets is = omega (arith, done_small d, is)
+  no_usage old new (Ok d) meets is = omega (arith, done_so old new d meets, is)
   no_usage old new (Err stop.Usage) meets is = owes.usage old new meets
   no_usage old new (Err e) meets is = omega (arith, is)
 
   read : (old new : World) (end : Result Done Stop) → deed.meets old new end → status_of end ≡ 3 → deed.reads old new
-  read old new (Ok d) meets is = absurd (omega (arith, done_small d, is))
+  read old new (Ok d) meets is = absurd (omega (arith, done_so old new d meets, is))
   read old new (Err stop.ReadFault) meets is = owes.read_fault old new meets
   read old new (Err e) meets is = absurd (omega (arith, is))
 
   wrote : (old new : World) (end : Result Done Stop) → deed.meets old new end → status_of end ≡ 4 → deed.writes old new
-  wrote old new (Ok d) meets is = absurd (omega (arith, done_small d, is))
+  wrote old new (Ok d) meets is = absurd (omega (arith, done_so old new d meets, is))
   wrote old new (Err stop.WriteFault) meets is = owes.write_fault old new meets
   wrote old new (Err e) meets is = absurd (omega (arith, is))
 
   small : (old new : World) (end : Result Done Stop) → deed.meets old new end → deed.ready old new → (deed.reads old new → ⊥) → (deed.writes old new → ⊥) → status_of end ≢ 7 → status_of end ≤ 1
-  small old new (Ok d) meets is_ready no_read no_write memory = done_small d
+  small old new (Ok d) meets is_ready no_read no_write memory = done_so old new d meets
   small old new (Err (stop.Refused refusal)) meets is_ready no_read no_write memory = omega arith
   small old new (Err stop.ReadFault) meets is_ready no_read no_write memory = absurd (no_read (owes.read_fault old new meets))
   small old new (Err stop.WriteFault) meets is_ready no_read no_write memory = absurd (no_write (owes.write_fault old new meets))

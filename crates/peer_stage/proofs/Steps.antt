@@ -1,10 +1,10 @@
 -- Steps put together from the stages of the code. The objects that a stage does not call are as they were.
 use Rattle.std.proofs.Common.{◌≡◌, ℕ, ◌≤◌, inl, inr, List, refl, subst}
 use Rattle.std.specs.Prelude.{Result, Ok, Err}
-use Rattle.willow_outside.specs.Facts.{ShelfFacts, SourceFacts, SinkFacts, NoiseFacts}
+use Rattle.willow_outside.specs.Facts.{ShelfFacts, SourceFacts, SinkFacts, NoiseFacts, DoorFacts}
 use Rattle.peer_stage.specs.World.{World}
 use Rattle.peer_stage.specs.Faults.{CountsStop, CountsStep}
-use Rattle.peer_stage.specs.Steps.{Step, Then, Inside, OnInput, OnOutput, OnShelf, OnNoise}
+use Rattle.peer_stage.specs.Steps.{Step, Then, Inside, OnInput, OnOutput, OnShelf, OnNoise, OnDoor}
 use Rattle.peer_stage.specs.Stages.{IsWritten, Writes, WritesOutput}
 use Rattle.peer_stage.specs.declared.outcome.Done.{Done}
 use Rattle.peer_stage.specs.declared.outcome.Stop.{Stop}
@@ -42,6 +42,12 @@ pub noise_on : {A B : Type 0} (P : NoiseFacts → NoiseFacts → Result A Stop �
     → P n n' (Ok value) → n'.faults ≡ n.faults → next value (record others { noise = n' }) new end → Then (OnNoise P) next (record others { noise = n }) new end
 noise_on P next others n n' new value end does faults rest =
     passes (OnNoise P) next (record others { noise = n }) (record others { noise = n' }) new value end (record { does = does; faults = faults; others = refl }) rest
+
+-- a step on the door gave a value
+pub door_on : {A B : Type 0} (P : DoorFacts → DoorFacts → Result A Stop → Type 0) (next : A → Step B) (others : World) (d d' : DoorFacts) (new : World) (value : A) (end : Result B Stop)
+    → P d d' (Ok value) → d'.faults ≡ d.faults → next value (record others { door = d' }) new end → Then (OnDoor P) next (record others { door = d }) new end
+door_on P next others d d' new value end does faults rest =
+    passes (OnDoor P) next (record others { door = d }) (record others { door = d' }) new value end (record { does = does; faults = faults; others = refl }) rest
 
 -- a fault in the last stage, which was to write these bytes
 pub stops_writing : (bytes given : List ℕ) (done : Done) (o o' : SinkFacts) (e : Stop) → given ≡ bytes → WritesOutput o o' given (Err e) → Writes bytes done o o' (Err e)

@@ -1,7 +1,10 @@
 -- The status of each end of a command.
-use Rattle.std.specs.Prelude.{ℕ, ◌==◌, if◌then◌else◌, List, [], ◌∷◌, Option, Some, None, Result, Ok, Err}
+use Rattle.std.specs.Prelude.{ℕ, ◌==◌, Bool, true, false, if◌then◌else◌, List, [], ◌∷◌, Option, Some, None, Result, Ok, Err}
 use Rattle.std.specs.List.{list_any}
 use Rattle.mc_cap.specs.declared.refusal.RefusedRow.{RefusedRow}
+use Rattle.session_end.specs.declared.end.SessionEnd.{SessionEnd}
+use Rattle.session_end.specs.declared.end.SessionEnd.TheVariants as ending
+use Rattle.peer_stage.specs.declared.outcome.SessionCounts.{SessionCounts}
 use Rattle.peer_stage.specs.declared.outcome.Done.{Done}
 use Rattle.peer_stage.specs.declared.outcome.Done.TheVariants as done
 use Rattle.peer_stage.specs.declared.outcome.Stop.{Stop}
@@ -18,11 +21,35 @@ abbrev pub first_status : Option RefusedRow → ℕ
 first_status None = 0
 first_status (Some first) = 1
 
+-- how a session ended that was not done: 3 and 4 for a fault of its link, 8 for a log that became full, 7 for want of
+-- memory, else 6
+abbrev pub end_status : SessionEnd → ℕ
+end_status ending.LinkRead = 3
+end_status ending.LinkWrite = 4
+end_status (ending.ClosedEarly at) = 6
+end_status (ending.BadMessage at) = 6
+end_status (ending.Hello refusal) = 6
+end_status (ending.Core refusal) = 6
+end_status ending.SignFault = 6
+end_status (ending.LogFull missed) = 8
+end_status ending.NoMemory = 7
+
+-- 0 where the session was done
+abbrev pub session_status : Result SessionCounts SessionEnd → ℕ
+session_status (Ok counts) = 0
+session_status (Err end) = end_status end
+
+-- 4 where the image was not put, else 0
+abbrev pub put_status : Bool → ℕ
+put_status true = 0
+put_status false = 4
+
 -- the statuses of what was met on the way to what is done, which stopped nothing
 abbrev pub statuses_met : Done → List ℕ
 statuses_met (done.Joined counts) = refused_status counts.refused ∷ []
 statuses_met (done.Shown counts) = refused_status counts.refused ∷ []
 statuses_met (done.Met counts) = first_status counts.first ∷ []
+statuses_met (done.Synced s) = session_status s.session ∷ (put_status s.put ∷ (first_status s.first ∷ []))
 statuses_met done.Made = []
 
 -- the first of these statuses that was met, 0 where none was

@@ -1,6 +1,6 @@
 -- A command by its steps: each gives a value to the next, or stops the command.
 use Rattle.std.specs.Prelude.{◌≡◌, ◌≤◌, ◌⊎◌, Result, Ok, Err}
-use Rattle.willow_outside.specs.Facts.{ShelfFacts, SourceFacts, SinkFacts, NoiseFacts}
+use Rattle.willow_outside.specs.Facts.{ShelfFacts, SourceFacts, SinkFacts, NoiseFacts, DoorFacts}
 use Rattle.peer_stage.specs.World.{World}
 use Rattle.peer_stage.specs.Faults.{CountsStep}
 use Rattle.peer_stage.specs.declared.outcome.Stop.{Stop}
@@ -48,3 +48,8 @@ pub record OnNoise {A : Type 0} (P : NoiseFacts → NoiseFacts → Result A Stop
   pub does : P old.noise new.noise end
   pub faults : CountsStep old.noise.faults new.noise.faults end
   pub others : new ≡ record old { noise = new.noise }
+
+pub record OnDoor {A : Type 0} (P : DoorFacts → DoorFacts → Result A Stop → Type 0) (old new : World) (end : Result A Stop) : Type 0 where
+  pub does : P old.door new.door end
+  pub faults : CountsStep old.door.faults new.door.faults end
+  pub others : new ≡ record old { door = new.door }

@@ -5,7 +5,7 @@ ghost use Rattle.peer_stage.specs.declared.outcome.Origin.TheVariants as origin;
 ghost use Rattle.peer_stage.specs.declared.outcome.Stop.TheVariants as stop;
 
 use mc_cap::{RefusedRow, RowRefusal};
-use session_end::HelloRefusal;
+use session_end::{HelloRefusal, SessionEnd};
 use spelling::NoMemory;
 
 /// The numbers of a join: every row read, those stored when they came, those that an earlier row covered,
@@ -63,7 +63,39 @@ pub struct MeetCounts {
     pub first: Option<RefusedRow>,
 }
 
-/// What a command did that came to its end. What it met on the way gives the status: the rows that were left out.
+/// The numbers of a session with the one at the other end of a link, which was done.
+#[derive(Clone, Copy, Debug, PartialEq, Eq)]
+pub struct SessionCounts {
+    /// How many rows the log had as the session began.
+    pub opened: u32,
+    /// How many it had at the end.
+    pub closed: u32,
+    /// Rows that came and that were stored.
+    pub stored: u32,
+    /// Rows that came and that a row of the log covered.
+    pub kept: u64,
+    /// Rows that came and are not authorised.
+    pub refused: u64,
+    /// Counted items that were sent.
+    pub sent: u32,
+    /// Counted items that were read.
+    pub read: u32,
+}
+
+/// What came of a call: how its session ended, which stops nothing, and whether the image was put behind it.
+#[derive(Clone, Copy, Debug, PartialEq, Eq)]
+pub struct Synced {
+    /// The numbers of the session, or how else it ended.
+    pub session: Result<SessionCounts, SessionEnd>,
+    /// The first row that is not authorised, counted over the image and then the rows that came; None where there is
+    /// none.
+    pub first: Option<RefusedRow>,
+    /// Whether the image was put; where it was not, writing failed.
+    pub put: bool,
+}
+
+/// What a command did that came to its end. What it met on the way gives the status: the rows that were left out, and in
+/// a call how the session ended and whether the image was put.
 #[derive(Debug, PartialEq, Eq, Drop)]
 pub enum Done {
     /// Rows were joined.
@@ -72,6 +104,8 @@ pub enum Done {
     Shown(ShowCounts),
     /// Two stores met.
     Met(MeetCounts),
+    /// A session was run, and the image put or tried to be put.
+    Synced(Synced),
     /// What was to be made is written; there is nothing to report.
     Made,
 }

@@ -5,7 +5,9 @@ use crate::objects::{Objects, held};
 use hex::FromHexError;
 use peer_run::peer_run;
 use std::alloc::Global;
-use willow_outside::{MemDoor, MemLink, MemShelf};
+use std::sync::Wait;
+use std::thread::Threads;
+use willow_outside::{MemLink, MemShelf};
 
 /// What a case expects.
 #[derive(Drop)]
@@ -14,19 +16,26 @@ struct Expected<'a> {
     report: &'a str,
     status: &'a str,
     names: &'a str,
+    /// What the link holds behind the run; None where the door leads to none.
+    held: Option<&'a str>,
 }
 
 /// The status of the run of the words.
-fn run(alloc: Global, words: &[String], objects: &mut Objects) -> u8 {
-    let mut door = MemDoor::<MemLink>::new(alloc, Vec::new(alloc), Vec::new(alloc));
+fn run<R: Wait + Threads + Sync>(
+    rt: &R,
+    alloc: Global,
+    words: &[String],
+    objects: &mut Objects,
+) -> u8 {
     peer_run(
+        rt,
         alloc,
         words,
         &mut objects.shelf,
         &mut objects.input,
         &mut objects.output,
         &mut objects.report,
-        &mut door,
+        &mut objects.door,
         &mut objects.noise,
     )
 }
@@ -60,13 +69,14 @@ fn holds_no_other(shelf: &mut MemShelf, words: &[String], names: &str) -> bool {
 }
 
 /// The first part of the run that is not as expected.
-fn told(
+fn told<R: Wait + Threads + Sync>(
+    rt: &R,
     alloc: Global,
     words: &[String],
     objects: &mut Objects,
     expected: &Expected<'_>,
 ) -> Result<Option<&'static str>, FromHexError> {
-    let status = run(alloc, words, objects);
+    let status = run(rt, alloc, words, objects);
     if expected.status.parse::<u8>() != Ok(status) {
         return Ok(Some("status"));
     }
@@ -81,11 +91,33 @@ fn told(
     {
         return Ok(Some("shelf"));
     }
+    if !holds_traffic(alloc, objects.door.back(), expected.held)? {
+        return Ok(Some("link"));
+    }
     Ok(None)
 }
 
+/// Whether the door has back just one link, which holds the bytes of the field, or none where it led to none or nobody
+/// called.
+fn holds_traffic(
+    alloc: Global,
+    back: &[MemLink],
+    held: Option<&str>,
+) -> Result<bool, FromHexError> {
+    match (held, back) {
+        (None, []) => Ok(true),
+        (Some("-"), []) => Ok(true),
+        (Some(held), [link]) => Ok(link.held() == bytes_of(alloc, held)?.as_slice()),
+        _ => Ok(false),
+    }
+}
+
 /// The first part of a line's run that is not as expected, also where the line is no case.
-fn differs_in(alloc: Global, line: &str) -> Result<Option<&'static str>, FromHexError> {
+fn differs_in<R: Wait + Threads + Sync>(
+    rt: &R,
+    alloc: Global,
+    line: &str,
+) -> Result<Option<&'static str>, FromHexError> {
     let mut fields = line.split(' ');
     let _name = fields.next();
     let words = words_of(alloc, fields.next().unwrap_or(""))?;
@@ -98,12 +130,22 @@ fn differs_in(alloc: Global, line: &str) -> Result<Option<&'static str>, FromHex
         report: fields.next().unwrap_or(""),
         status: fields.next().unwrap_or(""),
         names: fields.next().unwrap_or(""),
+        held: None,
     };
-    let mut objects = Objects::new(alloc, names, draws, input, faults)?;
-    told(alloc, &words, &mut objects, &expected)
+    let link = fields.next();
+    let expected = Expected {
+        held: fields.next(),
+        ..expected
+    };
+    let mut objects = Objects::new(alloc, names, draws, input, faults, link)?;
+    told(rt, alloc, &words, &mut objects, &expected)
 }
 
 /// The first part of a line's run that is not as expected.
-pub(crate) fn differs(alloc: Global, line: &str) -> Option<&'static str> {
-    differs_in(alloc, line).unwrap_or(Some("line"))
+pub(crate) fn differs<R: Wait + Threads + Sync>(
+    rt: &R,
+    alloc: Global,
+    line: &str,
+) -> Option<&'static str> {
+    differs_in(rt, alloc, line).unwrap_or(Some("line"))
 }

@@ -5,13 +5,14 @@
 //! 1. A name, and the words joined by commas.
 //! 2. What lies on the shelf, each as `NAME:BYTES`, and the draws of noise, each of 32 bytes; both joined by commas.
 //! 3. The input.
-//! 4. The calls that fail, joined by commas: a letter for the object (`i` input, `o` output, `r` report, `s` shelf, `n` noise)
-//!    and the number of its call, from 1.
+//! 4. The calls that fail, joined by commas: a letter for the object (`i` input, `o` output, `r` report, `s` shelf, `n` noise,
+//!    `d` door, `l` link) and the number of its call, from 1.
 //! 5. What is expected: the output, the report, the status, and what lies on the shelf behind the run. A name of the words that
 //!    is not there is absent.
+//! 6. Where the door leads to a link: the bytes that it gives, and those that it holds behind the run.
 //!
-//! Input and output move at most 100 bytes a call, the report 7. The cases are made by `bench/cases/make.py`, which shares
-//! no code with this program. It promises nothing: what a run does is the contract of `peer_run`.
+//! Input, output and link move at most 100 bytes a call, the report 7. The cases are made by `bench/cases/make.py`, which
+//! shares no code with this program. It promises nothing: what a run does is the contract of `peer_run`.
 #![tactic(auto)]
 
 mod case;
@@ -29,7 +30,7 @@ fn main(rt: HostRuntime) -> io::Result<()> {
             continue;
         }
         cases = cases.saturating_add(1);
-        match case::differs(rt.alloc(), line.as_str()) {
+        match case::differs(&rt, rt.alloc(), line.as_str()) {
             None => agreed = agreed.saturating_add(1),
             Some(part) => println!(rt; "{}: another {part}", fields::name_of(line.as_str()))?,
         }

@@ -2,10 +2,10 @@
 
 use crate::fields::{bytes_of, draws_of, fails_of, names_of};
 use hex::FromHexError;
-use std::alloc::Global;
-use willow_outside::{MemNoise, MemShelf, MemSink, MemSource, Shelf};
+use std::alloc::{AllocError, Global};
+use willow_outside::{MemDoor, MemLink, MemNoise, MemShelf, MemSink, MemSource, Shelf};
 
-/// The objects outside, but for the door, at which no command of the cases asks.
+/// The objects outside.
 #[derive(Drop)]
 pub struct Objects {
     pub shelf: MemShelf,
@@ -13,6 +13,7 @@ pub struct Objects {
     pub output: MemSink,
     pub report: MemSink,
     pub noise: MemNoise,
+    pub door: MemDoor<MemLink>,
 }
 
 fn output_of(alloc: Global, faults: &str) -> Result<MemSink, FromHexError> {
@@ -43,6 +44,23 @@ fn noise_of(alloc: Global, draws: &str, faults: &str) -> Result<MemNoise, FromHe
     Ok(MemNoise::new(alloc, draws, fails))
 }
 
+// A door to one link that gives the bytes of the field, or to none where there is no field.
+fn door_of(
+    alloc: Global,
+    link: Option<&str>,
+    faults: &str,
+) -> Result<MemDoor<MemLink>, FromHexError> {
+    let mut links = Vec::new(alloc);
+    if let Some(bytes) = link {
+        let left = bytes_of(alloc, bytes)?;
+        let fails = fails_of(alloc, faults, 'l')?;
+        links
+            .push(MemLink::new(alloc, left, fails, 100))
+            .map_err(|unsaid| AllocError::from(unsaid))?;
+    }
+    Ok(MemDoor::new(alloc, links, fails_of(alloc, faults, 'd')?))
+}
+
 impl Objects {
     /// The objects that the fields say.
     pub(crate) fn new(
@@ -51,11 +69,13 @@ impl Objects {
         draws: &str,
         input: &str,
         faults: &str,
+        link: Option<&str>,
     ) -> Result<Objects, FromHexError> {
         let shelf = shelf_of(alloc, names, faults)?;
         let noise = noise_of(alloc, draws, faults)?;
         let input = input_of(alloc, input, faults)?;
         let output = output_of(alloc, faults)?;
+        let door = door_of(alloc, link, faults)?;
         let report = report_of(alloc, faults)?;
         Ok(Objects {
             shelf,
@@ -63,6 +83,7 @@ impl Objects {
             output,
             report,
             noise,
+            door,
         })
     }
 }

@@ -13,6 +13,8 @@ use std::alloc::{AllocError, Global};
 use std::env;
 use std::io::{ErrorKind, Stderr, Stdin, Stdout};
 use std::process::ExitCode;
+use std::sync::Wait;
+use std::thread::Threads;
 use willow_outside::{Door, Noise, Shelf, Sink, Source};
 
 /// All words of the command line, where there is memory for them. Words that are no text are none, which is no
@@ -37,7 +39,8 @@ fn behind_name(all: &[String]) -> &[String]
 
 /// Runs the words behind the program's name over the standard streams and the other objects, with standard error as
 /// the report. The exit code is the status that the run answers.
-fn run<H: Shelf, D: Door, N: Noise>(
+fn run<R: Wait + Threads + Sync, H: Shelf, D: Door, N: Noise>(
+    rt: &R,
     alloc: Global,
     all: &[String],
     shelf: &mut H,
@@ -69,13 +72,14 @@ fn run<H: Shelf, D: Door, N: Noise>(
     }) }
 {
     let words = behind_name(all);
-    let status = peer_run(alloc, words, shelf, input, output, report, door, noise);
+    let status = peer_run(rt, alloc, words, shelf, input, output, report, door, noise);
     ExitCode::from(status)
 }
 
 /// Runs the words behind the program's name over the machine.
-fn run_here(rt: &HostRuntime, all: &[String]) -> ExitCode {
+fn run_here<R: Wait + Threads + Sync>(waits: &R, rt: &HostRuntime, all: &[String]) -> ExitCode {
     run(
+        waits,
         rt.alloc(),
         all,
         &mut FileShelf::new(rt),
@@ -89,7 +93,7 @@ fn run_here(rt: &HostRuntime, all: &[String]) -> ExitCode {
 
 fn main(rt: HostRuntime) -> ExitCode {
     match all_words(&rt) {
-        Ok(all) => run_here(&rt, &all),
+        Ok(all) => run_here(&rt, &rt, &all),
         Err(AllocError) => {
             let _ = rt.eprintln("no memory");
             ExitCode::from(7)

@@ -8,7 +8,7 @@ use std::test::Fail;
 fn no_command_is_a_faulty_command_line(rt: HostRuntime) -> Result<(), Fail> {
     let alloc = rt.alloc();
     let name = String::from_str(alloc, "willow_peer")?;
-    assert!(rt; run_here(&rt, &[]) == ExitCode::from(2));
-    assert!(rt; run_here(&rt, &[name]) == ExitCode::from(2));
+    assert!(rt; run_here(&rt, &rt, &[]) == ExitCode::from(2));
+    assert!(rt; run_here(&rt, &rt, &[name]) == ExitCode::from(2));
     Ok(())
 }

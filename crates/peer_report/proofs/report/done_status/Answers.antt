@@ -1,4 +1,4 @@
-use Rattle.peer_report.proofs.Statuses.{joined_status, shown_status, met_status, made_status}
+use Rattle.peer_report.proofs.Statuses.{joined_status, shown_status, met_status, call_status, made_status}
 use Rattle.peer_report.proofs.report.done_status.Goals as goal
 
 pub returns-in-Joined : goal.returns-in-Joined
@@ -12,3 +12,6 @@ returns-in-Met c = met_status c.args.done.now c.in-Met.counts c.first_status.res
 
 pub returns-in-Made : goal.returns-in-Made
 returns-in-Made c = made_status c.args.done.now c.in-Made.is
+
+pub returns-in-Synced : goal.returns-in-Synced
+returns-in-Synced c = call_status c.args.done.now c.in-Synced.synced c.synced_status.result c.in-Synced.is c.synced_status.ensures

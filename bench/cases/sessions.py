@@ -1,0 +1,204 @@
+"""A session of one who calls, as a function of the bytes that are read: hellos, proofs, and the turns of an exchange."""
+from dataclasses import dataclass, field
+from typing import Optional
+
+from capabilities import Area, Capability, accepts, read_area, read_capability, read_signature, signature_field
+from entries import read_key, read_path
+from exchange import BYE, END_TURN, Box, Cut, Print, Sent, fingerprint
+from octets import NotSpelled, Reader, Short, number, whole
+from rows import Row, WrongFrame, read_frame
+
+VERSION = 1
+CALLER, ANSWERER = 0, 1
+PRINT = 32
+
+
+class Early(Exception):
+    """The bytes end in the midst of a message."""
+
+
+class Wrong(Exception):
+    """What begins at an offset is no message."""
+
+
+class Refused(Exception):
+    """A message is refused."""
+
+
+@dataclass(frozen=True)
+class Hello:
+    version: int
+    nonce: bytes
+    ask: Area
+    capability: Capability
+
+    def spelled(self) -> bytes:
+        capability = self.capability.spelled()
+        return (b"WSY" + number(1, self.version) + self.nonce + self.ask.spelled() + number(4, len(capability))
+                + capability)
+
+    def refusal(self, namespace: bytes) -> Optional[str]:
+        if self.version == 0:
+            return "VersionUnknown"
+        return self.capability.hello_refusal(namespace, self.ask)
+
+
+def proof_message(role: int, caller: Hello, answerer: Hello) -> bytes:
+    return b"\x53" + number(1, role) + caller.spelled() + answerer.spelled()
+
+
+class Messages:
+    """The messages at the front of some bytes."""
+
+    def __init__(self, data: bytes):
+        self.data, self.at = data, 0
+
+    def next(self, read):
+        reader = Reader(self.data[self.at:])
+        try:
+            value = read(reader)
+        except Short:
+            raise Early from None
+        except NotSpelled:
+            raise Wrong(self.at) from None
+        self.at = len(self.data) - reader.left()
+        return value
+
+
+def inner(read, data: bytes):
+    """What all of some bytes in the midst of a message spell."""
+    try:
+        return whole(read, data)
+    except (NotSpelled, WrongFrame):
+        raise NotSpelled from None
+
+
+def read_hello(reader: Reader) -> Hello:
+    if reader.take(3) != b"WSY":
+        raise NotSpelled
+    version, nonce = reader.number(1), reader.take(16)
+    ask = read_area(reader)
+    return Hello(version, nonce, ask, inner(read_capability, reader.take(reader.number(4))))
+
+
+def read_framed(reader: Reader) -> Row:
+    length = reader.number(4)
+    return inner(read_frame, number(4, length) + reader.take(length))
+
+
+def read_item(reader: Reader):
+    """The kind of an item, and what it says."""
+    kind = reader.number(1)
+    if kind == 1:
+        return kind, reader.take(PRINT)
+    if kind == 3:
+        at = Cut(path=read_path(reader)) if reader.number(1) else Cut(subspace=read_key(reader))
+        return kind, (at, reader.take(PRINT), reader.take(PRINT))
+    if kind in (4, 5):
+        return kind, reader.number(1 if kind == 4 else 4)
+    if kind in (2, 6, 7):
+        return kind, None
+    raise NotSpelled
+
+
+@dataclass
+class Stand:
+    """What is written and taken, and how it stands: None while more is due."""
+    out: bytes = b""
+    came: list = field(default_factory=list)
+    sent: int = 0
+    read: int = 0
+    end: Optional[str] = None
+
+
+@dataclass(frozen=True)
+class Caller:
+    """One who calls, with the rows that it has as the session begins."""
+    namespace: bytes
+    hello: Hello
+    sign: object
+    rows: list
+
+    def after(self, data: bytes) -> Stand:
+        """How it stands behind these bytes."""
+        stand = Stand(self.hello.spelled())
+        try:
+            self.talk(Messages(data), stand)
+            stand.end = "done"
+        except Early:
+            pass
+        except Wrong as wrong:
+            stand.end = f"BadMessage {wrong.args[0]}"
+        except Refused as refused:
+            stand.end = refused.args[0]
+        return stand
+
+    def talk(self, messages: Messages, stand: Stand) -> None:
+        other = messages.next(read_hello)
+        if (refusal := other.refusal(self.namespace)) is not None:
+            raise Refused(refusal)
+        proof = messages.next(read_signature)
+        if not accepts(other.capability.receiver(), proof_message(ANSWERER, self.hello, other), proof):
+            raise Refused("BadProof")
+        stand.out += signature_field(self.sign(proof_message(CALLER, self.hello, other)))
+        self.exchange(messages, stand, self.hello.ask.common(other.ask))
+
+    def exchange(self, messages: Messages, stand: Stand, area: Optional[Area]) -> None:
+        if area is None:
+            stand.out += BYE
+            return self.farewell(messages)
+        box = Box(area)
+        told = fingerprint(box.rows(self.rows))
+        stand.out += b"\x01" + told + END_TURN
+        stand.sent, asks = 1, [Print(box, told)]
+        while asks:
+            asks = self.hear(messages, stand, asks)
+            if not asks:
+                stand.out += BYE
+                return None
+            answers = [ask.answer(self.rows) for ask in asks]
+            asks = [ask for _, _, opened in answers for ask in opened]
+            stand.sent += len(answers)
+            stand.out += b"".join(item for item, _, _ in answers) + (END_TURN if asks else BYE)
+        return self.farewell(messages)
+
+    @staticmethod
+    def farewell(messages: Messages) -> None:
+        if messages.next(read_item)[0] != 7:
+            raise Refused("ItemMismatch")
+
+    @staticmethod
+    def hear(messages: Messages, stand: Stand, asks: list) -> list:
+        """A turn of the other side: its answers to what was asked, and what it asks."""
+        opened = []
+        for ask in asks:
+            kind, told = messages.next(read_item)
+            allowed = (2, 3, 4) if isinstance(ask, Print) else (5,)
+            if kind not in allowed:
+                raise Refused("ItemMismatch")
+            stand.read += 1
+            if kind == 3:
+                at, *prints = told
+                if not (at.path or at.subspace):
+                    raise Refused("BadCut")
+                opened += [Print(part, its) for part, its in zip(at.parts(ask.box), prints)]
+            elif kind in (4, 5):
+                rows = heard_rows(messages, stand, ask.box, told)
+                opened += [Sent(ask.box, rows)] if kind == 4 else []
+        kind = messages.next(read_item)[0]
+        if kind != (6 if opened else 7):
+            raise Refused("ItemMismatch")
+        return opened
+
+
+def heard_rows(messages: Messages, stand: Stand, box: Box, count: int) -> list:
+    rows = []
+    for _ in range(count):
+        row = messages.next(read_framed)
+        if not box.has(row):
+            raise Refused("EntryOutside")
+        if rows and row.entry.place() <= rows[-1].entry.place():
+            raise Refused("RowsOutOfOrder")
+        rows.append(row)
+        stand.came.append(row)
+    return rows

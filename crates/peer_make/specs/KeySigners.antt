@@ -1,0 +1,39 @@
+-- The signer that a word names: an open key, or one index of a key file.
+use Rattle.std.specs.Prelude.{◌≡◌, ℕ, Bool, List, Result, Ok, Err}
+use Rattle.std.specs.String.{string_bytes}
+use Rattle.scheme_core.specs.Open.{open_accepts}
+use Rattle.willow_outside.specs.Facts.{ShelfFacts}
+use Rattle.lms_core.specs.Use.{use_gives, user_key_of}
+use Rattle.peer_words.specs.declared.command.SignerWord.{SignerWord}
+use Rattle.peer_words.specs.declared.command.SignerWord.TheVariants.{OpenKey, LmsFile}
+use Rattle.peer_stage.specs.declared.outcome.Stop.{Stop}
+use Rattle.peer_make.specs.Signing.{IsUsed, StopsSigning}
+use Rattle.peer_make.specs.declared.key_signer.KeySigner.{KeySigner}
+use Rattle.peer_make.specs.declared.key_signer.KeySigner.TheVariants.{Open, Once}
+
+-- whether it may give this signature of a message: what is accepted for its key, and of a key file's index names that
+abbrev pub gives_of : KeySigner → List ℕ → List ℕ → Bool
+gives_of (Open key) = open_accepts key
+gives_of (Once signer) = use_gives signer
+
+-- how many signatures it has left: an open key is never spent
+abbrev pub left_of : KeySigner → ℕ
+left_of (Open key) = 1
+left_of (Once signer) = signer.left
+
+-- the key for which its signatures are accepted
+abbrev pub signer_key : KeySigner → List ℕ
+signer_key (Open key) = key
+signer_key (Once signer) = user_key_of signer.height signer.identifier signer.seed
+
+-- it is the one that the word names: an open key, of which nothing was called, or the next index of a key file
+abbrev pub IsSignerOf : SignerWord → ShelfFacts → ShelfFacts → KeySigner → Type 0
+IsSignerOf (OpenKey key) old new (Open own) = (own ≡ key) × (new ≡ old)
+IsSignerOf (OpenKey key) old new (Once signer) = ⊥
+IsSignerOf (LmsFile name) old new (Open own) = ⊥
+IsSignerOf (LmsFile name) old new (Once signer) = IsUsed (string_bytes name) old new signer
+
+-- how a signer is handed out, which has not signed, and why none is
+abbrev pub HandsSigner : SignerWord → ShelfFacts → ShelfFacts → Result KeySigner Stop → Type 0
+HandsSigner key old new (Ok signer) = IsSignerOf key old new signer
+HandsSigner key old new (Err e) = StopsSigning key old new e

@@ -1,0 +1,78 @@
+//! The signer that a word names.
+
+ghost use Rattle.std.specs.Prelude.{◌≡◌, ◌≤◌, ◌↔◌, true, length, IfOk, OnErr, IsErrOf};
+ghost use Rattle.spelling.specs.declared.ending.End.TheVariants as ends;
+ghost use Rattle.willow_outside.specs.Counts.{Rose};
+ghost use Rattle.scheme_core.specs.declared.signer.TheConstants.{MAX_SIGNATURE};
+ghost use Rattle.peer_words.specs.Signers.{IsSigner};
+ghost use Rattle.peer_stage.specs.Faults.{CountsStep};
+ghost use Rattle.peer_make.specs.KeySigners.{HandsSigner, gives_of, left_of};
+ghost use Rattle.peer_make.specs.KeySignerLaws.{gives_short};
+
+use crate::signing::take_next;
+use lms_core::OneUse;
+use peer_stage::Stop;
+use peer_words::SignerWord;
+use scheme_core::{OpenSigner, SignRefusal, Signer};
+use spelling::End;
+use std::alloc::Global;
+use willow_outside::Shelf;
+
+/// What signs with an open key, or once with an index of a key file.
+#[derive(Drop)]
+pub enum KeySigner {
+    /// An open key, which is never spent.
+    Open(OpenSigner),
+    /// One index of a key file.
+    Once(OneUse),
+}
+
+impl Signer for KeySigner {
+    ghost gives = { gives_of };
+
+    ghost left = { left_of };
+
+    ghost faults = { λ _. 0 };
+
+    /// Signs a message, as the key of its kind does. It never fails.
+    fn sign(&mut self, alloc: Global, message: &[u8]) -> Result<Vec<u8>, End<SignRefusal>>
+        ensures given { IfOk result (λ signature. gives_of self.old message.now signature.items ≡ true) }
+        ensures short { IfOk result (λ signature. length signature.items ≤ MAX_SIGNATURE) }
+        ensures same { gives_of self.new ≡ gives_of self.old }
+        ensures spent { IsErrOf result (ends.Refused SignRefusal.Spent) ↔ (left_of self.old ≡ 0) }
+        ensures failed { IsErrOf result (ends.Refused SignRefusal.Failed) → Rose 0 0 }
+        ensures kept { OnErr result (left_of self.new ≡ left_of self.old) }
+    {
+        match self {
+            KeySigner::Open(signer) => signer.sign(alloc, message),
+            KeySigner::Once(signer) => signer.sign(alloc, message),
+        }
+    }
+
+    fn left(&self) -> u64 {
+        match self {
+            KeySigner::Open(signer) => signer.left(),
+            KeySigner::Once(signer) => signer.left(),
+        }
+    }
+
+    ghost gives_short = { gives_short };
+}
+
+/// The signer of the word, which has not signed. An open key calls nothing of the shelf; of a key file the next index is
+/// used up for it.
+pub fn reserve_signer<H: Shelf>(
+    alloc: Global,
+    shelf: &mut H,
+    key: SignerWord,
+) -> Result<KeySigner, Stop>
+    requires { IsSigner key }
+    ensures hands { HandsSigner key (H.facts shelf.old) (H.facts shelf.new) result }
+    ensures read_faults { CountsStep (H.facts shelf.old).read_faults (H.facts shelf.new).read_faults result }
+    ensures write_faults { CountsStep (H.facts shelf.old).write_faults (H.facts shelf.new).write_faults result }
+{
+    match key {
+        SignerWord::OpenKey(key) => Ok(KeySigner::Open(OpenSigner::new(key))),
+        SignerWord::LmsFile(name) => Ok(KeySigner::Once(take_next(alloc, shelf, name)?)),
+    }
+}
