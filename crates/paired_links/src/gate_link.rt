@@ -2,7 +2,8 @@
 
 ghost use Rattle.std.specs.Prelude.{◌≡◌, ◌<◌, ◌≤◌, ◌⊎◌, ◌↔◌, Some, IfOk, IsOk, length, min, true, false};
 ghost use Rattle.std.specs.Io.{ReadsAtMost, WritesAtMost};
-ghost use Rattle.std.specs.Io.KnownBytes.{ReadConsumes, WriteAppends};
+ghost use Rattle.std.specs.Io.KnownBytes.{ReadConsumes};
+ghost use Rattle.willow_outside.specs.Told.{ExtendsBy};
 ghost use Rattle.willow_outside.specs.Counts.{CountsFault, EndHasCause, TakesSome};
 ghost use Rattle.willow_outside.specs.Plan.{called, IsPlanned};
 ghost use Rattle.paired_links.specs.Gates.{MetShut, WentOn, gated_facts};
@@ -109,7 +110,7 @@ impl Link for GateLink {
         ensures no_turns { self.old.opens_at ≡ 0 → self.old.turns ≡ 0 → MetShut self.old self.new result }
         ensures bound { ReadsAtMost result buf.new }
         ensures bytes { ReadConsumes (Some self.old.link.left) (Some self.new.link.left) result buf.new }
-        ensures taken { WriteAppends (Some self.old.link.taken) (Some self.new.link.taken) result buf.new }
+        ensures taken { ExtendsBy (Some self.old.link.taken) (Some self.new.link.taken) result buf.new }
         ensures cause { CountsFault (gated_facts self.old).read_faults (gated_facts self.new).read_faults result }
         ensures end { EndHasCause self.old.link.ends self.new.link.ends result buf.new }
         ensures held { self.new.link.held ≡ self.old.link.held }
@@ -129,7 +130,7 @@ impl Link for GateLink {
         ensures kept { (self.new.link.most ≡ self.old.link.most) × (self.new.shut ≡ self.old.shut) × (self.new.opens_at ≡ self.old.opens_at) × (self.new.turns ≡ self.old.turns) }
         ensures bound { WritesAtMost result piece.now }
         ensures moves { TakesSome result piece.now }
-        ensures bytes { WriteAppends (Some self.old.link.held) (Some self.new.link.held) result piece.now }
+        ensures bytes { ExtendsBy (Some self.old.link.held) (Some self.new.link.held) result piece.now }
         ensures cause { CountsFault self.old.link.write_faults self.new.link.write_faults result }
         ensures left { self.new.link.left ≡ self.old.link.left }
         ensures taken { self.new.link.taken ≡ self.old.link.taken }

@@ -2,6 +2,7 @@ pub mod Counts
 pub mod Draws
 pub mod Facts
 pub mod InMemory
+pub mod Told
 pub mod Links
 pub mod Names
 pub mod Plan

@@ -9,7 +9,7 @@ use crate::{Fault, Link};
 
 /// Where links come from: the network, or links in memory. A `place` has the form `HOST:PORT`.
 pub trait Door {
-    type L: Link;
+    type L: Link + Send;
 
     ghost facts: { Self → DoorFacts };
 

@@ -2,14 +2,16 @@
 
 ghost use Rattle.std.specs.Prelude.{◌≡◌};
 ghost use Rattle.std.specs.Io.{ReadsAtMost, WritesAtMost};
-ghost use Rattle.std.specs.Io.KnownBytes.{ReadConsumes, WriteAppends};
+ghost use Rattle.std.specs.Io.KnownBytes.{ReadConsumes};
 ghost use Rattle.willow_outside.specs.Counts.{CountsFault, EndHasCause, TakesSome};
 ghost use Rattle.willow_outside.specs.Facts.{LinkFacts};
+ghost use Rattle.willow_outside.specs.Told.{ExtendsBy};
 
 use crate::Fault;
 
-/// What bytes go over in both directions: a socket, or bytes in memory.
-pub trait Link: Send + Drop {
+/// What bytes go over in both directions: a socket, or bytes in memory. A link that tells what it gave or what it took
+/// tells it always.
+pub trait Link: Drop {
     ghost facts: { Self → LinkFacts };
 
     /// Puts the next bytes at the front of `buf` and answers their number, at most `buf.len()`.
@@ -17,7 +19,7 @@ pub trait Link: Send + Drop {
     fn read(&mut self, buf: &mut [u8]) -> Result<usize, Fault>
         ensures bound { ReadsAtMost result buf.new }
         ensures bytes { ReadConsumes (facts self.old).left (facts self.new).left result buf.new }
-        ensures taken { WriteAppends (facts self.old).taken (facts self.new).taken result buf.new }
+        ensures taken { ExtendsBy (facts self.old).taken (facts self.new).taken result buf.new }
         ensures cause { CountsFault (facts self.old).read_faults (facts self.new).read_faults result }
         ensures end { EndHasCause (facts self.old).ends (facts self.new).ends result buf.new }
         ensures held { (facts self.new).held ≡ (facts self.old).held }
@@ -28,7 +30,7 @@ pub trait Link: Send + Drop {
     fn write(&mut self, piece: &[u8]) -> Result<usize, Fault>
         ensures bound { WritesAtMost result piece.now }
         ensures moves { TakesSome result piece.now }
-        ensures bytes { WriteAppends (facts self.old).held (facts self.new).held result piece.now }
+        ensures bytes { ExtendsBy (facts self.old).held (facts self.new).held result piece.now }
         ensures cause { CountsFault (facts self.old).write_faults (facts self.new).write_faults result }
         ensures left { (facts self.new).left ≡ (facts self.old).left }
         ensures taken { (facts self.new).taken ≡ (facts self.old).taken }

@@ -36,7 +36,7 @@ impl<L: Link> Model for MemDoor<L> {
     ghost invariant = { λ s. (link : L) → Contains s.traffic.to_come.items link → IsFresh (L.facts link) };
 }
 
-impl<L: Link> MemDoor<L> {
+impl<L: Link + Send> MemDoor<L> {
     /// Hands out `links`, which are as new. The calls whose numbers, from 1, are in `fails` fail;
     /// `give_back` is not counted.
     pub fn new(alloc: Global, links: Vec<L>, fails: Vec<u64>) -> MemDoor<L>
@@ -61,7 +61,7 @@ impl<L: Link> MemDoor<L> {
     }
 }
 
-impl<L: Link> Door for MemDoor<L> {
+impl<L: Link + Send> Door for MemDoor<L> {
     type L = L;
 
     ghost facts = { λ s. record { faults = s.faults; out = s.out; asked = Some s.asked; back = Some (map L.facts s.back) } };

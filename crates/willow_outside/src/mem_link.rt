@@ -2,7 +2,8 @@
 
 ghost use Rattle.std.specs.Prelude.{◌≡◌, ◌≤◌, Some, [], IfOk, length, min};
 ghost use Rattle.std.specs.Io.{ReadsAtMost, WritesAtMost};
-ghost use Rattle.std.specs.Io.KnownBytes.{ReadConsumes, WriteAppends};
+ghost use Rattle.std.specs.Io.KnownBytes.{ReadConsumes};
+ghost use Rattle.willow_outside.specs.Told.{ExtendsBy};
 ghost use Rattle.willow_outside.specs.Counts.{CountsFault, EndHasCause, TakesSome};
 ghost use Rattle.willow_outside.specs.Plan.{plan_of, called, planned, IsPlanned};
 
@@ -71,7 +72,7 @@ impl Link for MemLink {
         ensures most { self.new.most ≡ self.old.most }
         ensures bound { ReadsAtMost result buf.new }
         ensures bytes { ReadConsumes (Some self.old.left) (Some self.new.left) result buf.new }
-        ensures taken { WriteAppends (Some self.old.taken) (Some self.new.taken) result buf.new }
+        ensures taken { ExtendsBy (Some self.old.taken) (Some self.new.taken) result buf.new }
         ensures cause { CountsFault self.old.read_faults self.new.read_faults result }
         ensures end { EndHasCause self.old.ends self.new.ends result buf.new }
         ensures held { self.new.held ≡ self.old.held }
@@ -94,7 +95,7 @@ impl Link for MemLink {
         ensures most { self.new.most ≡ self.old.most }
         ensures bound { WritesAtMost result piece.now }
         ensures moves { TakesSome result piece.now }
-        ensures bytes { WriteAppends (Some self.old.held) (Some self.new.held) result piece.now }
+        ensures bytes { ExtendsBy (Some self.old.held) (Some self.new.held) result piece.now }
         ensures cause { CountsFault self.old.write_faults self.new.write_faults result }
         ensures left { self.new.left ≡ self.old.left }
         ensures taken { self.new.taken ≡ self.old.taken }
