@@ -1,0 +1,3 @@
+pub mod EachVisit
+pub mod Passing
+pub mod Visiting
