@@ -1,7 +1,9 @@
 -- A session that has read nothing yet.
 use Rattle.std.proofs.Common.{◌≡◌, inr, ℕ, ◌<◌, ◌≤◌, List, [], length, take, drop, Option, None, Some, refl, sym, ap, ◌∙◌, subst, arith, append-nil}
 use Rattle.std.proofs.lemmas.List.{take-append-drop}
-use Rattle.std.specs.Io.KnownBytes.{Consumes, Appends}
+use Rattle.std.specs.Io.KnownBytes.{Consumes}
+use Rattle.willow_outside.specs.Told.{Extends}
+use Rattle.willow_outside.proofs.Extended.{extends-none}
 use mathlib.Core.List.{IsPrefix}
 use Rattle.willow_outside.specs.Counts.{HasRisen}
 use Rattle.willow_outside.specs.Facts.{LinkFacts}
@@ -26,9 +28,9 @@ use Rattle.sync_link.proofs.Outcomes.{cut_off}
 none_is_some : (signature : List ℕ) → None ≡ Some signature → ⊥
 none_is_some signature e = cc
 
-told_none : (known : Option (List ℕ)) → Consumes known known [] × Appends known known []
-told_none None = (tt, tt)
-told_none (Some xs) = (refl, sym (append-nil xs))
+consumes_none : (known : Option (List ℕ)) → Consumes known known []
+consumes_none None = tt
+consumes_none (Some xs) = refl
 
 module _ (start : Start) (rows : List RowValue) (pass : PassValue AuthorisedValue) (ready : IsReady start rows pass) where
   abbrev first : Fed
@@ -40,6 +42,7 @@ module _ (start : Start) (rows : List RowValue) (pass : PassValue AuthorisedValu
   reached : Reached start first [] due []
   reached = record {
     side_is = ap (λ (l : List RowValue). (fed_in start.rules (begun start.namespace start.role start.hello l)).side) ready.rows_are;
+    are_bytes = tt;
     read = begun_read start.rules start.namespace start.role start.hello rows;
     read_out = λ k d within. absurd (omega arith);
     signed = λ signature e. absurd (none_is_some signature e);
@@ -55,10 +58,10 @@ module _ (start : Start) (rows : List RowValue) (pass : PassValue AuthorisedValu
   grew = record { grown = []; own = ready.own ∙ sym (append-nil start.pass.own); part = tt; later = ready.later }
 
   module _ (link : LinkFacts) (rest : ReadsNothing start.link link) where
-    taken : Consumes start.link.left link.left [] × Appends start.link.taken link.taken []
-    taken = (subst (λ l. Consumes start.link.left l []) (sym rest.left) (told_none start.link.left).0, subst (λ l. Appends start.link.taken l []) (sym rest.taken) (told_none start.link.taken).1)
+    taken : Consumes start.link.left link.left [] × Extends start.link.taken link.taken []
+    taken = (subst (λ l. Consumes start.link.left l []) (sym rest.left) (consumes_none start.link.left), subst (λ l. Extends start.link.taken l []) (sym rest.taken) (extends-none start.link.taken))
 
-    pub begins : Appends start.link.held link.held due → link.write_faults ≡ start.link.write_faults
+    pub begins : Extends start.link.held link.held due → link.write_faults ≡ start.link.write_faults
         → IsUnderWay start (record { fed = first; tally = record { rows = 0; stored = 0; kept = 0; missed = 0; refused = 0; first = None }; count = 0; pass = pass; link = link; left = start.left; faults = start.faults })
     begins held writes = record {
       bytes = [];
@@ -81,20 +84,20 @@ module _ (start : Start) (rows : List RowValue) (pass : PassValue AuthorisedValu
     front : (k : ℕ) → IsFront (take k due) due
     front k = front_by (take k due) due (drop k due) (sym (take-append-drop k due))
 
-    pub unwritten : ((k : ℕ) × (k < length due) × Appends start.link.held link.held (take k due)) → HasRisen start.link.write_faults link.write_faults → EndsSo start pass link start.faults ends.LinkWrite
+    pub unwritten : ((k : ℕ) × (k < length due) × Extends start.link.held link.held (take k due)) → HasRisen start.link.write_faults link.write_faults → EndsSo start pass link start.faults ends.LinkWrite
     unwritten held rose =
-        cut_off start first [] due [] reached opens pass link start.faults opening grew [] (take held.0 due) ends.LinkWrite tt (front held.0) taken held.2
+        cut_off start first [] due [] reached opens pass link start.faults opening grew [] (take held.0 due) ends.LinkWrite tt tt (front held.0) taken held.2
         (record { reads = rest.faults; writes = rose; ends = rest.ends; signs = omega arith })
 
-    pub unwritten_unkept : ((k : ℕ) × (k < length due) × Appends start.link.held link.held (take k due)) → start.link.write_faults ≤ link.write_faults → EndsSo start pass link start.faults ends.NoMemory
+    pub unwritten_unkept : ((k : ℕ) × (k < length due) × Extends start.link.held link.held (take k due)) → start.link.write_faults ≤ link.write_faults → EndsSo start pass link start.faults ends.NoMemory
     unwritten_unkept held more =
-        cut_off start first [] due [] reached opens pass link start.faults opening grew [] (take held.0 due) ends.NoMemory tt (front held.0) taken held.2
+        cut_off start first [] due [] reached opens pass link start.faults opening grew [] (take held.0 due) ends.NoMemory tt tt (front held.0) taken held.2
         (record { reads = omega (arith, rest.faults); writes = more; ends = rest.ends; signs = omega arith })
 
   pub unbegun : EndsSo start pass start.link start.faults ends.NoMemory
   unbegun =
-      cut_off start first [] due [] reached opens pass start.link start.faults opening grew [] [] ends.NoMemory tt (front_none due)
-      ((told_none start.link.left).0, (told_none start.link.taken).1) (told_none start.link.held).1
+      cut_off start first [] due [] reached opens pass start.link start.faults opening grew [] [] ends.NoMemory tt tt (front_none due)
+      ((consumes_none start.link.left), (extends-none start.link.taken)) (extends-none start.link.held)
       (record { reads = omega arith; writes = omega arith; ends = refl; signs = omega arith })
 
 -- ---- no snapshot was had
@@ -110,8 +113,9 @@ no_snapshot start pass later own = record {
   later = later;
   opening = (later.seen, prefix_self pass.seen);
   opens = λ some. absurd (some refl);
-  taken = ((told_none start.link.left).0, (told_none start.link.taken).1);
-  held = (told_none start.link.held).1;
+  are_bytes = tt;
+  taken = ((consumes_none start.link.left), (extends-none start.link.taken));
+  held = (extends-none start.link.held);
   signed = inr (front_none (hello_spelling start.hello));
   wrote = front_none (out (brought start []) (live (log_rows pass.seen)) []);
   ended = tt;

@@ -70,7 +70,7 @@ same_message : (one two : Role) (own other : hellos.Hello) → AreBothRoles one 
 same_message one two own other (inl r) = ap (λ role. own_message role own other) r.0 ∙ sym (ap (λ role. message_due role other own) r.1)
 same_message one two own other (inr r) = ap (λ role. own_message role own other) r.0 ∙ sym (ap (λ role. message_due role other own) r.1)
 
-module _ (p : List ℕ → Party) (ran : Ran p) (q : Party) (others : List RowValue) (other : HasOther ran q others) (signs : SignsWell ran) (are : AreBytes ran.did.bytes) where
+module _ (p : List ℕ → Party) (ran : Ran p) (q : Party) (others : List RowValue) (other : HasOther ran q others) (signs : SignsWell ran) where
   abbrev party : Party
   party = side ran
 
@@ -90,17 +90,17 @@ module _ (p : List ℕ → Party) (ran : Ran p) (q : Party) (others : List RowVa
 
   accepted : IsProofOf party ran.gives bytes → Accepts q party
   accepted proof =
-      let is = same_hello party q others ran.did.written bytes other.accepts.hello_fits are other.hears proof.other proof.stands in
-      let well = signs (own_message party.role party.hello proof.other) party.signature proof.given in
+      let is = same_hello party q others ran.did.written bytes other.accepts.hello_fits ran.did.are_bytes other.hears proof.other proof.stands in
+      let well = signs (own_message party.role party.hello proof.other) party.signature proof.fits proof.given in
       let message : own_message party.role party.hello proof.other ≡ message_due q.role q.hello party.hello =
       ap (own_message party.role party.hello) is ∙ same_message party.role q.role party.hello q.hello other.roles in
       record {
         hello_fits = other.hello_fits;
         hello_passes = passes_there;
-        proof_fits = well.0;
+        proof_fits = proof.fits;
         proved =
             subst (λ rules. IsTrue (rules.user (receiver_of party.hello.capability) (message_due q.role q.hello party.hello) party.signature)) (sym other.same_rules)
-            (subst (λ m. IsTrue (party.rules.user (receiver_of party.hello.capability) m party.signature)) message well.1);
+            (subst (λ m. IsTrue (party.rules.user (receiver_of party.hello.capability) m party.signature)) message well);
       }
 
   can_meet : IsProofOf party ran.gives bytes → CanMeetAs party q
@@ -149,7 +149,7 @@ Wanted answer = IsDone answer ⊎ (answer ≡ Err NoMemory)
 over_by : (end other : reading.Ending SessionCause) → end ≡ other → (other ≡ reading.More → ⊥) → IsOver end
 over_by end other is never more = never (sym is ∙ more)
 
-module _ (p : List ℕ → Party) (ran : Ran p) (q : Party) (others : List RowValue) (other : HasOther ran q others) (signs : SignsWell ran) (faultless : IsFaultless ran) (are : AreBytes ran.did.bytes) where
+module _ (p : List ℕ → Party) (ran : Ran p) (q : Party) (others : List RowValue) (other : HasOther ran q others) (signs : SignsWell ran) (faultless : IsFaultless ran) where
   abbrev here : Party
   here = side ran
 
@@ -170,7 +170,7 @@ module _ (p : List ℕ → Party) (ran : Ran p) (q : Party) (others : List RowVa
 
   -- an end that is no end is none
   refused : (other_end : reading.Ending SessionCause) → IsOpening here.namespace mine → ran.did.written ≡ out here mine ran.did.bytes → end ≡ other_end → (other_end ≡ reading.More → ⊥) → (other_end ≡ reading.Done → ⊥) → ⊥
-  refused other_end own wrote is not_more not_done = not_done (sym is ∙ if_over p ran q others other signs are own wrote (over_by end other_end is not_more))
+  refused other_end own wrote is not_more not_done = not_done (sym is ∙ if_over p ran q others other signs own wrote (over_by end other_end is not_more))
 
   more_not_done : ◌≡◌ {A = reading.Ending SessionCause} reading.More reading.Done → ⊥
   more_not_done e = cc
@@ -181,7 +181,7 @@ module _ (p : List ℕ → Party) (ran : Ran p) (q : Party) (others : List RowVa
   by_answer (Err LinkWrite) is = absurd (faultless.writes (subst (CountsWrites ran.link.write_faults ran.link'.write_faults) is ran.did.counted_faults.writes))
   by_answer (Err (ClosedEarly at)) is =
       let all = other.hears_all (subst (CountsEnds ran.link.ends ran.link'.ends) is ran.did.counted_faults.ends) in
-      absurd (more_not_done (sym (ends_by (Err (ClosedEarly at)) is).0 ∙ if_all p ran q others other signs are (opens_by (Err (ClosedEarly at)) is (λ e. cc)) (wrote_by (Err (ClosedEarly at)) is) all))
+      absurd (more_not_done (sym (ends_by (Err (ClosedEarly at)) is).0 ∙ if_all p ran q others other signs (opens_by (Err (ClosedEarly at)) is (λ e. cc)) (wrote_by (Err (ClosedEarly at)) is) all))
   by_answer (Err (BadMessage at)) is = absurd (refused (reading.BadMessage at) (opens_by (Err (BadMessage at)) is (λ e. cc)) (wrote_by (Err (BadMessage at)) is) (ends_by (Err (BadMessage at)) is) (λ e. cc) (λ e. cc))
   by_answer (Err (Hello cause)) is = absurd (refused (reading.Refusal (InGreeting cause)) (opens_by (Err (Hello cause)) is (λ e. cc)) (wrote_by (Err (Hello cause)) is) (ends_by (Err (Hello cause)) is) (λ e. cc) (λ e. cc))
   by_answer (Err (Core cause)) is = absurd (refused (reading.Refusal (InTalk cause)) (opens_by (Err (Core cause)) is (λ e. cc)) (wrote_by (Err (Core cause)) is) (ends_by (Err (Core cause)) is) (λ e. cc) (λ e. cc))

@@ -1,10 +1,12 @@
 -- How a session that is under way ends.
 use Rattle.std.proofs.Common.{◌≡◌, inl, inr, ℕ, zero, suc, ◌<◌, ◌≤◌, ◌^◌, ◌==◌, length-append, List, [], length, All, Option, None, Some, Ok, Err, IfOk, refl, sym, ap, ◌∙◌, subst, arith, append-nil}
-use Rattle.std.specs.Io.KnownBytes.{Consumes, Appends, Keeps}
+use Rattle.std.specs.Io.KnownBytes.{Consumes, Keeps}
+use Rattle.willow_outside.specs.Told.{Extends}
 use Rattle.std.proofs.lemmas.List.{length-map}
 use Rattle.std.proofs.lemmas.List.Sums.{length-filter, count_by-le-length}
 use Rattle.log_rule.specs.Views.{rows_of_pass}
-use Rattle.std.proofs.KnownBytes.{Consumes-trans, Appends-trans}
+use Rattle.std.proofs.KnownBytes.{Consumes-trans}
+use Rattle.willow_outside.proofs.Extended.{extends-none, extends-trans}
 use Rattle.std.proofs.lemmas.List.Elements.{All-from_recursion}
 use Rattle.willow_outside.specs.Counts.{HasRisen}
 use Rattle.willow_outside.specs.Facts.{LinkFacts}
@@ -29,10 +31,14 @@ use Rattle.sync_link.proofs.CoveredRows.{covered_all}
 use Rattle.sync_link.proofs.Reaching.{chosen, may_chosen, has_read}
 use Rattle.sync_link.proofs.Outcomes.{complete, cut_off}
 
-pub keeps_none : (old new : Option (List ℕ)) → Keeps old new → Consumes old new [] × Appends old new []
-keeps_none None new h = (tt, tt)
+pub keeps_none : (old new : Option (List ℕ)) → Keeps old new → Consumes old new []
+keeps_none None new h = tt
 keeps_none (Some xs) None h = absurd h
-keeps_none (Some xs) (Some ys) h = (sym h, h ∙ sym (append-nil xs))
+keeps_none (Some xs) (Some ys) h = sym h
+
+-- what a failed read left as it was, as what grew by nothing
+pub still : (old new : Option (List ℕ)) → new ≡ old → Extends old new []
+still old new same = same ∙ extends-none old
 
 -- ---- how a session stands, as it is told
 
@@ -88,14 +94,14 @@ module _ (start : Start) (now : Now) (u : IsUnderWay start now) where
       by_number (suc n) e = inr (rows_long ∙ u.tally.full (omega arith))
 
   -- the link gave no more
-  module _ (link : LinkFacts) (left : Consumes now.link.left link.left []) (taken : Appends now.link.taken link.taken []) (held : link.held ≡ now.link.held) where
-    taken_still : Consumes start.link.left link.left u.bytes × Appends start.link.taken link.taken u.bytes
+  module _ (link : LinkFacts) (left : Consumes now.link.left link.left []) (taken : Extends now.link.taken link.taken []) (held : link.held ≡ now.link.held) where
+    taken_still : Consumes start.link.left link.left u.bytes × Extends start.link.taken link.taken u.bytes
     taken_still =
-        subst (λ l. Consumes start.link.left link.left l × Appends start.link.taken link.taken l) (append-nil u.bytes)
-        (Consumes-trans start.link.left now.link.left link.left u.bytes [] u.taken.0 left, Appends-trans start.link.taken now.link.taken link.taken u.bytes [] u.taken.1 taken)
+        subst (λ l. Consumes start.link.left link.left l × Extends start.link.taken link.taken l) (append-nil u.bytes)
+        (Consumes-trans start.link.left now.link.left link.left u.bytes [] u.taken.0 left, extends-trans start.link.taken now.link.taken link.taken u.bytes [] u.taken.1 taken)
 
-    held_still : Appends start.link.held link.held u.written
-    held_still = subst (λ h. Appends start.link.held h u.written) (sym held) u.held
+    held_still : Extends start.link.held link.held u.written
+    held_still = subst (λ h. Extends start.link.held h u.written) (sym held) u.held
 
     pub closed_early : ending_of now.fed.side.stand ≡ reading.More → link.read_faults ≡ now.link.read_faults → link.write_faults ≡ now.link.write_faults → HasRisen now.link.ends link.ends → EndsSo start now.pass link now.faults (ends.ClosedEarly now.count)
     closed_early more reads writes rose =
@@ -112,15 +118,15 @@ module _ (start : Start) (now : Now) (u : IsUnderWay start now) where
     pub read_unkept : now.link.read_faults ≤ link.read_faults → link.write_faults ≡ now.link.write_faults → link.ends ≡ now.link.ends → EndsSo start now.pass link now.faults ends.NoMemory
     read_unkept reads writes same =
         cut_off start now.fed u.bytes u.written u.rows u.reached u.opens now.pass link now.faults u.opening u.tally.grew
-        [] u.written ends.NoMemory tt (front_self u.written)
-        (subst (λ l. Consumes start.link.left link.left l × Appends start.link.taken link.taken l) (sym (append-nil u.bytes)) taken_still) held_still
+        [] u.written ends.NoMemory tt tt (front_self u.written)
+        (subst (λ l. Consumes start.link.left link.left l × Extends start.link.taken link.taken l) (sym (append-nil u.bytes)) taken_still) held_still
         (record { reads = omega (arith, reads, u.reads); writes = omega (arith, writes, u.writes); ends = same ∙ u.ends; signs = u.faults })
 
   pub unkept_room : EndsSo start now.pass now.link now.faults ends.NoMemory
   unkept_room =
       cut_off start now.fed u.bytes u.written u.rows u.reached u.opens now.pass now.link now.faults u.opening u.tally.grew
-      [] u.written ends.NoMemory tt (front_self u.written)
-      (subst (λ l. Consumes start.link.left now.link.left l × Appends start.link.taken now.link.taken l) (sym (append-nil u.bytes)) u.taken) u.held
+      [] u.written ends.NoMemory tt tt (front_self u.written)
+      (subst (λ l. Consumes start.link.left now.link.left l × Extends start.link.taken now.link.taken l) (sym (append-nil u.bytes)) u.taken) u.held
       (record { reads = omega (arith, u.reads); writes = omega (arith, u.writes); ends = u.ends; signs = u.faults })
 
   -- ---- behind the end

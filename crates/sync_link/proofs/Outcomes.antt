@@ -1,6 +1,9 @@
 -- What a session did, by what its side has come to.
 use Rattle.std.proofs.Common.{◌≡◌, ◌⊎◌, inl, inr, ℕ, List, [], ◌++◌, map, length, Ok, Err, IfOk, sym, subst, append-nil}
-use Rattle.std.specs.Io.KnownBytes.{Consumes, Appends}
+use Rattle.std.specs.Io.KnownBytes.{Consumes}
+use Rattle.spelling.specs.Form.{AreBytes}
+use Rattle.spelling.proofs.Lists.{All-append}
+use Rattle.willow_outside.specs.Told.{Extends}
 use mathlib.Core.List.{IsPrefix}
 use Rattle.willow_outside.specs.Facts.{LinkFacts}
 use Rattle.willow_entry.specs.Row.{RowValue, live}
@@ -95,7 +98,7 @@ module _ (start : Start) (side : Fed) (bytes all : List ℕ) (raws : List RawVal
   Did answer = Runs (brought start) start.gives start.pass pass start.link link start.faults faults answer
 
   -- all that is due was written
-  pub complete : (answer : Answer) → Consumes start.link.left link.left bytes × Appends start.link.taken link.taken bytes → Appends start.link.held link.held all
+  pub complete : (answer : Answer) → Consumes start.link.left link.left bytes × Extends start.link.taken link.taken bytes → Extends start.link.held link.held all
       → Ends (ending_of side.side.stand) (length bytes) answer → Covers (log_rows pass.seen) (authorised_rows start.rules start.namespace raws) answer
       → IfOk answer (Reports (brought start signature) start.log bytes raws (length grew.grown) (length pass.seen)) → Counts start.link link start.faults faults answer → Did answer
   complete answer taken held ends covers reported counts =
@@ -110,6 +113,7 @@ module _ (start : Start) (side : Fed) (bytes all : List ℕ) (raws : List RawVal
         later = grew.later;
         opening = opening;
         opens = λ some. opens;
+        are_bytes = r.are_bytes;
         taken = taken;
         held = held;
         signed = subst (λ l. IsProofOf (brought start signature) start.gives l ⊎ IsFront all (hello_spelling start.hello)) (append-nil bytes) (signed_or_quiet start side bytes all raws r []);
@@ -124,10 +128,10 @@ module _ (start : Start) (side : Fed) (bytes all : List ℕ) (raws : List RawVal
       }
 
   -- a front of it, and maybe more was read
-  pub cut_off : (more written : List ℕ) (why : SessionEnd) → IsCut why → IsFront written all
-      → Consumes start.link.left link.left (bytes ++ more) × Appends start.link.taken link.taken (bytes ++ more) → Appends start.link.held link.held written
+  pub cut_off : (more written : List ℕ) (why : SessionEnd) → IsCut why → AreBytes more → IsFront written all
+      → Consumes start.link.left link.left (bytes ++ more) × Extends start.link.taken link.taken (bytes ++ more) → Extends start.link.held link.held written
       → Counts start.link link start.faults faults (Err why) → Did (Err why)
-  cut_off more written why cut front taken held counts =
+  cut_off more written why cut are front taken held counts =
       let h = has_read start side bytes all raws r signature (may_chosen side.side.signature) in
       let machine = session_of (brought start signature) rows in
       record {
@@ -140,6 +144,7 @@ module _ (start : Start) (side : Fed) (bytes all : List ℕ) (raws : List RawVal
         later = grew.later;
         opening = opening;
         opens = λ some. opens;
+        are_bytes = All-append _ bytes more r.are_bytes are;
         taken = taken;
         held = held;
         signed = shorter (signed_or_quiet start side bytes all raws r more);

@@ -1,12 +1,17 @@
 -- A piece that a session takes in: how it goes on, and how it is cut off.
 use Rattle.std.proofs.Common.{◌≡◌, ◌⊎◌, inl, inr, ℕ, ◌+◌, ◌<◌, ◌≤◌, List, [], ◌∷◌, ◌++◌, map, length, take, drop, All, Option, None, Some, Err, refl, sym, ap, ◌∙◌, subst, arith, append-nil, append_assoc, length-append}
+use Rattle.std.specs.Prelude.{IfSome}
 use Rattle.std.proofs.lemmas.List.{take-append-drop}
-use Rattle.std.specs.Io.KnownBytes.{Consumes, Appends}
-use Rattle.std.proofs.KnownBytes.{Consumes-trans, Appends-trans}
+use Rattle.std.specs.Io.KnownBytes.{Consumes}
+use Rattle.spelling.specs.Form.{AreBytes}
+use Rattle.willow_outside.specs.Told.{Extends}
+use Rattle.std.proofs.KnownBytes.{Consumes-trans}
+use Rattle.willow_outside.proofs.Extended.{extends-trans}
 use mathlib.Core.List.{IsPrefix}
 use Rattle.scheme_core.specs.Rules.{Rules}
 use Rattle.willow_outside.specs.Counts.{HasRisen, Rose}
 use Rattle.willow_outside.specs.Facts.{LinkFacts}
+use Rattle.mc_cap.specs.Signature.{IsSignature}
 use Rattle.cap_codec.specs.Rows.{RawValue, IsRaw, row_of}
 use Rattle.auth_entry.specs.Authorised.{AuthorisedValue}
 use Rattle.log_rule.proofs.Prefixes.{prefix_trans}
@@ -46,13 +51,13 @@ was_unsigned : (o : Option (List ℕ)) → ((signature : List ℕ) → MayBe o s
 was_unsigned None h = refl
 was_unsigned (Some made) h = absurd (two_made made (h []) (h (1 ∷ [])))
 
-module _ (start : Start) (now : Now) (u : IsUnderWay start now) (mid : LinkFacts) (piece : List ℕ) (gives : Gives now.link mid piece) where
-  taken_on : Consumes start.link.left mid.left (u.bytes ++ piece) × Appends start.link.taken mid.taken (u.bytes ++ piece)
+module _ (start : Start) (now : Now) (u : IsUnderWay start now) (mid : LinkFacts) (piece : List ℕ) (gives : Gives now.link mid piece) (are_bytes : AreBytes piece) where
+  taken_on : Consumes start.link.left mid.left (u.bytes ++ piece) × Extends start.link.taken mid.taken (u.bytes ++ piece)
   taken_on =
-      (Consumes-trans start.link.left now.link.left mid.left u.bytes piece u.taken.0 gives.left, Appends-trans start.link.taken now.link.taken mid.taken u.bytes piece u.taken.1 gives.taken)
+      (Consumes-trans start.link.left now.link.left mid.left u.bytes piece u.taken.0 gives.left, extends-trans start.link.taken now.link.taken mid.taken u.bytes piece u.taken.1 gives.taken)
 
-  held_on : Appends start.link.held mid.held u.written
-  held_on = subst (λ h. Appends start.link.held h u.written) (sym gives.held) u.held
+  held_on : Extends start.link.held mid.held u.written
+  held_on = subst (λ h. Extends start.link.held h u.written) (sym gives.held) u.held
 
   -- the link as it stands behind the read
   reads_same : mid.read_faults ≡ start.link.read_faults
@@ -71,21 +76,21 @@ module _ (start : Start) (now : Now) (u : IsUnderWay start now) (mid : LinkFacts
   pub unfed : (faults : ℕ) → now.faults ≤ faults → EndsSo start now.pass mid faults ends.NoMemory
   unfed faults more =
       cut_off start now.fed u.bytes u.written u.rows u.reached u.opens now.pass mid faults u.opening u.tally.grew
-      piece u.written ends.NoMemory tt (front_self u.written) taken_on held_on (memory_counts faults more)
+      piece u.written ends.NoMemory tt are_bytes (front_self u.written) taken_on held_on (memory_counts faults more)
 
   pub unsigned : (faults : ℕ) → 1 ≤ start.left → now.faults ≤ faults → FailsSign now.fed.side.signature now.left now.faults faults → EndsSo start now.pass mid faults ends.SignFault
   unsigned faults some more fails =
       cut_off start now.fed u.bytes u.written u.rows u.reached u.opens now.pass mid faults u.opening u.tally.grew
-      piece u.written ends.SignFault tt (front_self u.written) taken_on held_on
+      piece u.written ends.SignFault tt are_bytes (front_self u.written) taken_on held_on
       (record { reads = reads_same; writes = writes_same; ends = ends_same; signs = rises fails.1 })
     where
       rises : (now.left ≡ 0) ⊎ Rose now.faults faults → HasRisen start.faults faults
       rises (inl none) = absurd (omega (arith, u.unsigned fails.0))
       rises (inr rose) = record { never_falls = omega (arith, u.faults); rose = omega (arith, u.faults, rose) }
 
-  module _ (new : Fed) (said : List ℕ) (came : List RawValue) (are : All IsRaw came) (f : Feeds now.fed.side new.side piece [] said [] (map row_of came)) (counts : CountsOn now.fed new piece) (signs : SignsTo start.gives now.fed.side new.side piece) where
+  module _ (new : Fed) (said : List ℕ) (came : List RawValue) (are : All IsRaw came) (f : Feeds now.fed.side new.side piece [] said [] (map row_of came)) (counts : CountsOn now.fed new piece) (signs : SignsTo start.gives now.fed.side new.side piece) (fits : IfSome new.side.signature IsSignature) where
     reached : Reached start new (u.bytes ++ piece) (u.written ++ said) (u.rows ++ came)
-    reached = reached_on start now.fed u.bytes u.written u.rows u.reached new piece said came are f counts signs
+    reached = reached_on start now.fed u.bytes u.written u.rows u.reached new piece said came are_bytes are f counts signs fits
 
     none_more : u.bytes ++ piece ≡ (u.bytes ++ piece) ++ []
     none_more = sym (append-nil (u.bytes ++ piece))
@@ -97,15 +102,15 @@ module _ (start : Start) (now : Now) (u : IsUnderWay start now) (mid : LinkFacts
     pub unkept : (pass : PassValue AuthorisedValue) (faults : ℕ) → IsLater now.pass pass → HasGrown start.rules start.namespace start.pass (u.rows ++ came) pass → now.faults ≤ faults → EndsSo start pass mid faults ends.NoMemory
     unkept pass faults later grew more =
         cut_off start new (u.bytes ++ piece) (u.written ++ said) (u.rows ++ came) reached u.opens pass mid faults (opening_later pass later) grew
-        [] u.written ends.NoMemory tt (front_by u.written (u.written ++ said) said refl)
-        (subst (λ l. Consumes start.link.left mid.left l × Appends start.link.taken mid.taken l) none_more taken_on) held_on (memory_counts faults more)
+        [] u.written ends.NoMemory tt tt (front_by u.written (u.written ++ said) said refl)
+        (subst (λ l. Consumes start.link.left mid.left l × Extends start.link.taken mid.taken l) none_more taken_on) held_on (memory_counts faults more)
 
     module _ (pass : PassValue AuthorisedValue) (later : IsLater now.pass pass) (tally : Tally) (t : IsTally start.rules start.namespace start.pass (u.rows ++ came) pass tally) (link : LinkFacts) (rest : ReadsNothing mid link) where
-      taken_then : Consumes start.link.left link.left (u.bytes ++ piece) × Appends start.link.taken link.taken (u.bytes ++ piece)
-      taken_then = (subst (λ l. Consumes start.link.left l (u.bytes ++ piece)) (sym rest.left) taken_on.0, subst (λ l. Appends start.link.taken l (u.bytes ++ piece)) (sym rest.taken) taken_on.1)
+      taken_then : Consumes start.link.left link.left (u.bytes ++ piece) × Extends start.link.taken link.taken (u.bytes ++ piece)
+      taken_then = (subst (λ l. Consumes start.link.left l (u.bytes ++ piece)) (sym rest.left) taken_on.0, subst (λ l. Extends start.link.taken l (u.bytes ++ piece)) (sym rest.taken) taken_on.1)
 
       -- a write failed, or memory was wanting for it
-      unsent_by : (faults : ℕ) (why : SessionEnd) → (why ≡ ends.LinkWrite) ⊎ (why ≡ ends.NoMemory) → (k : ℕ) → Appends mid.held link.held (take k said) → Counts start.link link start.faults faults (Err why) → EndsSo start pass link faults why
+      unsent_by : (faults : ℕ) (why : SessionEnd) → (why ≡ ends.LinkWrite) ⊎ (why ≡ ends.NoMemory) → (k : ℕ) → Extends mid.held link.held (take k said) → Counts start.link link start.faults faults (Err why) → EndsSo start pass link faults why
       unsent_by faults why is k appends counted =
           by_why is
         where
@@ -115,24 +120,24 @@ module _ (start : Start) (now : Now) (u : IsUnderWay start now) (mid : LinkFacts
           by_why : (why ≡ ends.LinkWrite) ⊎ (why ≡ ends.NoMemory) → EndsSo start pass link faults why
           by_why (inl e) = subst (λ w. EndsSo start pass link faults w) (sym e)
               (cut_off start new (u.bytes ++ piece) (u.written ++ said) (u.rows ++ came) reached u.opens pass link faults (opening_later pass later) t.grew
-              [] (u.written ++ take k said) ends.LinkWrite tt front
-              (subst (λ l. Consumes start.link.left link.left l × Appends start.link.taken link.taken l) none_more taken_then) (Appends-trans start.link.held mid.held link.held u.written (take k said) held_on appends) (subst (λ w. Counts start.link link start.faults faults (Err w)) e counted))
+              [] (u.written ++ take k said) ends.LinkWrite tt tt front
+              (subst (λ l. Consumes start.link.left link.left l × Extends start.link.taken link.taken l) none_more taken_then) (extends-trans start.link.held mid.held link.held u.written (take k said) held_on appends) (subst (λ w. Counts start.link link start.faults faults (Err w)) e counted))
           by_why (inr e) = subst (λ w. EndsSo start pass link faults w) (sym e)
               (cut_off start new (u.bytes ++ piece) (u.written ++ said) (u.rows ++ came) reached u.opens pass link faults (opening_later pass later) t.grew
-              [] (u.written ++ take k said) ends.NoMemory tt front
-              (subst (λ l. Consumes start.link.left link.left l × Appends start.link.taken link.taken l) none_more taken_then) (Appends-trans start.link.held mid.held link.held u.written (take k said) held_on appends) (subst (λ w. Counts start.link link start.faults faults (Err w)) e counted))
+              [] (u.written ++ take k said) ends.NoMemory tt tt front
+              (subst (λ l. Consumes start.link.left link.left l × Extends start.link.taken link.taken l) none_more taken_then) (extends-trans start.link.held mid.held link.held u.written (take k said) held_on appends) (subst (λ w. Counts start.link link start.faults faults (Err w)) e counted))
 
-      pub unsent_failed : (faults : ℕ) → now.faults ≤ faults → ((k : ℕ) × (k < length said) × Appends mid.held link.held (take k said)) → HasRisen mid.write_faults link.write_faults → EndsSo start pass link faults ends.LinkWrite
+      pub unsent_failed : (faults : ℕ) → now.faults ≤ faults → ((k : ℕ) × (k < length said) × Extends mid.held link.held (take k said)) → HasRisen mid.write_faults link.write_faults → EndsSo start pass link faults ends.LinkWrite
       unsent_failed faults more all rose =
           unsent_by faults ends.LinkWrite (inl refl) all.0 all.2
           (record { reads = rest.faults ∙ reads_same; writes = subst (λ n. HasRisen n link.write_faults) writes_same rose; ends = rest.ends ∙ ends_same; signs = omega (arith, u.faults, more) })
 
-      pub unsent_unkept : (faults : ℕ) → now.faults ≤ faults → ((k : ℕ) × (k < length said) × Appends mid.held link.held (take k said)) → mid.write_faults ≤ link.write_faults → EndsSo start pass link faults ends.NoMemory
+      pub unsent_unkept : (faults : ℕ) → now.faults ≤ faults → ((k : ℕ) × (k < length said) × Extends mid.held link.held (take k said)) → mid.write_faults ≤ link.write_faults → EndsSo start pass link faults ends.NoMemory
       unsent_unkept faults more all rose =
           unsent_by faults ends.NoMemory (inr refl) all.0 all.2
           (record { reads = omega (arith, rest.faults, reads_same); writes = omega (arith, rose, writes_same); ends = rest.ends ∙ ends_same; signs = omega (arith, u.faults, more) })
 
-      pub goes_on : (count left faults : ℕ) → count ≡ now.count + length piece → (new.side.signature ≡ None → left ≡ now.left) → now.faults ≤ faults → Appends mid.held link.held said → link.write_faults ≡ mid.write_faults
+      pub goes_on : (count left faults : ℕ) → count ≡ now.count + length piece → (new.side.signature ≡ None → left ≡ now.left) → now.faults ≤ faults → Extends mid.held link.held said → link.write_faults ≡ mid.write_faults
           → IsUnderWay start (record { fed = new; tally = tally; count = count; pass = pass; link = link; left = left; faults = faults })
       goes_on count left faults counted asks more appends writes = record {
         bytes = u.bytes ++ piece;
@@ -142,7 +147,7 @@ module _ (start : Start) (now : Now) (u : IsUnderWay start now) (mid : LinkFacts
         opens = u.opens;
         opening = opening_later pass later;
         taken = taken_then;
-        held = Appends-trans start.link.held mid.held link.held u.written said held_on appends;
+        held = extends-trans start.link.held mid.held link.held u.written said held_on appends;
         count = omega (arith, counted, u.count, length-append u.bytes piece);
         unsigned = λ none. asks none ∙ u.unsigned (was_unsigned now.fed.side.signature (λ signature. f.signed_once signature (subst (λ o. MayBe o signature) (sym none) tt)));
         tally = t;

@@ -1,8 +1,11 @@
 -- What the side of a session has come to, piece by piece.
 use Rattle.std.proofs.Common.{◌≡◌, ◌⊎◌, inl, inr, true, ℕ, List, [], ◌∷◌, ◌++◌, map, flat_map, All, Option, None, Some, refl, sym, ap, ◌∙◌, subst, append_assoc, append-nil}
+use Rattle.std.specs.Prelude.{IfSome}
 use Rattle.std.proofs.lemmas.List.{map-append, append_cancel_left}
 use Rattle.std.proofs.lemmas.List.Elements.{All-append}
-use Rattle.mc_cap.specs.Signature.{signature_spelling}
+use Rattle.spelling.specs.Form.{AreBytes}
+use Rattle.spelling.proofs.Lists.{All-append as bytes_on}
+use Rattle.mc_cap.specs.Signature.{signature_spelling, IsSignature}
 use Rattle.willow_entry.specs.Row.{RowValue, live}
 use Rattle.cap_codec.specs.Rows.{RawValue, IsRaw, row_of}
 use Rattle.sync_hello.specs.HelloForm.{hello_spelling}
@@ -99,7 +102,7 @@ module _ (start : Start) where
     signed_or_quiet more = by_case side.side.signature refl
       where
         longer : (signature : List ℕ) → IsProofOf (brought start signature) start.gives bytes → IsProofOf (brought start signature) start.gives (bytes ++ more)
-        longer signature p = record { other = p.other; stands = hello_longer (greeting start.rules start.namespace) places (own_part (brought start signature)) rows bytes more p.other p.stands; given = p.given }
+        longer signature p = record { other = p.other; stands = hello_longer (greeting start.rules start.namespace) places (own_part (brought start signature)) rows bytes more p.other p.stands; given = p.given; fits = p.fits }
 
         by_case : (made : Option (List ℕ)) → side.side.signature ≡ made → IsProofOf (brought start (chosen made)) start.gives (bytes ++ more) ⊎ IsFront written own
         by_case None e = inr (unsigned_quiet bytes written (λ signature. (has_read signature (subst (λ o. MayBe o signature) (sym e) tt)).wrote))
@@ -110,8 +113,8 @@ module _ (start : Start) where
     abbrev stands_at : List ℕ → Stand SessionStage SessionCause
     stands_at signature = (read (here signature) (started (here signature)) bytes).stand
 
-    signs_for : (signature piece : List ℕ) → MayBe side.side.signature signature → SignsFor start.gives side.side piece signature → IsProofOf (brought start signature) start.gives (bytes ++ piece)
-    signs_for signature piece may s =
+    signs_for : (signature piece : List ℕ) → MayBe side.side.signature signature → IsSignature signature → SignsFor start.gives side.side piece signature → IsProofOf (brought start signature) start.gives (bytes ++ piece)
+    signs_for signature piece may fits s =
         let h = has_read signature may in
         let g = greeting start.rules start.namespace in
         let o = own_part (brought start signature) in
@@ -124,16 +127,18 @@ module _ (start : Start) where
           other = s.other;
           stands = subst (λ l. HasHello g l s.other) (append_assoc bytes s.front s.behind ∙ ap (λ l. bytes ++ l) (sym s.joined)) (hello_longer g places o rows (bytes ++ s.front) s.behind s.other front);
           given = subst (λ (x : Side). start.gives (own_message x.role x.hello s.other) signature ≡ true) r.side_is s.given;
+          fits = fits;
         }
 
-    pub reached_on : (new : Fed) (piece said : List ℕ) (came : List RawValue) → All IsRaw came
-        → (f : Feeds side.side new.side piece [] said [] (map row_of came)) → CountsOn side new piece → SignsTo start.gives side.side new.side piece
+    pub reached_on : (new : Fed) (piece said : List ℕ) (came : List RawValue) → AreBytes piece → All IsRaw came
+        → (f : Feeds side.side new.side piece [] said [] (map row_of came)) → CountsOn side new piece → SignsTo start.gives side.side new.side piece → IfSome new.side.signature IsSignature
         → Reached start new (bytes ++ piece) (written ++ said) (raws ++ came)
-    reached_on new piece said came are f counts signs =
+    reached_on new piece said came are_bytes are f counts signs fits =
         let on = reads_on side new bytes piece written [] said (map row_of raws) [] (map row_of came) r.read f counts in
         let rows_on : map row_of raws ++ f.taken ≡ map row_of (raws ++ came) = ap (λ l. map row_of raws ++ l) (sym f.got) ∙ sym (map-append row_of raws came) in
         record {
           side_is = f.kept ∙ ap (λ (x : Side). record x { signature = new.side.signature; stand = new.side.stand }) r.side_is;
+          are_bytes = bytes_on _ bytes piece r.are_bytes are_bytes;
           read = subst (λ l. HaveRead new (bytes ++ piece) (written ++ said) l) rows_on (subst (λ l. HaveRead new (bytes ++ piece) (written ++ l) (map row_of raws ++ f.taken)) (sym f.wrote) on);
           read_out = All-append IsRaw raws came r.read_out are;
           signed = λ signature e. by_case signature e (signs signature e);
@@ -142,5 +147,5 @@ module _ (start : Start) where
         by_case : (signature : List ℕ) → new.side.signature ≡ Some signature → (side.side.signature ≡ Some signature) ⊎ SignsFor start.gives side.side piece signature → IsProofOf (brought start signature) start.gives (bytes ++ piece)
         by_case signature e (inl old) =
             let p = r.signed signature old in
-            record { other = p.other; stands = hello_longer (greeting start.rules start.namespace) places (own_part (brought start signature)) rows bytes piece p.other p.stands; given = p.given }
-        by_case signature e (inr s) = signs_for signature piece (f.signed_once signature (subst (λ o. MayBe o signature) (sym e) refl)) s
+            record { other = p.other; stands = hello_longer (greeting start.rules start.namespace) places (own_part (brought start signature)) rows bytes piece p.other p.stands; given = p.given; fits = p.fits }
+        by_case signature e (inr s) = signs_for signature piece (f.signed_once signature (subst (λ o. MayBe o signature) (sym e) refl)) (subst (λ o. IfSome o IsSignature) e fits) s

@@ -158,10 +158,10 @@ most_counted own other = max 3 (3 * (own + other))
 
 -- ---- a session that comes to its end
 
--- whatever signature the signer may give of a message is one of the own capability's receiver
+-- whatever the signer may give of a message, and is a signature in form, is one of the own capability's receiver
 abbrev pub SignsWell : {p : List ℕ → Party} → Ran p → Type 0
-SignsWell ran = (message signature : List ℕ) → ran.gives message signature ≡ true
-    → IsSignature signature × IsTrue ((side ran).rules.user (receiver_of (side ran).hello.capability) message signature)
+SignsWell ran = (message signature : List ℕ) → IsSignature signature → ran.gives message signature ≡ true
+    → IsTrue ((side ran).rules.user (receiver_of (side ran).hello.capability) message signature)
 
 -- no count of faults rose, of reads, of writes or of the signer
 pub record IsFaultless {p : List ℕ → Party} (ran : Ran p) : Type 0 where

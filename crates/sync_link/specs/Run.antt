@@ -1,11 +1,14 @@
 -- What a session does.
 use Rattle.std.specs.Prelude.{◌≡◌, ◌⊎◌, ℕ, ◌+◌, ◌≤◌, Bool, true, List, ◌++◌, map, length, All, Result, Ok, Err, IfOk}
-use Rattle.std.specs.Io.KnownBytes.{Consumes, Appends}
+use Rattle.std.specs.Io.KnownBytes.{Consumes}
+use Rattle.spelling.specs.Form.{AreBytes}
+use Rattle.willow_outside.specs.Told.{Extends}
 use mathlib.Core.List.{IsPrefix}
 use Rattle.willow_outside.specs.Counts.{HasRisen}
 use Rattle.willow_outside.specs.Facts.{LinkFacts}
 use Rattle.willow_entry.specs.Row.{RowValue, HasCovering, live}
 use Rattle.willow_entry.specs.declared.row.LogRow.{LogRow}
+use Rattle.mc_cap.specs.Signature.{IsSignature}
 use Rattle.cap_codec.specs.Rows.{RawValue, IsRaw, row_of}
 use Rattle.auth_entry.specs.Authorised.{AuthorisedValue}
 use Rattle.ns_state.specs.declared.live_log.TheConstants.{LOG_LIMIT}
@@ -160,20 +163,21 @@ pub record Reports (p : Party) (log : List (LogRow AuthorisedValue)) (bytes : Li
 
 -- ---- all of it
 
--- The signature is one that the signer may give of the proof message of the own hello and of one that passes in front of the
--- bytes.
+-- The signature is one in form, and one that the signer may give of the proof message of the own hello and of one that passes
+-- in front of the bytes.
 pub record IsProofOf (p : Party) (gives : List ℕ → List ℕ → Bool) (bytes : List ℕ) : Type 0 where
   pub other : hello.Hello
   pub stands : HasHello (greeting p.rules p.namespace) bytes other
   pub given : gives (own_message p.role p.hello other) p.signature ≡ true
+  pub fits : IsSignature p.signature
 
 -- What a session did, of a side that brings this, each by its signature: to its pass and to its link.
 -- `signature`: the own proof. The signer may give it for this session, unless no more was written than the own hello
 -- (`signed`).
 -- `log`: the log as the session began, with all that the pass had seen (`opening`); what is live of it are the own rows,
 -- which can be told to the other (`opens`).
--- `bytes`, `written`: what was read of the link and written to it (`taken`, `held`). The latter is all that is due to the
--- former, or a front of it (`wrote`), and the session ends so (`ended`).
+-- `bytes`, `written`: what was read of the link, each number a byte (`are_bytes`), and what was written to it (`taken`,
+-- `held`). The latter is all that is due to the former, or a front of it (`wrote`), and the session ends so (`ended`).
 -- `rows`: the rows that came, read out (`sent`). Some of those that are authorised came to the own list, in their order
 -- (`grew`), and the log covers them all where there was room (`covers`).
 -- `reported`, `counted`: the numbers of the report, and the counts that tell of faults.
@@ -187,8 +191,9 @@ pub record Runs (p : List ℕ → Party) (gives : List ℕ → List ℕ → Bool
   pub later : IsLater before after
   pub opening : IsPrefix before.seen log × IsPrefix log after.seen
   pub opens : (answer ≡ Err NoMemory → ⊥) → IsOpening (p signature).namespace (live (log_rows log))
-  pub taken : Consumes link.left link'.left bytes × Appends link.taken link'.taken bytes
-  pub held : Appends link.held link'.held written
+  pub are_bytes : AreBytes bytes
+  pub taken : Consumes link.left link'.left bytes × Extends link.taken link'.taken bytes
+  pub held : Extends link.held link'.held written
   pub signed : IsProofOf (p signature) gives bytes ⊎ IsFront written (hello_spelling (p signature).hello)
   pub wrote : IsAllOf (out (p signature) (live (log_rows log)) bytes) written answer
   pub ended : Ends (ending (p signature) (live (log_rows log)) bytes) (length bytes) answer

@@ -1,6 +1,8 @@
 -- A session that is under way: what it did so far.
 use Rattle.std.specs.Prelude.{◌≡◌, ℕ, ◌≤◌, ◌<◌, ◌^◌, Bool, List, map, length, All, None, Some, Result, Ok, Err}
-use Rattle.std.specs.Io.KnownBytes.{Consumes, Appends}
+use Rattle.std.specs.Io.KnownBytes.{Consumes}
+use Rattle.spelling.specs.Form.{AreBytes}
+use Rattle.willow_outside.specs.Told.{Extends}
 use mathlib.Core.List.{IsPrefix}
 use Rattle.scheme_core.specs.Rules.{Rules}
 use Rattle.willow_outside.specs.Facts.{LinkFacts}
@@ -35,7 +37,7 @@ pub record ReadsNothing (before now : LinkFacts) : Type 0 where
 -- The link gave just these bytes, and all else of it is as it was.
 pub record Gives (before now : LinkFacts) (bytes : List ℕ) : Type 0 where
   pub left : Consumes before.left now.left bytes
-  pub taken : Appends before.taken now.taken bytes
+  pub taken : Extends before.taken now.taken bytes
   pub held : now.held ≡ before.held
   pub reads : now.read_faults ≡ before.read_faults
   pub writes : now.write_faults ≡ before.write_faults
@@ -106,6 +108,7 @@ IsSideOf start side = side ≡ record side { rules = start.rules; namespace = st
 -- it is signed, its signer may give that for this session.
 pub record Reached (start : Start) (side : Fed) (bytes written : List ℕ) (rows : List RawValue) : Type 0 where
   pub side_is : IsSideOf start side.side
+  pub are_bytes : AreBytes bytes
   pub read : HaveRead side bytes written (map row_of rows)
   pub read_out : All IsRaw rows
   pub signed : (signature : List ℕ) → side.side.signature ≡ Some signature → IsProofOf (brought start signature) start.gives bytes
@@ -119,8 +122,8 @@ pub record IsUnderWay (start : Start) (now : Now) : Type 0 where
   pub reached : Reached start now.fed bytes written rows
   pub opens : IsOpening start.namespace (live (log_rows start.log))
   pub opening : IsPrefix start.pass.seen start.log × IsPrefix start.log now.pass.seen
-  pub taken : Consumes start.link.left now.link.left bytes × Appends start.link.taken now.link.taken bytes
-  pub held : Appends start.link.held now.link.held written
+  pub taken : Consumes start.link.left now.link.left bytes × Extends start.link.taken now.link.taken bytes
+  pub held : Extends start.link.held now.link.held written
   pub count : now.count ≡ length bytes
   pub unsigned : now.fed.side.signature ≡ None → now.left ≡ start.left
   pub tally : IsTally start.rules start.namespace start.pass rows now.pass now.tally

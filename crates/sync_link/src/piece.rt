@@ -109,6 +109,7 @@ fn take_piece<R: Wait + Threads + Sync, S: Scheme, C: Checker<S>, K: Signer, L: 
     }
     session.count = count;
     known_raws(&rows);
+    session.speaker.known_signature();
     match take_rows(rt, alloc, cell, pass, checker, &mut session.tally, rows) {
         Ok(()) => {}
         Err(_) => return Err(SessionEnd::NoMemory),

@@ -1,7 +1,6 @@
 //! What holds of sessions that were run. These functions do nothing: each is called, if at all, for its clauses.
 
 ghost use Rattle.std.specs.Prelude.{◌≡◌, ◌⊎◌, ℕ, ◌+◌, ◌≤◌, List, All, length, Ok, Err};
-ghost use Rattle.spelling.specs.Form.{AreBytes};
 ghost use Rattle.willow_area.specs.Area.{IsArea};
 ghost use Rattle.willow_entry.specs.EntryForm.{IsEntry};
 ghost use Rattle.willow_entry.specs.Row.{RowValue, HasCovering, join};
@@ -26,8 +25,7 @@ pub fn runs_alike()
 /// front of that; there each item stands behind an accepted hello and proof, and each row is one that the hello's capability
 /// grants.
 pub fn runs_granted()
-    ensures { (p : List ℕ → Party) (ran : Ran p)
-        → AreBytes ran.did.bytes → IsArea (side ran).hello.ask
+    ensures { (p : List ℕ → Party) (ran : Ran p) → IsArea (side ran).hello.ask
         → (ran.answer ≡ Err NoMemory → All (λ row. IsEntry row.entry) (opening_of ran))
         → TellsGranted ran }
 {}
@@ -70,6 +68,6 @@ pub fn runs_join()
 /// memory was wanting.
 pub fn runs_end()
     ensures { (p : List ℕ → Party) (ran : Ran p) (q : Party) (others : List RowValue)
-        → HasOther ran q others → SignsWell ran → IsFaultless ran → AreBytes ran.did.bytes
+        → HasOther ran q others → SignsWell ran → IsFaultless ran
         → IsDone ran.answer ⊎ (ran.answer ≡ Err NoMemory) }
 {}

@@ -1,7 +1,7 @@
 //! Writing to a link.
 
 ghost use Rattle.willow_outside.specs.Counts.{CountsFault};
-ghost use Rattle.willow_outside.specs.Whole.{GivesAll};
+ghost use Rattle.willow_outside.specs.Told.{ExtendsAll};
 ghost use Rattle.sync_link.specs.UnderWay.{ReadsNothing};
 
 use willow_outside::{Fault, Link};
@@ -9,7 +9,7 @@ use willow_outside::{Fault, Link};
 // Writes all of the bytes to the link. After a fault, which ends it, the link holds a front of them more, but not all.
 // Where there are none the link is not called.
 pub(crate) fn send<L: Link>(link: &mut L, bytes: &[u8]) -> Result<(), Fault>
-    ensures held { GivesAll (L.facts link.old).held (L.facts link.new).held bytes.now result }
+    ensures held { ExtendsAll (L.facts link.old).held (L.facts link.new).held bytes.now result }
     ensures cause { CountsFault (L.facts link.old).write_faults (L.facts link.new).write_faults result }
     ensures rest { ReadsNothing (L.facts link.old) (L.facts link.new) }
 {

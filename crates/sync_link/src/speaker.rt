@@ -1,6 +1,7 @@
 //! The side of a session that is fed with the bytes of the other, in whatever pieces they come.
 
-ghost use Rattle.std.specs.Prelude.{◌≡◌, ◌++◌, ◌≤◌, map, IfOk, IsErrOf, OnErr, OnOk};
+ghost use Rattle.std.specs.Prelude.{◌≡◌, ◌++◌, ◌≤◌, map, IfOk, IfSome, IsErrOf, OnErr, OnOk};
+ghost use Rattle.mc_cap.specs.Signature.{IsSignature};
 ghost use Rattle.cap_codec.specs.Rows.{row_of};
 ghost use Rattle.sync_hello.specs.HelloForm.{HasSpelling};
 ghost use Rattle.session_rules.specs.Reading.{ending_of};
@@ -131,6 +132,18 @@ impl<R: Row, S: Verify> Speaker<R, S> {
             Due::Nothing(Cause::Bad) => Standing::BadMessage { at: self.ear.at },
             Due::Nothing(Cause::Hello(cause)) => Standing::Hello(*cause),
             Due::Nothing(Cause::Core(cause)) => Standing::Core(*cause),
+        }
+    }
+
+    // Does nothing: it is called for its clause, that what was made as its signature is one in form.
+    pub(crate) fn known_signature(&self)
+        ensures { IfSome self.now.signature IsSignature }
+    {
+        match &self.talker.signature {
+            None => {}
+            Some(signature) => {
+                let _bytes = signature.as_slice();
+            }
         }
     }
 

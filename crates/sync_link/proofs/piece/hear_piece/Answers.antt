@@ -1,9 +1,10 @@
 use Rattle.std.proofs.Common.{◌≡◌, ◌<◌, ℕ, take, [], subst, arith}
-use Rattle.std.specs.Io.KnownBytes.{Consumes, Appends}
+use Rattle.std.specs.Io.KnownBytes.{Consumes}
+use Rattle.willow_outside.specs.Told.{Extends}
 use Rattle.willow_outside.specs.Counts.{CountsCause}
 use Rattle.willow_outside.specs.declared.fault.Fault.{Fault}
 use Rattle.sync_link.specs.UnderWay.{now_of}
-use Rattle.sync_link.proofs.LinkEnds.{closed_early, read_failed, read_unkept, keeps_none}
+use Rattle.sync_link.proofs.LinkEnds.{closed_early, read_failed, read_unkept, keeps_none, still}
 use Rattle.sync_link.proofs.piece.hear_piece.Goals as goal
 
 pub returns-in-Err-Failed-clause-goes_on : goal.returns-in-Err-Failed-clause-goes_on
@@ -12,7 +13,7 @@ returns-in-Err-Failed-clause-goes_on g c start rules namespace gives some u =
     let link = g.L.Link.facts c.read.new.self in
     let now = now_of g.S.Verify.rules c.args.session.now c.args.pass.now old (g.K.Signer.left c.args.signer.now) (g.K.Signer.faults c.args.signer.now) in
     let rose = subst (λ (x : Fault). CountsCause old.read_faults link.read_faults x) c.in-Err-Failed.field-0-is c.in-Err-Failed.ensures.cause in
-    read_failed start now u link (keeps_none old.left link.left c.in-Err-Failed.ensures.bytes).0 (keeps_none old.taken link.taken c.in-Err-Failed.ensures.taken).1 c.read.ensures.held c.requires.open rose c.read.ensures.write_faults c.in-Err-Failed.ensures.end
+    read_failed start now u link (keeps_none old.left link.left c.in-Err-Failed.ensures.bytes) (still old.taken link.taken c.in-Err-Failed.ensures.taken) c.read.ensures.held c.requires.open rose c.read.ensures.write_faults c.in-Err-Failed.ensures.end
 
 pub returns-in-Err-NoMemory-clause-goes_on : goal.returns-in-Err-NoMemory-clause-goes_on
 returns-in-Err-NoMemory-clause-goes_on g c start rules namespace gives some u =
@@ -20,7 +21,7 @@ returns-in-Err-NoMemory-clause-goes_on g c start rules namespace gives some u =
     let link = g.L.Link.facts c.read.new.self in
     let now = now_of g.S.Verify.rules c.args.session.now c.args.pass.now old (g.K.Signer.left c.args.signer.now) (g.K.Signer.faults c.args.signer.now) in
     let more = subst (λ (x : Fault). CountsCause old.read_faults link.read_faults x) c.in-Err-NoMemory.field-0-is c.in-Err-NoMemory.ensures.cause in
-    read_unkept start now u link (keeps_none old.left link.left c.in-Err-NoMemory.ensures.bytes).0 (keeps_none old.taken link.taken c.in-Err-NoMemory.ensures.taken).1 c.read.ensures.held more c.read.ensures.write_faults c.in-Err-NoMemory.ensures.end
+    read_unkept start now u link (keeps_none old.left link.left c.in-Err-NoMemory.ensures.bytes) (still old.taken link.taken c.in-Err-NoMemory.ensures.taken) c.read.ensures.held more c.read.ensures.write_faults c.in-Err-NoMemory.ensures.end
 
 pub returns-in-Ok-eq0-clause-goes_on : goal.returns-in-Ok-eq0-clause-goes_on
 returns-in-Ok-eq0-clause-goes_on g c start rules namespace gives some u =
@@ -29,7 +30,7 @@ returns-in-Ok-eq0-clause-goes_on g c start rules namespace gives some u =
     let now = now_of g.S.Verify.rules c.args.session.now c.args.pass.now old (g.K.Signer.left c.args.signer.now) (g.K.Signer.faults c.args.signer.now) in
     let e : c.in-Ok-eq0.field-0 ≡ 0 = c.in-Ok-eq0.field-0-test in
     let left : Consumes old.left link.left [] = subst (λ (n : ℕ). Consumes old.left link.left (take n c.read.new.buf)) e c.in-Ok-eq0.ensures.bytes.0 in
-    let taken : Appends old.taken link.taken [] = subst (λ (n : ℕ). Appends old.taken link.taken (take n c.read.new.buf)) e c.in-Ok-eq0.ensures.taken in
+    let taken : Extends old.taken link.taken [] = subst (λ (n : ℕ). Extends old.taken link.taken (take n c.read.new.buf)) e c.in-Ok-eq0.ensures.taken in
     closed_early start now u link left taken c.read.ensures.held c.requires.open c.in-Ok-eq0.ensures.cause c.read.ensures.write_faults
     (record { never_falls = c.in-Ok-eq0.ensures.end.never_falls; rose = c.in-Ok-eq0.ensures.end.at_end e (omega (arith, c.requires.room, c.read.auto.buf)) })
 

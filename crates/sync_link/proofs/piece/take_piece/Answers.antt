@@ -1,5 +1,6 @@
 use Rattle.std.proofs.Common.{◌++◌, ◌<◌, take, ℕ, Bool, List, [], map, length, All, Err, sym, ap, subst, arith}
-use Rattle.std.specs.Io.KnownBytes.{Appends}
+use Rattle.spelling.proofs.Lists.{are_bytes}
+use Rattle.willow_outside.specs.Told.{Extends}
 use Rattle.cap_codec.specs.Rows.{RawValue, IsRaw, row_of}
 use Rattle.sync_link.specs.Fed.{fed_in}
 use Rattle.sync_link.specs.Standing.{Feeds}
@@ -15,17 +16,17 @@ use Rattle.sync_link.proofs.piece.take_piece.Goals as goal
 pub returns-in-None-clause-goes_on : goal.returns-in-None-clause-goes_on
 returns-in-None-clause-goes_on g c start before rules namespace gives some u given =
     let now = now_of g.S.Verify.rules c.args.session.now c.args.pass.now before (g.K.Signer.left c.args.signer.now) (g.K.Signer.faults c.args.signer.now) in
-    unfed start now u (g.L.Link.facts c.args.link.now) c.args.piece.now given (g.K.Signer.faults c.args.signer.now) (omega arith)
+    unfed start now u (g.L.Link.facts c.args.link.now) c.args.piece.now given (are_bytes c.args.piece.now c.type_inv.piece) (g.K.Signer.faults c.args.signer.now) (omega arith)
 
 pub returns-in-Err-NoMemory-clause-goes_on : goal.returns-in-Err-NoMemory-clause-goes_on
 returns-in-Err-NoMemory-clause-goes_on g c start before rules namespace gives some u given =
     let now = now_of g.S.Verify.rules c.args.session.now c.args.pass.now before (g.K.Signer.left c.args.signer.now) (g.K.Signer.faults c.args.signer.now) in
-    unfed start now u (g.L.Link.facts c.args.link.now) c.args.piece.now given (g.K.Signer.faults c.feed.new.signer) c.feed.ensures.faults
+    unfed start now u (g.L.Link.facts c.args.link.now) c.args.piece.now given (are_bytes c.args.piece.now c.type_inv.piece) (g.K.Signer.faults c.feed.new.signer) c.feed.ensures.faults
 
 pub returns-in-Err-SignFault-clause-goes_on : goal.returns-in-Err-SignFault-clause-goes_on
 returns-in-Err-SignFault-clause-goes_on g c start before rules namespace gives some u given =
     let now = now_of g.S.Verify.rules c.args.session.now c.args.pass.now before (g.K.Signer.left c.args.signer.now) (g.K.Signer.faults c.args.signer.now) in
-    unsigned start now u (g.L.Link.facts c.args.link.now) c.args.piece.now given (g.K.Signer.faults c.feed.new.signer) some c.feed.ensures.faults (c.in-Err-SignFault.ensures.failed (ap (λ (x : Stop). Err x) c.in-Err-SignFault.field-0-is))
+    unsigned start now u (g.L.Link.facts c.args.link.now) c.args.piece.now given (are_bytes c.args.piece.now c.type_inv.piece) (g.K.Signer.faults c.feed.new.signer) some c.feed.ensures.faults (c.in-Err-SignFault.ensures.failed (ap (λ (x : Stop). Err x) c.in-Err-SignFault.field-0-is))
 
 pub take_rows-requires-clause-few : goal.take_rows-requires-clause-few
 take_rows-requires-clause-few g c κs within =
@@ -50,7 +51,7 @@ returns-in-Err-clause-goes_on g c start before rules namespace gives some u give
     let signs = subst (λ (x : List ℕ → List ℕ → Bool). SignsTo x now.fed.side new.side c.args.piece.now) (sym gives) c.in-Ok.ensures.greets in
     let t = tally_as start.rules rules' start.namespace n start.pass u.rows c.args.pass.now c.args.session.now.tally rules namespace u.tally in
     let grew = grown_as rules' start.rules n start.namespace start.pass (u.rows ++ came) c.take_rows.new.pass (sym rules) (sym namespace) (c.in-Err.ensures.takes start.pass u.rows t) in
-    unkept start now u mid c.args.piece.now given new said came (subst (λ (l : List RawValue). All IsRaw l) c.deref.ensures.value c.known_raws.ensures) f c.in-Ok.ensures.counts signs c.take_rows.new.pass (g.K.Signer.faults c.feed.new.signer) c.take_rows.ensures.later grew c.feed.ensures.faults
+    unkept start now u mid c.args.piece.now given (are_bytes c.args.piece.now c.type_inv.piece) new said came (subst (λ (l : List RawValue). All IsRaw l) c.deref.ensures.value c.known_raws.ensures) f c.in-Ok.ensures.counts signs c.known_signature.ensures c.take_rows.new.pass (g.K.Signer.faults c.feed.new.signer) c.take_rows.ensures.later grew c.feed.ensures.faults
 
 pub returns-in-Ok-send-clause-counted : goal.returns-in-Ok-send-clause-counted
 returns-in-Ok-send-clause-counted g c =
@@ -76,8 +77,8 @@ returns-in-Ok-send-clause-goes_on g c start before rules namespace gives some u 
     let signs = subst (λ (x : List ℕ → List ℕ → Bool). SignsTo x now.fed.side new.side c.args.piece.now) (sym gives) c.in-Ok.ensures.greets in
     let t = tally_as start.rules rules' start.namespace n start.pass u.rows c.args.pass.now c.args.session.now.tally rules namespace u.tally in
     let t' = tally_as rules' start.rules n start.namespace start.pass (u.rows ++ came) c.take_rows.new.pass c.take_rows.new.tally (sym rules) (sym namespace) (c.in-Ok-take_rows.ensures.takes start.pass u.rows t) in
-    goes_on start now u mid c.args.piece.now given new said came (subst (λ (l : List RawValue). All IsRaw l) c.deref.ensures.value c.known_raws.ensures) f c.in-Ok.ensures.counts signs c.take_rows.new.pass c.take_rows.ensures.later c.take_rows.new.tally t' (g.L.Link.facts c.send.new.link) c.send.ensures.rest
-    c.in-Some.count (g.K.Signer.left c.feed.new.signer) (g.K.Signer.faults c.feed.new.signer) (omega (arith, c.in-Some.ensures)) c.in-Ok.ensures.asks c.feed.ensures.faults (subst (λ (l : List ℕ). Appends mid.held (g.L.Link.facts c.send.new.link).held l) c.deref-2.ensures.value c.in-Ok-send.ensures.held) c.in-Ok-send.ensures.cause
+    goes_on start now u mid c.args.piece.now given (are_bytes c.args.piece.now c.type_inv.piece) new said came (subst (λ (l : List RawValue). All IsRaw l) c.deref.ensures.value c.known_raws.ensures) f c.in-Ok.ensures.counts signs c.known_signature.ensures c.take_rows.new.pass c.take_rows.ensures.later c.take_rows.new.tally t' (g.L.Link.facts c.send.new.link) c.send.ensures.rest
+    c.in-Some.count (g.K.Signer.left c.feed.new.signer) (g.K.Signer.faults c.feed.new.signer) (omega (arith, c.in-Some.ensures)) c.in-Ok.ensures.asks c.feed.ensures.faults (subst (λ (l : List ℕ). Extends mid.held (g.L.Link.facts c.send.new.link).held l) c.deref-2.ensures.value c.in-Ok-send.ensures.held) c.in-Ok-send.ensures.cause
 
 pub returns-in-Err-Failed-clause-goes_on : goal.returns-in-Err-Failed-clause-goes_on
 returns-in-Err-Failed-clause-goes_on g c start before rules namespace gives some u given =
@@ -93,8 +94,8 @@ returns-in-Err-Failed-clause-goes_on g c start before rules namespace gives some
     let t = tally_as start.rules rules' start.namespace n start.pass u.rows c.args.pass.now c.args.session.now.tally rules namespace u.tally in
     let t' = tally_as rules' start.rules n start.namespace start.pass (u.rows ++ came) c.take_rows.new.pass c.take_rows.new.tally (sym rules) (sym namespace) (c.in-Ok-take_rows.ensures.takes start.pass u.rows t) in
     let rose = subst (λ (x : Fault). CountsCause mid.write_faults (g.L.Link.facts c.send.new.link).write_faults x) c.in-Err-Failed.field-0-is c.in-Err-Failed.ensures.cause in
-    unsent_failed start now u mid c.args.piece.now given new said came (subst (λ (l : List RawValue). All IsRaw l) c.deref.ensures.value c.known_raws.ensures) f c.in-Ok.ensures.counts signs c.take_rows.new.pass c.take_rows.ensures.later c.take_rows.new.tally t' (g.L.Link.facts c.send.new.link) c.send.ensures.rest
-    (g.K.Signer.faults c.feed.new.signer) c.feed.ensures.faults (subst (λ (l : List ℕ). (k : ℕ) × (k < length l) × Appends mid.held (g.L.Link.facts c.send.new.link).held (take k l)) c.deref-2.ensures.value c.in-Err-Failed.ensures.held) rose
+    unsent_failed start now u mid c.args.piece.now given (are_bytes c.args.piece.now c.type_inv.piece) new said came (subst (λ (l : List RawValue). All IsRaw l) c.deref.ensures.value c.known_raws.ensures) f c.in-Ok.ensures.counts signs c.known_signature.ensures c.take_rows.new.pass c.take_rows.ensures.later c.take_rows.new.tally t' (g.L.Link.facts c.send.new.link) c.send.ensures.rest
+    (g.K.Signer.faults c.feed.new.signer) c.feed.ensures.faults (subst (λ (l : List ℕ). (k : ℕ) × (k < length l) × Extends mid.held (g.L.Link.facts c.send.new.link).held (take k l)) c.deref-2.ensures.value c.in-Err-Failed.ensures.held) rose
 
 pub returns-clause-goes_on : goal.returns-clause-goes_on
 returns-clause-goes_on g c start before rules namespace gives some u given =
@@ -110,5 +111,5 @@ returns-clause-goes_on g c start before rules namespace gives some u given =
     let t = tally_as start.rules rules' start.namespace n start.pass u.rows c.args.pass.now c.args.session.now.tally rules namespace u.tally in
     let t' = tally_as rules' start.rules n start.namespace start.pass (u.rows ++ came) c.take_rows.new.pass c.take_rows.new.tally (sym rules) (sym namespace) (c.in-Ok-take_rows.ensures.takes start.pass u.rows t) in
     let more = subst (λ (x : Fault). CountsCause mid.write_faults (g.L.Link.facts c.send.new.link).write_faults x) c.in-Err-NoMemory-send.field-0-is c.in-Err-NoMemory-send.ensures.cause in
-    unsent_unkept start now u mid c.args.piece.now given new said came (subst (λ (l : List RawValue). All IsRaw l) c.deref.ensures.value c.known_raws.ensures) f c.in-Ok.ensures.counts signs c.take_rows.new.pass c.take_rows.ensures.later c.take_rows.new.tally t' (g.L.Link.facts c.send.new.link) c.send.ensures.rest
-    (g.K.Signer.faults c.feed.new.signer) c.feed.ensures.faults (subst (λ (l : List ℕ). (k : ℕ) × (k < length l) × Appends mid.held (g.L.Link.facts c.send.new.link).held (take k l)) c.deref-2.ensures.value c.in-Err-NoMemory-send.ensures.held) more
+    unsent_unkept start now u mid c.args.piece.now given (are_bytes c.args.piece.now c.type_inv.piece) new said came (subst (λ (l : List RawValue). All IsRaw l) c.deref.ensures.value c.known_raws.ensures) f c.in-Ok.ensures.counts signs c.known_signature.ensures c.take_rows.new.pass c.take_rows.ensures.later c.take_rows.new.tally t' (g.L.Link.facts c.send.new.link) c.send.ensures.rest
+    (g.K.Signer.faults c.feed.new.signer) c.feed.ensures.faults (subst (λ (l : List ℕ). (k : ℕ) × (k < length l) × Extends mid.held (g.L.Link.facts c.send.new.link).held (take k l)) c.deref-2.ensures.value c.in-Err-NoMemory-send.ensures.held) more

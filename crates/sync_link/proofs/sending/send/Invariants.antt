@@ -1,12 +1,12 @@
 use Rattle.std.proofs.Common.{◌≡◌, length, take, ◌-◌, ◌≤◌}
-use Rattle.std.specs.Io.KnownBytes.{Appends}
+use Rattle.willow_outside.specs.Told.{Extends}
 use Rattle.sync_link.specs.UnderWay.{ReadsNothing}
 use Rattle.sync_link.proofs.sending.send.Given as goal
 
 abbrev pub invariant-loop-at : goal.invariant-loop-at
 invariant-loop-at g l = record {
   in_range : l.at ≤ length l.bytes;
-  given : Appends (g.L.Link.facts l.fn.link).held (g.L.Link.facts l.link).held (take l.at l.bytes);
+  given : Extends (g.L.Link.facts l.fn.link).held (g.L.Link.facts l.link).held (take l.at l.bytes);
   faults : (g.L.Link.facts l.link).write_faults ≡ (g.L.Link.facts l.fn.link).write_faults;
   rest : ReadsNothing (g.L.Link.facts l.fn.link) (g.L.Link.facts l.link);
 }
