@@ -1,5 +1,6 @@
 pub mod Parsed
 pub mod Signatures
+pub mod Many
 pub mod Growing
 pub mod Delegated
 pub mod Written

@@ -3,10 +3,8 @@ use Rattle.std.proofs.Common.{◌≡◌, ℕ, ◌==◌, bytes_eq, true, false, B
 use Rattle.std.proofs.lemmas.Slice.Eq.{bytes_eq-Decides}
 use Rattle.scheme_core.specs.Open.{open_accepts, open_signature}
 use Rattle.willow_outside.specs.Facts.{ShelfFacts}
-use Rattle.lms_core.specs.Key.{Key}
 use Rattle.lms_core.specs.Use.{Use, uses_from}
-use Rattle.lms_core.specs.Reserve.{HandsOut}
-use Rattle.peer_make.specs.Signing.{IsUsed}
+use Rattle.peer_make.specs.Signing.{IsUsed, AreUsed}
 
 second_true : (a b : Bool) → a && b ≡ true → b ≡ true
 second_true true b e = e
@@ -28,15 +26,16 @@ last_of_one [] s x e = e
 last_of_one (r ∷ rest) s x e = let tail : (rest ++ s ∷ []) ≡ [] = cc in absurd (no_two rest s tail)
 
 -- the one signer that was handed out
-pub is_used : (name : List ℕ) (old new : ShelfFacts) (k : Key) (signers rest : List Use) (s : Use) → HandsOut name 1 old new signers k → signers ≡ rest ++ s ∷ [] → IsUsed name old new s
+pub is_used : (name : List ℕ) (old new : ShelfFacts) (signers rest : List Use) (s : Use) → AreUsed name 1 old new signers → signers ≡ rest ++ s ∷ [] → IsUsed name old new s
 unfolding uses_from
-is_used name old new k signers rest s h e =
-    record { key = k; handed_out = record { held = h.held; room = h.room; signers_are = last_of_one rest s _ (sym e ∙ h.signers_are); put = h.put } }
+is_used name old new signers rest s h e =
+    let out = h.handed_out in
+    record { key = h.key; handed_out = record { held = out.held; room = out.room; signers_are = last_of_one rest s _ (sym e ∙ out.signers_are); put = out.put } }
 
 -- a key hands out one
-pub hands_one : (name : List ℕ) (old new : ShelfFacts) (k : Key) (signers : List Use) → HandsOut name 1 old new signers k → length signers ≡ 1
+pub hands_one : (name : List ℕ) (old new : ShelfFacts) (signers : List Use) → AreUsed name 1 old new signers → length signers ≡ 1
 unfolding uses_from
-hands_one name old new k signers h = ap length h.signers_are
+hands_one name old new signers h = ap length h.handed_out.signers_are
 
 same_left : (s x : Use) → (s ∷ []) ≡ x ∷ [] → s.left ≡ x.left
 same_left s x e = cc

@@ -1,13 +1,14 @@
--- The signer that a word names: an open key, or one index of a key file.
-use Rattle.std.specs.Prelude.{◌≡◌, ℕ, Bool, List, Result, Ok, Err}
+-- The signers that a word names: an open key, or one index of a key file each.
+use Rattle.std.specs.Prelude.{◌≡◌, ℕ, Bool, List, map, replicate, Result, Ok, Err}
+use Rattle.std.specs.Global.{Vec}
 use Rattle.std.specs.String.{string_bytes}
 use Rattle.scheme_core.specs.Open.{open_accepts}
 use Rattle.willow_outside.specs.Facts.{ShelfFacts}
-use Rattle.lms_core.specs.Use.{use_gives, user_key_of}
+use Rattle.lms_core.specs.Use.{Use, use_gives, user_key_of}
 use Rattle.peer_words.specs.declared.command.SignerWord.{SignerWord}
 use Rattle.peer_words.specs.declared.command.SignerWord.TheVariants.{OpenKey, LmsFile}
 use Rattle.peer_stage.specs.declared.outcome.Stop.{Stop}
-use Rattle.peer_make.specs.Signing.{IsUsed, StopsSigning}
+use Rattle.peer_make.specs.Signing.{IsUsed, AreUsed, StopsSigning, StopsSigners}
 use Rattle.peer_make.specs.declared.key_signer.KeySigner.{KeySigner}
 use Rattle.peer_make.specs.declared.key_signer.KeySigner.TheVariants.{Open, Once}
 
@@ -37,3 +38,14 @@ IsSignerOf (LmsFile name) old new (Once signer) = IsUsed (string_bytes name) old
 abbrev pub HandsSigner : SignerWord → ShelfFacts → ShelfFacts → Result KeySigner Stop → Type 0
 HandsSigner key old new (Ok signer) = IsSignerOf key old new signer
 HandsSigner key old new (Err e) = StopsSigning key old new e
+
+-- they are so many of the one that the word names: of an open key, of which nothing was called, or those of the next
+-- indices of a key file, in order
+abbrev pub AreSignersOf : SignerWord → ℕ → ShelfFacts → ShelfFacts → List KeySigner → Type 0
+AreSignersOf (OpenKey key) count old new signers = (signers ≡ replicate count (Open key)) × (new ≡ old)
+AreSignersOf (LmsFile name) count old new signers = (uses : List Use) × (signers ≡ map Once uses) × AreUsed (string_bytes name) count old new uses
+
+-- how so many signers are handed out, none of which has signed, and why they are not
+abbrev pub HandsSigners : SignerWord → ℕ → ShelfFacts → ShelfFacts → Result (Vec KeySigner) Stop → Type 0
+HandsSigners key count old new (Ok signers) = AreSignersOf key count old new signers.items
+HandsSigners key count old new (Err e) = StopsSigners key count old new e

@@ -1,5 +1,6 @@
 -- What `key` does: a new key under a name that was absent, and its user key as a line.
-use Rattle.std.specs.Prelude.{◌≡◌, ℕ, ◌≤◌, List, [], ◌∷◌, ◌++◌, length, take, Result, Ok, Err, Some, None}
+use Rattle.std.specs.Prelude.{◌≡◌, ℕ, ◌-◌, ◌≤◌, List, [], ◌∷◌, ◌++◌, length, take, All, Result, Ok, Err, Some, None}
+use Rattle.std.specs.Global.{Vec}
 use Rattle.std.specs.Option.{option_map}
 use Rattle.std.specs.String.{string_bytes}
 use Rattle.std.specs.declared.string.String.{String}
@@ -72,6 +73,13 @@ DrawsOne old new (Ok words) = IsDraw words × TakesDraws old new (words ∷ [])
 DrawsOne old new (Err stop.ReadFault) = (new.draws ≡ old.draws) × Rose old.faults new.faults
 DrawsOne old new (Err stop.NoMemory) = new.draws ≡ old.draws
 DrawsOne old new (Err e) = ⊥
+
+-- so many draws, in order; a fault takes off all but the last of them at most
+abbrev pub DrawsAll : ℕ → NoiseFacts → NoiseFacts → Result (Vec (List ℕ)) Stop → Type 0
+DrawsAll count old new (Ok draws) = (length draws.items ≡ count) × All IsDraw draws.items × TakesDraws old new draws.items
+DrawsAll count old new (Err stop.ReadFault) = TakesAtMost (count - 1) old new × Rose old.faults new.faults
+DrawsAll count old new (Err stop.NoMemory) = TakesAtMost count old new
+DrawsAll count old new (Err e) = ⊥
 
 -- a key of two draws; a fault takes off at most the first
 abbrev pub DrawsKey : Height → NoiseFacts → NoiseFacts → Result Key Stop → Type 0

@@ -3,6 +3,7 @@ use Rattle.std.specs.Prelude.{◌≡◌, ℕ, ◌⊎◌, List, [], ◌∷◌, Re
 use Rattle.std.specs.String.{string_bytes}
 use Rattle.std.specs.declared.string.String.{String}
 use Rattle.std.specs.declared.alloc.Global.{Global}
+use Rattle.std.specs.Global.{Vec}
 use Rattle.scheme_core.specs.Open.{open_signature}
 use Rattle.willow_outside.specs.Counts.{Rose}
 use Rattle.willow_outside.specs.Facts.{ShelfFacts}
@@ -19,11 +20,15 @@ use Rattle.peer_stage.specs.declared.outcome.Stop.{Stop}
 use Rattle.peer_stage.specs.declared.outcome.Stop.TheVariants as stop
 use Rattle.peer_stage.specs.declared.outcome.Origin.TheVariants as origin
 
--- The next index of the key under a name is used up: its signer is handed out, and the key's file is put back
--- with its next index raised by one.
-pub record IsUsed (name : List ℕ) (old new : ShelfFacts) (signer : Use) : Type 0 where
+-- So many of the next indices of the key under a name are used up: their signers are handed out, in order, and the key's
+-- file is put back with its next index raised by as many.
+pub record AreUsed (name : List ℕ) (count : ℕ) (old new : ShelfFacts) (signers : List Use) : Type 0 where
   pub key : Key
-  pub handed_out : HandsOut name 1 old new (signer ∷ []) key
+  pub handed_out : HandsOut name count old new signers key
+
+-- the next index is used up, and its signer is handed out
+abbrev pub IsUsed : List ℕ → ShelfFacts → ShelfFacts → Use → Type 0
+IsUsed name old new signer = AreUsed name 1 old new (signer ∷ [])
 
 -- The signature is that of the message with the next index of the key under a name, which is used up.
 pub record IsSignedNext (name : List ℕ) (old new : ShelfFacts) (message signature : List ℕ) : Type 0 where
@@ -37,10 +42,14 @@ abbrev pub Signed : SignerWord → ShelfFacts → ShelfFacts → List ℕ → Li
 Signed (OpenKey key) old new message signature = (signature ≡ open_signature key message) × (new ≡ old)
 Signed (LmsFile name) old new message signature = IsSignedNext (string_bytes name) old new message signature
 
+-- nothing is changed for an open key, and of a key file no index is used up, or just so many
+abbrev pub UsesAtMost : SignerWord → ℕ → ShelfFacts → ShelfFacts → Type 0
+UsesAtMost (OpenKey key) count old new = new ≡ old
+UsesAtMost (LmsFile name) count old new = KeepsNames old new ⊎ ((signers : List Use) × AreUsed (string_bytes name) count old new signers)
+
 -- nothing is changed for an open key, and at most one index of a key file is used up
 abbrev pub UsesAtMostOne : SignerWord → ShelfFacts → ShelfFacts → Type 0
-UsesAtMostOne (OpenKey key) old new = new ≡ old
-UsesAtMostOne (LmsFile name) old new = KeepsNames old new ⊎ ((signer : Use) × IsUsed (string_bytes name) old new signer)
+UsesAtMostOne key old new = UsesAtMost key 1 old new
 
 -- The name holds no key file.
 pub record HoldsOther (name : List ℕ) (old new : ShelfFacts) : Type 0 where
@@ -48,31 +57,43 @@ pub record HoldsOther (name : List ℕ) (old new : ShelfFacts) : Type 0 where
   pub no_key : HoldsNoKey name old bytes
   pub kept : IsOnlyRead old new
 
--- The name's key file has no index left.
-pub record HoldsSpent (name : List ℕ) (old new : ShelfFacts) : Type 0 where
+-- The name's key file has fewer indices left than so many.
+pub record HoldsTooFew (name : List ℕ) (count : ℕ) (old new : ShelfFacts) : Type 0 where
   pub key : Key
   pub next : ℕ
-  pub spent : IsSpent name 1 next old new key
+  pub spent : IsSpent name count next old new key
+
+-- the name's key file has no index left
+abbrev pub HoldsSpent : List ℕ → ShelfFacts → ShelfFacts → Type 0
+HoldsSpent name old new = HoldsTooFew name 1 old new
+
+-- why not so many indices of the key file under a name were handed out, or used, and what that left
+abbrev pub StopsReserving : String Global → ℕ → ShelfFacts → ShelfFacts → Stop → Type 0
+StopsReserving name count old new stop.ReadFault = Rose old.read_faults new.read_faults × IsOnlyRead old new
+StopsReserving name count old new (stop.Missing other) = (other ≡ name) × GetsName old.names (string_bytes name) None × IsOnlyRead old new
+StopsReserving name count old new (stop.BadInput from at) = IsOfName from name × (at ≡ 0) × HoldsOther (string_bytes name) old new
+StopsReserving name count old new stop.KeySpent = HoldsTooFew (string_bytes name) count old new
+StopsReserving name count old new stop.WriteFault = (key : Key) × FailsToPut (string_bytes name) count old new key
+StopsReserving name count old new stop.NoMemory = UsesAtMost (LmsFile name) count old new
+StopsReserving name count old new e = ⊥
 
 -- why no signature was made with the key file under a name, and what that left
 abbrev pub StopsNext : String Global → ShelfFacts → ShelfFacts → Stop → Type 0
-StopsNext name old new stop.ReadFault = Rose old.read_faults new.read_faults × IsOnlyRead old new
-StopsNext name old new (stop.Missing other) = (other ≡ name) × GetsName old.names (string_bytes name) None × IsOnlyRead old new
-StopsNext name old new (stop.BadInput from at) = IsOfName from name × (at ≡ 0) × HoldsOther (string_bytes name) old new
-StopsNext name old new stop.KeySpent = HoldsSpent (string_bytes name) old new
-StopsNext name old new stop.WriteFault = (key : Key) × FailsToPut (string_bytes name) 1 old new key
-StopsNext name old new stop.NoMemory = UsesAtMostOne (LmsFile name) old new
-StopsNext name old new e = ⊥
+StopsNext name old new e = StopsReserving name 1 old new e
 
 -- why an open key made no signature
 abbrev pub StopsOpen : ShelfFacts → ShelfFacts → Stop → Type 0
 StopsOpen old new stop.NoMemory = new ≡ old
 StopsOpen old new e = ⊥
 
+-- why not so many signers were handed out, or used, and what that left
+abbrev pub StopsSigners : SignerWord → ℕ → ShelfFacts → ShelfFacts → Stop → Type 0
+StopsSigners (OpenKey key) count old new e = StopsOpen old new e
+StopsSigners (LmsFile name) count old new e = StopsReserving name count old new e
+
 -- why a signer made no signature, and what that left
 abbrev pub StopsSigning : SignerWord → ShelfFacts → ShelfFacts → Stop → Type 0
-StopsSigning (OpenKey key) old new e = StopsOpen old new e
-StopsSigning (LmsFile name) old new e = StopsNext name old new e
+StopsSigning key old new e = StopsSigners key 1 old new e
 
 -- how a message is signed
 abbrev pub Signs : SignerWord → List ℕ → ShelfFacts → ShelfFacts → Result (List ℕ) Stop → Type 0
@@ -91,6 +112,11 @@ SignsOpen key message (Err e) = ⊥
 abbrev pub SignsNext : String Global → ShelfFacts → ShelfFacts → List ℕ → Result (List ℕ) Stop → Type 0
 SignsNext name old new message (Ok signature) = IsSignedNext (string_bytes name) old new message signature
 SignsNext name old new message (Err e) = StopsNext name old new e
+
+-- the signers of so many of the next indices of a key file
+abbrev pub HandsUses : String Global → ℕ → ShelfFacts → ShelfFacts → Result (Vec Use) Stop → Type 0
+HandsUses name count old new (Ok signers) = AreUsed (string_bytes name) count old new signers.items
+HandsUses name count old new (Err e) = StopsReserving name count old new e
 
 -- the signer of the next index of a key file
 abbrev pub HandsNext : String Global → ShelfFacts → ShelfFacts → Result Use Stop → Type 0

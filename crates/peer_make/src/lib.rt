@@ -13,12 +13,12 @@ mod writing;
 
 pub use delegating::delegate;
 pub use granting::grant;
-pub use key_signer::{KeySigner, reserve_signer};
+pub use key_signer::{KeySigner, reserve_signer, reserve_signers};
 pub use laws::{
     a_key_file_has_one_key, capabilities_are_read_back, empty_areas_count_as_growing,
     rows_are_read_back,
 };
-pub use making::{draw, make_key};
+pub use making::{draw, draw_all, make_key};
 pub use reading::capability_from;
 pub use writing::write;
 

@@ -1,11 +1,11 @@
 //! `key`: a new key under a name, and its user key.
 
-ghost use Rattle.std.specs.Prelude.{◌≡◌, IfOk};
+ghost use Rattle.std.specs.Prelude.{◌≡◌, [], ◌∷◌, ◌++◌, IfOk, OnOk};
 ghost use Rattle.peer_stage.specs.World.{World};
 ghost use Rattle.peer_stage.specs.Faults.{CountsStep};
 ghost use Rattle.willow_outside.specs.Draws.{IsDraw};
 ghost use Rattle.peer_listing.specs.Listing.{key_line};
-ghost use Rattle.peer_make.specs.Making.{MakesKey, FindsFree, DrawsKey, DrawsOne, PutsFile, own_user_key};
+ghost use Rattle.peer_make.specs.Making.{MakesKey, FindsFree, DrawsKey, DrawsOne, DrawsAll, PutsFile, own_user_key};
 
 use lms_core::{Height, LmsKey};
 use peer_listing::key_line;
@@ -78,6 +78,26 @@ pub fn draw<N: Noise>(noise: &mut N) -> Result<[u8; 32], Stop>
         Err(Fault::Failed) => Err(Stop::ReadFault),
         Err(Fault::NoMemory) => Err(Stop::NoMemory),
     }
+}
+
+/// The next `count` draws, in order. Where one fails, those before it are taken off all the same.
+pub fn draw_all<N: Noise>(alloc: Global, noise: &mut N, count: u32) -> Result<Vec<[u8; 32]>, Stop>
+    ensures draws { DrawsAll count (N.facts noise.old) (N.facts noise.new) result }
+    ensures faults { CountsStep (N.facts noise.old).faults (N.facts noise.new).faults result }
+{
+    let mut draws = Vec::new(alloc);
+    for _ in 0..count {
+        let words = draw(noise)?;
+        put_draw(&mut draws, words)?;
+    }
+    Ok(draws)
+}
+
+// Appends a draw.
+fn put_draw(draws: &mut Vec<[u8; 32]>, words: [u8; 32]) -> Result<(), NoMemory>
+    ensures { OnOk result (draws.new.items ≡ draws.old.items ++ words ∷ []) }
+{
+    Ok(draws.push(words)?)
 }
 
 // Does nothing: it is called for its clause, what a draw has.

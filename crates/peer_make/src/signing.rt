@@ -1,9 +1,9 @@
 //! How messages are signed: by an open key, or with the next index of a key file.
 
-ghost use Rattle.std.specs.Prelude.{◌≡◌, ◌≤◌, length, slice_index};
+ghost use Rattle.std.specs.Prelude.{◌≡◌, ◌<◌, ◌≤◌, length, slice_index};
 ghost use Rattle.peer_words.specs.Signers.{IsSigner};
 ghost use Rattle.peer_stage.specs.Faults.{CountsStep};
-ghost use Rattle.peer_make.specs.Signing.{Signs, SignsOpen, SignsNext, SignsOnce, HandsNext, stop_of};
+ghost use Rattle.peer_make.specs.Signing.{Signs, SignsOpen, SignsNext, SignsOnce, HandsNext, HandsUses, stop_of};
 
 use lms_core::{KeyRefusal, OneUse, reserve_keys};
 use mc_cap::Signature;
@@ -71,11 +71,27 @@ pub(crate) fn take_next<H: Shelf>(
     ensures read_faults { CountsStep (H.facts shelf.old).read_faults (H.facts shelf.new).read_faults result }
     ensures write_faults { CountsStep (H.facts shelf.old).write_faults (H.facts shelf.new).write_faults result }
 {
-    match reserve_keys(alloc, shelf, name.as_str(), 1) {
-        Ok(mut signers) => match signers.pop() {
-            Some(signer) => Ok(signer),
-            None => unreachable!(),
-        },
+    let mut signers = take_uses(alloc, shelf, name, 1)?;
+    match signers.pop() {
+        Some(signer) => Ok(signer),
+        None => unreachable!(),
+    }
+}
+
+/// The signers of so many of the next indices of a key file, in order, which are used up.
+pub(crate) fn take_uses<H: Shelf>(
+    alloc: Global,
+    shelf: &mut H,
+    name: String,
+    count: u32,
+) -> Result<Vec<OneUse>, Stop>
+    requires { 0 < count }
+    ensures hands { HandsUses name count (H.facts shelf.old) (H.facts shelf.new) result }
+    ensures read_faults { CountsStep (H.facts shelf.old).read_faults (H.facts shelf.new).read_faults result }
+    ensures write_faults { CountsStep (H.facts shelf.old).write_faults (H.facts shelf.new).write_faults result }
+{
+    match reserve_keys(alloc, shelf, name.as_str(), count) {
+        Ok(signers) => Ok(signers),
         Err(End::Refused(refusal)) => Err(stop_of(refusal, name)),
         Err(End::NoMemory) => Err(Stop::NoMemory),
     }

@@ -1,7 +1,7 @@
 //! Keys, capabilities and rows against bytes made elsewhere. The fills 4e and 4f are those of a communal and
 //! of an owned namespace, 55 and 56 those of users.
 
-ghost use Rattle.std.specs.Prelude.{◌≡◌, slice_index, IfSome};
+ghost use Rattle.std.specs.Prelude.{◌≡◌, ◌<◌, slice_index, IfSome};
 ghost use Rattle.peer_words.specs.Signers.{IsSigner};
 
 use super::*;
@@ -12,6 +12,7 @@ use peer_words::{AreaWords, SignerWord};
 use scheme_core::{OpenSigner, Signer, Verify};
 use std::alloc::Global;
 use std::collections::BTreeMap;
+use std::test::Fail;
 use willow_outside::{MemNoise, Shelf, SureShelf, SureSink, SureSource};
 use willow_path::{Digest, NamespaceKey, Path, UserKey};
 
@@ -247,17 +248,17 @@ fn row_signed(alloc: Global, shelf: &mut SureShelf) -> Option<Option<Vec<u8>>> {
     }
 }
 
-// A shelf with the key file at its last index.
-fn last_index(alloc: Global) -> Option<SureShelf> {
+// A shelf with the key file at this next index.
+fn shelf_at(alloc: Global, next: u8) -> Option<SureShelf> {
     let mut contents = BTreeMap::new(alloc);
     let name = String::from_str(alloc, "k").ok()?;
-    contents.insert(name, file_at(alloc, 31)?).ok()?;
+    contents.insert(name, file_at(alloc, next)?).ok()?;
     Some(SureShelf::new(alloc, contents))
 }
 
 // What becomes of the key file, whose last index writes a row and then none.
 fn file_after(alloc: Global, wanted: &[u8]) -> Option<Vec<u8>> {
-    let mut shelf = last_index(alloc)?;
+    let mut shelf = shelf_at(alloc, 31)?;
     let first = row_signed(alloc, &mut shelf)??;
     if first.as_slice() != wanted || row_signed(alloc, &mut shelf)?.is_some() {
         return None;
@@ -273,4 +274,59 @@ fn the_last_index_writes_one_row(rt: HostRuntime) {
         None => None,
     };
     assert_eq!(rt; file, file_at(alloc, 32));
+}
+
+// The indices that so many signers of the key file have, or None where it has too few.
+fn reserved(alloc: Global, shelf: &mut SureShelf, count: u32) -> Option<Option<Vec<u32>>>
+    requires { 0 < count }
+{
+    let key = SignerWord::LmsFile(String::from_str(alloc, "k").ok()?);
+    match reserve_signers(alloc, shelf, key, count) {
+        Ok(signers) => Some(Some(indices_of(alloc, signers)?)),
+        Err(Stop::KeySpent) => Some(None),
+        Err(_stop) => None,
+    }
+}
+
+// The index that each signer names in its signature: four bytes behind the public key.
+fn indices_of(alloc: Global, signers: Vec<KeySigner>) -> Option<Vec<u32>> {
+    let mut indices = Vec::new(alloc);
+    for signer in signers {
+        let mut signer = signer;
+        let signature = signer.sign(alloc, b"abc").ok()?;
+        let mut index = [0; 4];
+        index.copy_from_slice(signature.get(56..60)?);
+        indices.push(u32::from_be_bytes(index)).ok()?;
+    }
+    Some(indices)
+}
+
+#[test]
+fn many_signers_have_indices_of_their_own(rt: HostRuntime) -> Result<(), Fail> {
+    let alloc = rt.alloc();
+    let mut shelf = shelf_at(alloc, 28).ok_or("a shelf")?;
+    let indices = vec![in alloc; 28, 29].ok();
+    assert_eq!(rt; reserved(alloc, &mut shelf, 2), Some(indices));
+    assert_eq!(rt; shelf.get("k").ok(), Some(file_at(alloc, 30)));
+    assert_eq!(rt; reserved(alloc, &mut shelf, 3), Some(None));
+    assert_eq!(rt; shelf.get("k").ok(), Some(file_at(alloc, 30)));
+    Ok(())
+}
+
+// The first bytes of so many draws, of which the third fails.
+fn drawn(alloc: Global, count: u32) -> Option<Vec<u8>> {
+    let draws = vec![in alloc; [0x11; 32], [0x22; 32], [0x33; 32]].ok()?;
+    let mut noise = MemNoise::new(alloc, draws, vec![in alloc; 3].ok()?);
+    let mut firsts = Vec::new(alloc);
+    for draw in draw_all(alloc, &mut noise, count).ok()? {
+        firsts.push(draw[0]).ok()?;
+    }
+    Some(firsts)
+}
+
+#[test]
+fn many_draws_come_in_order(rt: HostRuntime) {
+    let alloc = rt.alloc();
+    assert_eq!(rt; drawn(alloc, 2), vec![in alloc; 0x11, 0x22].ok());
+    assert_eq!(rt; drawn(alloc, 3), None);
 }

@@ -1,17 +1,21 @@
 -- The status of what is done, by what was met on the way.
-use Rattle.std.proofs.Common.{◌≡◌, ◌∙◌, ℕ, Bool, true, false, refl, sym, ap}
+use Rattle.std.proofs.Common.{◌≡◌, ◌∙◌, ℕ, Bool, true, false, ◌+◌, ◌<◌, ◌≤◌, ◌||◌, ◌==◌, if◌then◌else◌, List, ◌∷◌, length, get_or, drop, refl, sym, ap, add-one, drop-cons}
 use Rattle.std.specs.Prelude.{Option, None, Result, Ok, Err}
+use Rattle.std.specs.List.{list_any}
+use Rattle.std.proofs.lemmas.List.{drop_all}
 use Rattle.mc_cap.specs.declared.refusal.RefusedRow.{RefusedRow}
 use Rattle.session_end.specs.declared.end.SessionEnd.{SessionEnd}
 use Rattle.session_end.specs.declared.end.SessionEnd.TheVariants as ending
-use Rattle.peer_stage.specs.Status.{status_of, refused_status, first_status, end_status, session_status}
+use Rattle.peer_stage.specs.Status.{status_of, statuses_met, first_met, told_order, refused_status, first_status, end_status, session_status}
 use Rattle.peer_stage.specs.declared.outcome.Done.{Done}
 use Rattle.peer_stage.specs.declared.outcome.Done.TheVariants as done
 use Rattle.peer_stage.specs.declared.outcome.JoinCounts.{JoinCounts}
 use Rattle.peer_stage.specs.declared.outcome.ShowCounts.{ShowCounts}
 use Rattle.peer_stage.specs.declared.outcome.MeetCounts.{MeetCounts}
 use Rattle.peer_stage.specs.declared.outcome.SessionCounts.{SessionCounts}
-use Rattle.peer_stage.specs.declared.outcome.Synced.{Synced}
+use Rattle.peer_stage.specs.declared.outcome.Served.{Served}
+use Rattle.peer_stage.proofs.Told.{served_parts}
+use Rattle.peer_report.specs.Report.{others_met}
 use Rattle.peer_stage.proofs.Ends.{synced_status, synced_is, told_of, refused_only, first_only, none_met}
 
 pub joined_status : (d : Done) (counts : JoinCounts) (s : ℕ) → d ≡ done.Joined counts → s ≡ refused_status counts.refused → s ≡ status_of (Ok d)
@@ -26,8 +30,9 @@ met_status d counts s is status = status ∙ sym (first_only counts.first) ∙ a
 pub made_status : (d : Done) → d ≡ done.Made → 0 ≡ status_of (Ok d)
 made_status d is = sym none_met ∙ ap (λ (x : Done). status_of (Ok x)) (sym is)
 
-pub call_status : (d : Done) (s : Synced) (status : ℕ) → d ≡ done.Synced s → status ≡ status_of (Ok (done.Synced s)) → status ≡ status_of (Ok d)
-call_status d s status is given = given ∙ ap (λ (x : Done). status_of (Ok x)) (sym is)
+-- of a call, and of a server
+pub same_status : (d e : Done) (status : ℕ) → d ≡ e → status ≡ status_of (Ok e) → status ≡ status_of (Ok d)
+same_status d e status is given = given ∙ ap (λ (x : Done). status_of (Ok x)) (sym is)
 
 -- ---- the status of a call, by how its session ended and whether the image was put
 
@@ -55,3 +60,50 @@ module _ (session : Result SessionCounts SessionEnd) (put : Bool) (first : Optio
     same ending.NoMemory = refl
     same ending.LinkRead = refl
     same e = refl
+
+-- ---- the status of a server
+
+-- a session gave it
+pub by_session : (s : Served) (status : ℕ) (sessions : List (Result SessionCounts SessionEnd)) (found : Bool) → sessions ≡ s.sessions.items → found ≡ list_any (λ session. session_status session == status) sessions
+    → found ≡ true → found ≡ list_any (λ met. met == status) (statuses_met (done.Served s))
+by_session s status sessions found are is holds =
+    let here : list_any (λ session. session_status session == status) s.sessions.items ≡ true = ap (list_any (λ session. session_status session == status)) (sym are) ∙ sym is ∙ holds in
+    holds ∙ sym (served_parts s status ∙ ap (λ b. b || list_any (λ met. met == status) (others_met s)) here)
+
+-- no session gave it: it is by what was met beside them
+pub by_others : (s : Served) (status : ℕ) (sessions : List (Result SessionCounts SessionEnd)) (found other : Bool) → sessions ≡ s.sessions.items → found ≡ list_any (λ session. session_status session == status) sessions
+    → found ≡ false → other ≡ list_any (λ met. met == status) (others_met s) → other ≡ list_any (λ met. met == status) (statuses_met (done.Served s))
+by_others s status sessions found other are is fails beside =
+    let none : list_any (λ session. session_status session == status) s.sessions.items ≡ false = ap (list_any (λ session. session_status session == status)) (sym are) ∙ sym is ∙ fails in
+    beside ∙ sym (served_parts s status ∙ ap (λ b. b || list_any (λ met. met == status) (others_met s)) none)
+
+-- the statuses that are told from one on
+from_at : (i status : ℕ) → i < length told_order → status ≡ get_or told_order i 0 → drop i told_order ≡ status ∷ drop (i + 1) told_order
+from_at i status within is = sym (ap (λ (first : ℕ). first ∷ drop (i + 1) told_order) is ∙ sym (cut told_order i within)) where
+  cut : (xs : List ℕ) (k : ℕ) → k < length xs → drop k xs ≡ get_or xs k 0 ∷ drop (k + 1) xs
+  cut xs k lt = rw (add-one, drop-cons xs k 0) refl
+
+-- the one of these that was met is told
+told_here : (status : ℕ) (later met : List ℕ) → list_any (λ m. m == status) met ≡ true → first_met (status ∷ later) met ≡ status
+unfolding first_met
+told_here status later met is = ap (λ (b : Bool). if b then status else first_met later met) is
+
+-- one that was not is passed over
+told_later : (status : ℕ) (later met : List ℕ) → list_any (λ m. m == status) met ≡ false → first_met (status ∷ later) met ≡ first_met later met
+unfolding first_met
+told_later status later met is = ap (λ (b : Bool). if b then status else first_met later met) is
+
+pub told_at : (i status : ℕ) (met : List ℕ) → i < length told_order → status ≡ get_or told_order i 0 → list_any (λ m. m == status) met ≡ true
+    → first_met told_order met ≡ first_met (drop i told_order) met → status ≡ first_met told_order met
+told_at i status met within is here before =
+    sym (before ∙ ap (λ order. first_met order met) (from_at i status within is) ∙ told_here status (drop (i + 1) told_order) met here)
+
+pub told_behind : (i status : ℕ) (met : List ℕ) → i < length told_order → status ≡ get_or told_order i 0 → list_any (λ m. m == status) met ≡ false
+    → first_met told_order met ≡ first_met (drop i told_order) met → first_met told_order met ≡ first_met (drop (i + 1) told_order) met
+told_behind i status met within is none before =
+    before ∙ ap (λ order. first_met order met) (from_at i status within is) ∙ told_later status (drop (i + 1) told_order) met none
+
+-- where all were passed over it is 0
+pub told_none : (i : ℕ) (met : List ℕ) → length told_order ≤ i → first_met told_order met ≡ first_met (drop i told_order) met → 0 ≡ first_met told_order met
+unfolding first_met
+told_none i met past before = sym (before ∙ ap (λ order. first_met order met) (drop_all i told_order past))

@@ -1,6 +1,7 @@
 -- The status and the report's lines for each end of a run.
-use Rattle.std.specs.Prelude.{◌≡◌, ℕ, nat_le, Bool, true, false, if◌then◌else◌, ◌⊎◌, List, [], ◌∷◌, ◌++◌, codes, Option, Some, None, Result, Ok, Err}
+use Rattle.std.specs.Prelude.{◌≡◌, ℕ, ◌+◌, nat_le, Bool, true, false, ◌&&◌, if◌then◌else◌, is_ok, ◌⊎◌, List, [], ◌∷◌, ◌++◌, codes, Option, Some, None, Result, Ok, Err}
 use Rattle.std.specs.Fmt.{decimal}
+use Rattle.std.specs.List.{list_all}
 use Rattle.std.specs.String.{string_bytes}
 use Rattle.willow_outside.specs.Counts.{Rose}
 use Rattle.willow_outside.specs.Facts.{SinkFacts}
@@ -9,7 +10,7 @@ use Rattle.session_end.specs.declared.end.SessionEnd.{SessionEnd}
 use Rattle.session_end.specs.declared.end.SessionEnd.TheVariants as ending
 use Rattle.peer_text.specs.Refusals.{row_refusal_text}
 use Rattle.peer_text.specs.Sessions.{session_end_text}
-use Rattle.peer_stage.specs.Status.{status_of}
+use Rattle.peer_stage.specs.Status.{status_of, accept_status, put_status, first_status}
 use Rattle.peer_stage.specs.Stages.{IsWritten, IsPartlyWritten}
 use Rattle.peer_stage.specs.declared.outcome.JoinCounts.{JoinCounts}
 use Rattle.peer_stage.specs.declared.outcome.ShowCounts.{ShowCounts}
@@ -17,6 +18,7 @@ use Rattle.peer_stage.specs.declared.outcome.SideCounts.{SideCounts}
 use Rattle.peer_stage.specs.declared.outcome.MeetCounts.{MeetCounts}
 use Rattle.peer_stage.specs.declared.outcome.SessionCounts.{SessionCounts}
 use Rattle.peer_stage.specs.declared.outcome.Synced.{Synced}
+use Rattle.peer_stage.specs.declared.outcome.Served.{Served}
 use Rattle.mc_cap.specs.declared.refusal.RefusedRow.{RefusedRow}
 use Rattle.peer_stage.specs.declared.outcome.Origin.{Origin}
 use Rattle.peer_stage.specs.declared.outcome.Origin.TheVariants as origin
@@ -89,6 +91,29 @@ put_line false = line (codes "write fault")
 abbrev pub synced_lines : Synced → List ℕ
 synced_lines s = session_line s.session ++ (first_line (told_first s.session s.put s.first) ++ put_line s.put)
 
+-- `link I: ` and how the session of that link ended
+abbrev pub link_line : ℕ → Result SessionCounts SessionEnd → List ℕ
+link_line number session = codes "link " ++ (decimal number ++ (codes ": " ++ session_line session))
+
+-- the line of each link in order, the first of this number
+abbrev pub link_lines : ℕ → List (Result SessionCounts SessionEnd) → List ℕ
+link_lines from [] = []
+link_lines from (session ∷ rest) = link_line from session ++ link_lines (from + 1) rest
+
+-- the row that is told as the first refused one: where every session was done, all links came and the image was put, so
+-- at status 1 alone
+abbrev pub served_first : Served → Option RefusedRow
+served_first s = if list_all is_ok s.sessions.items && s.accepted && s.put then s.first else None
+
+-- `read fault` where not all links came
+abbrev pub accept_line : Bool → List ℕ
+accept_line true = []
+accept_line false = line (codes "read fault")
+
+-- the lines of a server: one of each link, the first refused row, whether all links came, and whether the image was put
+abbrev pub served_lines : Served → List ℕ
+served_lines s = link_lines 1 s.sessions.items ++ (first_line (served_first s) ++ (accept_line s.accepted ++ put_line s.put))
+
 -- the name of what bytes came from, `-` for the input
 abbrev pub name_text : Origin → List ℕ
 name_text origin.Input = codes "-"
@@ -112,6 +137,7 @@ done_lines (done.Joined counts) = rows_line counts ++ first_line counts.first
 done_lines (done.Shown counts) = shown_line counts ++ first_line counts.first
 done_lines (done.Met counts) = met_lines counts ++ first_line counts.first
 done_lines (done.Synced s) = synced_lines s
+done_lines (done.Served s) = served_lines s
 done_lines done.Made = []
 
 -- the line of a stop
@@ -140,6 +166,10 @@ report_of (Err e) = stop_line e
 -- a fault of the report gives 4 where the run itself ended with 0 or 1, and changes no other status
 abbrev pub after_report_fault : ℕ → ℕ
 after_report_fault status = if nat_le status 1 then 4 else status
+
+-- the statuses of what a server met beside its sessions
+abbrev pub others_met : Served → List ℕ
+others_met s = accept_status s.accepted ∷ (put_status s.put ∷ (first_status s.first ∷ []))
 
 -- ---- both
 

@@ -3,6 +3,7 @@
 #![tactic(auto)]
 
 mod lines;
+mod links;
 mod report;
 
 pub use report::end_run;

@@ -5,6 +5,7 @@ ghost use Rattle.peer_stage.specs.declared.outcome.Done.TheVariants as done;
 ghost use Rattle.peer_stage.specs.declared.outcome.Stop.TheVariants as stop;
 ghost use Rattle.peer_report.specs.Report.{report_of, stop_line, rows_line, shown_line, side_line, exchange_line, met_lines, first_line, session_line, counts_line, log_text, items_line, told_first, put_line, synced_lines, name_text, refused_line, bad_input_line, not_rising_line, pruned_line};
 
+use crate::links::served_lines;
 use mc_cap::{RefusedRow, RowRefusal};
 use peer_stage::{
     Done, JoinCounts, MeetCounts, Origin, SessionCounts, ShowCounts, SideCounts, Stop, Synced,
@@ -24,6 +25,7 @@ pub(crate) fn report_of(alloc: Global, end: &Result<Done, Stop>) -> Result<Vec<u
         Ok(Done::Shown(counts)) => shown_lines(alloc, counts),
         Ok(Done::Met(counts)) => met_lines(alloc, counts),
         Ok(Done::Synced(synced)) => synced_lines(alloc, synced),
+        Ok(Done::Served(served)) => served_lines(alloc, served),
         Ok(Done::Made) => Ok(Vec::new(alloc)),
         Err(stop) => stop_line(alloc, stop),
     }
@@ -102,8 +104,8 @@ fn synced_lines(alloc: Global, synced: &Synced) -> Result<Vec<u8>, NoMemory>
     Ok(text)
 }
 
-// The numbers of a session, or how else it ended.
-fn ended_line(
+/// The numbers of a session, or how else it ended.
+pub(crate) fn ended_line(
     alloc: Global,
     session: &Result<SessionCounts, SessionEnd>,
 ) -> Result<Vec<u8>, NoMemory>
@@ -164,13 +166,14 @@ fn told_first(synced: &Synced) -> Option<RefusedRow>
     }
 }
 
-// Appends the line of the first refused row, where there is one.
-fn put_first_line(
+/// Appends the line of the first refused row, where there is one.
+pub(crate) fn put_first_line(
     alloc: Global,
     first: Option<RefusedRow>,
     text: &mut Vec<u8>,
 ) -> Result<(), NoMemory>
-    ensures { OnOk result (text.new.items ≡ text.old.items ++ first_line first) }
+    ensures text { OnOk result (text.new.items ≡ text.old.items ++ first_line first) }
+    ensures some { OnErr result (0 < length (first_line first)) }
 {
     match first {
         Some(RefusedRow { row, refusal }) => {

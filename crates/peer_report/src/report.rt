@@ -1,13 +1,14 @@
 //! The status of a run, and its report.
 
-ghost use Rattle.std.specs.Prelude.{◌≡◌, ◌≤◌, false, None, Ok, Err};
-ghost use Rattle.peer_stage.specs.Status.{status_of, stop_status, refused_status, first_status, end_status};
+ghost use Rattle.std.specs.Prelude.{◌≡◌, ◌≤◌, ◌==◌, false, None, Ok, Err};
+ghost use Rattle.std.specs.List.{list_any};
+ghost use Rattle.peer_stage.specs.Status.{status_of, statuses_met, stop_status, refused_status, first_status, accept_status, put_status, session_status, end_status};
 ghost use Rattle.peer_stage.specs.declared.outcome.Done.TheVariants as done;
-ghost use Rattle.peer_report.specs.Report.{after_report_fault, Reports};
+ghost use Rattle.peer_report.specs.Report.{after_report_fault, others_met, Reports};
 
 use crate::lines::report_of;
 use mc_cap::RefusedRow;
-use peer_stage::{Done, Stop, Synced, write_output};
+use peer_stage::{Done, Served, SessionCounts, Stop, Synced, write_output};
 use session_end::SessionEnd;
 use std::alloc::Global;
 use willow_outside::Sink;
@@ -31,6 +32,7 @@ fn done_status(done: &Done) -> u8
         Done::Shown(counts) => refused_status(counts.refused),
         Done::Met(counts) => first_status(counts.first),
         Done::Synced(synced) => synced_status(synced),
+        Done::Served(served) => served_status(served),
         Done::Made => 0,
     }
 }
@@ -80,6 +82,68 @@ fn end_status(end: &SessionEnd) -> u8
         SessionEnd::LogFull { .. } => 8,
         SessionEnd::NoMemory => 7,
     }
+}
+
+/// The status of a server: the first of 7, 3, 4, 6, 8 and 1 that a session, the accepting of the links, the put of the image
+/// or a refused row gave.
+fn served_status(served: &Served) -> u8
+    ensures { result ≡ status_of (Ok (done.Served served.now)) }
+{
+    for status in [7, 3, 4, 6, 8, 1] {
+        if has_met(served, status) {
+            return status;
+        }
+    }
+    0
+}
+
+/// Whether a server met what has this status.
+fn has_met(served: &Served, status: u8) -> bool
+    ensures { result ≡ list_any (λ met. met == status) (statuses_met (done.Served served.now)) }
+{
+    session_met(&served.sessions, status) || other_met(served, status)
+}
+
+/// Whether a session ended with what has this status.
+fn session_met(sessions: &[Result<SessionCounts, SessionEnd>], status: u8) -> bool
+    ensures { result ≡ list_any (λ session. session_status session == status) sessions.now }
+{
+    sessions
+        .iter()
+        .any(|session| session_status(session) == status)
+}
+
+/// Whether what a server met beside its sessions has this status.
+fn other_met(served: &Served, status: u8) -> bool
+    ensures { result ≡ list_any (λ met. met == status) (others_met served.now) }
+{
+    accept_status(served.accepted) == status
+        || put_status(served.put) == status
+        || first_status(served.first) == status
+}
+
+/// 0 where the session was done, else the status of its end.
+fn session_status(session: &Result<SessionCounts, SessionEnd>) -> u8
+    ensures { result ≡ session_status session.now }
+{
+    match session {
+        Ok(_) => 0,
+        Err(end) => end_status(end),
+    }
+}
+
+/// 0 where all links came, else 3.
+fn accept_status(accepted: bool) -> u8
+    ensures { result ≡ accept_status accepted }
+{
+    if accepted { 0 } else { 3 }
+}
+
+/// 0 where the image was put, else 4.
+fn put_status(put: bool) -> u8
+    ensures { result ≡ put_status put }
+{
+    if put { 0 } else { 4 }
 }
 
 /// The status of a stop.

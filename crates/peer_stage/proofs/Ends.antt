@@ -1,14 +1,16 @@
 -- From the status of an end back to the end.
-use Rattle.std.proofs.Common.{◌≡◌, ◌≢◌, ℕ, ◌≤◌, ◌<◌, Bool, true, false, cond, eqb, [], ◌∷◌, Option, Some, None, refl, sym, subst, arith}
+use Rattle.std.proofs.Common.{◌≡◌, ◌≢◌, ℕ, ◌≤◌, ◌<◌, Bool, true, false, cond, eqb, List, [], ◌∷◌, Option, Some, None, refl, sym, arith}
 use Rattle.std.specs.Prelude.{Result, Ok, Err}
+use Rattle.std.specs.List.{list_any}
 use Rattle.std.proofs.lemmas.Bool.{eqb-true}
 use Rattle.std.proofs.lemmas.Bool.Decides.{nat_tests}
 use Rattle.mc_cap.specs.declared.refusal.RefusedRow.{RefusedRow}
 use Rattle.session_end.specs.declared.end.SessionEnd.{SessionEnd}
 use Rattle.session_end.specs.declared.end.SessionEnd.TheVariants as ending
-use Rattle.peer_stage.specs.Status.{status_of, refused_status, first_status, end_status, session_status, put_status, first_met, told_order}
+use Rattle.peer_stage.specs.Status.{status_of, refused_status, first_status, end_status, session_status, put_status, statuses_met, first_met, told_order}
 use Rattle.peer_stage.specs.declared.outcome.SessionCounts.{SessionCounts}
 use Rattle.peer_stage.specs.declared.outcome.Synced.{Synced}
+use Rattle.peer_stage.specs.declared.outcome.Served.{Served}
 use Rattle.peer_stage.specs.declared.outcome.Done.{Done}
 use Rattle.peer_stage.specs.declared.outcome.Done.TheVariants as done
 use Rattle.peer_stage.specs.declared.outcome.Stop.{Stop}
@@ -63,6 +65,7 @@ none_met = refl
 -- no session was run
 abbrev pub IsLocal : Done → Type 0
 IsLocal (done.Synced s) = ⊥
+IsLocal (done.Served s) = ⊥
 IsLocal d = Unit {0}
 
 -- what is done without one gives 0 or 1
@@ -71,6 +74,7 @@ done_small (done.Joined counts) is = rw (refused_only counts.refused) (refused_s
 done_small (done.Shown counts) is = rw (refused_only counts.refused) (refused_small counts.refused)
 done_small (done.Met counts) is = rw (first_only counts.first) (first_small counts.first)
 done_small (done.Synced s) is = absurd is
+done_small (done.Served s) is = absurd is
 done_small done.Made is = rw none_met (omega arith)
 
 -- ---- sessions
@@ -150,29 +154,38 @@ synced_is (Err (ending.LogFull missed)) true first = full_told true first
 synced_is (Err (ending.LogFull missed)) false first = full_told false first
 synced_is (Err ending.NoMemory) put first = memory_told put first
 
--- what came of a call has no other status than these
+-- what came of a call or of a server has no other status than these
 pub record IsCallStatus (status : ℕ) : Type 0 where
   pub small : status ≤ 8
   pub no_usage : status ≢ 2
   pub no_input : status ≢ 5
 
-call_status : (session : Result SessionCounts SessionEnd) (put : Bool) (first : Option RefusedRow) → IsCallStatus (synced_status session put first)
-call_status (Err ending.NoMemory) put first = record { small = omega arith; no_usage = λ e. omega (arith, e); no_input = λ e. omega (arith, e) }
-call_status (Err ending.LinkRead) put first = record { small = omega arith; no_usage = λ e. omega (arith, e); no_input = λ e. omega (arith, e) }
-call_status (Err (ending.LogFull missed)) true first = record { small = omega arith; no_usage = λ e. omega (arith, e); no_input = λ e. omega (arith, e) }
-call_status (Err ending.LinkWrite) true first = record { small = omega arith; no_usage = λ e. omega (arith, e); no_input = λ e. omega (arith, e) }
-call_status (Err end) true first = record { small = omega arith; no_usage = λ e. omega (arith, e); no_input = λ e. omega (arith, e) }
-call_status (Err end) false first = record { small = omega arith; no_usage = λ e. omega (arith, e); no_input = λ e. omega (arith, e) }
-call_status (Ok counts) true None = record { small = omega arith; no_usage = λ e. omega (arith, e); no_input = λ e. omega (arith, e) }
-call_status (Ok counts) true (Some first) = record { small = omega arith; no_usage = λ e. omega (arith, e); no_input = λ e. omega (arith, e) }
-call_status (Ok counts) false first = record { small = omega arith; no_usage = λ e. omega (arith, e); no_input = λ e. omega (arith, e) }
+-- whatever was met on the way to what is done gives one of these
+pub told_known : (met : List ℕ) → IsCallStatus (first_met told_order met)
+unfolding first_met
+told_known met = one (met_at 7) (met_at 3) (met_at 4) (met_at 6) (met_at 8) (met_at 1) where
+  met_at : ℕ → Bool
+  met_at status = list_any (λ m. eqb m status) met
+
+  one : (a b c d e f : Bool) → IsCallStatus (cond a 7 (cond b 3 (cond c 4 (cond d 6 (cond e 8 (cond f 1 0))))))
+  one true b c d e f = record { small = omega arith; no_usage = λ e. omega (arith, e); no_input = λ e. omega (arith, e) }
+  one false true c d e f = record { small = omega arith; no_usage = λ e. omega (arith, e); no_input = λ e. omega (arith, e) }
+  one false false true d e f = record { small = omega arith; no_usage = λ e. omega (arith, e); no_input = λ e. omega (arith, e) }
+  one false false false true e f = record { small = omega arith; no_usage = λ e. omega (arith, e); no_input = λ e. omega (arith, e) }
+  one false false false false true f = record { small = omega arith; no_usage = λ e. omega (arith, e); no_input = λ e. omega (arith, e) }
+  one false false false false false true = record { small = omega arith; no_usage = λ e. omega (arith, e); no_input = λ e. omega (arith, e) }
+  one false false false false false false = record { small = omega arith; no_usage = λ e. omega (arith, e); no_input = λ e. omega (arith, e) }
 
 pub synced_known : (s : Synced) → IsCallStatus (status_of (Ok (done.Synced s)))
-synced_known s = subst IsCallStatus (sym (synced_is s.session s.put s.first)) (call_status s.session s.put s.first)
+synced_known s = told_known (statuses_met (done.Synced s))
+
+pub served_known : (s : Served) → IsCallStatus (status_of (Ok (done.Served s)))
+served_known s = told_known (statuses_met (done.Served s))
 
 -- no end has another status
 pub known : (end : Result Done Stop) → status_of end ≤ 9
 known (Ok (done.Synced s)) = omega (arith, (synced_known s).small)
+known (Ok (done.Served s)) = omega (arith, (served_known s).small)
 known (Ok (done.Joined counts)) = omega (arith, done_small (done.Joined counts) tt)
 known (Ok (done.Shown counts)) = omega (arith, done_small (done.Shown counts) tt)
 known (Ok (done.Met counts)) = omega (arith, done_small (done.Met counts) tt)

@@ -1,5 +1,5 @@
 -- The status of each end of a command.
-use Rattle.std.specs.Prelude.{ℕ, ◌==◌, Bool, true, false, if◌then◌else◌, List, [], ◌∷◌, Option, Some, None, Result, Ok, Err}
+use Rattle.std.specs.Prelude.{ℕ, ◌==◌, Bool, true, false, if◌then◌else◌, List, [], ◌∷◌, ◌++◌, map, Option, Some, None, Result, Ok, Err}
 use Rattle.std.specs.List.{list_any}
 use Rattle.mc_cap.specs.declared.refusal.RefusedRow.{RefusedRow}
 use Rattle.session_end.specs.declared.end.SessionEnd.{SessionEnd}
@@ -44,12 +44,18 @@ abbrev pub put_status : Bool → ℕ
 put_status true = 0
 put_status false = 4
 
+-- 3 where fewer links came than were asked for, else 0
+abbrev pub accept_status : Bool → ℕ
+accept_status true = 0
+accept_status false = 3
+
 -- the statuses of what was met on the way to what is done, which stopped nothing
 abbrev pub statuses_met : Done → List ℕ
 statuses_met (done.Joined counts) = refused_status counts.refused ∷ []
 statuses_met (done.Shown counts) = refused_status counts.refused ∷ []
 statuses_met (done.Met counts) = first_status counts.first ∷ []
 statuses_met (done.Synced s) = session_status s.session ∷ (put_status s.put ∷ (first_status s.first ∷ []))
+statuses_met (done.Served s) = map session_status s.sessions.items ++ (accept_status s.accepted ∷ (put_status s.put ∷ (first_status s.first ∷ [])))
 statuses_met done.Made = []
 
 -- the first of these statuses that was met, 0 where none was

@@ -94,8 +94,23 @@ pub struct Synced {
     pub put: bool,
 }
 
-/// What a command did that came to its end. What it met on the way gives the status: the rows that were left out, and in
-/// a call how the session ended and whether the image was put.
+/// What came of a server: how the session of each link ended, which stops nothing, whether all links came, and whether
+/// the image was put behind them.
+#[derive(Debug, PartialEq, Eq, Drop)]
+pub struct Served {
+    /// How the session of each link ended, in the order in which the links came.
+    pub sessions: Vec<Result<SessionCounts, SessionEnd>>,
+    /// Whether as many links came as were asked for; where not, accepting one failed.
+    pub accepted: bool,
+    /// The first row that is not authorised, counted over the image and then the rows that came, link by link; None
+    /// where there is none.
+    pub first: Option<RefusedRow>,
+    /// Whether the image was put; where it was not, writing failed.
+    pub put: bool,
+}
+
+/// What a command did that came to its end. What it met on the way gives the status: the rows that were left out, in a
+/// call or a server how the sessions ended and whether the image was put, and in a server whether all links came.
 #[derive(Debug, PartialEq, Eq, Drop)]
 pub enum Done {
     /// Rows were joined.
@@ -106,6 +121,8 @@ pub enum Done {
     Met(MeetCounts),
     /// A session was run, and the image put or tried to be put.
     Synced(Synced),
+    /// Links were served, and the image put or tried to be put.
+    Served(Served),
     /// What was to be made is written; there is nothing to report.
     Made,
 }

@@ -1,4 +1,5 @@
-use Rattle.peer_report.proofs.Statuses.{joined_status, shown_status, met_status, call_status, made_status}
+use Rattle.peer_stage.specs.declared.outcome.Done.TheVariants as done
+use Rattle.peer_report.proofs.Statuses.{joined_status, shown_status, met_status, same_status, made_status}
 use Rattle.peer_report.proofs.report.done_status.Goals as goal
 
 pub returns-in-Joined : goal.returns-in-Joined
@@ -14,4 +15,7 @@ pub returns-in-Made : goal.returns-in-Made
 returns-in-Made c = made_status c.args.done.now c.in-Made.is
 
 pub returns-in-Synced : goal.returns-in-Synced
-returns-in-Synced c = call_status c.args.done.now c.in-Synced.synced c.synced_status.result c.in-Synced.is c.synced_status.ensures
+returns-in-Synced c = same_status c.args.done.now (done.Synced c.in-Synced.synced) c.synced_status.result c.in-Synced.is c.synced_status.ensures
+
+pub returns-in-Served : goal.returns-in-Served
+returns-in-Served c = same_status c.args.done.now (done.Served c.in-Served.served) c.served_status.result c.in-Served.is c.served_status.ensures

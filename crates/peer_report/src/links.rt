@@ -1,0 +1,98 @@
+//! The report's lines for a server: one of each link, and what else it met.
+
+ghost use Rattle.std.specs.Prelude.{◌≡◌, ◌<◌, ◌++◌, length, is_ok, IfOk, OnOk, OnErr};
+ghost use Rattle.std.specs.List.{list_all};
+ghost use Rattle.peer_report.specs.Report.{accept_line, link_line, link_lines, put_line, served_first, served_lines};
+
+use crate::lines::{ended_line, put_first_line};
+use mc_cap::RefusedRow;
+use peer_stage::{Served, SessionCounts};
+use session_end::SessionEnd;
+use spelling::{NoMemory, put_bytes};
+use std::alloc::Global;
+
+/// How the session of each link ended, the first refused row where nothing else is told, that not all links came, and
+/// that the image was not put.
+pub(crate) fn served_lines(alloc: Global, served: &Served) -> Result<Vec<u8>, NoMemory>
+    ensures text { IfOk result (λ text. text.items ≡ served_lines served.now) }
+    ensures some { OnErr result (0 < length (served_lines served.now)) }
+{
+    let mut text = Vec::new(alloc);
+    put_link_lines(alloc, &served.sessions, &mut text)?;
+    put_first_line(alloc, served_first(served), &mut text)?;
+    put_accept_line(served.accepted, &mut text)?;
+    put_put_line(served.put, &mut text)?;
+    Ok(text)
+}
+
+// Appends the line of each link, numbered from 1.
+fn put_link_lines(
+    alloc: Global,
+    sessions: &[Result<SessionCounts, SessionEnd>],
+    text: &mut Vec<u8>,
+) -> Result<(), NoMemory>
+    ensures text { OnOk result (text.new.items ≡ text.old.items ++ link_lines 1 sessions.now) }
+    ensures some { OnErr result (0 < length (link_lines 1 sessions.now)) }
+{
+    for (index, session) in sessions.iter().enumerate() {
+        put_link_line(alloc, index + 1, session, text)?;
+    }
+    Ok(())
+}
+
+// Appends the line of the link of this number.
+fn put_link_line(
+    alloc: Global,
+    number: usize,
+    session: &Result<SessionCounts, SessionEnd>,
+    text: &mut Vec<u8>,
+) -> Result<(), NoMemory>
+    ensures { OnOk result (text.new.items ≡ text.old.items ++ link_line number session.now) }
+{
+    let mut line = format!(in alloc; "link {number}: ")?.into_bytes();
+    let ended = ended_line(alloc, session)?;
+    put_bytes(&mut line, &ended)?;
+    put_bytes(text, &line)
+}
+
+// The row that is told as the first refused one: none, unless every session was done, all links came and the image was put.
+fn served_first(served: &Served) -> Option<RefusedRow>
+    ensures { result ≡ served_first served.now }
+{
+    if all_done(&served.sessions) && served.accepted && served.put {
+        served.first
+    } else {
+        None
+    }
+}
+
+// Whether every session was done.
+fn all_done(sessions: &[Result<SessionCounts, SessionEnd>]) -> bool
+    ensures { result ≡ list_all is_ok sessions.now }
+{
+    sessions.iter().all(|session| session.is_ok())
+}
+
+// Appends a read fault's line, unless all links came.
+fn put_accept_line(accepted: bool, text: &mut Vec<u8>) -> Result<(), NoMemory>
+    ensures text { OnOk result (text.new.items ≡ text.old.items ++ accept_line accepted) }
+    ensures some { OnErr result (0 < length (accept_line accepted)) }
+{
+    if accepted {
+        Ok(())
+    } else {
+        put_bytes(text, b"read fault\n")
+    }
+}
+
+// Appends a write fault's line, unless the image was put.
+fn put_put_line(put: bool, text: &mut Vec<u8>) -> Result<(), NoMemory>
+    ensures text { OnOk result (text.new.items ≡ text.old.items ++ put_line put) }
+    ensures some { OnErr result (0 < length (put_line put)) }
+{
+    if put {
+        Ok(())
+    } else {
+        put_bytes(text, b"write fault\n")
+    }
+}

@@ -1,0 +1,156 @@
+-- From the status of what is done back to what was met on the way, for a server.
+use Rattle.std.proofs.Common.{◌≡◌, ◌≢◌, ◌∙◌, ◌⊎◌, inl, inr, ℕ, ◌≤◌, ◌==◌, ◌||◌, ◌&&◌, Bool, true, false, cond, if◌then◌else◌, List, [], ◌∷◌, map, refl, sym, ap, arith}
+use Rattle.std.specs.Prelude.{Option, Some, None, Result, Ok, Err, is_ok}
+use Rattle.std.specs.List.{list_any, list_all}
+use Rattle.std.proofs.lemmas.List.Folds.{list_any-append}
+use Rattle.mc_cap.specs.declared.refusal.RefusedRow.{RefusedRow}
+use Rattle.session_end.specs.declared.end.SessionEnd.{SessionEnd}
+use Rattle.session_end.specs.declared.end.SessionEnd.TheVariants as ending
+use Rattle.peer_stage.specs.Status.{status_of, statuses_met, first_met, told_order, session_status, accept_status, put_status, first_status}
+use Rattle.peer_stage.specs.declared.outcome.SessionCounts.{SessionCounts}
+use Rattle.peer_stage.specs.declared.outcome.Served.{Served}
+use Rattle.peer_stage.specs.declared.outcome.Done.TheVariants as done
+
+-- a status was met
+abbrev pub met_in : ℕ → List ℕ → Bool
+met_in status met = list_any (λ m. m == status) met
+
+-- a session gave a status
+abbrev pub given_by : ℕ → List (Result SessionCounts SessionEnd) → Bool
+given_by status sessions = list_any (λ session. session_status session == status) sessions
+
+-- ---- what is told was met
+
+told_step : (b : Bool) (first rest status : ℕ) (met : List ℕ) → met_in first met ≡ b → (if b then first else rest) ≡ status → (rest ≡ status → met_in status met ≡ true) → met_in status met ≡ true
+told_step true first rest status met here is later = ap (λ (s : ℕ). met_in s met) (sym is) ∙ here
+told_step false first rest status met here is later = later is
+
+-- but for 0
+pub told_was_met : (order met : List ℕ) (status : ℕ) → first_met order met ≡ status → status ≢ 0 → met_in status met ≡ true
+unfolding first_met
+told_was_met [] met status is some = absurd (some (sym is))
+told_was_met (first ∷ later) met status is some = told_step (met_in first met) first (first_met later met) status met refl is (λ behind. told_was_met later met status behind some)
+
+-- where no more than 1 is told, nothing worse was met
+pub record IsMild (met : List ℕ) : Type 0 where
+  pub memory : met_in 7 met ≡ false
+  pub read : met_in 3 met ≡ false
+  pub write : met_in 4 met ≡ false
+  pub refused : met_in 6 met ≡ false
+  pub full : met_in 8 met ≡ false
+
+pub small_told : (met : List ℕ) → first_met told_order met ≤ 1 → IsMild met
+unfolding first_met
+small_told met small =
+    let five = one (met_in 7 met) (met_in 3 met) (met_in 4 met) (met_in 6 met) (met_in 8 met) (met_in 1 met) small in
+    record { memory = five.0; read = five.1; write = five.2; refused = five.3; full = five.4 } where
+      one : (a b c d e f : Bool) → cond a 7 (cond b 3 (cond c 4 (cond d 6 (cond e 8 (cond f 1 0))))) ≤ 1 → (a ≡ false) × (b ≡ false) × (c ≡ false) × (d ≡ false) × (e ≡ false)
+      one true b c d e f le = absurd (omega arith)
+      one false true c d e f le = absurd (omega arith)
+      one false false true d e f le = absurd (omega arith)
+      one false false false true e f le = absurd (omega arith)
+      one false false false false true f le = absurd (omega arith)
+      one false false false false false f le = (refl, refl, refl, refl, refl)
+
+-- ---- a server
+
+or_true : (a b : Bool) → a || b ≡ true → (a ≡ true) ⊎ (b ≡ true)
+or_true true b e = inl refl
+or_true false b e = inr e
+
+or_false : (a b : Bool) → a || b ≡ false → (a ≡ false) × (b ≡ false)
+or_false true b e = cc
+or_false false b e = (refl, e)
+
+any_of_map : {A B : Type 0} (p : B → Bool) (f : A → B) (xs : List A) → list_any p (map f xs) ≡ list_any (λ x. p (f x)) xs
+any_of_map p f [] = refl
+any_of_map p f (x ∷ xs) = ap (λ b. p (f x) || b) (any_of_map p f xs)
+
+-- what a server met beside its sessions
+abbrev pub beside : Served → List ℕ
+beside s = accept_status s.accepted ∷ (put_status s.put ∷ (first_status s.first ∷ []))
+
+pub served_parts : (s : Served) (status : ℕ) → met_in status (statuses_met (done.Served s)) ≡ (given_by status s.sessions.items || met_in status (beside s))
+served_parts s status =
+    list_any-append (λ m. m == status) (map session_status s.sessions.items) (beside s)
+    ∙ ap (λ b. b || met_in status (beside s)) (any_of_map (λ m. m == status) session_status s.sessions.items)
+
+-- the status of a server, but for 0, was given by a session or met beside them
+pub served_from : (s : Served) (status : ℕ) → status_of (Ok (done.Served s)) ≡ status → status ≢ 0 → (given_by status s.sessions.items ≡ true) ⊎ (met_in status (beside s) ≡ true)
+served_from s status is some = or_true _ _ (sym (served_parts s status) ∙ told_was_met told_order (statuses_met (done.Served s)) status is some)
+
+-- a fault of reading is that of a session, or of accepting
+pub served_read : (s : Served) → status_of (Ok (done.Served s)) ≡ 3 → (given_by 3 s.sessions.items ≡ true) ⊎ (s.accepted ≡ false)
+served_read s is = elim (served_from s 3 is (λ e. omega (arith, e))) [ inl given ↦ inl given | inr other ↦ inr (told s.accepted s.put s.first other) ] where
+  told : (accepted put : Bool) (first : Option RefusedRow) → met_in 3 (accept_status accepted ∷ (put_status put ∷ (first_status first ∷ []))) ≡ true → accepted ≡ false
+  told false put first e = refl
+  told true true None e = cc
+  told true true (Some first) e = cc
+  told true false None e = cc
+  told true false (Some first) e = cc
+
+-- a fault of writing is that of a session, or of the put
+pub served_write : (s : Served) → status_of (Ok (done.Served s)) ≡ 4 → (given_by 4 s.sessions.items ≡ true) ⊎ (s.put ≡ false)
+served_write s is = elim (served_from s 4 is (λ e. omega (arith, e))) [ inl given ↦ inl given | inr other ↦ inr (told s.accepted s.put s.first other) ] where
+  told : (accepted put : Bool) (first : Option RefusedRow) → met_in 4 (accept_status accepted ∷ (put_status put ∷ (first_status first ∷ []))) ≡ true → put ≡ false
+  told accepted false first e = refl
+  told true true None e = cc
+  told true true (Some first) e = cc
+  told false true None e = cc
+  told false true (Some first) e = cc
+
+-- any other that is above 1 is that of a session
+pub served_session : (s : Served) (status : ℕ) → status_of (Ok (done.Served s)) ≡ status → met_in status (beside s) ≡ false → status ≢ 0 → given_by status s.sessions.items ≡ true
+served_session s status is none some = elim (served_from s status is some) [ inl given ↦ given | inr other ↦ cc ]
+
+-- ---- where the status is 0 or 1
+
+pub record IsWholeServed (s : Served) : Type 0 where
+  pub sessions : list_all is_ok s.sessions.items ≡ true
+  pub accepted : s.accepted ≡ true
+  pub put : s.put ≡ true
+
+session_done : (session : Result SessionCounts SessionEnd) → (session_status session == 7) ≡ false → (session_status session == 3) ≡ false → (session_status session == 4) ≡ false
+    → (session_status session == 6) ≡ false → (session_status session == 8) ≡ false → is_ok session ≡ true
+session_done (Ok counts) seven three four six eight = refl
+session_done (Err ending.NoMemory) seven three four six eight = cc
+session_done (Err ending.LinkRead) seven three four six eight = cc
+session_done (Err ending.LinkWrite) seven three four six eight = cc
+session_done (Err (ending.LogFull missed)) seven three four six eight = cc
+session_done (Err (ending.ClosedEarly at)) seven three four six eight = cc
+session_done (Err (ending.BadMessage at)) seven three four six eight = cc
+session_done (Err (ending.Hello refusal)) seven three four six eight = cc
+session_done (Err (ending.Core refusal)) seven three four six eight = cc
+session_done (Err ending.SignFault) seven three four six eight = cc
+
+sessions_done : (sessions : List (Result SessionCounts SessionEnd)) → given_by 7 sessions ≡ false → given_by 3 sessions ≡ false → given_by 4 sessions ≡ false → given_by 6 sessions ≡ false → given_by 8 sessions ≡ false
+    → list_all is_ok sessions ≡ true
+sessions_done [] seven three four six eight = refl
+sessions_done (session ∷ rest) seven three four six eight =
+    let a = or_false (session_status session == 7) (given_by 7 rest) seven in
+    let b = or_false (session_status session == 3) (given_by 3 rest) three in
+    let c = or_false (session_status session == 4) (given_by 4 rest) four in
+    let d = or_false (session_status session == 6) (given_by 6 rest) six in
+    let e = or_false (session_status session == 8) (given_by 8 rest) eight in
+    ap (λ ok. ok && list_all is_ok rest) (session_done session a.0 b.0 c.0 d.0 e.0) ∙ sessions_done rest a.1 b.1 c.1 d.1 e.1
+
+pub served_small : (s : Served) → status_of (Ok (done.Served s)) ≤ 1 → IsWholeServed s
+served_small s small =
+    let mild = small_told (statuses_met (done.Served s)) small in
+    let seven = or_false (given_by 7 s.sessions.items) (met_in 7 (beside s)) (sym (served_parts s 7) ∙ mild.memory) in
+    let three = or_false (given_by 3 s.sessions.items) (met_in 3 (beside s)) (sym (served_parts s 3) ∙ mild.read) in
+    let four = or_false (given_by 4 s.sessions.items) (met_in 4 (beside s)) (sym (served_parts s 4) ∙ mild.write) in
+    let six = or_false (given_by 6 s.sessions.items) (met_in 6 (beside s)) (sym (served_parts s 6) ∙ mild.refused) in
+    let eight = or_false (given_by 8 s.sessions.items) (met_in 8 (beside s)) (sym (served_parts s 8) ∙ mild.full) in
+    record {
+      sessions = sessions_done s.sessions.items seven.0 three.0 four.0 six.0 eight.0;
+      accepted = came s.accepted (put_status s.put ∷ (first_status s.first ∷ [])) three.1;
+      put = written (accept_status s.accepted) s.put (first_status s.first ∷ []) four.1;
+    } where
+      came : (accepted : Bool) (rest : List ℕ) → met_in 3 (accept_status accepted ∷ rest) ≡ false → accepted ≡ true
+      came true rest e = refl
+      came false rest e = cc
+
+      written : (first : ℕ) (put : Bool) (rest : List ℕ) → met_in 4 (first ∷ (put_status put ∷ rest)) ≡ false → put ≡ true
+      written first true rest e = refl
+      written first false rest e = let both = or_false (first == 4) true e in cc
