@@ -1,4 +1,4 @@
--- What a call brings may begin a session: its hello passes, and its signer can sign.
+-- What a side brings may begin a session: its hello passes, and a signer of the next index can sign.
 use Rattle.std.proofs.Common.{◌≡◌, ◌≤◌, ℕ, Bool, true, false, cond, List, [], ◌∷◌, Option, Some, None, refl, sym, ap, subst, arith}
 use Rattle.spelling.specs.Answers.{or_else}
 use Rattle.willow_outside.specs.Facts.{ShelfFacts}
@@ -7,6 +7,7 @@ use Rattle.lms_core.specs.declared.scheme.PeerScheme.{PeerScheme}
 use Rattle.mc_cap.specs.declared.capability.Capability.{Capability}
 use Rattle.session_end.specs.declared.refusal.HelloRefusal.{HelloRefusal}
 use Rattle.session_end.specs.declared.refusal.HelloRefusal.TheVariants.{AskOutsideGrant}
+use Rattle.sync_msg.specs.declared.role.Role.{Role}
 use Rattle.sync_hello.specs.Checked.{claim_refusal, capability_refusal, hello_refusal}
 use Rattle.sync_hello.specs.declared.hello.Hello.{Hello}
 use Rattle.sync_link.specs.Plans as plans
@@ -20,7 +21,7 @@ use Rattle.peer_words.specs.declared.command.AreaWords.{AreaWords}
 use Rattle.peer_words.specs.declared.command.SignerWord.{SignerWord}
 use Rattle.peer_words.specs.declared.command.SignerWord.TheVariants.{OpenKey, LmsFile}
 use Rattle.peer_run.specs.Greeting.{empty_refusal, own_hello, own_refusal}
-use Rattle.peer_run.specs.Sync.{no_nonce, plan_of}
+use Rattle.peer_run.specs.Preparing.{no_nonce, plan_of}
 
 -- ---- the hello
 
@@ -42,9 +43,9 @@ any_nonce : (n : List ℕ) (area : AreaWords) (c : Capability) (nonce : List ℕ
 unfolding hello_refusal claim_refusal
 any_nonce n area c nonce = refl
 
-pub plan_passes : (n : List ℕ) (area : AreaWords) (c : Capability) (nonce : List ℕ) (plan : SessionPlan PeerScheme) → plan ≡ plan_of (own_hello area c no_nonce) → own_refusal n (own_hello area c no_nonce) ≡ None
+pub plan_passes : (role : Role) (n : List ℕ) (area : AreaWords) (c : Capability) (nonce : List ℕ) (plan : SessionPlan PeerScheme) → plan ≡ plan_of role (own_hello area c no_nonce) → own_refusal n (own_hello area c no_nonce) ≡ None
     → hello_refusal peer_rules n (plans.own_hello plan nonce) ≡ None
-plan_passes n area c nonce plan is none =
+plan_passes role n area c nonce plan is none =
     let passes = subst (λ (o : Option HelloRefusal). o ≡ None) (any_nonce n area c nonce) (own_passes n (own_hello area c no_nonce) none) in
     subst (λ (p : SessionPlan PeerScheme). hello_refusal peer_rules n (plans.own_hello p nonce) ≡ None) (sym is) passes
 

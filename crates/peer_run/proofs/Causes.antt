@@ -15,6 +15,7 @@ use Rattle.peer_run.specs.Promises.{HasEnded, HasStopped, HasReadFault, HasWrite
 use Rattle.peer_run.specs.Ending.{HasTold}
 use Rattle.peer_run.proofs.Ends.{own_status, after_is, memory_end, is_end, bad_end, refused_end, full_end, spent_end}
 use Rattle.peer_run.proofs.Laws.{laws_of}
+use Rattle.peer_run.proofs.SignedAll.{SignsEnd, signs_end}
 
 -- of a run without a command the status is 2, 4 or 7
 no_command : (r r' : SinkFacts) (s : ℕ) → Reports r r' (Err stop.Usage) s → s ≢ 4 → s ≢ 7 → s ≡ 2
@@ -53,7 +54,7 @@ has_told r r' end s (inr (inl fault)) memory = inr (fault.written, fault.fault)
 has_told r r' end s (inr (inr none)) memory = absurd (memory none.status_is)
 
 -- a run with another status than 0, 1, 2, 4 and 7 is one of a command that stopped
-stopped : (IsOne : Result Done Stop → Type 0) (k : ℕ) → ((end : Result Done Stop) → status_of end ≡ k → IsOne end) → k ≢ 2 → k ≢ 4 → k ≢ 7
+stopped : (IsOne : Result Done Stop → Type 0) (k : ℕ) → ((end : Result Done Stop) → SignsEnd end → status_of end ≡ k → IsOne end) → k ≢ 2 → k ≢ 4 → k ≢ 7
     → (run : Run) → RunsWords run → run.status ≡ k → HasStopped IsOne run
 stopped IsOne k each two four seven run (inr (inl misused)) is = absurd (two (sym is ∙ no_command _ _ run.status misused.reports (λ e. four (sym is ∙ e)) (λ e. seven (sym is ∙ e))))
 stopped IsOne k each two four seven run (inr (inr none)) is = absurd (seven (sym is ∙ memory_end _ _ run.status none.reports))
@@ -62,22 +63,22 @@ stopped IsOne k each two four seven run (inl runs) is =
       command = runs.command;
       is_words = runs.is_words;
       end = runs.end;
-      is_one = each runs.end (sym (own_status _ _ runs.end run.status runs.reports (λ e. four (sym is ∙ e)) (λ e. seven (sym is ∙ e))) ∙ is);
+      is_one = each runs.end (signs_end runs.command run.old (before_report run) runs.end runs.meets) (sym (own_status _ _ runs.end run.status runs.reports (λ e. four (sym is ∙ e)) (λ e. seven (sym is ∙ e))) ∙ is);
       meets = runs.meets;
       told = has_told _ _ runs.end run.status runs.reports (λ e. seven (sym is ∙ e));
     }
 
 pub bad_input : (run : Run) → RunsWords run → run.status ≡ 5 → HasStopped IsBadEnd run
-bad_input = stopped IsBadEnd 5 bad_end (λ e. omega (arith, e)) (λ e. omega (arith, e)) (λ e. omega (arith, e))
+bad_input = stopped IsBadEnd 5 (λ end signs. bad_end end) (λ e. omega (arith, e)) (λ e. omega (arith, e)) (λ e. omega (arith, e))
 
 pub refused : (run : Run) → RunsWords run → run.status ≡ 6 → HasStopped IsRefusedEnd run
 refused = stopped IsRefusedEnd 6 refused_end (λ e. omega (arith, e)) (λ e. omega (arith, e)) (λ e. omega (arith, e))
 
 pub log_full : (run : Run) → RunsWords run → run.status ≡ 8 → HasStopped IsFullEnd run
-log_full = stopped IsFullEnd 8 full_end (λ e. omega (arith, e)) (λ e. omega (arith, e)) (λ e. omega (arith, e))
+log_full = stopped IsFullEnd 8 (λ end signs. full_end end) (λ e. omega (arith, e)) (λ e. omega (arith, e)) (λ e. omega (arith, e))
 
 pub key_spent : (run : Run) → RunsWords run → run.status ≡ 9 → HasStopped IsSpentEnd run
-key_spent = stopped IsSpentEnd 9 spent_end (λ e. omega (arith, e)) (λ e. omega (arith, e)) (λ e. omega (arith, e))
+key_spent = stopped IsSpentEnd 9 (λ end signs. spent_end end) (λ e. omega (arith, e)) (λ e. omega (arith, e)) (λ e. omega (arith, e))
 
 -- ---- 2
 

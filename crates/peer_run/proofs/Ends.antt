@@ -7,15 +7,18 @@ use Rattle.mc_cap.specs.declared.refusal.RefusedRow.{RefusedRow}
 use Rattle.session_end.specs.declared.end.SessionEnd.{SessionEnd}
 use Rattle.session_end.specs.declared.end.SessionEnd.TheVariants as ending
 use Rattle.peer_stage.specs.declared.outcome.SessionCounts.{SessionCounts}
+use Rattle.peer_stage.specs.declared.outcome.Served.{Served}
 use Rattle.peer_stage.specs.declared.outcome.Synced.{Synced}
 use Rattle.peer_stage.specs.declared.outcome.Done.{Done}
 use Rattle.peer_stage.specs.declared.outcome.Done.TheVariants as done
 use Rattle.peer_stage.specs.declared.outcome.Stop.{Stop}
 use Rattle.peer_stage.specs.declared.outcome.Stop.TheVariants as stop
-use Rattle.peer_stage.specs.Status.{status_of}
-use Rattle.peer_stage.proofs.Ends.{IsLocal, done_small, synced_status, synced_is, synced_known}
+use Rattle.peer_stage.specs.Status.{status_of, session_status}
+use Rattle.peer_stage.proofs.Ends.{IsLocal, done_small, synced_status, synced_is, synced_known, served_known}
 use Rattle.peer_report.specs.Report.{Reports, after_report_fault}
 use Rattle.peer_run.specs.Promises.{IsEnd, IsBadEnd, IsRefusedSession, IsRefusedEnd, IsFullSession, IsFullEnd, IsSpentEnd}
+use Rattle.peer_run.proofs.ServedStatus.{session_gave}
+use Rattle.peer_run.proofs.SignedAll.{IsSigned, SignsAll, SignsEnd}
 
 -- ---- what a status tells of the end
 
@@ -47,30 +50,31 @@ is_end (Ok d) small = tt
 is_end (Err (stop.Refused refusal)) small = tt
 is_end (Err e) small = absurd (omega (arith, small))
 
--- ---- what is done, with a session or without
+-- ---- what is done, with sessions or without
 
-by_done : (P : Done → Type 0) → ((d : Done) → IsLocal d → P d) → ((s : Synced) → P (done.Synced s)) → (d : Done) → P d
-by_done P local call (done.Joined counts) = local (done.Joined counts) tt
-by_done P local call (done.Shown counts) = local (done.Shown counts) tt
-by_done P local call (done.Met counts) = local (done.Met counts) tt
-by_done P local call (done.Synced s) = call s
-by_done P local call done.Made = local done.Made tt
+by_done : (P : Done → Type 0) → ((d : Done) → IsLocal d → P d) → ((s : Synced) → P (done.Synced s)) → ((s : Served) → P (done.Served s)) → (d : Done) → P d
+by_done P local call serve (done.Joined counts) = local (done.Joined counts) tt
+by_done P local call serve (done.Shown counts) = local (done.Shown counts) tt
+by_done P local call serve (done.Met counts) = local (done.Met counts) tt
+by_done P local call serve (done.Synced s) = call s
+by_done P local call serve (done.Served s) = serve s
+by_done P local call serve done.Made = local done.Made tt
 
-refused_session : (session : Result SessionCounts SessionEnd) (put : Bool) (first : Option RefusedRow) → synced_status session put first ≡ 6 → IsRefusedSession session
-refused_session (Err (ending.ClosedEarly at)) put first is = tt
-refused_session (Err (ending.BadMessage at)) put first is = tt
-refused_session (Err (ending.Hello refusal)) put first is = tt
-refused_session (Err (ending.Core refusal)) put first is = tt
-refused_session (Err ending.SignFault) put first is = tt
-refused_session (Err ending.NoMemory) put first is = absurd (omega (arith, is))
-refused_session (Err ending.LinkRead) put first is = absurd (omega (arith, is))
-refused_session (Err ending.LinkWrite) true first is = absurd (omega (arith, is))
-refused_session (Err ending.LinkWrite) false first is = absurd (omega (arith, is))
-refused_session (Err (ending.LogFull missed)) true first is = absurd (omega (arith, is))
-refused_session (Err (ending.LogFull missed)) false first is = absurd (omega (arith, is))
-refused_session (Ok counts) true None is = absurd (omega (arith, is))
-refused_session (Ok counts) true (Some first) is = absurd (omega (arith, is))
-refused_session (Ok counts) false first is = absurd (omega (arith, is))
+refused_session : (session : Result SessionCounts SessionEnd) (put : Bool) (first : Option RefusedRow) → IsSigned session → synced_status session put first ≡ 6 → IsRefusedSession session
+refused_session (Err (ending.ClosedEarly at)) put first signs is = tt
+refused_session (Err (ending.BadMessage at)) put first signs is = tt
+refused_session (Err (ending.Hello refusal)) put first signs is = tt
+refused_session (Err (ending.Core refusal)) put first signs is = tt
+refused_session (Err ending.SignFault) put first signs is = absurd (signs refl)
+refused_session (Err ending.NoMemory) put first signs is = absurd (omega (arith, is))
+refused_session (Err ending.LinkRead) put first signs is = absurd (omega (arith, is))
+refused_session (Err ending.LinkWrite) true first signs is = absurd (omega (arith, is))
+refused_session (Err ending.LinkWrite) false first signs is = absurd (omega (arith, is))
+refused_session (Err (ending.LogFull missed)) true first signs is = absurd (omega (arith, is))
+refused_session (Err (ending.LogFull missed)) false first signs is = absurd (omega (arith, is))
+refused_session (Ok counts) true None signs is = absurd (omega (arith, is))
+refused_session (Ok counts) true (Some first) signs is = absurd (omega (arith, is))
+refused_session (Ok counts) false first signs is = absurd (omega (arith, is))
 
 full_session : (session : Result SessionCounts SessionEnd) (put : Bool) (first : Option RefusedRow) → synced_status session put first ≡ 8 → IsFullSession session
 full_session (Err (ending.LogFull missed)) put first is = tt
@@ -83,9 +87,30 @@ full_session (Ok counts) true None is = absurd (omega (arith, is))
 full_session (Ok counts) true (Some first) is = absurd (omega (arith, is))
 full_session (Ok counts) false first is = absurd (omega (arith, is))
 
+-- of one of a server's sessions, by its own status
+six_session : (session : Result SessionCounts SessionEnd) → IsSigned session → session_status session ≡ 6 → IsRefusedSession session
+six_session (Err (ending.ClosedEarly at)) signs is = tt
+six_session (Err (ending.BadMessage at)) signs is = tt
+six_session (Err (ending.Hello refusal)) signs is = tt
+six_session (Err (ending.Core refusal)) signs is = tt
+six_session (Err ending.SignFault) signs is = absurd (signs refl)
+six_session (Err end) signs is = absurd (omega (arith, is))
+six_session (Ok counts) signs is = absurd (omega (arith, is))
+
+eight_session : (session : Result SessionCounts SessionEnd) → session_status session ≡ 8 → IsFullSession session
+eight_session (Err (ending.LogFull missed)) is = tt
+eight_session (Err end) is = absurd (omega (arith, is))
+eight_session (Ok counts) is = absurd (omega (arith, is))
+
+refused_server : (s : Served) → SignsAll (done.Served s) → status_of (Ok (done.Served s)) ≡ 6 → IsRefusedEnd (Ok (done.Served s))
+refused_server s signs is = let session = session_gave s 6 is (omega arith) in (session.0, session.1, six_session session.0 (signs session.0 session.1) session.2)
+
+full_server : (s : Served) → status_of (Ok (done.Served s)) ≡ 8 → IsFullEnd (Ok (done.Served s))
+full_server s is = let session = session_gave s 8 is (omega arith) in (session.0, session.1, eight_session session.0 session.2)
+
 -- the ends of each status
 pub bad_end : (end : Result Done Stop) → status_of end ≡ 5 → IsBadEnd end
-bad_end (Ok d) is = by_done (λ x. status_of (Ok x) ≡ 5 → IsBadEnd (Ok x)) (λ x local e. absurd (omega (arith, done_small x local, e))) (λ s e. absurd ((synced_known s).no_input e)) d is
+bad_end (Ok d) is = by_done (λ x. status_of (Ok x) ≡ 5 → IsBadEnd (Ok x)) (λ x local e. absurd (omega (arith, done_small x local, e))) (λ s e. absurd ((synced_known s).no_input e)) (λ s e. absurd ((served_known s).no_input e)) d is
 bad_end (Err (stop.BadInput from at)) is = tt
 bad_end (Err (stop.NotRising from row)) is = tt
 bad_end (Err (stop.Pruned from row by)) is = tt
@@ -93,19 +118,20 @@ bad_end (Err (stop.Missing name)) is = tt
 bad_end (Err (stop.Taken name)) is = tt
 bad_end (Err e) is = absurd (omega (arith, is))
 
-pub refused_end : (end : Result Done Stop) → status_of end ≡ 6 → IsRefusedEnd end
-refused_end (Ok d) is =
-    by_done (λ x. status_of (Ok x) ≡ 6 → IsRefusedEnd (Ok x)) (λ x local e. absurd (omega (arith, done_small x local, e))) (λ s e. refused_session s.session s.put s.first (sym (synced_is s.session s.put s.first) ∙ e)) d is
-refused_end (Err (stop.SessionRefused refusal)) is = tt
-refused_end (Err e) is = absurd (omega (arith, is))
+pub refused_end : (end : Result Done Stop) → SignsEnd end → status_of end ≡ 6 → IsRefusedEnd end
+refused_end (Ok d) signs is =
+    by_done (λ x. SignsAll x → status_of (Ok x) ≡ 6 → IsRefusedEnd (Ok x)) (λ x local signed e. absurd (omega (arith, done_small x local, e)))
+    (λ s signed e. refused_session s.session s.put s.first signed (sym (synced_is s.session s.put s.first) ∙ e)) refused_server d signs is
+refused_end (Err (stop.SessionRefused refusal)) signs is = tt
+refused_end (Err e) signs is = absurd (omega (arith, is))
 
 pub full_end : (end : Result Done Stop) → status_of end ≡ 8 → IsFullEnd end
 full_end (Ok d) is =
-    by_done (λ x. status_of (Ok x) ≡ 8 → IsFullEnd (Ok x)) (λ x local e. absurd (omega (arith, done_small x local, e))) (λ s e. full_session s.session s.put s.first (sym (synced_is s.session s.put s.first) ∙ e)) d is
+    by_done (λ x. status_of (Ok x) ≡ 8 → IsFullEnd (Ok x)) (λ x local e. absurd (omega (arith, done_small x local, e))) (λ s e. full_session s.session s.put s.first (sym (synced_is s.session s.put s.first) ∙ e)) full_server d is
 full_end (Err stop.LogFull) is = tt
 full_end (Err e) is = absurd (omega (arith, is))
 
 pub spent_end : (end : Result Done Stop) → status_of end ≡ 9 → IsSpentEnd end
-spent_end (Ok d) is = by_done (λ x. status_of (Ok x) ≡ 9 → IsSpentEnd (Ok x)) (λ x local e. absurd (omega (arith, done_small x local, e))) (λ s e. absurd (omega (arith, (synced_known s).small, e))) d is
+spent_end (Ok d) is = by_done (λ x. status_of (Ok x) ≡ 9 → IsSpentEnd (Ok x)) (λ x local e. absurd (omega (arith, done_small x local, e))) (λ s e. absurd (omega (arith, (synced_known s).small, e))) (λ s e. absurd (omega (arith, (served_known s).small, e))) d is
 spent_end (Err stop.KeySpent) is = tt
 spent_end (Err e) is = absurd (omega (arith, is))

@@ -37,7 +37,7 @@ found_anyway None None false x e found = absurd cc
 module _ (n : List ℕ) (words : AreaWords) (c : Capability) (nonce : List ℕ) where
   -- ---- an ask with times
 
-  with_times : is_empty (completed words (granted c)) ≡ false → own_refusal n (own_hello words c nonce) ≡ hello_refusal peer_rules n (own_hello words c nonce)
+  pub with_times : is_empty (completed words (granted c)) ≡ false → own_refusal n (own_hello words c nonce) ≡ hello_refusal peer_rules n (own_hello words c nonce)
   unfolding own_refusal
   with_times some = ap (λ (b : Bool). cond b (empty_refusal n (own_hello words c nonce)) (hello_refusal peer_rules n (own_hello words c nonce))) some
 
@@ -55,7 +55,7 @@ module _ (n : List ℕ) (words : AreaWords) (c : Capability) (nonce : List ℕ) 
 
   -- ---- an ask without times
 
-  without_times : is_empty (completed words (granted c)) ≡ true → own_refusal n (own_hello words c nonce) ≡ empty_refusal n (own_hello words c nonce)
+  pub without_times : is_empty (completed words (granted c)) ≡ true → own_refusal n (own_hello words c nonce) ≡ empty_refusal n (own_hello words c nonce)
   unfolding own_refusal
   without_times none = ap (λ (b : Bool). cond b (empty_refusal n (own_hello words c nonce)) (hello_refusal peer_rules n (own_hello words c nonce))) none
 

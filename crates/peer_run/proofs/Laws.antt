@@ -8,6 +8,7 @@ use Rattle.peer_words.specs.declared.command.Command.TheVariants as cmd
 use Rattle.peer_run.specs.Deeds.{deed_of}
 use Rattle.peer_run.proofs.PairDeeds.{drill_is_lawful, meet_is_lawful}
 use Rattle.peer_run.proofs.CallEnds.{sync_is_lawful}
+use Rattle.peer_run.proofs.ServeEnds.{serve_is_lawful}
 
 -- One line a command.
 pub laws_of : (c : Command) → IsLawful (deed_of c)
@@ -22,4 +23,5 @@ laws_of (cmd.Drill rows) = drill_is_lawful rows
 laws_of (cmd.Meet left right left_cap right_cap left_out right_out area) =
     meet_is_lawful (record { left = left; right = right; left_cap = left_cap; right_cap = right_cap; left_out = left_out; right_out = right_out; area = area })
 laws_of (cmd.Sync image cap key to area) = sync_is_lawful (record { image = image; cap = cap; key = key; to = to; area = area })
+laws_of (cmd.Serve image cap key at links area) = serve_is_lawful (record { image = image; cap = cap; key = key; at = at; links = links; area = area })
 laws_of command = not_built_is_lawful

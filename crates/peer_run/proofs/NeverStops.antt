@@ -8,7 +8,9 @@ use Rattle.peer_stage.specs.Steps.{Step, Then}
 use Rattle.peer_stage.specs.World.{World}
 use Rattle.peer_stage.specs.declared.outcome.Stop.{Stop}
 use Rattle.peer_stage.specs.declared.outcome.Stop.TheVariants as stop
+use Rattle.peer_words.specs.declared.command.AreaWords.{AreaWords}
 use Rattle.peer_run.specs.Getting.{GetsImage, GetsCapability}
+use Rattle.peer_run.specs.Preparing.{Prepares}
 
 -- the step does not stop so
 pub record Never {A : Type 0} (step : Step A) (e : Stop) : Type 0 where
@@ -24,3 +26,10 @@ no_image refusal name = then_never _ _ (stop.Refused refusal) (record { never = 
 
 pub no_capability : (refusal : RowRefusal) (name : String Global) → Never (GetsCapability name) (stop.Refused refusal)
 no_capability refusal name = then_never _ _ (stop.Refused refusal) (record { never = λ old new s. s.does }) (λ got. record { never = λ old new s. s.0 })
+
+pub never_prepared : (refusal : RowRefusal) (image cap : String Global) (area : AreaWords) → Never (Prepares image cap area) (stop.Refused refusal)
+never_prepared refusal image cap area =
+    then_never _ _ (stop.Refused refusal) (no_image refusal image) (λ i.
+    then_never _ _ (stop.Refused refusal) (record { never = λ old new s. s.0 }) (λ opening.
+    then_never _ _ (stop.Refused refusal) (no_capability refusal cap) (λ c.
+    then_never _ _ (stop.Refused refusal) (record { never = λ old new s. s.0 }) (λ h. record { never = λ old new s. s.0 }))))

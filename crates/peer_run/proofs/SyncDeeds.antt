@@ -6,11 +6,11 @@ use Rattle.std.specs.declared.string.String.{String}
 use Rattle.std.specs.declared.alloc.Global.{Global}
 use Rattle.lms_core.specs.Use.{peer_rules}
 use Rattle.mc_cap.specs.declared.refusal.RefusedRow.{RefusedRow}
-use Rattle.willow_outside.specs.Counts.{Rose}
-use Rattle.willow_outside.specs.Facts.{ShelfFacts, DoorFacts}
+use Rattle.willow_outside.specs.Facts.{DoorFacts}
 use Rattle.willow_outside.specs.Links.{list_with}
 use Rattle.auth_entry.specs.Authorised.{AuthorisedValue}
 use Rattle.ns_state.specs.Log.{StateValue}
+use Rattle.sync_msg.specs.declared.role.Role.TheVariants.{Caller}
 use Rattle.session_end.specs.declared.end.SessionEnd.{SessionEnd}
 use Rattle.session_end.specs.declared.end.SessionEnd.TheVariants as ending
 use Rattle.sync_link.specs.Plans.{planned}
@@ -19,22 +19,16 @@ use Rattle.sync_link.specs.Sessions.{Party}
 use Rattle.sync_link.specs.declared.plan.SessionReport.{SessionReport}
 use Rattle.peer_words.specs.declared.command.AreaWords.{AreaWords}
 use Rattle.peer_words.specs.declared.command.SignerWord.{SignerWord}
-use Rattle.peer_words.specs.declared.command.SignerWord.TheVariants.{OpenKey, LmsFile}
-use Rattle.peer_rows.specs.Images.{ReadsImageFrom}
-use Rattle.peer_make.specs.Deeds.{SignerRose}
 use Rattle.peer_make.specs.KeySigners.{HandsSigner}
 use Rattle.peer_make.specs.Making.{DrawsOne}
-use Rattle.peer_make.specs.Reading.{ReadsCapabilityFrom}
-use Rattle.peer_make.specs.Signing.{StopsSigning}
 use Rattle.peer_make.specs.declared.key_signer.KeySigner.{KeySigner}
 use Rattle.peer_make.proofs.Signers.{signer_rose, signer_wrote}
 use Rattle.peer_stage.specs.World.{World, NeverFall, Unfailed}
-use Rattle.peer_stage.specs.Shelves.{GetsBytes, PutsBytes}
+use Rattle.peer_stage.specs.Shelves.{PutsBytes}
 use Rattle.peer_stage.specs.Status.{status_of}
-use Rattle.peer_stage.specs.Steps.{Step, Then, Inside, OnShelf, OnNoise, OnDoor}
+use Rattle.peer_stage.specs.Steps.{Step, Then, OnShelf, OnNoise, OnDoor}
 use Rattle.peer_stage.specs.declared.outcome.Done.{Done}
 use Rattle.peer_stage.specs.declared.outcome.Done.TheVariants as done
-use Rattle.peer_stage.specs.declared.outcome.Origin.TheVariants as origin
 use Rattle.peer_stage.specs.declared.outcome.SessionCounts.{SessionCounts}
 use Rattle.peer_stage.specs.declared.outcome.Stop.{Stop}
 use Rattle.peer_stage.specs.declared.outcome.Stop.TheVariants as stop
@@ -42,17 +36,17 @@ use Rattle.peer_stage.specs.declared.outcome.Synced.{Synced}
 use Rattle.peer_stage.proofs.Closing.{Closes, KeepsDoor, LastsAtDoor, owes_more, inside_keeps, shelf_keeps, noise_keeps, then_keeps, then_closes}
 use Rattle.peer_stage.proofs.Ends.{synced_status, synced_is, synced_known}
 use Rattle.peer_stage.proofs.Faults.{EndsUnfailed}
-use Rattle.peer_stage.proofs.Owing.{Owes, IsLasting, then_owes, onward, unfailed_on, inside_counts, inside_unfailed, shelf_counts, shelf_unfailed, noise_counts, noise_unfailed, door_counts, door_unfailed, rose_behind}
+use Rattle.peer_stage.proofs.Owing.{Owes, then_owes, onward, unfailed_on, shelf_counts, shelf_unfailed, noise_counts, noise_unfailed, door_counts, door_unfailed, rose_behind}
 use Rattle.peer_run.specs.Calling.{Calls, IsCalled}
-use Rattle.peer_run.specs.Getting.{GetsImage, GetsCapability}
-use Rattle.peer_run.specs.Greeting.{Greets}
 use Rattle.peer_run.specs.Meet.{Gives}
-use Rattle.peer_run.specs.Opening.{OpensLog}
-use Rattle.peer_run.specs.Sync.{Begins, Finishes, Syncs, image_behind, no_nonce, nonce_of, plan_of, put_answer, synced_of}
+use Rattle.peer_run.specs.Closing.{put_answer}
+use Rattle.peer_run.specs.Preparing.{nonce_of, plan_of}
+use Rattle.peer_run.specs.Sync.{Begins, Finishes, Syncs, image_behind, synced_of}
 use Rattle.peer_run.specs.SyncDeed.{SyncReads, SyncWrites}
 use Rattle.peer_run.specs.declared.calling.Called.{Called}
 use Rattle.peer_run.specs.declared.syncing.Caller as caller
 use Rattle.peer_run.specs.declared.syncing.SyncWords.{SyncWords}
+use Rattle.peer_run.proofs.SideDeeds.{Nothing, GotReads, GotWrites, got_reads_last, got_writes_last, inside_owes, preparing_owes, preparing_keeps_door, signer_rises, no_usage, from_none}
 
 -- ---- what rose behind
 
@@ -69,66 +63,6 @@ writes_last old between new counts same (inl rose) = inl (rose_behind _ _ _ coun
 writes_last old between new counts same (inr failed) = inr (record { link = failed.link; back = failed.back ∙ ap (λ (d : DoorFacts). list_with failed.link d.back) same; rose = failed.rose })
 
 -- ---- steps that call nobody
-
--- what is needed plays no part here
-abbrev Nothing : World → Type 0
-Nothing w = ⊥
-
--- a count of the shelf rose
-abbrev GotReads : World → World → Type 0
-GotReads old new = Rose old.shelf.read_faults new.shelf.read_faults
-
-abbrev GotWrites : World → World → Type 0
-GotWrites old new = Rose old.shelf.write_faults new.shelf.write_faults
-
-got_reads_last : IsLasting GotReads
-got_reads_last old between new counts rose = rose_behind _ _ _ counts.shelf_reads rose
-
-got_writes_last : IsLasting GotWrites
-got_writes_last old between new counts rose = rose_behind _ _ _ counts.shelf_writes rose
-
-inside_owes : {A : Type 0} (P : Result A Stop → Type 0) → (P (Err stop.ReadFault) → ⊥) → (P (Err stop.WriteFault) → ⊥) → (P (Err stop.Usage) → ⊥) → Owes GotReads GotWrites Nothing (λ a. Nothing) (Inside P)
-inside_owes P no_read no_write no_usage =
-    record {
-      counts = inside_counts P;
-      unfailed = inside_unfailed P;
-      read_fault = λ old new s. absurd (no_read s.0);
-      write_fault = λ old new s. absurd (no_write s.0);
-      usage = λ old new s. no_usage s.0;
-      stops = λ old new e need condition s. need;
-      goes_on = λ old new a need s. need;
-    }
-
-getting_owes : (name : String Global) → Owes GotReads GotWrites Nothing (λ got. Nothing) (OnShelf (GetsBytes name))
-getting_owes name =
-    record {
-      counts = shelf_counts (GetsBytes name);
-      unfailed = shelf_unfailed (GetsBytes name);
-      read_fault = λ old new s. s.does.0;
-      write_fault = λ old new s. absurd s.does;
-      usage = λ old new s. s.does;
-      stops = λ old new e need condition s. need;
-      goes_on = λ old new got need s. need;
-    }
-
-image_owes : (name : String Global) → Owes GotReads GotWrites Nothing (λ image. Nothing) (GetsImage name)
-image_owes name =
-    then_owes GotReads GotWrites Nothing (λ got. Nothing) (λ image. Nothing) _ _ got_reads_last got_writes_last (getting_owes name)
-    (λ got. inside_owes (ReadsImageFrom (origin.Name got.0) got.1.items) (λ h. h) (λ h. h) (λ h. h))
-
-capability_owes : (name : String Global) → Owes GotReads GotWrites Nothing (λ c. Nothing) (GetsCapability name)
-capability_owes name =
-    then_owes GotReads GotWrites Nothing (λ got. Nothing) (λ c. Nothing) _ _ got_reads_last got_writes_last (getting_owes name)
-    (λ got. inside_owes (ReadsCapabilityFrom (origin.Name got.0) got.1.items) (λ h. h) (λ h. h) (λ h. h))
-
--- what a signer calls is the shelf
-signer_rises : (key : SignerWord) (before now : ℕ) → SignerRose key before now → Rose before now
-signer_rises (OpenKey key) before now rose = absurd rose
-signer_rises (LmsFile name) before now rose = rose
-
-no_usage : (key : SignerWord) (h h' : ShelfFacts) → StopsSigning key h h' stop.Usage → ⊥
-no_usage (OpenKey key) h h' s = s
-no_usage (LmsFile name) h h' s = s
 
 reserving_owes : (key : SignerWord) → Owes GotReads GotWrites Nothing (λ signer. Nothing) (OnShelf (HandsSigner key))
 reserving_owes key =
@@ -157,32 +91,16 @@ drawing_owes =
 module _ (image cap : String Global) (key : SignerWord) (area : AreaWords) where
   beginning_owes : Owes GotReads GotWrites Nothing (λ c. Nothing) (Begins image cap key area)
   beginning_owes =
-      then_owes GotReads GotWrites Nothing (λ i. Nothing) (λ c. Nothing) _ _ got_reads_last got_writes_last (image_owes image)
-      (λ i. then_owes GotReads GotWrites Nothing (λ opening. Nothing) (λ c. Nothing) _ _ got_reads_last got_writes_last (inside_owes (OpensLog i.namespace i.rows.items) (λ h. h) (λ h. h) (λ h. h))
-      (λ opening. then_owes GotReads GotWrites Nothing (λ c. Nothing) (λ c. Nothing) _ _ got_reads_last got_writes_last (capability_owes cap)
-      (λ c. then_owes GotReads GotWrites Nothing (λ h. Nothing) (λ c. Nothing) _ _ got_reads_last got_writes_last (inside_owes (Greets i.namespace area c no_nonce) (λ h. h) (λ h. h) (λ h. h))
-      (λ h. then_owes GotReads GotWrites Nothing (λ signer. Nothing) (λ c. Nothing) _ _ got_reads_last got_writes_last (reserving_owes key)
-      (λ signer. inside_owes (Gives (record { opening = opening; plan = plan_of h; signer = signer })) (λ h. h) (λ h. h) (λ h. h))))))
-
-  image_keeps : KeepsDoor (GetsImage image)
-  image_keeps = then_keeps _ _ (shelf_keeps (GetsBytes image)) (λ got. inside_keeps (ReadsImageFrom (origin.Name got.0) got.1.items))
-
-  capability_keeps : KeepsDoor (GetsCapability cap)
-  capability_keeps = then_keeps _ _ (shelf_keeps (GetsBytes cap)) (λ got. inside_keeps (ReadsCapabilityFrom (origin.Name got.0) got.1.items))
+      then_owes GotReads GotWrites Nothing (λ r. Nothing) (λ c. Nothing) _ _ got_reads_last got_writes_last (preparing_owes image cap area)
+      (λ r. then_owes GotReads GotWrites Nothing (λ signer. Nothing) (λ c. Nothing) _ _ got_reads_last got_writes_last (reserving_owes key)
+      (λ signer. inside_owes (Gives (record { opening = r.opening; plan = plan_of Caller r.hello; signer = signer })) (λ h. h) (λ h. h) (λ h. h)))
 
   pub beginning_keeps : KeepsDoor (Begins image cap key area)
   beginning_keeps =
-      then_keeps _ _ image_keeps (λ i.
-      then_keeps _ _ (inside_keeps (OpensLog i.namespace i.rows.items)) (λ opening.
-      then_keeps _ _ capability_keeps (λ c.
-      then_keeps _ _ (inside_keeps (Greets i.namespace area c no_nonce)) (λ h.
-      then_keeps _ _ (shelf_keeps (HandsSigner key)) (λ signer. inside_keeps (Gives (record { opening = opening; plan = plan_of h; signer = signer })))))))
+      then_keeps _ _ (preparing_keeps_door image cap area) (λ r.
+      then_keeps _ _ (shelf_keeps (HandsSigner key)) (λ signer. inside_keeps (Gives (record { opening = r.opening; plan = plan_of Caller r.hello; signer = signer }))))
 
 -- ---- the link
-
--- a count that was 0 as the link was handed out, and rose in the session, rose from 0
-pub from_none : (before now : ℕ) → before ≡ 0 → Rose before now → Rose 0 now
-from_none before now none rose = subst (λ (n : ℕ). Rose n now) none rose
 
 -- a session that ended so is told so
 told_end : (rows : ℕ) (first : Option RefusedRow) (answer : Result SessionReport SessionEnd) (put : Bool) (end : SessionEnd) → (synced_of rows first answer put).session ≡ Err end → answer ≡ Err end

@@ -20,14 +20,12 @@ use Rattle.peer_stage.specs.declared.outcome.Stop.TheVariants as stop
 use Rattle.peer_stage.specs.declared.outcome.Synced.{Synced}
 use Rattle.peer_stage.proofs.Steps.{passes, noise_on, door_on}
 use Rattle.peer_run.specs.Calling.{Calls}
-use Rattle.peer_run.specs.Sync.{Begins, Finishes, IsForWant, Syncs, image_behind, nonce_of, put_answer, synced_of}
+use Rattle.peer_run.specs.Closing.{IsForWant, put_answer}
+use Rattle.peer_run.specs.Preparing.{nonce_of}
+use Rattle.peer_run.specs.Sync.{Begins, Finishes, Syncs, image_behind, synced_of}
 use Rattle.peer_run.specs.declared.calling.Called.{Called}
 use Rattle.peer_run.specs.declared.syncing.Caller as caller
 use Rattle.peer_run.specs.declared.syncing.SyncWords.{SyncWords}
-
--- want of memory in front of all
-pub wants_first : (words : SyncWords) (w : World) → Syncs words w w (Err stop.NoMemory)
-wants_first words w = inl (inl (inl (record { does = refl; read_faults = omega arith; write_faults = omega arith; others = refl })))
 
 -- where memory is wanting behind the session, nothing was put
 pub wants_last : (name : List ℕ) (rows : ℕ) (first : Option RefusedRow) (x : Called) (w : World) → Finishes name rows first x w w (Err stop.NoMemory)

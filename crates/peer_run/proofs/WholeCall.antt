@@ -9,7 +9,7 @@ use Rattle.cap_codec.specs.Rows.{RawValue}
 use Rattle.auth_entry.specs.Authorised.{AuthorisedValue}
 use Rattle.ns_state.specs.Log.{StateValue}
 use Rattle.lms_core.specs.Key.{raised}
-use Rattle.lms_core.specs.Reserve.{PutsKey}
+use Rattle.lms_core.specs.Reserve.{HoldsKey, PutsKey}
 use Rattle.lms_core.specs.Use.{peer_rules}
 use Rattle.lms_core.specs.declared.scheme.PeerScheme.{PeerScheme}
 use Rattle.mc_cap.specs.declared.refusal.RefusedRow.{RefusedRow}
@@ -31,7 +31,7 @@ use Rattle.peer_make.specs.Making.{DrawsOne, TakesDraws}
 use Rattle.peer_make.specs.Signing.{IsUsed}
 use Rattle.peer_make.specs.declared.key_signer.KeySigner.{KeySigner}
 use Rattle.peer_make.specs.declared.key_signer.KeySigner.TheVariants.{Open, Once}
-use Rattle.peer_report.specs.Report.{Reports, report_of, synced_lines}
+use Rattle.peer_report.specs.Report.{Reports}
 use Rattle.peer_rows.specs.Logged.{first_refused}
 use Rattle.peer_stage.specs.Shelves.{PutsBytes}
 use Rattle.peer_stage.specs.Status.{status_of, first_status}
@@ -54,23 +54,23 @@ use Rattle.peer_words.specs.declared.command.SignerWord.TheVariants.{OpenKey, Lm
 use Rattle.peer_words.proofs.OneCommand.{at_most_one}
 use Rattle.peer_run.specs.Calling.{Calls, IsCalled, IsUnasked, IsLinkBack}
 use Rattle.peer_run.specs.Deeds.{deed_of}
-use Rattle.peer_run.specs.Ending.{HasTold}
 use Rattle.peer_run.specs.Greeting.{own_hello, own_refusal}
 use Rattle.peer_run.specs.PairDeeds.{HasImage, HoldsCapability}
 use Rattle.peer_run.specs.Run.{Run, RunsWords, before_report}
-use Rattle.peer_run.specs.Sync.{Finishes, Syncs, image_behind, counts_of, no_nonce, nonce_of, put_answer, synced_of}
+use Rattle.peer_run.specs.Closing.{counts_of, put_answer}
+use Rattle.peer_run.specs.Preparing.{no_nonce, nonce_of}
+use Rattle.peer_run.specs.Sync.{Finishes, Syncs, image_behind, synced_of}
 use Rattle.peer_run.specs.SyncGiven.{CallGiven, AreCallGiven, calling_party}
-use Rattle.peer_run.specs.SyncHeadline.{HasCalled, HasSynced, IfDone, IsDone, IsUncalled, IsWholeCall, KeepsButKey, LiesAbove, PutsOrFails, SyncPromises}
+use Rattle.peer_run.specs.SyncHeadline.{AnswersOk, HasCalled, HasSynced, IsUncalled, IsWholeCall, KeepsButKey, LiesAbove, PutsOrFails, SyncPromises, WhereOk}
 use Rattle.peer_run.specs.SyncRun.{WasRun, as_ran}
 use Rattle.peer_run.specs.declared.calling.Called.{Called}
 use Rattle.peer_run.specs.declared.syncing.Caller as caller
 use Rattle.peer_run.specs.declared.syncing.SyncWords.{SyncWords}
 use Rattle.peer_run.proofs.AllNew.{authorised_new}
 use Rattle.peer_run.proofs.CallAbove.{lies_above}
-use Rattle.peer_run.proofs.CallBegun.{HasBegun, has_begun, beginning_keeps, signer_keeps}
-use Rattle.peer_run.proofs.Causes.{has_told}
+use Rattle.peer_run.proofs.CallBegun.{HasBegun, has_begun, plan_asks, beginning_keeps, signer_keeps}
 use Rattle.peer_run.proofs.Ends.{memory_end, own_seven, own_status}
-use Rattle.peer_run.proofs.NeverStops.{Never, then_never, no_image, no_capability}
+use Rattle.peer_run.proofs.NeverStops.{Never, then_never, never_prepared}
 use Rattle.peer_run.proofs.SyncDeeds as deeds
 use Rattle.peer_run.proofs.WholeMeeting.{none_first, some_first}
 
@@ -112,7 +112,7 @@ signer_as (LmsFile a) (OpenKey b) h h' s same is = absurd same
 
 keeps_as : (key other : SignerWord) (h h' : ShelfFacts) → AreSameSigner key other → KeepsButKey other h h' → KeepsButKey key h h'
 keeps_as (OpenKey a) (OpenKey b) h h' same keeps = keeps
-keeps_as (LmsFile a) (LmsFile b) h h' same keeps = elim keeps [ inl kept ↦ inl kept | inr put ↦ inr (put.0, subst (λ (name : List ℕ). PutsKey h h' name (raised 1 put.0)) (sym same) put.1) ]
+keeps_as (LmsFile a) (LmsFile b) h h' same keeps = elim keeps [ inl kept ↦ inl kept | inr put ↦ inr (put.0, subst (λ (name : List ℕ). HoldsKey h name put.0) (sym same) put.1, subst (λ (name : List ℕ). PutsKey h h' name (raised 1 put.0)) (sym same) put.2) ]
 keeps_as (OpenKey a) (LmsFile b) h h' same keeps = absurd same
 keeps_as (LmsFile a) (OpenKey b) h h' same keeps = absurd same
 
@@ -129,13 +129,13 @@ module _ (words : SyncWords) (run : Run) (c : caller.Caller) (began : World) (dr
     (is_told : s ≡ synced_of c.opening.rows c.opening.first x.end s.put)
     (puts : OnShelf (PutsBytes (string_bytes words.image) (image_behind x)) called (before_report run) (put_answer s.put)) where
   abbrev n : List ℕ
-  n = begun.given.namespace
+  n = begun.front.given.namespace
 
   abbrev rows : List RawValue
-  rows = begun.given.rows.items
+  rows = begun.front.given.rows.items
 
   abbrev given : CallGiven
-  given = record { namespace = n; rows = rows; cap = begun.capability }
+  given = record { namespace = n; rows = rows; cap = begun.front.capability }
 
   abbrev brings : List ℕ → Party
   brings = calling_party words.area given draw
@@ -144,8 +144,8 @@ module _ (words : SyncWords) (run : Run) (c : caller.Caller) (began : World) (dr
 
   party_is : planned peer_rules c.opening.state.namespace c.plan (nonce_of draw) ≡ brings
   party_is =
-      ap (λ (m : List ℕ). planned peer_rules m c.plan (nonce_of draw)) begun.opened.of_namespace
-      ∙ ap (λ (plan : SessionPlan PeerScheme). planned peer_rules n plan (nonce_of draw)) begun.plan_is
+      ap (λ (m : List ℕ). planned peer_rules m c.plan (nonce_of draw)) begun.front.opened.of_namespace
+      ∙ ap (λ (plan : SessionPlan PeerScheme). planned peer_rules n plan (nonce_of draw)) (plan_asks words.image words.cap words.key words.area run.old began c begun)
 
   session : IsCalled (string_bytes words.to) brings c.signer c.opening.state drawn.door called.door x
   session = subst (λ (p : List ℕ → Party). IsCalled (string_bytes words.to) p c.signer c.opening.state drawn.door called.door x) party_is did
@@ -163,7 +163,7 @@ module _ (words : SyncWords) (run : Run) (c : caller.Caller) (began : World) (dr
       sym (ap (λ m. flat_map a.spelling (a.opening ++ says_of m)) (same_read (greeting p.rules p.namespace) places (own_part p) held others session.ran.bytes same))
 
   -- where the session was done
-  above : (answer : Result SessionReport SessionEnd) → x.end ≡ answer → IfDone answer (LiesAbove (as_ran was_run) (log_rows x.state.log))
+  above : (answer : Result SessionReport SessionEnd) → x.end ≡ answer → WhereOk answer (LiesAbove (as_ran was_run) (log_rows x.state.log))
   unfolding was_run session
   above (Ok report) is = lies_above (as_ran was_run) x.state.log session.closed.0 report is
   above (Err e) is = tt
@@ -173,7 +173,7 @@ module _ (words : SyncWords) (run : Run) (c : caller.Caller) (began : World) (dr
   synced =
       record {
         opening = c.opening.state.log;
-        opens = begun.opened.held ∙ authorised_new n rows begun.has_image.is_image.in_order;
+        opens = begun.front.opened.held ∙ authorised_new n rows begun.front.has_image.is_image.in_order;
         run = was_run;
         above = above x.end refl;
         goes_on = sym session.closed.1 ∙ session.ran.grew.0 ∙ ap (λ (l : List (LogRow AuthorisedValue)). l ++ session.ran.grown) session.begun.1;
@@ -208,7 +208,7 @@ module _ (words : SyncWords) (run : Run) (c : caller.Caller) (began : World) (dr
   shelf_before = ap (λ (w : World). w.shelf) only_door ∙ ap (λ (w : World). w.shelf) only_noise
 
   namespace_is : x.state.namespace ≡ n
-  namespace_is = session.of_namespace ∙ begun.opened.of_namespace
+  namespace_is = session.of_namespace ∙ begun.front.opened.of_namespace
 
   is_put : PutsOrFails (string_bytes words.image) s.put n (live (log_rows x.state.log)) began.shelf run.new.shelf
   is_put =
@@ -221,17 +221,18 @@ module _ (words : SyncWords) (run : Run) (c : caller.Caller) (began : World) (dr
   told_is : s ≡ synced_of (length rows) (first_refused n rows) x.end s.put
   told_is =
       is_told
-      ∙ ap (λ (k : ℕ). synced_of k c.opening.first x.end s.put) begun.opened.counted
-      ∙ ap (λ (first : Option RefusedRow). synced_of (length rows) first x.end s.put) begun.opened.first_is
+      ∙ ap (λ (k : ℕ). synced_of k c.opening.first x.end s.put) begun.front.opened.counted
+      ∙ ap (λ (first : Option RefusedRow). synced_of (length rows) first x.end s.put) begun.front.opened.first_is
 
-  has_called : HasTold run.old.report run.new.report (report_of (Ok (done.Synced s))) → HasCalled words run
-  has_called told =
+  has_called : Reports run.old.report run.new.report (Ok (done.Synced s)) run.status → HasCalled words run
+  has_called reports =
       record {
         given = given;
-        are_given = record { image = begun.has_image; cap = begun.has_capability; passes = begun.passes };
+        are_given = record { image = begun.front.has_image; cap = begun.front.has_capability; passes = begun.front.passes };
         signer = c.signer;
         reserved = began.shelf;
         is_signer = begun.reserved;
+        counted = begun.counted;
         draw = draw;
         drawn = one_draw;
         link = session.link;
@@ -241,7 +242,7 @@ module _ (words : SyncWords) (run : Run) (c : caller.Caller) (began : World) (dr
         synced = synced;
         put = s.put;
         is_put = is_put;
-        told = subst (λ (t : Synced). HasTold run.old.report run.new.report (synced_lines t)) told_is told;
+        reports = subst (λ (t : Synced). Reports run.old.report run.new.report (Ok (done.Synced t)) run.status) told_is reports;
       }
 
   -- at 0 and 1 the session was done, and the image put
@@ -256,7 +257,7 @@ module _ (words : SyncWords) (run : Run) (c : caller.Caller) (began : World) (dr
   unput_small : (counts : SessionCounts) (first : Option RefusedRow) → synced_status (Ok counts) false first ≤ 1 → ⊥
   unput_small counts first few = omega (arith, few)
 
-  small_session : (answer : Result SessionReport SessionEnd) (put : Bool) → status_of (Ok (done.Synced (synced_of c.opening.rows c.opening.first answer put))) ≤ 1 → IsDone answer × (put ≡ true)
+  small_session : (answer : Result SessionReport SessionEnd) (put : Bool) → status_of (Ok (done.Synced (synced_of c.opening.rows c.opening.first answer put))) ≤ 1 → AnswersOk answer × (put ≡ true)
   small_session (Ok report) true small = (tt, refl)
   small_session (Ok report) false small =
       let first = (synced_of c.opening.rows c.opening.first (Ok report) false).first in
@@ -264,21 +265,21 @@ module _ (words : SyncWords) (run : Run) (c : caller.Caller) (began : World) (dr
   small_session (Err e) put small = absurd (not_small e put c.opening.first (subst (λ (k : ℕ). k ≤ 1) (synced_is (Err e) put c.opening.first) small))
 
   -- the first refused row gives the status then
-  small_first : (answer : Result SessionReport SessionEnd) (put : Bool) → IsDone answer × (put ≡ true) → status_of (Ok (done.Synced (synced_of (length rows) (first_refused n rows) answer put))) ≡ first_status (synced_of (length rows) (first_refused n rows) answer put).first
+  small_first : (answer : Result SessionReport SessionEnd) (put : Bool) → AnswersOk answer × (put ≡ true) → status_of (Ok (done.Synced (synced_of (length rows) (first_refused n rows) answer put))) ≡ first_status (synced_of (length rows) (first_refused n rows) answer put).first
   small_first (Ok report) true is =
       let t = synced_of (length rows) (first_refused n rows) (Ok report) true in
       synced_is t.session true t.first
   small_first (Ok report) false is = absurd cc
   small_first (Err e) put is = absurd is.0
 
-  is_whole : (told : HasTold run.old.report run.new.report (report_of (Ok (done.Synced s)))) → run.status ≡ status_of (Ok (done.Synced s)) → run.status ≤ 1 → IsWholeCall words run
+  is_whole : Reports run.old.report run.new.report (Ok (done.Synced s)) run.status → run.status ≡ status_of (Ok (done.Synced s)) → run.status ≤ 1 → IsWholeCall words run
   unfolding has_called
-  is_whole told status small =
+  is_whole reports status small =
       let so : run.status ≡ status_of (Ok (done.Synced (synced_of (length rows) (first_refused n rows) x.end s.put))) = status ∙ ap (λ (t : Synced). status_of (Ok (done.Synced t))) told_is in
       let both = small_session x.end s.put (subst (λ (t : Synced). status_of (Ok (done.Synced t)) ≤ 1) is_told (subst (λ (k : ℕ). k ≤ 1) status small)) in
       let first = so ∙ small_first x.end s.put both in
       record {
-        called = has_called told;
+        called = has_called reports;
         done = both.0;
         put = both.1;
         all_authorised = λ zero_is. none_first _ (sym first ∙ zero_is);
@@ -289,8 +290,8 @@ module _ (words : SyncWords) (run : Run) (c : caller.Caller) (began : World) (dr
 
 -- A call that came so far: what it owes the headline where it put the image or tried to, and where it called nobody.
 pub record Keeps (words : SyncWords) (run : Run) (end : Result Done Stop) : Type 0 where
-  pub called : HasTold run.old.report run.new.report (report_of end) → status_of end ≢ 7 → IsUncalled words run ⊎ HasCalled words run
-  pub whole : HasTold run.old.report run.new.report (report_of end) → run.status ≡ status_of end → run.status ≤ 1 → IsWholeCall words run
+  pub called : Reports run.old.report run.new.report end run.status → status_of end ≢ 7 → IsUncalled words run ⊎ HasCalled words run
+  pub whole : Reports run.old.report run.new.report end run.status → run.status ≡ status_of end → run.status ≤ 1 → IsWholeCall words run
 
 module _ (words : SyncWords) (run : Run) where
   abbrev after : World
@@ -301,21 +302,18 @@ module _ (words : SyncWords) (run : Run) where
 
   -- nobody was called
   uncalled : (e : Stop) → (status_of (Err e) ≤ 1 → ⊥) → IsUnasked run.old.door run.new.door → KeepsButKey words.key run.old.shelf run.new.shelf → Keeps words run (Err e)
-  uncalled e large unasked unput = record { called = λ told memory. inl (record { unasked = unasked; unput = unput }); whole = λ told status small. absurd (large (subst (λ (k : ℕ). k ≤ 1) status small)) }
+  uncalled e large unasked unput = record { called = λ reports memory. inl (record { unasked = unasked; unput = unput }); whole = λ reports status small. absurd (large (subst (λ (k : ℕ). k ≤ 1) status small)) }
 
   -- a stop with want of memory owes nothing
   wanting : Keeps words run (Err stop.NoMemory)
-  wanting = record { called = λ told memory. absurd (memory refl); whole = λ told status small. absurd (omega (arith, status, small)) }
+  wanting = record { called = λ reports memory. absurd (memory refl); whole = λ reports status small. absurd (omega (arith, status, small)) }
 
   -- no call is refused as what was to be made
   never_refused : (refusal : RowRefusal) → Never (Syncs words) (stop.Refused refusal)
   never_refused refusal =
       then_never _ _ (stop.Refused refusal)
-      (then_never _ _ (stop.Refused refusal) (no_image refusal words.image) (λ i.
-      then_never _ _ (stop.Refused refusal) (record { never = λ old new s. s.0 }) (λ opening.
-      then_never _ _ (stop.Refused refusal) (no_capability refusal words.cap) (λ c.
-      then_never _ _ (stop.Refused refusal) (record { never = λ old new s. s.0 }) (λ h.
-      then_never _ _ (stop.Refused refusal) (record { never = λ old new s. no_refusal words.key old.shelf new.shelf refusal s.does }) (λ signer. record { never = λ old new s. s.0 }))))))
+      (then_never _ _ (stop.Refused refusal) (never_prepared refusal words.image words.cap words.area) (λ r.
+      then_never _ _ (stop.Refused refusal) (record { never = λ old new s. no_refusal words.key old.shelf new.shelf refusal s.does }) (λ signer. record { never = λ old new s. s.0 })))
       (λ c. then_never _ _ (stop.Refused refusal) (record { never = λ old new s. s.does }) (λ draw.
       then_never _ _ (stop.Refused refusal) (record { never = λ old new s. s.does }) (λ x. record { never = λ old new s. s })))
     where
@@ -342,9 +340,9 @@ module _ (words : SyncWords) (run : Run) where
   call_stops place p signer opening d d' stop.NoMemory s = s
   call_stops place p signer opening d d' e s = absurd s
 
-  finish_stops : (e : Stop) (name : List ℕ) (rows : ℕ) (first : Option RefusedRow) (x : Called) (old new : World) → Finishes name rows first x old new (Err e) → Keeps words run (Err e)
-  finish_stops stop.NoMemory name rows first x old new f = wanting
-  finish_stops e name rows first x old new f = absurd f
+  finish_stops : (e : Stop) (name : List ℕ) (count : ℕ) (first : Option RefusedRow) (x : Called) (old new : World) → Finishes name count first x old new (Err e) → Keeps words run (Err e)
+  finish_stops stop.NoMemory name count first x old new f = wanting
+  finish_stops e name count first x old new f = absurd f
 
   stopped : (e : Stop) → Syncs words run.old after (Err e) → Keeps words run (Err e)
   stopped e syncs =
@@ -372,15 +370,15 @@ module _ (words : SyncWords) (run : Run) where
       let r = q.rest in
       put_so d p.value p.between begun q.value q.between q.given r.value r.between r.given r.rest
     where
-      put_so : (d : Done) (c : caller.Caller) (began : World) (begun : HasBegun words.image words.cap words.key words.area run.old began c) (draw : List ℕ) (drawn : World) (given : OnNoise DrawsOne began drawn (Ok draw))
+      put_so : (d : Done) (c : caller.Caller) (began : World) (begun : HasBegun words.image words.cap words.key words.area run.old began c) (draw : List ℕ) (drawn : World) (draws : OnNoise DrawsOne began drawn (Ok draw))
           (x : Called) (called : World) (did : OnDoor (Calls (string_bytes words.to) (planned peer_rules c.opening.state.namespace c.plan (nonce_of draw)) c.signer c.opening.state) drawn called (Ok x))
           → Finishes (string_bytes words.image) c.opening.rows c.opening.first x called after (Ok d) → Keeps words run (Ok d)
-      put_so (done.Synced s) c began begun draw drawn given x called did f =
+      put_so (done.Synced s) c began begun draw drawn draws x called did f =
           record {
-            called = λ told memory. inr (has_called words run c began draw drawn x called s begun given.does.1 given.others did.does did.others f.1 f.2 told);
-            whole = λ told status small. is_whole words run c began draw drawn x called s begun given.does.1 given.others did.does did.others f.1 f.2 told status small;
+            called = λ reports memory. inr (has_called words run c began draw drawn x called s begun draws.does.1 draws.others did.does did.others f.1 f.2 reports);
+            whole = λ reports status small. is_whole words run c began draw drawn x called s begun draws.does.1 draws.others did.does did.others f.1 f.2 reports status small;
           }
-      put_so d c began begun draw drawn given x called did f = absurd f
+      put_so d c began begun draw drawn draws x called did f = absurd f
 
   keeps_so : (end : Result Done Stop) → Syncs words run.old after end → Keeps words run end
   keeps_so (Ok d) syncs = finished d syncs
@@ -405,6 +403,7 @@ called_as words other run same c =
       signer = c.signer;
       reserved = c.reserved;
       is_signer = signer_as words.key other.key run.old.shelf c.reserved c.signer same.key c.is_signer;
+      counted = c.counted;
       draw = c.draw;
       drawn = c.drawn;
       link = c.link;
@@ -414,7 +413,7 @@ called_as words other run same c =
       synced = subst (λ (area : AreaWords). HasSynced (calling_party area c.given c.draw) c.given c.signer c.link c.answer c.log) (sym same.area) c.synced;
       put = c.put;
       is_put = subst (λ (name : List ℕ). PutsOrFails name c.put c.given.namespace (live (log_rows c.log)) c.reserved run.new.shelf) (sym same.image) c.is_put;
-      told = c.told;
+      reports = c.reports;
     }
 
 uncalled_as : (words other : SyncWords) (run : Run) → AreSameWords words other → IsUncalled other run → IsUncalled words run
@@ -424,13 +423,13 @@ promises : (words other : SyncWords) (run : Run) (end : Result Done Stop) → Ar
 unfolding called_as
 promises words other run end same keeps reports =
     record {
-      called = λ memory. elim (keeps.called (has_told _ _ end run.status reports memory) (λ seven. memory (own_seven _ _ end run.status reports seven))) [
+      called = λ memory. elim (keeps.called reports (λ seven. memory (own_seven _ _ end run.status reports seven))) [
         | inl u ↦ inl (uncalled_as words other run same u)
         | inr c ↦ inr (called_as words other run same c)
       ];
       whole = λ small.
           let is = own_status _ _ end run.status reports (λ e. omega (arith, e, small)) (λ e. omega (arith, e, small)) in
-          let whole = keeps.whole (has_told _ _ end run.status reports (λ e. omega (arith, e, small))) is small in
+          let whole = keeps.whole reports is small in
           record { called = called_as words other run same whole.called; done = whole.done; put = whole.put; all_authorised = whole.all_authorised; some_refused = whole.some_refused };
     }
 

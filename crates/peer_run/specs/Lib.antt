@@ -7,11 +7,19 @@ pub mod ImagesMet
 pub mod Meet
 pub mod PairDeeds
 pub mod Opening
+pub mod Preparing
+pub mod Closing
+pub mod SideGiven
 pub mod Calling
 pub mod Sync
 pub mod SyncRun
 pub mod SyncGiven
+pub mod Answered
 pub mod SyncDeed
+pub mod Hall
+pub mod Hosting
+pub mod Serve
+pub mod ServeDeed
 pub mod Deeds
 pub mod Run
 pub mod Locals
@@ -19,4 +27,5 @@ pub mod Headline
 pub mod MeetHeadline
 pub mod Ending
 pub mod SyncHeadline
+pub mod ServeHeadline
 pub mod Promises

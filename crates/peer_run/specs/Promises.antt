@@ -1,5 +1,5 @@
 -- What every run keeps: the headline, why each status comes, and that a command that is ready comes to its end.
-use Rattle.std.specs.Prelude.{◌≡◌, ◌≢◌, ℕ, ◌≤◌, ◌⊎◌, List, Result, Ok, Err}
+use Rattle.std.specs.Prelude.{◌≡◌, ◌≢◌, ℕ, ◌≤◌, ◌⊎◌, List, Contains, Result, Ok, Err}
 use Rattle.willow_outside.specs.Counts.{Rose}
 use Rattle.peer_stage.specs.World.{NeverFall, Unfailed}
 use Rattle.peer_stage.specs.Status.{status_of}
@@ -9,6 +9,7 @@ use Rattle.session_end.specs.declared.end.SessionEnd.TheVariants as ending
 use Rattle.peer_stage.specs.declared.outcome.SessionCounts.{SessionCounts}
 use Rattle.peer_stage.specs.declared.outcome.Done.{Done}
 use Rattle.peer_stage.specs.declared.outcome.Done.TheVariants as done
+use Rattle.peer_stage.specs.declared.outcome.Served.{Served}
 use Rattle.peer_stage.specs.declared.outcome.Stop.{Stop}
 use Rattle.peer_stage.specs.declared.outcome.Stop.TheVariants as stop
 use Rattle.peer_report.specs.Report.{report_of}
@@ -20,6 +21,7 @@ use Rattle.peer_run.specs.Headline.{Headline}
 use Rattle.peer_run.specs.MeetHeadline.{MeetHeadline}
 use Rattle.peer_run.specs.Ending.{HasTold}
 use Rattle.peer_run.specs.SyncHeadline.{SyncHeadline}
+use Rattle.peer_run.specs.ServeHeadline.{ServeHeadline}
 
 -- ---- 0 and 1
 
@@ -74,19 +76,23 @@ IsBadEnd (Err (stop.Missing name)) = Unit {0}
 IsBadEnd (Err (stop.Taken name)) = Unit {0}
 IsBadEnd end = ⊥
 
--- what was read in a session is refused, or ended too early
+-- what was read in a session is refused, or ended too early; no session fails to sign
 abbrev pub IsRefusedSession : Result SessionCounts SessionEnd → Type 0
 IsRefusedSession (Err (ending.ClosedEarly at)) = Unit {0}
 IsRefusedSession (Err (ending.BadMessage at)) = Unit {0}
 IsRefusedSession (Err (ending.Hello refusal)) = Unit {0}
 IsRefusedSession (Err (ending.Core refusal)) = Unit {0}
-IsRefusedSession (Err ending.SignFault) = Unit {0}
 IsRefusedSession session = ⊥
+
+-- one of a server's sessions is such a one
+abbrev pub HasSession : (Result SessionCounts SessionEnd → Type 0) → Served → Type 0
+HasSession IsOne s = (session : Result SessionCounts SessionEnd) × Contains s.sessions.items session × IsOne session
 
 -- a session is refused before it begins or in it
 abbrev pub IsRefusedEnd : Result Done Stop → Type 0
 IsRefusedEnd (Err (stop.SessionRefused refusal)) = Unit {0}
 IsRefusedEnd (Ok (done.Synced s)) = IsRefusedSession s.session
+IsRefusedEnd (Ok (done.Served s)) = HasSession IsRefusedSession s
 IsRefusedEnd end = ⊥
 
 -- a session left rows uncovered for which the log had no room
@@ -98,6 +104,7 @@ IsFullSession session = ⊥
 abbrev pub IsFullEnd : Result Done Stop → Type 0
 IsFullEnd (Err stop.LogFull) = Unit {0}
 IsFullEnd (Ok (done.Synced s)) = IsFullSession s.session
+IsFullEnd (Ok (done.Served s)) = HasSession IsFullSession s
 IsFullEnd end = ⊥
 
 -- a key file has no index left
@@ -139,6 +146,8 @@ pub record KeepsPromises (run : Run) : Type 0 where
   pub met : MeetHeadline run
   -- a call stores what came and is authorised, over the link that the door has back
   pub synced : SyncHeadline run
+  -- a server stores what came and is authorised, over the links that the door has back
+  pub served : ServeHeadline run
   -- 0 and 1: the command came to its end, and its lines are reported
   pub ended : run.status ≤ 1 → HasEnded run
   -- 2: the words are no command, or one that is not built yet

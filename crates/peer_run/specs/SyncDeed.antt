@@ -1,25 +1,25 @@
 -- The command `sync` as a value.
-use Rattle.std.specs.Prelude.{◌≡◌, ℕ, ◌<◌, ◌⊎◌, List, length, Some}
-use Rattle.spelling.specs.Form.{AreBytes}
+use Rattle.std.specs.Prelude.{◌≡◌, ℕ, ◌⊎◌, List, [], ◌∷◌, Some, Err}
 use Rattle.willow_outside.specs.Counts.{Rose}
-use Rattle.willow_outside.specs.Facts.{Names, LinkFacts, DoorFacts}
+use Rattle.willow_outside.specs.Facts.{Names, LinkFacts, DoorFacts, ShelfFacts}
 use Rattle.willow_outside.specs.Links.{list_with}
-use Rattle.willow_entry.specs.Row.{RowValue}
 use Rattle.willow_entry.specs.declared.row.LogRow.{LogRow}
 use Rattle.auth_entry.specs.Authorised.{AuthorisedValue}
-use Rattle.ns_state.specs.declared.live_log.TheConstants.{LOG_LIMIT}
-use Rattle.sync_link.specs.Ran.{Ran, HasOther, SignsWell}
+use Rattle.ns_state.specs.Log.{IsLog}
+use Rattle.session_end.specs.declared.end.SessionEnd.TheVariants.{LogFull}
+use Rattle.sync_link.specs.Kept.{entry_row, log_rows}
 use Rattle.sync_link.specs.Run.{Answer}
-use Rattle.sync_link.specs.Sessions.{Party}
 use Rattle.peer_make.specs.Deeds.{CanSign}
-use Rattle.peer_make.specs.KeySigners.{gives_of}
+use Rattle.peer_make.specs.KeySigners.{gives_of, IsSignerOf}
+use Rattle.peer_make.specs.Making.{TakesDraws}
 use Rattle.peer_make.specs.declared.key_signer.KeySigner.{KeySigner}
-use Rattle.peer_rows.specs.Logged.{PassesLog}
+use Rattle.peer_rows.specs.Logged.{PassesLog, authorised_rows}
 use Rattle.peer_stage.specs.Deed.{Deed}
 use Rattle.peer_stage.specs.World.{World}
+use Rattle.peer_run.specs.Answered.{IsAnsweredOver, SignsFor}
 use Rattle.peer_run.specs.Sync.{Syncs}
 use Rattle.peer_run.specs.SyncGiven.{CallGiven, AreCallGiven, calling_party}
-use Rattle.peer_run.specs.SyncRun.{WasRun, as_ran}
+use Rattle.peer_run.specs.SyncRun.{WasRun}
 use Rattle.peer_run.specs.declared.syncing.SyncWords.{SyncWords}
 
 -- a link is back of which this count rose
@@ -39,27 +39,36 @@ SyncWrites old new = Rose old.shelf.write_faults new.shelf.write_faults ⊎ HasF
 
 -- ---- what it needs
 
--- A session was run with another side that answers: it read what that one writes, the own signer gives only what is accepted
--- for the own capability's receiver, and the log behind it is not full.
-pub record IsAnswered {p : List ℕ → Party} (ran : Ran p) : Type 0 where
-  pub other : Party
-  pub rows : List RowValue
-  pub has : HasOther ran other rows
-  pub signs : SignsWell ran
-  pub are_bytes : AreBytes ran.did.bytes
-  pub room : length ran.after.seen < LOG_LIMIT
+-- A session that a run had: the words' signer signed in it, and a draw of the run was its nonce. It was run over the link that
+-- is back, began with the log of the image's authorised rows, and left a log of the namespace.
+pub record HadSession (words : SyncWords) (given : CallGiven) (old new : World) (answer : Answer) : Type 0 where
+  pub signer : KeySigner
+  pub reserved : ShelfFacts
+  pub is_signer : IsSignerOf words.key old.shelf reserved signer
+  pub draw : List ℕ
+  pub drawn : TakesDraws old.noise new.noise (draw ∷ [])
+  pub link : LinkFacts
+  pub back : new.door.back ≡ list_with link old.door.back
+  pub opening : List (LogRow AuthorisedValue)
+  pub log : List (LogRow AuthorisedValue)
+  pub opens : log_rows opening ≡ authorised_rows given.namespace given.rows
+  pub is_log : IsLog entry_row given.namespace log
+  pub run : WasRun (calling_party words.area given draw) (gives_of signer) opening log link answer
 
--- The shelf tells that the names hold what a call goes by, the rows of the image fit a log, the signer has a signature left,
--- and whatever session is run over the link that comes back is one with such a side.
+-- The shelf tells that the names hold what a call goes by, the rows of the image fit a log, and the signer has a signature left
+-- and signs for the capability's receiver. Another side answered over the link that is back (`answered`), and no row that came
+-- over it met a full log (`unfilled`).
 pub record CanSync (words : SyncWords) (old new : World) : Type 0 where
   pub names : Names
   pub are_told : old.shelf.names ≡ Some names
   pub given : CallGiven
   pub are_given : AreCallGiven words (Some names) given
   pub room : PassesLog given.namespace given.rows → ⊥
-  pub signs : CanSign words.key old.shelf
-  pub answered : (signer : KeySigner) (draw : List ℕ) (opening log : List (LogRow AuthorisedValue)) (link : LinkFacts) (answer : Answer) → new.door.back ≡ list_with link old.door.back
-      → (run : WasRun (calling_party words.area given draw) (gives_of signer) opening log link answer) → IsAnswered (as_ran run)
+  pub can_sign : CanSign words.key old.shelf
+  pub signs : (signer : KeySigner) (reserved : ShelfFacts) → IsSignerOf words.key old.shelf reserved signer → SignsFor given.cap signer
+  pub answered : (link : LinkFacts) → new.door.back ≡ list_with link old.door.back
+      → (draw : List ℕ) → TakesDraws old.noise new.noise (draw ∷ []) → IsAnsweredOver (calling_party words.area given draw) link
+  pub unfilled : (missed : ℕ) → HadSession words given old new (Err (LogFull missed)) → ⊥
 
 -- ---- the deed
 

@@ -10,7 +10,7 @@ use Rattle.willow_entry.specs.declared.row.LogRow.{LogRow}
 use Rattle.auth_entry.specs.Authorised.{AuthorisedValue}
 use Rattle.mc_cap.specs.declared.refusal.RefusedRow.{RefusedRow}
 use Rattle.lms_core.specs.Key.{Key, raised}
-use Rattle.lms_core.specs.Reserve.{KeepsNames, PutsKey}
+use Rattle.lms_core.specs.Reserve.{HoldsKey, KeepsNames, PutsKey}
 use Rattle.sync_link.specs.Kept.{log_rows}
 use Rattle.sync_link.specs.Ran.{Ran, AreApartAs, AreAuthorised, IsOther, other_common, opening_of, side}
 use Rattle.sync_link.specs.Run.{Answer}
@@ -19,30 +19,30 @@ use Rattle.peer_image.specs.Image.{image}
 use Rattle.peer_make.specs.KeySigners.{gives_of, IsSignerOf}
 use Rattle.peer_make.specs.Making.{TakesDraws}
 use Rattle.peer_make.specs.declared.key_signer.KeySigner.{KeySigner}
-use Rattle.peer_report.specs.Report.{synced_lines}
+use Rattle.peer_report.specs.Report.{Reports}
 use Rattle.peer_rows.specs.Logged.{authorised_rows, first_refused}
 use Rattle.peer_stage.specs.Shelves.{IsPut}
+use Rattle.peer_stage.specs.declared.outcome.Done.TheVariants as done
 use Rattle.peer_words.specs.Commands.{IsWords}
 use Rattle.peer_words.specs.declared.command.Command.TheVariants as cmd
 use Rattle.peer_words.specs.declared.command.SignerWord.{SignerWord}
 use Rattle.peer_words.specs.declared.command.SignerWord.TheVariants.{OpenKey, LmsFile}
 use Rattle.peer_run.specs.Calling.{IsUnasked, IsLinkBack}
-use Rattle.peer_run.specs.Ending.{HasTold}
 use Rattle.peer_run.specs.Run.{Run}
 use Rattle.peer_run.specs.SyncRun.{WasRun, as_ran}
 use Rattle.peer_run.specs.Sync.{synced_of}
 use Rattle.peer_run.specs.SyncGiven.{CallGiven, AreCallGiven, calling_party}
 use Rattle.peer_run.specs.declared.syncing.SyncWords.{SyncWords}
 
--- the session was done
-abbrev pub IsDone : Answer → Type 0
-IsDone (Ok report) = Unit {0}
-IsDone (Err end) = ⊥
+-- the session was done, and the log had room for all that came
+abbrev pub AnswersOk : Answer → Type 0
+AnswersOk (Ok report) = Unit {0}
+AnswersOk (Err end) = ⊥
 
--- where the session was done
-abbrev pub IfDone : Answer → Type 0 → Type 0
-IfDone (Ok report) P = P
-IfDone (Err end) P = Unit {0}
+-- where it answers so
+abbrev pub WhereOk : Answer → Type 0 → Type 0
+WhereOk (Ok report) P = P
+WhereOk (Err end) P = Unit {0}
 
 -- What is live of the log covers the opening store, and all that another side whose bytes were read has in the area that both
 -- may read, if its rows are authorised and fingerprints tell the rows of both apart.
@@ -59,7 +59,7 @@ pub record HasSynced (p : List ℕ → Party) (g : CallGiven) (signer : KeySigne
   pub opens : log_rows opening ≡ authorised_rows g.namespace g.rows
   pub run : WasRun p (gives_of signer) opening log link answer
   pub goes_on : log ≡ opening ++ run.ran.grown
-  pub above : IfDone answer (LiesAbove (as_ran run) (log_rows log))
+  pub above : WhereOk answer (LiesAbove (as_ran run) (log_rows log))
   pub alike : (others : List RowValue) → AreSameInCommon (p run.ran.signature) run.ran.bytes (live (log_rows run.ran.log)) others
       → out (p run.ran.signature) others run.ran.bytes ≡ out (p run.ran.signature) (live (log_rows run.ran.log)) run.ran.bytes
 
@@ -73,7 +73,7 @@ PutsOrFails name false n rows old new = Rose old.write_faults new.write_faults �
 -- the names hold what they held, but that an index of the signer's key file may be used up
 abbrev pub KeepsButKey : SignerWord → ShelfFacts → ShelfFacts → Type 0
 KeepsButKey (OpenKey key) old new = KeepsNames old new
-KeepsButKey (LmsFile name) old new = KeepsNames old new ⊎ ((k : Key) × PutsKey old new (string_bytes name) (raised 1 k))
+KeepsButKey (LmsFile name) old new = KeepsNames old new ⊎ ((k : Key) × HoldsKey old (string_bytes name) k × PutsKey old new (string_bytes name) (raised 1 k))
 
 -- Nobody was called: the door is as it was but for its faults, and no image was put.
 pub record IsUncalled (words : SyncWords) (run : Run) : Type 0 where
@@ -88,6 +88,7 @@ pub record HasCalled (words : SyncWords) (run : Run) : Type 0 where
   pub signer : KeySigner
   pub reserved : ShelfFacts
   pub is_signer : IsSignerOf words.key run.old.shelf reserved signer
+  pub counted : reserved.write_faults ≡ run.old.shelf.write_faults
   -- one draw was taken
   pub draw : List ℕ
   pub drawn : TakesDraws run.old.noise run.new.noise (draw ∷ [])
@@ -101,8 +102,8 @@ pub record HasCalled (words : SyncWords) (run : Run) : Type 0 where
   -- the image of what is live of that was put, or could not be
   pub put : Bool
   pub is_put : PutsOrFails (string_bytes words.image) put given.namespace (live (log_rows log)) reserved run.new.shelf
-  -- the report tells how the session ended, and that
-  pub told : HasTold run.old.report run.new.report (synced_lines (synced_of (length given.rows) (first_refused given.namespace given.rows) answer put))
+  -- the report and the status tell how the session ended, and that
+  pub reports : Reports run.old.report run.new.report (Ok (done.Synced (synced_of (length given.rows) (first_refused given.namespace given.rows) answer put))) run.status
 
 -- the first row that is not authorised, of the image and then of those that came
 abbrev pub first_of_call : {words : SyncWords} {run : Run} → HasCalled words run → Option RefusedRow
@@ -111,7 +112,7 @@ first_of_call c = (synced_of (length c.given.rows) (first_refused c.given.namesp
 -- At 0 and 1 one was called, the session was done and the image put; at 1 a row is not authorised, and at 0 none.
 pub record IsWholeCall (words : SyncWords) (run : Run) : Type 0 where
   pub called : HasCalled words run
-  pub done : IsDone called.answer
+  pub done : AnswersOk called.answer
   pub put : called.put ≡ true
   pub all_authorised : run.status ≡ 0 → IsNone (first_of_call called)
   pub some_refused : run.status ≡ 1 → IsSome (first_of_call called)

@@ -70,8 +70,8 @@ pub(crate) fn call<R: Wait + Threads + Sync, D: Door>(
     })
 }
 
-// Runs one session over the link, in which each row that comes is judged by itself.
-fn talk<R: Wait + Threads + Sync, L: Link>(
+/// Runs one session over the link, in which each row that comes is judged by itself.
+pub(crate) fn talk<R: Wait + Threads + Sync, L: Link>(
     rt: &R,
     alloc: Global,
     namespace: NamespaceKey,

@@ -3,14 +3,18 @@
 #![tactic(auto)]
 
 mod calling;
+mod closing;
 mod drilling;
 mod exchanging;
 mod getting;
 mod greeting;
+mod hosting;
 mod images_met;
 mod meeting;
 mod opening;
+mod preparing;
 mod run;
+mod serving;
 mod syncing;
 mod transcript;
 

@@ -1,6 +1,6 @@
 //! The one call that `main` makes.
 
-ghost use Rattle.std.specs.Prelude.{ℕ, List, ◌≤◌};
+ghost use Rattle.std.specs.Prelude.{ℕ, List, ◌≤◌, ◌↔◌, IsTrue};
 ghost use Rattle.peer_run.specs.Locals.{IsLocal};
 ghost use Rattle.peer_stage.specs.World.{World};
 ghost use Rattle.peer_words.specs.Words.{texts};
@@ -11,6 +11,7 @@ ghost use Rattle.peer_run.specs.Promises.{KeepsPromises};
 
 use crate::drilling::drill;
 use crate::meeting::{MeetWords, meet};
+use crate::serving::{ServeWords, serve};
 use crate::syncing::{SyncWords, sync};
 use peer_make::{delegate, grant, make_key, write};
 use peer_report::end_run;
@@ -81,9 +82,69 @@ fn run_command<H: Shelf, I: Source, O: Sink, N: Noise>(
             };
             meet(alloc, words, shelf, output)
         }
-        Command::Sync { .. } => unreachable!(),
-        Command::Serve { .. } => Err(Stop::Usage),
+        Command::Sync { .. } | Command::Serve { .. } => unreachable!(),
         Command::Watch { .. } => Err(Stop::Usage),
+    }
+}
+
+/// Whether a command calls nobody and waits for nobody.
+fn is_local(command: &Command) -> bool
+    ensures { IsTrue result ↔ IsLocal command.now }
+{
+    !matches!(command, Command::Sync { .. } | Command::Serve { .. })
+}
+
+/// Runs a command that talks to others over links.
+fn run_afar<R: Wait + Threads + Sync, H: Shelf, D: Door, N: Noise>(
+    rt: &R,
+    alloc: Global,
+    command: Command,
+    shelf: &mut H,
+    door: &mut D,
+    noise: &mut N,
+) -> Result<Done, Stop>
+    requires words { (words : List (List ℕ)) × IsWords words command }
+    requires afar { IsLocal command → ⊥ }
+    ensures { (others : World) → (deed_of command).meets
+        (record others { shelf = H.facts shelf.old; door = D.facts door.old; noise = N.facts noise.old })
+        (record others { shelf = H.facts shelf.new; door = D.facts door.new; noise = N.facts noise.new }) result }
+{
+    match command {
+        Command::Sync {
+            image,
+            cap,
+            key,
+            to,
+            area,
+        } => {
+            let words = SyncWords {
+                image,
+                cap,
+                key,
+                to,
+                area,
+            };
+            sync(rt, alloc, words, shelf, door, noise)
+        }
+        Command::Serve {
+            image,
+            cap,
+            key,
+            at,
+            links,
+            area,
+        } => {
+            let words = ServeWords {
+                image,
+                cap,
+                key,
+                at,
+                links,
+                area,
+            };
+            serve(rt, alloc, words, shelf, door, noise)
+        }
+        _ => unreachable!(),
     }
 }
 
@@ -118,7 +179,7 @@ pub fn run_local<R: Threads + Sync, H: Shelf, I: Source, O: Sink, E: Sink, N: No
 /// a session is refused, before it begins or in it; 7 for want of memory; 8 where a row met a full log; 9 for a key
 /// file without an index left. The report gets the lines of that end. What a command does not call stays as it was.
 ///
-/// In `sync` it waits for the one that it calls. Of every other command it answers what `run_local` answers.
+/// In `sync` it waits for the one that it calls, and in `serve` for those who come. Of every other command it answers what `run_local` answers.
 pub fn peer_run<R: Wait + Threads + Sync, H: Shelf, I: Source, O: Sink, E: Sink, D: Door, N: Noise>(
     rt: &R,
     alloc: Global,
@@ -152,26 +213,14 @@ pub fn peer_run<R: Wait + Threads + Sync, H: Shelf, I: Source, O: Sink, E: Sink,
     }) }
 {
     match read_words(alloc, words) {
-        Ok(
-            Command::Sync {
-                image,
-                cap,
-                key,
-                to,
-                area,
-            },
-        ) => {
-            let words = SyncWords {
-                image,
-                cap,
-                key,
-                to,
-                area,
-            };
-            let end = sync(rt, alloc, words, shelf, door, noise);
-            end_run(alloc, &end, report)
+        Ok(command) => {
+            if is_local(&command) {
+                run_local(rt, alloc, command, shelf, input, output, report, noise)
+            } else {
+                let end = run_afar(rt, alloc, command, shelf, door, noise);
+                end_run(alloc, &end, report)
+            }
         }
-        Ok(command) => run_local(rt, alloc, command, shelf, input, output, report, noise),
         Err(End::Refused(Usage)) => end_run(alloc, &Err(Stop::Usage), report),
         Err(End::NoMemory) => end_run(alloc, &Err(Stop::NoMemory), report),
     }

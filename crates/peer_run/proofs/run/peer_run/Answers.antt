@@ -1,33 +1,11 @@
 use Rattle.std.proofs.Common.{inl, inr, refl}
 use Rattle.peer_stage.specs.World.{World}
 use Rattle.peer_words.specs.Words.{texts}
-use Rattle.peer_words.specs.declared.command.Command.TheVariants as cmd
 use Rattle.peer_run.proofs.Keeps.{keeps}
 use Rattle.peer_run.proofs.run.peer_run.Goals as goal
 
-pub returns-in-Ok-Sync : goal.returns-in-Ok-Sync
-returns-in-Ok-Sync g c =
-    let others : World = record {
-      shelf = g.H.Shelf.facts c.args.shelf.now;
-      input = g.I.Source.facts c.args.input.now;
-      output = g.O.Sink.facts c.args.output.now;
-      report = g.E.Sink.facts c.args.report.now;
-      door = g.D.Door.facts c.args.door.now;
-      noise = g.N.Noise.facts c.args.noise.now;
-    } in
-    let x = c.in-Ok-Sync in
-    record {
-      promises = keeps _ (inl (record {
-        command = cmd.Sync x.image x.cap x.key x.to x.area;
-        is_words = rw x.field-0-is at x.ensures;
-        end = c.sync-end.result;
-        meets = c.sync-end.ensures others;
-        reports = c.end_run.ensures.reports;
-      })) c.end_run.ensures.faults;
-    }
-
-pub returns-in-Ok : goal.returns-in-Ok
-returns-in-Ok g c =
+pub returns-then-is_local : goal.returns-then-is_local
+returns-then-is_local g c =
     let others : World = record {
       shelf = g.H.Shelf.facts c.args.shelf.now;
       input = g.I.Source.facts c.args.input.now;
@@ -38,6 +16,30 @@ returns-in-Ok g c =
     } in
     record { promises = c.run_local.ensures.promises (texts c.args.words.now) others c.in-Ok.ensures }
 
+pub returns-else-is_local : goal.returns-else-is_local
+returns-else-is_local g c =
+    let others : World = record {
+      shelf = g.H.Shelf.facts c.args.shelf.now;
+      input = g.I.Source.facts c.args.input.now;
+      output = g.O.Sink.facts c.args.output.now;
+      report = g.E.Sink.facts c.args.report.now;
+      door = g.D.Door.facts c.args.door.now;
+      noise = g.N.Noise.facts c.args.noise.now;
+    } in
+    record {
+      promises = keeps _ (inl (record {
+        command = c.in-Ok.command;
+        is_words = c.in-Ok.ensures;
+        end = c.run_afar-end.result;
+        meets = c.run_afar-end.ensures others;
+        reports = c.end_run.ensures.reports;
+      })) c.end_run.ensures.faults;
+    }
+
 pub returns-in-Err-Refused : goal.returns-in-Err-Refused
 returns-in-Err-Refused g c =
     record { promises = keeps _ (inr (inl (record { no_command = rw c.in-Err-Refused.field-0-is at c.in-Err-Refused.ensures; same = refl; reports = c.end_run-in-Err-Refused.ensures.reports }))) c.end_run-in-Err-Refused.ensures.faults }
+
+pub returns-in-Err-NoMemory : goal.returns-in-Err-NoMemory
+returns-in-Err-NoMemory g c =
+    record { promises = keeps _ (inr (inr (record { same = refl; reports = c.end_run-in-Err-NoMemory.ensures.reports }))) c.end_run-in-Err-NoMemory.ensures.faults }

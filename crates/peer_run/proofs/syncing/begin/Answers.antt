@@ -4,96 +4,37 @@ use Rattle.lms_core.specs.declared.scheme.PeerScheme.{PeerScheme}
 use Rattle.sync_link.specs.declared.plan.SessionPlan.{SessionPlan}
 use Rattle.peer_make.specs.KeySigners.{HandsSigner}
 use Rattle.peer_stage.specs.World.{World}
-use Rattle.peer_stage.proofs.Steps.{passes, inside_on, shelf_on}
-use Rattle.peer_run.specs.Getting.{GetsImage, GetsCapability}
-use Rattle.peer_run.specs.Greeting.{Greets}
-use Rattle.peer_run.specs.Opening.{OpensLog}
-use Rattle.peer_run.specs.Sync.{no_nonce}
+use Rattle.peer_stage.proofs.Steps.{passes, shelf_on}
+use Rattle.peer_run.specs.Preparing.{Prepares}
 use Rattle.peer_run.specs.declared.syncing.Caller as caller
-use Rattle.peer_run.proofs.GotImages.{image_got, untold}
 use Rattle.peer_run.proofs.syncing.begin.Goals as goal
-
-pub open_log-requires : goal.open_log-requires
-open_log-requires g c =
-    (image_got c.args.image (record untold { shelf = g.H.Shelf.facts c.args.shelf.now }) (record untold { shelf = g.H.Shelf.facts c.get_image.new.shelf }) c.in_ok-image.image (c.in_ok-image.ensures untold)).count
 
 pub returns-in_err-opening : goal.returns-in_err-opening
 returns-in_err-opening g c =
-    let p = err_from_is_err_and c.from_residual-in_err-opening.result c.from_residual-in_err-opening.ensures.1 in
-    let h = g.H.Shelf.facts c.args.shelf.now in
-    let h1 = g.H.Shelf.facts c.get_image.new.shelf in
-    rw (p.1, p.2) (λ others.
-    let first : World = record others { shelf = h1 } in
-    passes (GetsImage c.args.image) _ (record others { shelf = h }) first first c.in_ok-image.image (Err c.in_err-opening.field-0.0) (c.in_ok-image.ensures others)
-    (inl (c.in_err-opening.ensures, refl)))
-
-pub returns-in_err-capability : goal.returns-in_err-capability
-returns-in_err-capability g c =
-    let p = err_from_is_err_and c.from_residual-in_err-capability.result c.from_residual-in_err-capability.ensures.1 in
-    let h = g.H.Shelf.facts c.args.shelf.now in
-    let h1 = g.H.Shelf.facts c.get_image.new.shelf in
-    let h2 = g.H.Shelf.facts c.get_capability.new.shelf in
-    let image = c.in_ok-image.image in
-    let e = c.in_err-capability.field-0.0 in
-    rw (p.1, p.2) (λ others.
-    let first : World = record others { shelf = h1 } in
-    let second : World = record others { shelf = h2 } in
-    passes (GetsImage c.args.image) _ (record others { shelf = h }) first second image (Err e) (c.in_ok-image.ensures others)
-    (inside_on (OpensLog image.namespace image.rows.items) _ first second c.in_ok-opening.opening (Err e) c.in_ok-opening.ensures
-    (inl (c.in_err-capability.ensures others))))
-
-pub returns-in_err-hello : goal.returns-in_err-hello
-returns-in_err-hello g c =
-    let p = err_from_is_err_and c.from_residual-in_err-hello.result c.from_residual-in_err-hello.ensures.1 in
-    let h = g.H.Shelf.facts c.args.shelf.now in
-    let h1 = g.H.Shelf.facts c.get_image.new.shelf in
-    let h2 = g.H.Shelf.facts c.get_capability.new.shelf in
-    let image = c.in_ok-image.image in
-    let e = c.in_err-hello.field-0.0 in
-    rw (p.1, p.2) (λ others.
-    let first : World = record others { shelf = h1 } in
-    let second : World = record others { shelf = h2 } in
-    passes (GetsImage c.args.image) _ (record others { shelf = h }) first second image (Err e) (c.in_ok-image.ensures others)
-    (inside_on (OpensLog image.namespace image.rows.items) _ first second c.in_ok-opening.opening (Err e) c.in_ok-opening.ensures
-    (passes (GetsCapability c.args.cap) _ first second second c.in_ok-capability.capability (Err e) (c.in_ok-capability.ensures others)
-    (inl (c.in_err-hello.ensures, refl)))))
+    let p = err_from_is_err_and c.from_residual.result c.from_residual.ensures.1 in
+    rw (p.1, p.2) (λ others. inl (c.in_err-opening.ensures others))
 
 pub returns-in_err-signer : goal.returns-in_err-signer
 returns-in_err-signer g c =
     let p = err_from_is_err_and c.from_residual-in_err-signer.result c.from_residual-in_err-signer.ensures.1 in
     let h = g.H.Shelf.facts c.args.shelf.now in
-    let h1 = g.H.Shelf.facts c.get_image.new.shelf in
-    let h2 = g.H.Shelf.facts c.get_capability.new.shelf in
-    let h3 = g.H.Shelf.facts c.reserve_signer.new.shelf in
-    let image = c.in_ok-image.image in
-    let e = c.in_err-signer.field-0.0 in
+    let h1 = g.H.Shelf.facts c.prepare.new.shelf in
+    let h2 = g.H.Shelf.facts c.reserve_signer.new.shelf in
     let fails = c.in_err-signer.ensures in
     rw (p.1, p.2) (λ others.
-    let first : World = record others { shelf = h1 } in
-    let second : World = record others { shelf = h2 } in
-    let third : World = record others { shelf = h3 } in
-    passes (GetsImage c.args.image) _ (record others { shelf = h }) first third image (Err e) (c.in_ok-image.ensures others)
-    (inside_on (OpensLog image.namespace image.rows.items) _ first third c.in_ok-opening.opening (Err e) c.in_ok-opening.ensures
-    (passes (GetsCapability c.args.cap) _ first second third c.in_ok-capability.capability (Err e) (c.in_ok-capability.ensures others)
-    (inside_on (Greets image.namespace c.args.area.now c.in_ok-capability.capability no_nonce) _ second third c.in_ok-hello.hello (Err e) c.in_ok-hello.ensures
-    (inl (record { does = fails.hands; read_faults = fails.read_faults; write_faults = fails.write_faults; others = refl }))))))
+    passes (Prepares c.args.image c.args.cap c.args.area.now) _ (record others { shelf = h }) (record others { shelf = h1 }) (record others { shelf = h2 }) c.in_ok-opening.field-0 (Err c.in_err-signer.field-0.0) (c.in_ok-opening.ensures others)
+    (inl (record { does = fails.hands; read_faults = fails.read_faults; write_faults = fails.write_faults; others = refl })))
 
 pub returns : goal.returns
 returns g c =
     let h = g.H.Shelf.facts c.args.shelf.now in
-    let h1 = g.H.Shelf.facts c.get_image.new.shelf in
-    let h2 = g.H.Shelf.facts c.get_capability.new.shelf in
-    let h3 = g.H.Shelf.facts c.reserve_signer.new.shelf in
-    let image = c.in_ok-image.image in
+    let h1 = g.H.Shelf.facts c.prepare.new.shelf in
+    let h2 = g.H.Shelf.facts c.reserve_signer.new.shelf in
+    let prepared = c.in_ok-opening.field-0 in
     let hands = c.in_ok-signer.ensures in
-    let brings : caller.Caller = record { opening = c.in_ok-opening.opening; plan = c.plan_of.result; signer = c.in_ok-signer.signer } in
+    let brings : caller.Caller = record { opening = prepared.opening; plan = c.plan_of.result; signer = c.in_ok-signer.signer } in
     λ others.
-    let first : World = record others { shelf = h1 } in
     let second : World = record others { shelf = h2 } in
-    let third : World = record others { shelf = h3 } in
-    passes (GetsImage c.args.image) _ (record others { shelf = h }) first third image (Ok brings) (c.in_ok-image.ensures others)
-    (inside_on (OpensLog image.namespace image.rows.items) _ first third c.in_ok-opening.opening (Ok brings) c.in_ok-opening.ensures
-    (passes (GetsCapability c.args.cap) _ first second third c.in_ok-capability.capability (Ok brings) (c.in_ok-capability.ensures others)
-    (inside_on (Greets image.namespace c.args.area.now c.in_ok-capability.capability no_nonce) _ second third c.in_ok-hello.hello (Ok brings) c.in_ok-hello.ensures
-    (shelf_on (HandsSigner c.args.key) _ others h2 h3 third c.in_ok-signer.signer (Ok brings) hands.hands hands.read_faults hands.write_faults
-    (ap (λ (plan : SessionPlan PeerScheme). record { opening = c.in_ok-opening.opening; plan = plan; signer = c.in_ok-signer.signer }) c.plan_of.ensures, refl)))))
+    passes (Prepares c.args.image c.args.cap c.args.area.now) _ (record others { shelf = h }) (record others { shelf = h1 }) second prepared (Ok brings) (c.in_ok-opening.ensures others)
+    (shelf_on (HandsSigner c.args.key) _ others h1 h2 second c.in_ok-signer.signer (Ok brings) hands.hands hands.read_faults hands.write_faults
+    (ap (λ (plan : SessionPlan PeerScheme). record { opening = prepared.opening; plan = plan; signer = c.in_ok-signer.signer }) c.plan_of.ensures, refl))

@@ -2,7 +2,8 @@ use Rattle.std.proofs.Common.{◌∙◌, refl, sym}
 use Rattle.std.specs.String.{string_bytes}
 use Rattle.std.proofs.lemmas.Bool.{false≢true}
 use Rattle.peer_stage.proofs.Faults.{stands_at}
-use Rattle.peer_run.specs.Sync.{image_behind, put_answer}
+use Rattle.peer_run.specs.Closing.{put_answer}
+use Rattle.peer_run.specs.Sync.{image_behind}
 use Rattle.peer_run.proofs.SyncSteps.{finishes_so, puts_same, wants_last}
 use Rattle.peer_run.proofs.syncing.finish.Goals as goal
 

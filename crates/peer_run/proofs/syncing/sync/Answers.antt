@@ -3,11 +3,13 @@ use Rattle.std.specs.Prelude.{Ok, Err}
 use Rattle.std.specs.String.{string_bytes}
 use Rattle.std.proofs.lemmas.Result.{err_from_is_err_and}
 use Rattle.lms_core.specs.Use.{peer_rules}
+use Rattle.sync_msg.specs.declared.role.Role.TheVariants.{Caller}
 use Rattle.sync_hello.specs.Checked.{hello_refusal}
 use Rattle.sync_link.specs.Plans.{own_hello}
 use Rattle.peer_stage.specs.World.{World}
-use Rattle.peer_run.specs.Sync.{Finishes, nonce_of}
-use Rattle.peer_run.proofs.CallBegun.{has_begun}
+use Rattle.peer_run.specs.Preparing.{nonce_of}
+use Rattle.peer_run.specs.Sync.{Finishes}
+use Rattle.peer_run.proofs.CallBegun.{has_begun, plan_asks}
 use Rattle.peer_run.proofs.CallReady.{plan_passes, can_sign}
 use Rattle.peer_run.proofs.GotImages.{untold}
 use Rattle.peer_run.proofs.SyncSteps.{calls_as, draw_stops, call_stops, all_steps}
@@ -33,14 +35,16 @@ returns-in_err-draw g c =
 pub call-requires-clause-opening : goal.call-requires-clause-opening
 call-requires-clause-opening g c κs within =
     let w = c.args.words in
-    (has_begun w.image w.cap w.key w.area (record untold { shelf = g.H.Shelf.facts c.args.shelf.now }) (record untold { shelf = g.H.Shelf.facts c.begin.new.shelf }) c.in_ok-opening.field-0 (c.in_ok-opening.ensures untold)).opened.own
+    (has_begun w.image w.cap w.key w.area (record untold { shelf = g.H.Shelf.facts c.args.shelf.now }) (record untold { shelf = g.H.Shelf.facts c.begin.new.shelf }) c.in_ok-opening.field-0 (c.in_ok-opening.ensures untold)).front.opened.own
 
 pub call-requires-clause-hello : goal.call-requires-clause-hello
 call-requires-clause-hello g c κs within =
     let w = c.args.words in
     let brings = c.in_ok-opening.field-0 in
     let begun = has_begun w.image w.cap w.key w.area (record untold { shelf = g.H.Shelf.facts c.args.shelf.now }) (record untold { shelf = g.H.Shelf.facts c.begin.new.shelf }) brings (c.in_ok-opening.ensures untold) in
-    subst (λ (n : List ℕ). hello_refusal peer_rules n (own_hello brings.plan c.nonce_of-nonce.result) ≡ None) (sym begun.opened.of_namespace) (plan_passes begun.given.namespace w.area begun.capability c.nonce_of-nonce.result brings.plan begun.plan_is begun.passes)
+    subst (λ (n : List ℕ). hello_refusal peer_rules n (own_hello brings.plan c.nonce_of-nonce.result) ≡ None) (sym begun.front.opened.of_namespace)
+    (plan_passes Caller begun.front.given.namespace w.area begun.front.capability c.nonce_of-nonce.result brings.plan
+    (plan_asks w.image w.cap w.key w.area (record untold { shelf = g.H.Shelf.facts c.args.shelf.now }) (record untold { shelf = g.H.Shelf.facts c.begin.new.shelf }) brings begun) begun.front.passes)
 
 pub call-requires-clause-signs : goal.call-requires-clause-signs
 call-requires-clause-signs g c κs within =
@@ -67,7 +71,7 @@ pub finish-requires : goal.finish-requires
 finish-requires g c =
     let w = c.args.words in
     let begun = has_begun w.image w.cap w.key w.area (record untold { shelf = g.H.Shelf.facts c.args.shelf.now }) (record untold { shelf = g.H.Shelf.facts c.begin.new.shelf }) c.in_ok-opening.field-0 (c.in_ok-opening.ensures untold) in
-    omega (arith, begun.opened.counted, begun.has_image.is_image.is_image.count)
+    omega (arith, begun.front.opened.counted, begun.front.has_image.is_image.is_image.count)
 
 pub returns : goal.returns
 returns g c =

@@ -4,7 +4,7 @@ use Rattle.std.proofs.lemmas.List.Elements.{recursion_from_All}
 use Rattle.willow_entry.specs.Frame.{HasFrame}
 use Rattle.sync_link.specs.Kept.{entry_row}
 use Rattle.sync_link.proofs.Openings.{CanTell, can_tell, told_more, told_all}
-use Rattle.peer_run.proofs.syncing.known_rows.Goals as goal
+use Rattle.peer_run.proofs.closing.known_rows.Goals as goal
 
 pub returns : goal.returns
 returns c = recursion_from_All HasFrame (map entry_row c.args.rows.now) (told_all c.args.rows.now c.loop-at.at (omega arith) c.loop-at.invariant).framed

@@ -1,0 +1,70 @@
+-- What one visit of a server is: a session over its link, with the pass, the signer and the nonce of its guest.
+use Rattle.std.specs.Prelude.{◌≡◌, ◌≤◌, ℕ, Bool, true, false, List, ◌∷◌, ◌++◌, map, Option, Some, None, Result, Ok, Err}
+use Rattle.willow_outside.specs.Counts.{HasRisen}
+use Rattle.willow_outside.specs.Facts.{LinkFacts, DoorFacts}
+use Rattle.willow_outside.specs.Links.{list_with}
+use Rattle.willow_outside.specs.declared.fault.Fault.{Fault}
+use Rattle.willow_outside.specs.declared.fault.Fault.TheVariants as fault
+use Rattle.link_host.specs.declared.hosting.Hosted.{Hosted}
+use Rattle.auth_entry.specs.Authorised.{AuthorisedValue}
+use Rattle.lms_core.specs.Use.{peer_rules}
+use Rattle.ns_state.specs.Log.{IsLog}
+use Rattle.ns_cell.specs.Closed.{IsClosed}
+use Rattle.ns_cell.specs.Passes.{PassValue, IsPassOf}
+use Rattle.sync_hello.specs.Checked.{hello_refusal}
+use Rattle.sync_link.specs.Kept.{entry_row}
+use Rattle.sync_link.specs.Plans.{own_hello, planned}
+use Rattle.sync_link.specs.Run.{Runs}
+use Rattle.peer_make.specs.KeySigners.{gives_of, left_of}
+use Rattle.peer_stage.specs.declared.outcome.Stop.{Stop}
+use Rattle.peer_stage.specs.declared.outcome.Stop.TheVariants as stop
+use Rattle.peer_run.specs.Calling.{IsUnasked}
+use Rattle.peer_run.specs.declared.hosting.Attended.{Attended}
+use Rattle.peer_run.specs.declared.hosting.Guest.{Guest}
+use Rattle.peer_run.specs.declared.hosting.Hall.{Hall}
+use Rattle.peer_run.specs.declared.hosting.Parting.{Parting}
+
+-- The guest may begin a session: its pass is of the cell, nothing is against the hello that it says, and it can sign.
+pub record MayVisit (hall : Hall) (guest : Guest) : Type 0 where
+  pub pass : IsPassOf hall.cell guest.pass
+  pub namespace : hall.namespace ≡ hall.cell.namespace
+  pub hello : hello_refusal peer_rules hall.cell.namespace (own_hello hall.plan guest.nonce) ≡ None
+  pub signs : 1 ≤ left_of guest.signer
+
+-- One session was run over the link, and hands on the pass of the guest.
+pub record DoesVisit (hall : Hall) (guest : Guest) (handed_out : LinkFacts) (parting : Parting) (link : LinkFacts) : Type 0 where
+  pub ran : Runs (planned peer_rules hall.cell.namespace hall.plan guest.nonce) (gives_of guest.signer) guest.pass parting.pass handed_out link 0 0 parting.end
+  pub pass : IsPassOf hall.cell parting.pass
+
+-- how a place is listened at
+abbrev pub Listens : List ℕ → DoorFacts → DoorFacts → Result (Unit {0}) Stop → Type 0
+Listens place old new (Ok u) = (new.asked ≡ list_with place old.asked) × (new.out ≡ old.out) × (new.back ≡ old.back) × (new.faults ≡ old.faults)
+Listens place old new (Err stop.ReadFault) = IsUnasked old new × HasRisen old.faults new.faults
+Listens place old new (Err stop.NoMemory) = IsUnasked old new × (old.faults ≤ new.faults)
+Listens place old new (Err e) = ⊥
+
+-- ---- behind all visits
+
+-- each guest had its link, or accepting one failed
+abbrev pub IsAccepted : Option Fault → Bool → Type 0
+IsAccepted None true = Unit {0}
+IsAccepted (Some fault.Failed) false = Unit {0}
+IsAccepted stopped accepted = ⊥
+
+-- the own pass, those that the visits handed on, and those of the guests for whom no link came
+abbrev pub passes_behind : PassValue AuthorisedValue → Hosted Guest Parting → List (PassValue AuthorisedValue)
+passes_behind own hosted = own ∷ (map (λ (parting : Parting). parting.pass) hosted.partings.items ++ map (λ (guest : Guest). guest.pass) hosted.unused.items)
+
+-- The cell is closed with all passes: this is its log, and so the visits ended.
+pub record HasLeft (hall : Hall) (own : PassValue AuthorisedValue) (hosted : Hosted Guest Parting) (x : Attended) : Type 0 where
+  pub ends : x.ends.items ≡ map (λ (parting : Parting). parting.end) hosted.partings.items
+  pub accepts : IsAccepted hosted.stopped x.accepted
+  pub closed : IsClosed (passes_behind own hosted) x.state.log
+  pub is_log : IsLog entry_row hall.cell.namespace x.state.log
+  pub of_namespace : x.state.namespace ≡ hall.cell.namespace
+
+-- how the hall is left
+abbrev pub Leaves : Hall → PassValue AuthorisedValue → Hosted Guest Parting → Result Attended Stop → Type 0
+Leaves hall own hosted (Ok x) = HasLeft hall own hosted x
+Leaves hall own hosted (Err stop.NoMemory) = Unit {0}
+Leaves hall own hosted (Err e) = ⊥

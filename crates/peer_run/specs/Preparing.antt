@@ -1,0 +1,36 @@
+-- What a side brings to sessions besides what signs: the log of its image, and a hello against which nothing is.
+use Rattle.std.specs.Prelude.{ℕ, List, take, replicate}
+use Rattle.std.specs.declared.string.String.{String}
+use Rattle.std.specs.declared.alloc.Global.{Global}
+use Rattle.lms_core.specs.declared.scheme.PeerScheme.{PeerScheme}
+use Rattle.sync_msg.specs.declared.role.Role.{Role}
+use Rattle.sync_hello.specs.declared.hello.Hello.{Hello}
+use Rattle.sync_link.specs.declared.plan.SessionPlan.{SessionPlan}
+use Rattle.peer_words.specs.declared.command.AreaWords.{AreaWords}
+use Rattle.peer_stage.specs.Steps.{Step, Then, Inside}
+use Rattle.peer_run.specs.Getting.{GetsImage, GetsCapability}
+use Rattle.peer_run.specs.Greeting.{Greets}
+use Rattle.peer_run.specs.Meet.{Gives}
+use Rattle.peer_run.specs.Opening.{OpensLog}
+use Rattle.peer_run.specs.declared.preparing.Prepared.{Prepared}
+
+-- 16 zeros: the own hello is judged before anything is drawn
+abbrev pub no_nonce : List ℕ
+no_nonce = replicate 16 0
+
+-- It gets the image, whose authorised rows are its log, then the capability, and judges its own hello.
+abbrev pub Prepares : String Global → String Global → AreaWords → Step Prepared
+Prepares image cap area =
+    Then (GetsImage image) (λ i.
+    Then (Inside (OpensLog i.namespace i.rows.items)) (λ opening.
+    Then (GetsCapability cap) (λ c.
+    Then (Inside (Greets i.namespace area c no_nonce)) (λ h.
+    Inside (Gives (record { opening = opening; hello = h }))))))
+
+-- the plan of a side of this role that says this of itself
+abbrev pub plan_of : Role → Hello → SessionPlan PeerScheme
+plan_of role h = record { scheme = record {}; role = role; capability = h.capability; ask = h.ask }
+
+-- the nonce of a draw: its first 16 bytes
+abbrev pub nonce_of : List ℕ → List ℕ
+nonce_of words = take 16 words

@@ -1,0 +1,248 @@
+//! Sessions with those who come to a place.
+
+ghost use Rattle.std.specs.Prelude.{◌≡◌, ◌≤◌, ◌<◌, ◌+◌, List, ℕ, ◌∷◌, ◌++◌, None, All, IfOk, length, map, vec_len};
+ghost use Rattle.log_rule.specs.Views.{AreOf};
+ghost use Rattle.lms_core.specs.Use.{peer_rules};
+ghost use Rattle.ns_cell.specs.declared.limits.TheConstants.{PASS_LIMIT};
+ghost use Rattle.peer_make.specs.KeySigners.{left_of};
+ghost use Rattle.sync_hello.specs.Checked.{hello_refusal};
+ghost use Rattle.sync_link.specs.Plans.{own_hello, planned};
+ghost use Rattle.ns_cell.specs.Passes.{IsPassOf};
+ghost use Rattle.peer_run.specs.Hall.{IsAccepted, Leaves, Listens};
+ghost use Rattle.peer_run.specs.Hosting.{Attends};
+ghost use Rattle.peer_run.specs.Preparing.{nonce_of};
+
+use crate::calling::talk;
+use crate::preparing::nonce_of;
+use auth_entry::AuthorisedEntry;
+use link_host::{Host, Hosted, host_links};
+use lms_core::PeerScheme;
+use ns_cell::{NsCell, Pass};
+use ns_state::NsState;
+use peer_make::KeySigner;
+use peer_stage::Stop;
+use spelling::NoMemory;
+use std::alloc::Global;
+use std::sync::Wait;
+use std::thread::Threads;
+use sync_link::{SessionEnd, SessionPlan, SessionReport};
+use willow_outside::{Door, Fault, Link};
+use willow_path::NamespaceKey;
+
+/// What all sessions of a server share: the cell of its rows, and what it says of itself.
+#[derive(Drop)]
+struct Hall {
+    namespace: NamespaceKey,
+    cell: NsCell<AuthorisedEntry<PeerScheme>>,
+    plan: SessionPlan<PeerScheme>,
+}
+
+/// What one session has of its own: its pass, its signer, and its nonce.
+#[derive(Drop)]
+struct Guest {
+    pass: Pass<AuthorisedEntry<PeerScheme>>,
+    signer: KeySigner,
+    nonce: [u8; 16],
+}
+
+/// What a session hands on: its pass, and how it ended.
+#[derive(Drop)]
+struct Parting {
+    pass: Pass<AuthorisedEntry<PeerScheme>>,
+    end: Result<SessionReport, SessionEnd>,
+}
+
+/// How the sessions ended, in the order in which the links came; whether as many came as were asked for; and the log behind
+/// all sessions.
+#[derive(Drop)]
+pub(crate) struct Attended {
+    pub(crate) ends: Vec<Result<SessionReport, SessionEnd>>,
+    pub(crate) accepted: bool,
+    pub(crate) state: NsState<AuthorisedEntry<PeerScheme>>,
+}
+
+impl<L: Link + Send> Host<L> for Hall {
+    type Job = Guest;
+
+    type Parting = Parting;
+
+    ghost use Rattle.peer_run.specs.Hall.{DoesVisit, MayVisit};
+
+    ghost may = { MayVisit };
+
+    ghost does = { DoesVisit };
+
+    fn visit<R: Wait + Threads + Sync>(
+        &self,
+        rt: &R,
+        alloc: Global,
+        job: Guest,
+        link: &mut L,
+    ) -> Parting {
+        let Guest {
+            mut pass,
+            signer,
+            nonce,
+        } = job;
+        let end = talk(
+            rt,
+            alloc,
+            self.namespace,
+            &self.cell,
+            &mut pass,
+            &self.plan,
+            signer,
+            nonce,
+            link,
+        );
+        Parting { pass, end }
+    }
+}
+
+/// Listens at the place, and runs a session over each link that comes, on a thread of its own where one starts: up to as many
+/// as there are signers, each with a draw. All are joined before the links are given back, in the order in which they came.
+/// The rows that come are stored in the one log.
+pub(crate) fn attend<R: Wait + Threads + Sync, D: Door>(
+    rt: &R,
+    alloc: Global,
+    state: NsState<AuthorisedEntry<PeerScheme>>,
+    plan: SessionPlan<PeerScheme>,
+    place: &str,
+    signers: Vec<KeySigner>,
+    draws: &[[u8; 32]],
+    door: &mut D,
+) -> Result<Attended, Stop>
+    requires opening { AreOf 0 state.log }
+    requires hello { (draw : List ℕ) → hello_refusal peer_rules state.namespace (own_hello plan (nonce_of draw)) ≡ None }
+    requires sign { All (λ signer. 1 ≤ left_of signer) signers.items }
+    requires draws { length draws.now ≡ vec_len signers }
+    requires few { vec_len signers < PASS_LIMIT }
+    ensures { Attends place.now (λ draw. planned peer_rules state.namespace plan (nonce_of draw)) signers.items draws.now state (D.facts door.old) (D.facts door.new) result }
+{
+    let namespace = state.namespace();
+    let (cell, passes) = NsCell::new(alloc, state, 1 + signers.len() as u32)?;
+    let (own, guests) = guests_of(alloc, passes, signers, draws)?;
+    listen(door, place)?;
+    let hall = Hall {
+        namespace,
+        cell,
+        plan,
+    };
+    let hosted = host_links(rt, alloc, &hall, guests, door)?;
+    leave(rt, alloc, hall, own, hosted)
+}
+
+// The first pass, and a guest for each of the others, with a signer and the nonce of a draw.
+fn guests_of(
+    alloc: Global,
+    passes: Vec<Pass<AuthorisedEntry<PeerScheme>>>,
+    signers: Vec<KeySigner>,
+    draws: &[[u8; 32]],
+) -> Result<(Pass<AuthorisedEntry<PeerScheme>>, Vec<Guest>), NoMemory>
+    requires passes { vec_len passes ≡ 1 + vec_len signers }
+    requires draws { length draws.now ≡ vec_len signers }
+    requires few { vec_len signers < PASS_LIMIT }
+    ensures passes { IfOk result (λ r. r.0 ∷ map (λ guest. guest.pass) r.1.items ≡ passes.items) }
+    ensures signers { IfOk result (λ r. map (λ guest. guest.signer) r.1.items ≡ signers.items) }
+    ensures nonces { IfOk result (λ r. map (λ guest. guest.nonce) r.1.items ≡ map nonce_of draws.now) }
+{
+    let mut passes = passes.into_iter();
+    let Some(own) = passes.next() else {
+        unreachable!()
+    };
+    let mut guests = Vec::with_capacity(alloc, signers.len())?;
+    for signer in signers {
+        let Some(pass) = passes.next() else {
+            unreachable!()
+        };
+        let nonce = nonce_of(&draws[guests.len()]);
+        guests.push(Guest {
+            pass,
+            signer,
+            nonce,
+        })?;
+    }
+    Ok((own, guests))
+}
+
+// Listens at the place.
+fn listen<D: Door>(door: &mut D, place: &str) -> Result<(), Stop>
+    ensures { Listens place.now (D.facts door.old) (D.facts door.new) result }
+{
+    match door.listen(place) {
+        Ok(()) => Ok(()),
+        Err(Fault::Failed) => Err(Stop::ReadFault),
+        Err(Fault::NoMemory) => Err(Stop::NoMemory),
+    }
+}
+
+// Closes the cell with all passes, and tells how the sessions ended.
+fn leave<R: Wait>(
+    rt: &R,
+    alloc: Global,
+    hall: Hall,
+    own: Pass<AuthorisedEntry<PeerScheme>>,
+    hosted: Hosted<Guest, Parting>,
+) -> Result<Attended, Stop>
+    requires own { IsPassOf hall.cell own }
+    requires partings { All (λ parting. IsPassOf hall.cell parting.pass) hosted.partings.items }
+    requires unused { All (λ guest. IsPassOf hall.cell guest.pass) hosted.unused.items }
+    requires all { 1 + (vec_len hosted.partings + vec_len hosted.unused) ≡ hall.cell.passes }
+    ensures { Leaves hall own hosted result }
+{
+    let Hosted {
+        partings,
+        unused,
+        stopped,
+    } = hosted;
+    let accepted = all_came(stopped)?;
+    let (passes, ends) = part(alloc, own, partings, unused)?;
+    let Hall { cell, .. } = hall;
+    Ok(Attended {
+        ends,
+        accepted,
+        state: cell.close(rt, passes),
+    })
+}
+
+// Whether each guest had its link.
+fn all_came(stopped: Option<Fault>) -> Result<bool, NoMemory>
+    ensures { IfOk result (IsAccepted stopped) }
+{
+    match stopped {
+        None => Ok(true),
+        Some(Fault::Failed) => Ok(false),
+        Some(Fault::NoMemory) => Err(NoMemory),
+    }
+}
+
+// All passes, and how the sessions ended.
+fn part(
+    alloc: Global,
+    own: Pass<AuthorisedEntry<PeerScheme>>,
+    partings: Vec<Parting>,
+    unused: Vec<Guest>,
+) -> Result<
+    (
+        Vec<Pass<AuthorisedEntry<PeerScheme>>>,
+        Vec<Result<SessionReport, SessionEnd>>,
+    ),
+    NoMemory,
+>
+    ensures passes { IfOk result (λ r. r.0.items ≡ own ∷ (map (λ parting. parting.pass) partings.items ++ map (λ guest. guest.pass) unused.items)) }
+    ensures ends { IfOk result (λ r. r.1.items ≡ map (λ parting. parting.end) partings.items) }
+{
+    let mut passes = Vec::new(alloc);
+    let mut ends = Vec::with_capacity(alloc, partings.len())?;
+    passes.push(own)?;
+    for parting in partings {
+        let Parting { pass, end } = parting;
+        passes.push(pass)?;
+        ends.push(end)?;
+    }
+    for guest in unused {
+        let Guest { pass, .. } = guest;
+        passes.push(pass)?;
+    }
+    Ok((passes, ends))
+}
