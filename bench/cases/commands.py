@@ -11,13 +11,13 @@ from outside import Fault, Objects
 from report import (BAD_INPUT, KEY_SPENT, LOG_FULL, MISSING, NOT_RISING, PRUNED, READ_FAULT, REFUSED, TAKEN, USAGE,
                     SESSION_REFUSED, WRITE_FAULT, Stop, first_refused)
 from rows import OWNED, BadBytes, Frames, NotRising, Pruned, Row, generated, image, read_image
-from rows import image as rows_image
-from sessions import VERSION, Caller, Hello
+from sessions import VERSION, Answerer, Caller, Hello
 from grammar import NONE, ANY, Usage, read_words
 
 LOG_LIMIT = 65_536
 SMALL = 100  # so many rows can be compared two by two
 INPUT = "-"  # how a report names the input
+TOLD_ORDER = (3, 4, 6, 8, 1)  # of what sessions met, the first of these is the status
 
 
 @dataclass(frozen=True)
@@ -122,15 +122,17 @@ def key(objects: Objects, name: str, height: int) -> End:
     return End()
 
 
-class Signer:
-    """The signer of a word. A key file loses an index before its signer is there."""
+def signers(objects: Objects, word, count: int = 1) -> list:
+    """What signs, so many times. A key file loses as many indices before any signer is there."""
+    kind, told = word
+    if kind == "open":
+        return [lambda message: open_signature(told, message)] * count
+    return [key.sign for key in reserved(objects, told, count)]
 
-    def __init__(self, objects: Objects, word):
-        kind, self.told = word
-        self.file = reserved(objects, self.told) if kind == "lms" else None
 
-    def sign(self, message: bytes) -> bytes:
-        return open_signature(self.told, message) if self.file is None else self.file.sign(message)
+def signer(objects: Objects, word):
+    """The same for one signature."""
+    return signers(objects, word)[0]
 
 
 def named(objects: Objects, name: str) -> bytes:
@@ -141,17 +143,17 @@ def named(objects: Objects, name: str) -> bytes:
     return data
 
 
-def reserved(objects: Objects, name: str) -> lms.LmsKey:
-    """The key of the file, with its next index, which is then used up on the shelf."""
+def reserved(objects: Objects, name: str, count: int) -> list:
+    """The key of the file with each of its next indices, which are then used up on the shelf."""
     data = named(objects, name)
     try:
         file = lms.read_key_file(data)
     except NotSpelled:
         raise Stop(BAD_INPUT, name=name, offset=0) from None
-    if file.spent():
+    if file.left() < count:
         raise Stop(KEY_SPENT)
-    given(lambda: objects.shelf.put(name, file.after().file()))
-    return file
+    given(lambda: objects.shelf.put(name, file.after(count).file()))
+    return [file.after(used) for used in range(count)]
 
 
 def made(objects: Objects, value, refusal, spelled) -> End:
@@ -168,7 +170,7 @@ def made_capability(objects: Objects, capability: Capability) -> End:
 
 
 def grant(objects: Objects, namespace: bytes, mode: int, user: bytes, key=None) -> End:
-    initial = None if key is None else Signer(objects, key).sign(initial_message(mode, user))
+    initial = None if key is None else signer(objects, key)(initial_message(mode, user))
     return made_capability(objects, Capability(mode, namespace, user, initial))
 
 
@@ -195,14 +197,14 @@ def delegate(objects: Objects, key, to: bytes, **words) -> End:
     capability = input_capability(objects)
     area = asked_area(capability.grant(), words)
     # An area without times is refused in any case, so it is not signed and no index is used up.
-    signature = b"" if area.is_empty() else Signer(objects, key).sign(capability.handover(area, to))
+    signature = b"" if area.is_empty() else signer(objects, key)(capability.handover(area, to))
     return made_capability(objects, capability.delegated(Delegation(area, to, signature)))
 
 
 def write(objects: Objects, key, path: tuple, time: int, length: int, digest: bytes, subspace=None) -> End:
     capability = input_capability(objects)
     entry = Entry(capability.namespace, subspace or capability.receiver(), path, time, length, digest)
-    row = Row(entry, capability, Signer(objects, key).sign(entry_message(entry)))
+    row = Row(entry, capability, signer(objects, key)(entry_message(entry)))
     return made(objects, row, row.refusal(capability.namespace), Row.frame)
 
 
@@ -276,9 +278,9 @@ def meet(objects: Objects, left: str, right: str, left_cap: str, right_cap: str,
     return End(lines + first_refused(refusals), bool(refusals))
 
 
-def talked(link, caller: Caller):
+def talked(link, side):
     """Runs the session over the link: what came, and the line of its end and its status where it was not done."""
-    stand, data = caller.after(b""), b""
+    stand, data = side.after(b""), b""
     try:
         link.write_whole(stand.out)
     except Fault:
@@ -291,7 +293,7 @@ def talked(link, caller: Caller):
         if not piece:
             return stand, SESSION_REFUSED, f"ClosedEarly {len(data)}"
         said, data = len(stand.out), data + piece
-        stand = caller.after(data)
+        stand = side.after(data)
         try:
             link.write_whole(stand.out[said:])
         except Fault:
@@ -299,36 +301,125 @@ def talked(link, caller: Caller):
     return (stand, None, None) if stand.end == "done" else (stand, SESSION_REFUSED, stand.end)
 
 
+class Opened:
+    """An image and a capability that were got: the store of the image's authorised rows, and what is asked for."""
+
+    def __init__(self, objects: Objects, image: str, cap: str, words: dict):
+        self.namespace, rows = image_in(named(objects, image), image)
+        authorised, self.refusals = judged(rows, self.namespace)
+        self.rows, self.store = len(rows), Store()
+        take(self.store, authorised)
+        self.capability = capability_in(named(objects, cap), cap)
+        self.ask = asked_by(self.capability, self.namespace, words)
+
+    def session(self, role, link, sign, nonce: bytes) -> "Session":
+        hello = Hello(VERSION, nonce, self.ask, self.capability)
+        return Session(self, role(self.namespace, hello, sign, self.store.live()), link)
+
+    def put(self, objects: Objects, name: str) -> bool:
+        """Whether the image of what is live now was put."""
+        try:
+            objects.shelf.put(name, image(self.namespace, self.store.live()))
+        except Fault:
+            return False
+        return True
+
+
+class Session:
+    """A session that began with what was live then."""
+
+    def __init__(self, opened: Opened, side, link):
+        self.opened, self.side, self.link = opened, side, link
+        self.before = opened.store.stored
+
+    def end(self) -> None:
+        """Runs it to its end: what came is in the store then."""
+        store = self.opened.store
+        stand, kind, text = talked(self.link, self.side)
+        came, self.refusals = judged(stand.came, self.opened.namespace)
+        self.came = len(stand.came)
+        stored, kept = store.stored, store.kept
+        if offered(store, came) and kind is None:
+            kind = LOG_FULL
+        closed = store.stored if came else self.before
+        counts = (f"opened {self.before} closed {closed} stored {store.stored - stored} kept {store.kept - kept} "
+                  f"refused {len(self.refusals)} sent {stand.sent} read {stand.read}\n")
+        self.line, self.status = (counts, 0) if kind is None else (kind.line.format(text=text), kind.status)
+
+
+def offered(store: Store, rows: list) -> int:
+    """Offers the rows in order, and answers how many a full log leaves out."""
+    missed = 0
+    for row in rows:
+        if store.stored == LOG_LIMIT and not store.covers(row):
+            missed += 1
+        else:
+            store.take(row)
+    return missed
+
+
+def ended(opened: Opened, sessions: list, lines: list, accepted: bool, put: bool) -> End:
+    """The end of a command with sessions. Refused rows are counted over the image and then session by session."""
+    rows, refusals = opened.rows, list(opened.refusals)
+    for session in sessions:
+        refusals += [(rows + at, refusal) for at, refusal in session.refusals]
+        rows += session.came
+    met = [*(session.status for session in sessions), *([] if accepted else [READ_FAULT.status]),
+           *([] if put else [WRITE_FAULT.status]), *([1] if refusals else [])]
+    status = next((status for status in TOLD_ORDER if status in met), 0)
+    first = first_refused(refusals) if status == 1 else ""
+    faults = ("" if accepted else READ_FAULT.line) + ("" if put else WRITE_FAULT.line)
+    return End("".join(lines) + first + faults, status == 1, 0 if status == 1 else status)
+
+
 def sync(objects: Objects, image: str, cap: str, key, to: str, **words) -> End:
-    namespace, rows = image_in(named(objects, image), image)
-    authorised, refusals = judged(rows, namespace)
-    store = Store()
-    take(store, authorised)
-    capability = capability_in(named(objects, cap), cap)
-    ask = asked_by(capability, namespace, words)
-    signer = Signer(objects, key)
+    opened = Opened(objects, image, cap, words)
+    sign = signer(objects, key)
     nonce = taken(objects.noise.words)[:16]
     link = taken(objects.door.connect)
-    before = store.live()
-    stand, kind, text = talked(link, Caller(namespace, Hello(VERSION, nonce, ask, capability), signer.sign, before))
-    came, left_out = judged(stand.came, namespace)
-    opened, kept = store.stored, store.kept
-    take(store, came)
-    counts = (f"opened {opened} closed {store.stored} stored {store.stored - opened} kept {store.kept - kept} "
-              f"refused {len(left_out)} sent {stand.sent} read {stand.read}\n")
-    line = counts if kind is None else kind.line.format(text=text)
+    session = opened.session(Caller, link, sign, nonce)
+    session.end()
+    objects.door.give_back(link)
+    return ended(opened, [session], [session.line], True, opened.put(objects, image))
+
+
+def accepted_links(objects: Objects, count: int) -> list:
+    """So many links, or as many as come before accepting one fails."""
+    links = []
     try:
-        objects.shelf.put(image, rows_image(namespace, store.live()))
+        for _ in range(count):
+            links.append(objects.door.accept())
     except Fault:
-        return End(line + WRITE_FAULT.line, status=3 if kind is READ_FAULT else 4)
-    if kind is not None:
-        return End(line, status=kind.status)
-    refusals += [(len(rows) + at, refusal) for at, refusal in left_out]
-    return End(line + first_refused(refusals), bool(refusals))
+        pass
+    return links
+
+
+def served(objects: Objects, begin, links: list) -> list:
+    """The sessions of the links. They begin and end in the order that the objects have for them."""
+    sessions = {}
+    for at in objects.order(len(links)):
+        if at in sessions:
+            sessions[at].end()
+        else:
+            sessions[at] = begin(at)
+    return [sessions[at] for at in range(len(links))]
+
+
+def serve(objects: Objects, image: str, cap: str, key, at: str, links: int, **words) -> End:
+    opened = Opened(objects, image, cap, words)
+    signs = signers(objects, key, links)
+    nonces = [taken(objects.noise.words)[:16] for _ in range(links)]
+    taken(objects.door.listen)
+    came = accepted_links(objects, links)
+    sessions = served(objects, lambda n: opened.session(Answerer, came[n], signs[n], nonces[n]), came)
+    for link in came:
+        objects.door.give_back(link)
+    lines = [f"link {number}: {session.line}" for number, session in enumerate(sessions, 1)]
+    return ended(opened, sessions, lines, len(came) == links, opened.put(objects, image))
 
 
 COMMANDS = {"join": join, "show": show, "key": key, "grant": grant, "delegate": delegate, "write": write, "gen": gen,
-            "drill": drill, "meet": meet, "sync": sync}
+            "drill": drill, "meet": meet, "sync": sync, "serve": serve}
 
 
 def run(words: list, objects: Objects) -> int:

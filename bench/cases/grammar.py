@@ -7,6 +7,7 @@ from entries import is_communal, within_limits
 NONE, ANY = "none", "any"  # words of an area: no end, any subspace
 GREATEST = 2 ** 64 - 1
 MOST_ROWS = 65_536
+MOST_LINKS = 64
 HEX = "[0-9a-fA-F]"
 
 # The options of each command that is built; the ones in brackets may be absent.
@@ -21,6 +22,7 @@ OPTIONS = {
     "drill": "rows",
     "meet": "left right left-cap right-cap left-out right-out [subspace] [under] [from] [until]",
     "sync": "image cap key to [subspace] [under] [from] [until]",
+    "serve": "image cap key at links [subspace] [under] [from] [until]",
 }
 
 
@@ -68,6 +70,12 @@ def count(word: str) -> int:
     return found
 
 
+def links(word: str) -> int:
+    found = number(word)
+    demand(1 <= found <= MOST_LINKS)
+    return found
+
+
 def name(word: str) -> str:
     demand(re.fullmatch("[0-9A-Za-z][0-9A-Za-z._-]{0,127}", word))
     return word
@@ -108,7 +116,7 @@ def until(word: str):
 VALUES = {
     "namespace": key, "user": key, "name": name, "height": height, "mode": mode, "key": signer,
     "path": path, "time": number, "length": number, "digest": digest, "rows": count, "newest": count,
-    "under": path, "from": number, "until": until, **{option: name for option in NAMES},
+    "at": place, "links": links, "under": path, "from": number, "until": until, **{option: name for option in NAMES},
 }
 
 

@@ -63,11 +63,13 @@ class LmsKey:
     def file(self) -> bytes:
         return KEY_FILE + bytes((self.height,)) + self.identifier + self.seed + number(4, self.next)
 
-    def spent(self) -> bool:
-        return self.next >= 2 ** self.height
+    def left(self) -> int:
+        """How many indices are not used."""
+        return 2 ** self.height - self.next
 
-    def after(self) -> "LmsKey":
-        return replace(self, next=self.next + 1)
+    def after(self, count: int) -> "LmsKey":
+        """The key with so many indices more used."""
+        return replace(self, next=self.next + count)
 
     def sign(self, message: bytes) -> bytes:
         """The public key and then the signature by the next index."""

@@ -1,4 +1,4 @@
-"""The objects that a run is over: input, output, report, shelf, noise, door and link, each with the calls of it that fail.
+"""The objects that a run is over: input, output, report, shelf, noise, door and links, each with the calls that fail.
 
 A call is counted from 1, all kinds of call of one object together. A call that fails reads or writes nothing, but for
 the put of a shelf, which leaves the new bytes.
@@ -108,26 +108,45 @@ class Link(Counted):
 
 
 class Door(Counted):
-    """A door to one link, or to none."""
+    """A door to some links, which it hands out in order, and keeps as they come back. What is given back is no call."""
 
-    def __init__(self, link, fails=()):
+    def __init__(self, links, fails=()):
         super().__init__(fails)
-        self.link = link
+        self.to_come = list(links)
+        self.back = []
 
-    def connect(self) -> Link:
-        if self.call() or self.link is None:
+    def listen(self) -> None:
+        if self.call():
             raise Fault
-        return self.link
+
+    def accept(self) -> Link:
+        if self.call() or not self.to_come:
+            raise Fault
+        return self.to_come.pop(0)
+
+    connect = accept
+
+    def give_back(self, link: Link) -> None:
+        self.back.append(link)
+
+
+def one_by_one(count: int) -> list:
+    """Of so many sessions each begins and ends before the next."""
+    return [at for at in range(count) for _ in range(2)]
 
 
 class Objects:
-    """All of them. `fails` has the numbers of the calls that fail, by the object's letter."""
+    """All of them. `fails` has the numbers of the calls that fail, by the object's letter; behind that of a link stands
+    which one it is, but for the first. `order` says in which order the sessions of a server begin and end: at the first
+    place of its number a session begins, and at the second one it ends."""
 
-    def __init__(self, names: dict, draws, given: bytes, fails: dict, piece: int = INPUT_PIECE, link=None):
+    def __init__(self, names: dict, draws, given: bytes, fails: dict, piece: int = INPUT_PIECE, links=(),
+                 order=one_by_one):
         self.shelf = Shelf(names, fails.get("s", ()))
         self.noise = Noise(draws, fails.get("n", ()))
         self.input = Source(given, fails.get("i", ()), piece)
         self.output = Sink(OUTPUT_PIECE, fails.get("o", ()))
         self.report = Sink(REPORT_PIECE, fails.get("r", ()))
-        self.link = None if link is None else Link(link, fails.get("l", ()))
-        self.door = Door(self.link, fails.get("d", ()))
+        self.door = Door([Link(data, fails.get("l" if at == 1 else f"l{at}", ())) for at, data in enumerate(links, 1)],
+                         fails.get("d", ()))
+        self.order = order

@@ -1,4 +1,5 @@
-"""A session of one who calls, as a function of the bytes that are read: hellos, proofs, and the turns of an exchange."""
+"""A session of a caller or an answerer, as a function of the bytes that are read: hellos, proofs, and the turns of an
+exchange."""
 from dataclasses import dataclass, field
 from typing import Optional
 
@@ -112,8 +113,8 @@ class Stand:
 
 
 @dataclass(frozen=True)
-class Caller:
-    """One who calls, with the rows that it has as the session begins."""
+class Side:
+    """One side of a session, with the rows that it has as the session begins."""
     namespace: bytes
     hello: Hello
     sign: object
@@ -121,7 +122,7 @@ class Caller:
 
     def after(self, data: bytes) -> Stand:
         """How it stands behind these bytes."""
-        stand = Stand(self.hello.spelled())
+        stand = Stand(self.opening())
         try:
             self.talk(Messages(data), stand)
             stand.end = "done"
@@ -133,34 +134,32 @@ class Caller:
             stand.end = refused.args[0]
         return stand
 
-    def talk(self, messages: Messages, stand: Stand) -> None:
+    def heard_hello(self, messages: Messages) -> Hello:
         other = messages.next(read_hello)
         if (refusal := other.refusal(self.namespace)) is not None:
             raise Refused(refusal)
-        proof = messages.next(read_signature)
-        if not accepts(other.capability.receiver(), proof_message(ANSWERER, self.hello, other), proof):
-            raise Refused("BadProof")
-        stand.out += signature_field(self.sign(proof_message(CALLER, self.hello, other)))
-        self.exchange(messages, stand, self.hello.ask.common(other.ask))
+        return other
 
-    def exchange(self, messages: Messages, stand: Stand, area: Optional[Area]) -> None:
-        if area is None:
-            stand.out += BYE
-            return self.farewell(messages)
-        box = Box(area)
-        told = fingerprint(box.rows(self.rows))
-        stand.out += b"\x01" + told + END_TURN
-        stand.sent, asks = 1, [Print(box, told)]
+    def prove(self, stand: Stand, message: bytes) -> None:
+        stand.out += signature_field(self.sign(message))
+
+    @staticmethod
+    def heard_proof(messages: Messages, other: Hello, message: bytes) -> None:
+        if not accepts(other.capability.receiver(), message, messages.next(read_signature)):
+            raise Refused("BadProof")
+
+    def take_turns(self, messages: Messages, stand: Stand, asks: list) -> None:
+        """From an own turn on, which answers what the other side asked."""
         while asks:
-            asks = self.hear(messages, stand, asks)
-            if not asks:
-                stand.out += BYE
-                return None
             answers = [ask.answer(self.rows) for ask in asks]
             asks = [ask for _, _, opened in answers for ask in opened]
             stand.sent += len(answers)
             stand.out += b"".join(item for item, _, _ in answers) + (END_TURN if asks else BYE)
-        return self.farewell(messages)
+            if not asks:
+                return self.farewell(messages)
+            asks = self.hear(messages, stand, asks)
+        stand.out += BYE
+        return None
 
     @staticmethod
     def farewell(messages: Messages) -> None:
@@ -189,6 +188,56 @@ class Caller:
         if kind != (6 if opened else 7):
             raise Refused("ItemMismatch")
         return opened
+
+
+class Caller(Side):
+    """It says hello first, and its turn is the first one."""
+
+    def opening(self) -> bytes:
+        return self.hello.spelled()
+
+    def talk(self, messages: Messages, stand: Stand) -> None:
+        other = self.heard_hello(messages)
+        self.heard_proof(messages, other, proof_message(ANSWERER, self.hello, other))
+        self.prove(stand, proof_message(CALLER, self.hello, other))
+        self.exchange(messages, stand, self.hello.ask.common(other.ask))
+
+    def exchange(self, messages: Messages, stand: Stand, area: Optional[Area]) -> None:
+        if area is None:
+            stand.out += BYE
+            return self.farewell(messages)
+        box = Box(area)
+        told = fingerprint(box.rows(self.rows))
+        stand.out += b"\x01" + told + END_TURN
+        stand.sent = 1
+        return self.take_turns(messages, stand, self.hear(messages, stand, [Print(box, told)]))
+
+
+class Answerer(Side):
+    """It says nothing before it has heard a hello that passes; to that one it says its hello and proof at once."""
+
+    def opening(self) -> bytes:
+        return b""
+
+    def talk(self, messages: Messages, stand: Stand) -> None:
+        other = self.heard_hello(messages)
+        stand.out += self.hello.spelled()
+        self.prove(stand, proof_message(ANSWERER, other, self.hello))
+        self.heard_proof(messages, other, proof_message(CALLER, other, self.hello))
+        self.exchange(messages, stand, other.ask.common(self.hello.ask))
+
+    def exchange(self, messages: Messages, stand: Stand, area: Optional[Area]) -> None:
+        if area is None:
+            self.farewell(messages)
+            stand.out += BYE
+            return None
+        kind, told = messages.next(read_item)
+        if kind != 1:
+            raise Refused("ItemMismatch")
+        stand.read = 1
+        if messages.next(read_item)[0] != 6:
+            raise Refused("ItemMismatch")
+        return self.take_turns(messages, stand, [Print(Box(area), told)])
 
 
 def heard_rows(messages: Messages, stand: Stand, box: Box, count: int) -> list:

@@ -9,7 +9,7 @@ from capabilities import (READ, WRITE, Area, Capability, Delegation, entry_messa
 from commands import run
 from entries import Entry, Store, path_bytes
 from octets import number
-from outside import Objects
+from outside import Objects, one_by_one
 from rows import Row, generated, image
 
 GREATEST = 2 ** 64 - 1
@@ -138,6 +138,14 @@ def joined(pieces) -> bytes:
 
 # Cases
 
+ORDERS = (
+    one_by_one,
+    lambda count: one_by_one(count)[::-1],
+    lambda count: [*range(count)] * 2,
+    lambda count: [*range(count), *reversed(range(count))],
+)
+
+
 def listed(items) -> str:
     """The items of a field; `-` for none."""
     return ",".join(items) or "-"
@@ -148,6 +156,14 @@ def hexadecimal(data: bytes) -> str:
 
 
 @dataclass(frozen=True)
+class ByHand:
+    """What was reckoned by hand: the status, the report, and how many bytes each link holds that came back."""
+    status: int
+    report: str
+    held: tuple
+
+
+@dataclass(frozen=True)
 class Case:
     """A run: the words, what lies on the shelf, the draws of noise, the input, and the calls that fail."""
     name: str
@@ -155,8 +171,9 @@ class Case:
     given: bytes = b""
     names: dict = field(default_factory=dict)
     draws: tuple = ()
-    fails: str = ""  # as `i1 r2`: a letter for the object and the number of its call
-    link: Optional[bytes] = None  # what the link gives to which the door leads, if it leads to one
+    fails: str = ""  # as `i1 l2 l3:4`: a letter for the object, of a further link which one, and the number of its call
+    links: Optional[tuple] = None  # what the links give to which the door leads, if it leads to any
+    by_hand: Optional[ByHand] = None
 
     def situation(self) -> str:
         """The fields of the case's line that say what is run."""
@@ -164,23 +181,34 @@ class Case:
             listed(self.words), listed(f"{name}:{data.hex()}" for name, data in sorted(self.names.items())),
             listed(draw.hex() for draw in self.draws), hexadecimal(self.given), listed(self.fails.split())))
 
-    def objects(self) -> Objects:
+    def objects(self, order) -> Objects:
         fails = {}
         for call in self.fails.split():
-            fails.setdefault(call[0], []).append(int(call[1:]))
-        return Objects(self.names, self.draws, self.given, fails, link=self.link)
+            link, _, number = call[1:].rpartition(":")
+            fails.setdefault(call[0] + link, []).append(int(number))
+        return Objects(self.names, self.draws, self.given, fails, links=self.links or (), order=order)
 
     def line(self) -> str:
-        """The case's line: its name, what is run, and what comes of it."""
-        objects = self.objects()
+        """The case's line: its name, what is run, and what comes of it, in whatever order sessions begin and end."""
+        outcomes = {self.outcome(order) for order in (ORDERS if self.links and len(self.links) > 1 else ORDERS[:1])}
+        assert len(outcomes) == 1, f"{self.name} rests on the order of its sessions"
+        return " ".join((self.name, self.situation(), *outcomes))
+
+    def outcome(self, order) -> str:
+        objects = self.objects(order)
         status = run(list(self.words), objects)
+        came = ByHand(status, objects.report.held.decode(), tuple(len(link.held) for link in objects.door.back))
+        assert self.by_hand in (None, came), f"{self.name}: {came}"
+        names = sorted(objects.shelf.names.items())
         return " ".join((
-            self.name, self.situation(), hexadecimal(objects.output.held), hexadecimal(objects.report.held), str(status),
-            listed(f"{name}:{data.hex()}" for name, data in sorted(objects.shelf.names.items())), *self.traffic(objects)))
+            hexadecimal(objects.output.held), hexadecimal(objects.report.held), str(status),
+            listed(f"{name}:{data.hex()}" for name, data in names), *self.traffic(objects)))
 
     def traffic(self, objects: Objects) -> list:
-        """What the link gives, and what it holds behind the run; nothing where the door leads to none."""
-        return [] if self.link is None else [hexadecimal(self.link), hexadecimal(objects.link.held)]
+        """What each link gives, and what each that came back holds; nothing where the door leads to none."""
+        if self.links is None:
+            return []
+        return [listed(map(hexadecimal, self.links)), listed(hexadecimal(link.held) for link in objects.door.back)]
 
 
 def word_of(value) -> str:

@@ -32,7 +32,8 @@ def sync(name: str, own: list, link, cap=R, space: bytes = N, fails="", gone=(),
     """A call with an image of these rows, over a link that gives these bytes."""
     names = {"i": image_of(*own, space=space), "c": bytes_of(cap), **(also or {})}
     kept = {name: data for name, data in names.items() if name not in gone}
-    return Case(f"sync-{name}", words_of("sync", **{**WORDS, **(options or {})}, **area), b"", kept, draws, fails, link)
+    words, links = words_of("sync", **{**WORDS, **(options or {})}, **area), None if link is None else (link,)
+    return Case(f"sync-{name}", words, b"", kept, draws, fails, links)
 
 
 def meets(name: str, own: list, others: list, **options) -> Case:

@@ -213,9 +213,29 @@ NEWEST = [
     words("of-show-with-the-newest-and-a-namespace", "show", "--newest", "3", "--namespace", N_WORD),
 ]
 
-# These are commands of the grammar, but none that is built.
+FIVE = {"image": "a", "cap": "c", "key": BY_U, "at": "host:1", "links": "2"}
+
+
+def serve(name: str, wanting=(), **options) -> Case:
+    options = {**FIVE, **options}
+    found = {option: value for option, value in options.items() if option not in wanting}
+    return words(name, *words_of("serve", **found))
+
+
+SERVERS = [
+    *(serve(f"of-serve-without-{option}", (option,)) for option in FIVE),
+    serve("of-serve-for-no-link", links="0"),
+    serve("of-serve-for-65-links", links="65"),
+    serve("of-serve-with-a-zero-before-the-number-of-links", links="02"),
+    serve("of-serve-with-links-in-words", links="all"),
+    serve("of-serve-at-no-port", at="host"),
+    serve("of-serve-to-a-place", ("at",), to="host:1"),
+    serve("of-serve-with-a-name-of-a-folder", image="a/b"),
+    serve("of-serve-with-an-end-at-the-start", **{"from": 5}, until=5),
+]
+
+# This is a command of the grammar, but none that is built.
 NOT_BUILT = [
-    words("of-serve", "serve", "--image", "a", "--cap", "c", "--key", BY_U, "--at", "localhost:7000", "--links", "2"),
     words("of-watch", "watch", "--image", "a"),
 ]
 
@@ -228,5 +248,6 @@ GROUPS = {
     "paths, numbers and digests": PATHS_AND_NUMBERS,
     "drills and meetings": MEETINGS,
     "the newest": NEWEST,
+    "servers": SERVERS,
     "commands that are not built yet": NOT_BUILT,
 }

@@ -5,7 +5,9 @@ use std::alloc::{AllocError, Global};
 use std::collections::BTreeMap;
 use std::sync::Wait;
 use std::thread::Threads;
-use willow_outside::{MemDoor, MemLink, MemNoise, MemShelf, MemSink, MemSource};
+use willow_outside::{
+    Door, MemDoor, MemLink, MemNoise, MemShelf, MemSink, MemSource, Noise, Shelf, Sink, Source,
+};
 
 /// What came out of a run.
 #[derive(Drop)]
@@ -40,6 +42,32 @@ fn sink_of(alloc: Global) -> MemSink {
     MemSink::new(alloc, Vec::new(alloc), Vec::new(alloc), PIECE)
 }
 
+// The status of a run. It has no clause, and knows nothing of the objects: so what a run promises is not looked through again
+// for the objects in memory, which takes a check of this program many times as long.
+fn status_of<
+    R: Wait + Threads + Sync,
+    H: Shelf,
+    I: Source,
+    O: Sink,
+    E: Sink,
+    D: Door,
+    N: Noise,
+>(
+    rt: &R,
+    alloc: Global,
+    words: &[String],
+    shelf: &mut H,
+    input: &mut I,
+    output: &mut O,
+    report: &mut E,
+    door: &mut D,
+    noise: &mut N,
+) -> u8 {
+    peer_run(
+        rt, alloc, words, shelf, input, output, report, door, noise,
+    )
+}
+
 /// Runs the words over the input, with nothing on the shelf, no noise and no links, and without faults.
 pub(crate) fn over<R: Wait + Threads + Sync>(
     rt: &R,
@@ -55,7 +83,7 @@ pub(crate) fn over<R: Wait + Threads + Sync>(
     let mut shelf = MemShelf::new(alloc, BTreeMap::new(alloc), Vec::new(alloc));
     let mut door = MemDoor::<MemLink>::new(alloc, Vec::new(alloc), Vec::new(alloc));
     let mut noise = MemNoise::new(alloc, Vec::new(alloc), Vec::new(alloc));
-    let status = peer_run(
+    let status = status_of(
         rt,
         alloc,
         &words,

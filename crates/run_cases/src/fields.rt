@@ -74,3 +74,21 @@ pub(crate) fn fails_of(alloc: Global, field: &str, object: char) -> Result<Vec<u
     }
     Ok(fails)
 }
+
+/// The numbers of the calls of a link that fail, by its number, from 1: `l` and the number of the call, before which the
+/// number of a further link and a colon stand.
+pub(crate) fn link_fails_of(alloc: Global, field: &str, link: u64) -> Result<Vec<u64>, AllocError> {
+    let mut fails = Vec::new(alloc);
+    for item in field.split(',') {
+        if let Some(call) = item.strip_prefix('l') {
+            let (found, number) = call.split_once(':').unwrap_or(("1", call));
+            if found.parse::<u64>() == Ok(link) {
+                let number = number.parse::<u64>().unwrap_or(0);
+                fails
+                    .push(number)
+                    .map_err(|unsaid| AllocError::from(unsaid))?;
+            }
+        }
+    }
+    Ok(fails)
+}

@@ -1,9 +1,13 @@
 //! The objects that a case is run over.
 
-use crate::fields::{bytes_of, draws_of, fails_of, names_of};
+ghost use Rattle.std.specs.Prelude.{IfOk};
+ghost use Rattle.std.specs.List.{AllByRecursion};
+ghost use Rattle.willow_outside.specs.Links.{IsFresh};
+
+use crate::fields::{bytes_of, draws_of, fails_of, link_fails_of, names_of};
 use hex::FromHexError;
 use std::alloc::{AllocError, Global};
-use willow_outside::{MemDoor, MemLink, MemNoise, MemShelf, MemSink, MemSource, Shelf};
+use willow_outside::{Link, MemDoor, MemLink, MemNoise, MemShelf, MemSink, MemSource, Shelf};
 
 /// The objects outside.
 #[derive(Drop)]
@@ -44,21 +48,34 @@ fn noise_of(alloc: Global, draws: &str, faults: &str) -> Result<MemNoise, FromHe
     Ok(MemNoise::new(alloc, draws, fails))
 }
 
-// A door to one link that gives the bytes of the field, or to none where there is no field.
+// A door to the links that give the bytes of the field's items, or to none where there is no field.
 fn door_of(
     alloc: Global,
-    link: Option<&str>,
+    links: Option<&str>,
     faults: &str,
 ) -> Result<MemDoor<MemLink>, FromHexError> {
+    let links = links_of(alloc, links, faults)?;
+    Ok(MemDoor::new(alloc, links, fails_of(alloc, faults, 'd')?))
+}
+
+// The links that give the bytes of the field's items, or none where there is no field.
+fn links_of(alloc: Global, field: Option<&str>, faults: &str) -> Result<Vec<MemLink>, FromHexError>
+    ensures { IfOk result (λ links. AllByRecursion (λ link. IsFresh (⟦<MemLink as Link>⟧.facts link)) links.items) }
+{
     let mut links = Vec::new(alloc);
-    if let Some(bytes) = link {
+    let Some(field) = field else {
+        return Ok(links);
+    };
+    let mut number = 0u64;
+    for bytes in field.split(',') {
+        number = number.saturating_add(1);
         let left = bytes_of(alloc, bytes)?;
-        let fails = fails_of(alloc, faults, 'l')?;
+        let fails = link_fails_of(alloc, faults, number)?;
         links
             .push(MemLink::new(alloc, left, fails, 100))
             .map_err(|unsaid| AllocError::from(unsaid))?;
     }
-    Ok(MemDoor::new(alloc, links, fails_of(alloc, faults, 'd')?))
+    Ok(links)
 }
 
 impl Objects {
@@ -69,13 +86,13 @@ impl Objects {
         draws: &str,
         input: &str,
         faults: &str,
-        link: Option<&str>,
+        links: Option<&str>,
     ) -> Result<Objects, FromHexError> {
         let shelf = shelf_of(alloc, names, faults)?;
         let noise = noise_of(alloc, draws, faults)?;
         let input = input_of(alloc, input, faults)?;
         let output = output_of(alloc, faults)?;
-        let door = door_of(alloc, link, faults)?;
+        let door = door_of(alloc, links, faults)?;
         let report = report_of(alloc, faults)?;
         Ok(Objects {
             shelf,

@@ -1,0 +1,153 @@
+//! One run over a door.
+
+use crate::given::Given;
+use peer_run::peer_run;
+use sha2::{Digest, Sha256};
+use std::alloc::{AllocError, Global};
+use std::collections::BTreeMap;
+use std::sync::Wait;
+use std::thread::Threads;
+use willow_outside::{Door, MemNoise, MemShelf, MemSink, MemSource, Noise, Shelf, Sink, Source};
+
+// The author whose rows are exchanged. Anyone may sign for an open key.
+const SIGNER: &str = "open:5555555555555555555555555555555555555555555555555555555555555555";
+
+/// The words of a call of the one at the place.
+pub(crate) fn sync_words<'a>(place: &'a str) -> [&'a str; 9] {
+    [
+        "sync", "--image", "i", "--cap", "c", "--key", SIGNER, "--to", place,
+    ]
+}
+
+/// The words of a server for so many links.
+pub(crate) fn serve_words<'a>(place: &'a str, links: &'a str) -> [&'a str; 11] {
+    [
+        "serve", "--image", "i", "--cap", "c", "--key", SIGNER, "--at", place, "--links", links,
+    ]
+}
+
+/// What a run is over besides the door: the names that its image and its draws of noise have in what is given.
+#[derive(Clone, Copy)]
+pub(crate) struct Side<'a> {
+    pub(crate) given: &'a Given,
+    pub(crate) image: &'a str,
+    pub(crate) draws: &'a str,
+}
+
+impl Side<'_> {
+    fn shelf(&self, alloc: Global) -> Result<MemShelf, AllocError> {
+        let mut names = BTreeMap::new(alloc);
+        for (name, value) in [("i", self.image), ("c", "cap")] {
+            let bytes = Vec::from_slice(alloc, self.given.bytes(value))?;
+            names
+                .insert(String::from_str(alloc, name)?, bytes)
+                .map_err(|unsaid| AllocError::from(unsaid))?;
+        }
+        Ok(MemShelf::new(alloc, names, Vec::new(alloc)))
+    }
+
+    fn noise(&self, alloc: Global) -> Result<MemNoise, AllocError> {
+        let (draws, _) = self.given.bytes(self.draws).as_chunks::<32>();
+        let draws = Vec::from_slice(alloc, draws)?;
+        Ok(MemNoise::new(alloc, draws, Vec::new(alloc)))
+    }
+}
+
+/// What came of a run.
+#[derive(Drop)]
+pub(crate) struct Outcome {
+    status: u8,
+    image: Option<Vec<u8>>,
+    report: MemSink,
+}
+
+/// The number of some bytes, and their digest.
+pub(crate) fn measure(alloc: Global, bytes: &[u8]) -> Result<String, AllocError> {
+    let length = bytes.len();
+    let digest = hex::encode(alloc, Sha256::digest(bytes).as_slice())?;
+    format!(in alloc; "{length} bytes sha256 {digest}")
+}
+
+impl Outcome {
+    /// The report's lines.
+    pub(crate) fn report_text(&self) -> &str {
+        str::from_utf8(self.report.held()).unwrap_or("no text")
+    }
+
+    /// The status, the image that is there behind the run, and the report, below a title.
+    pub(crate) fn lines(&self, alloc: Global, title: &str) -> Result<String, AllocError> {
+        let image = match &self.image {
+            Some(image) => image.as_slice(),
+            None => &[],
+        };
+        let status = self.status;
+        let image = measure(alloc, image)?;
+        let report = self.report_text();
+        format!(in alloc; "{title}: status {status}, image {image}\n{report}")
+    }
+}
+
+// The words, each a text of its own.
+fn owned(alloc: Global, words: &[&str]) -> Result<Vec<String>, AllocError> {
+    let mut texts = Vec::new(alloc);
+    for word in words {
+        let text = String::from_str(alloc, *word)?;
+        texts.push(text).map_err(|unsaid| AllocError::from(unsaid))?;
+    }
+    Ok(texts)
+}
+
+// The most bytes a call of the report.
+const PIECE: usize = 1 << 20;
+
+// An empty sink.
+fn sink_of(alloc: Global) -> MemSink {
+    MemSink::new(alloc, Vec::new(alloc), Vec::new(alloc), PIECE)
+}
+
+// The one place that calls: over any objects, so that the contract is met once for all.
+fn call<R: Wait + Threads + Sync, H: Shelf, I: Source, O: Sink, E: Sink, D: Door, N: Noise>(
+    rt: &R,
+    alloc: Global,
+    words: &[String],
+    shelf: &mut H,
+    input: &mut I,
+    output: &mut O,
+    report: &mut E,
+    door: &mut D,
+    noise: &mut N,
+) -> u8 {
+    peer_run(rt, alloc, words, shelf, input, output, report, door, noise)
+}
+
+/// Runs the words over the side's objects and the door, with no input and without faults but the door's.
+pub(crate) fn over<R: Wait + Threads + Sync, D: Door>(
+    rt: &R,
+    alloc: Global,
+    words: &[&str],
+    side: Side<'_>,
+    door: &mut D,
+) -> Result<Outcome, AllocError> {
+    let words = owned(alloc, words)?;
+    let mut shelf = side.shelf(alloc)?;
+    let mut noise = side.noise(alloc)?;
+    let mut input = MemSource::new(alloc, Vec::new(alloc), Vec::new(alloc), PIECE);
+    let mut output = sink_of(alloc);
+    let mut report = sink_of(alloc);
+    let status = call(
+        rt,
+        alloc,
+        &words,
+        &mut shelf,
+        &mut input,
+        &mut output,
+        &mut report,
+        door,
+        &mut noise,
+    );
+    Ok(Outcome {
+        status,
+        image: shelf.get("i").unwrap_or(None),
+        report,
+    })
+}
