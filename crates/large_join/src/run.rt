@@ -44,15 +44,7 @@ fn sink_of(alloc: Global) -> MemSink {
 
 // The status of a run. It has no clause, and knows nothing of the objects: so what a run promises is not looked through again
 // for the objects in memory, which takes a check of this program many times as long.
-fn status_of<
-    R: Wait + Threads + Sync,
-    H: Shelf,
-    I: Source,
-    O: Sink,
-    E: Sink,
-    D: Door,
-    N: Noise,
->(
+fn status_of<R: Wait + Threads + Sync, H: Shelf, I: Source, O: Sink, E: Sink, D: Door, N: Noise>(
     rt: &R,
     alloc: Global,
     words: &[String],
@@ -63,9 +55,7 @@ fn status_of<
     door: &mut D,
     noise: &mut N,
 ) -> u8 {
-    peer_run(
-        rt, alloc, words, shelf, input, output, report, door, noise,
-    )
+    peer_run(rt, alloc, words, shelf, input, output, report, door, noise)
 }
 
 /// Runs the words over the input, with nothing on the shelf, no noise and no links, and without faults.

@@ -20,7 +20,14 @@ pub(crate) struct Accepted<L: Link + Send, H: Host<L>> {
 }
 
 /// Accepts a link for each job in order and starts its worker, until an accept fails. There is room for all workers.
-pub(crate) fn accept_all<'s, E, R: Wait + Threads + Sync, L: Link + Send + 's, D: Door<L = L>, H: Host<L>>(
+pub(crate) fn accept_all<
+    's,
+    E,
+    R: Wait + Threads + Sync,
+    L: Link + Send + 's,
+    D: Door<L = L>,
+    H: Host<L>,
+>(
     rt: &'s R,
     threads: &Scope<'s, E>,
     alloc: Global,

@@ -22,15 +22,7 @@ struct Expected<'a> {
 
 /// The status of a run. It has no clause, and knows nothing of the objects: so what a run promises is not looked through again
 /// for the objects in memory, which takes a check of this program many times as long.
-fn status_of<
-    R: Wait + Threads + Sync,
-    H: Shelf,
-    I: Source,
-    O: Sink,
-    E: Sink,
-    D: Door,
-    N: Noise,
->(
+fn status_of<R: Wait + Threads + Sync, H: Shelf, I: Source, O: Sink, E: Sink, D: Door, N: Noise>(
     rt: &R,
     alloc: Global,
     words: &[String],
@@ -41,9 +33,7 @@ fn status_of<
     door: &mut D,
     noise: &mut N,
 ) -> u8 {
-    peer_run(
-        rt, alloc, words, shelf, input, output, report, door, noise,
-    )
+    peer_run(rt, alloc, words, shelf, input, output, report, door, noise)
 }
 
 /// The status of the run of the words.
