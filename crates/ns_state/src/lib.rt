@@ -7,6 +7,7 @@ pub mod laws;
 mod live_log;
 mod log;
 mod newest;
+mod positions;
 mod ranking;
 mod state;
 

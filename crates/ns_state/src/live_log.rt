@@ -5,7 +5,8 @@ ghost use Rattle.willow_entry.specs.Row.{live, new, HasCovering, IsCoveringAt};
 ghost use Rattle.ns_state.specs.Log.{IsLog, values, plain_row};
 ghost use Rattle.ns_state.specs.Answer.{IsGrown, IsPlaced};
 
-use crate::log::{first_cover, read_rows};
+use crate::log::{first_cover, is_cover, read_rows};
+use crate::positions::Positions;
 use block_store::{BlockStore, Snapshot};
 use std::alloc::Global;
 use std::marker::Model;
@@ -116,17 +117,40 @@ impl<R: Row> LiveLog<R> {
         self.store.covered_by(row).is_some()
     }
 
-    // A position of the log whose row equals or dominates the row; None exactly where there is none.
-    pub(crate) fn cover(&self, row: &R) -> Option<u32>
+    // A position of the log whose row equals or dominates the row; None exactly where there is none. The row itself is
+    // looked for first, and then the live row that covers it. Only where neither guess is right is the log walked over.
+    pub(crate) fn cover(&self, row: &R, positions: &Positions) -> Option<u32>
         ensures log { IsLog R.value self.now.namespace self.now.log }
         ensures found { IfSome result (λ at. IsCoveringAt (values R.value self.now.log) at (R.value row.now)) }
         ensures none { IfNone result (HasCovering (values R.value self.now.log) (R.value row.now) → ⊥) }
     {
-        self.store.covered_by(row)?;
+        if let Some(at) = self.covering_at(row, positions.of(row)) {
+            return Some(at);
+        }
+        let by = self.store.covered_by(row)?;
+        if let Some(at) = self.covering_at(row, self.guess_of_live(by, positions)) {
+            return Some(at);
+        }
         match first_cover(&self.log, row) {
             Some(at) => Some(at as u32),
             None => unreachable!(),
         }
+    }
+
+    // The position that is guessed, where the log's row there equals or dominates the row.
+    fn covering_at(&self, row: &R, guess: Option<u32>) -> Option<u32>
+        ensures log { IsLog R.value self.now.namespace self.now.log }
+        ensures found { IfSome result (λ at. IsCoveringAt (values R.value self.now.log) at (R.value row.now)) }
+    {
+        let log = &self.log;
+        let at = guess?;
+        let held = log.get(at as usize)?;
+        if is_cover(held, row) { Some(at) } else { None }
+    }
+
+    // Where the live row at this place may stand in the log.
+    fn guess_of_live(&self, by: u32, positions: &Positions) -> Option<u32> {
+        positions.of(self.store.get(by)?)
     }
 
     /// Offers a row by the pass of this number. Where a row of the log equals or dominates it, nothing changes and the

@@ -10,7 +10,7 @@ use willow_entry::{LogRow, Row, covers};
 use willow_path::NoMemory;
 
 // Whether the row of the log is the row or dominates it.
-fn is_cover<R: Row>(held: &LogRow<Arc<R>>, row: &R) -> bool
+pub(crate) fn is_cover<R: Row>(held: &LogRow<Arc<R>>, row: &R) -> bool
     ensures { result ≡ is_covering (R.value held.now.row.value) (R.value row.now) }
 {
     covers(&*held.row, row)

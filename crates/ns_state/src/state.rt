@@ -7,6 +7,7 @@ ghost use Rattle.ns_state.specs.Recent.{recent};
 ghost use Rattle.ns_state.specs.Answer.{IsAnswer, IsOffer};
 
 use crate::live_log::{LiveLog, LogFull};
+use crate::positions::Positions;
 use crate::ranking::gone_items;
 use block_store::Snapshot;
 use recency_index::{Ranked, Recency};
@@ -30,6 +31,7 @@ pub enum Told {
 pub struct NsState<R: Row> {
     log: LiveLog<R>,
     recency: Recency,
+    positions: Positions,
 }
 
 impl<R: Row> Model for NsState<R> {
@@ -53,6 +55,7 @@ impl<R: Row> NsState<R> {
         NsState {
             log: LiveLog::new(alloc, namespace),
             recency: Recency::new(alloc),
+            positions: Positions::new(alloc),
         }
     }
 
@@ -99,7 +102,7 @@ impl<R: Row> NsState<R> {
         ensures covers { OnOk result (HasCovering (values R.value self.new.log) (R.value row)) }
         ensures err { OnErr result (self.new ≡ self.old) }
     {
-        if let Some(at) = self.log.cover(&row) {
+        if let Some(at) = self.log.cover(&row, &self.positions) {
             return Ok(Told::Kept { at });
         }
         self.append(pass, row)
@@ -117,6 +120,7 @@ impl<R: Row> NsState<R> {
         let gone = gone_items(self.log.store(), &row)?;
         let item = Ranked::of(row.entry())?;
         self.recency.reserve(1)?;
+        self.positions.put(&row, self.log.front())?;
         match self.log.offer(pass, row)? {
             Some(at) => {
                 self.recency.replace(&gone, item);
