@@ -15,6 +15,7 @@ use crate::block::Block;
 use crate::boxes::{block_behind, is_in, lies_in};
 use crate::listing::Listing;
 use crate::runs::{Run, run_of};
+use crate::summary::four_leaves;
 use lane_sum::Lanes;
 use std::sync::Arc;
 use std::sync::ledger::Ledger;
@@ -43,8 +44,56 @@ fn read_if_in<R: Row, L: Ledger>(row: &R, area: &Box3, steps: &mut Steps<L>) -> 
     }
 }
 
-// The total of the rows that the box includes, each read once.
+// Reads four rows: four steps, and the only way to the leaves of four.
+fn read_four<R: Row, L: Ledger>(rows: &[Arc<R>; 4], steps: &mut Steps<L>) -> Lanes
+    ensures total { result ≡ total_by row_bytes (values_of R.value rows.now) }
+    ensures steps { steps.new ≡ steps.old + 4 }
+{
+    steps.tick();
+    steps.tick();
+    steps.tick();
+    steps.tick();
+    four_leaves(rows)
+}
+
+// Whether the box includes each of four rows.
+fn are_in<R: Row>(rows: &[Arc<R>; 4], area: &Box3) -> bool
+    ensures { IsTrue result → rows_in area.now (values_of R.value rows.now) ≡ values_of R.value rows.now }
+{
+    is_in(&*rows[0], area)
+        && is_in(&*rows[1], area)
+        && is_in(&*rows[2], area)
+        && is_in(&*rows[3], area)
+}
+
+// The total of those of four rows that the box includes, each read once.
+fn total_in_four<R: Row, L: Ledger>(rows: &[Arc<R>; 4], area: &Box3, steps: &mut Steps<L>) -> Lanes
+    ensures total { result ≡ total_by row_bytes (rows_in area.now (values_of R.value rows.now)) }
+    ensures steps { steps.new ≤ steps.old + length rows.now }
+{
+    if are_in(rows, area) {
+        read_four(rows, steps)
+    } else {
+        total_in_few(rows.as_slice(), area, steps)
+    }
+}
+
+// The total of the rows that the box includes, each read once, four at a time where the box includes all of them.
 fn total_in_rows<R: Row, L: Ledger>(rows: &[Arc<R>], area: &Box3, steps: &mut Steps<L>) -> Lanes
+    ensures total { result ≡ total_by row_bytes (rows_in area.now (values_of R.value rows.now)) }
+    ensures steps { steps.new ≤ steps.old + length rows.now }
+{
+    match rows.split_first_chunk::<4>() {
+        Some((four, behind)) => {
+            let front = total_in_four(four, area, steps);
+            front.add(&total_in_rows(behind, area, steps))
+        }
+        None => total_in_few(rows, area, steps),
+    }
+}
+
+// The total of the rows that the box includes, each read once, alone.
+fn total_in_few<R: Row, L: Ledger>(rows: &[Arc<R>], area: &Box3, steps: &mut Steps<L>) -> Lanes
     ensures total { result ≡ total_by row_bytes (rows_in area.now (values_of R.value rows.now)) }
     ensures steps { steps.new ≤ steps.old + length rows.now }
 {

@@ -2,13 +2,14 @@
 
 ghost use Rattle.std.specs.Prelude.{◌≡◌, [], ◌∷◌, IfSome};
 ghost use Rattle.std.specs.Option.{option_map};
-ghost use Rattle.lane_sum.specs.Totals.{total_by};
+ghost use Rattle.lane_sum.specs.Totals.{told, total_by};
 ghost use Rattle.block_store.specs.Fingerprint.{row_bytes};
 ghost use Rattle.block_store.specs.Held.{values_of};
 
 use crate::block::{Block, Held};
 use counted_slot::{Counted, FREE, ONE_READER, PRESENT, TAKEN};
 use lane_sum::Lanes;
+use sha_lanes::Message;
 use std::marker::PhantomData;
 use std::sync::Arc;
 use willow_entry::Row;
@@ -66,8 +67,40 @@ fn leaf<R: Row>(row: &R) -> Lanes
     Lanes::leaf(row.entry_bytes(), row.token_bytes())
 }
 
-// The total of rows, of which each is read.
+// What a row is told by, as a message: its leaf is the digest of that.
+fn message_of<R: Row>(row: &R) -> Message<'_>
+    ensures { told result ≡ row_bytes (R.value row.now) }
+{
+    Message {
+        front: row.entry_bytes(),
+        rest: row.token_bytes(),
+    }
+}
+
+// The total of four rows, whose leaves are hashed side by side.
+pub(crate) fn four_leaves<R: Row>(rows: &[Arc<R>; 4]) -> Lanes
+    ensures { result ≡ total_by row_bytes (values_of R.value rows.now) }
+{
+    Lanes::four_leaves(
+        &message_of(&*rows[0]),
+        &message_of(&*rows[1]),
+        &message_of(&*rows[2]),
+        &message_of(&*rows[3]),
+    )
+}
+
+// The total of rows, of which each is read, four at a time.
 fn sum_of<R: Row>(rows: &[Arc<R>]) -> Lanes
+    ensures { result ≡ total_by row_bytes (values_of R.value rows.now) }
+{
+    match rows.split_first_chunk::<4>() {
+        Some((four, behind)) => four_leaves(four).add(&sum_of(behind)),
+        None => sum_of_few(rows),
+    }
+}
+
+// The total of rows, of which each is read alone.
+fn sum_of_few<R: Row>(rows: &[Arc<R>]) -> Lanes
     ensures { result ≡ total_by row_bytes (values_of R.value rows.now) }
 {
     let mut total = Lanes::zero();

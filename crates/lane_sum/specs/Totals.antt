@@ -2,6 +2,7 @@
 use Rattle.std.specs.Prelude.{ℕ, ◌+◌, ◌-◌, ◌*◌, ◌%◌, ◌^◌, ◌<◌, List, ◌++◌, take, drop, length, sum_by}
 use Rattle.std.specs.Int.{w64, to_be_bytes, from_be_bytes}
 use Rattle.sha2.specs.Sha256.{sha256}
+use Rattle.sha_lanes.specs.declared.message.Message.{Message}
 use Rattle.lane_sum.specs.declared.lanes.Lanes.{Lanes}
 
 -- word i of a digest: eight bytes of it, high byte first
@@ -34,6 +35,10 @@ total_by row xs = record {
 -- the total of a list of rows
 abbrev pub total : List (List ℕ × List ℕ) → Lanes
 total rows = total_by (λ row. row) rows
+
+-- a row that is told as the two pieces of a message
+abbrev pub told : Message → List ℕ × List ℕ
+told m = (m.front.now, m.rest.now)
 
 -- the sum of two numbers modulo 2^64
 abbrev pub add64 : ℕ → ℕ → ℕ

@@ -2,6 +2,7 @@
 
 use crate::Lanes;
 use hex::FromHex;
+use sha_lanes::Message;
 use std::test::Fail;
 
 const ONE: Lanes = Lanes {
@@ -44,6 +45,23 @@ const ALL: Lanes = Lanes {
     d: 0xc3b2_9b4f_a7bc_412a,
 };
 
+// Four rows of one block each, and four of which one has two.
+const SHORT: Lanes = Lanes {
+    count: 4,
+    a: 0x8c42_cf9b_58e7_33b9,
+    b: 0x70c4_e629_83ba_9cfd,
+    c: 0xe051_2a21_364c_51e3,
+    d: 0xd916_93b9_6abc_9d0d,
+};
+
+const MIXED: Lanes = Lanes {
+    count: 4,
+    a: 0x8ccb_9775_442b_a33e,
+    b: 0x3d36_788e_d7e9_a386,
+    c: 0x6a69_6c23_62a1_80c7,
+    d: 0xeeb3_839b_d359_7ff3,
+};
+
 const BELOW_ZERO: Lanes = Lanes {
     count: 0,
     a: 0xdeea_7fa6_317b_878b,
@@ -57,6 +75,28 @@ fn leaves(rt: HostRuntime) {
     assert_eq!(rt; Lanes::leaf(b"entry one", b"token one"), ONE);
     assert_eq!(rt; Lanes::leaf(b"entry two", b"token two"), TWO);
     assert_eq!(rt; Lanes::leaf(b"", b""), EMPTY);
+}
+
+#[test]
+fn four_leaves(rt: HostRuntime) {
+    let one = Message {
+        front: b"entry one",
+        rest: b"token one",
+    };
+    let two = Message {
+        front: b"entry two",
+        rest: b"token two",
+    };
+    let none = Message {
+        front: b"",
+        rest: b"",
+    };
+    let long = Message {
+        front: b"a row that is longer than a block has room for",
+        rest: b"and a token behind it",
+    };
+    assert_eq!(rt; Lanes::four_leaves(&one, &two, &none, &one), SHORT);
+    assert_eq!(rt; Lanes::four_leaves(&one, &long, &two, &none), MIXED);
 }
 
 #[test]

@@ -5,7 +5,7 @@ use Rattle.lane_sum.specs.Totals.{sum_of, total_by}
 use Rattle.lane_sum.proofs.TotalLaws.{total_joined}
 use Rattle.willow_entry.specs.Row.{RowValue}
 use Rattle.block_store.specs.Fingerprint.{row_bytes}
-use Rattle.block_store.proofs.summary.sum_of.Goals as goal
+use Rattle.block_store.proofs.summary.sum_of_few.Goals as goal
 
 pub loop-at-preserved : goal.loop-at-preserved
 loop-at-preserved g c =

@@ -7,7 +7,7 @@ use Rattle.lane_sum.proofs.TotalLaws.{total_joined}
 use Rattle.willow_entry.specs.Row.{RowValue}
 use Rattle.block_store.specs.Fingerprint.{row_bytes}
 use Rattle.block_store.specs.InBox.{is_in, rows_in}
-use Rattle.block_store.proofs.fingerprint.total_in_rows.Goals as goal
+use Rattle.block_store.proofs.fingerprint.total_in_few.Goals as goal
 
 pub loop-at-preserved : goal.loop-at-preserved
 loop-at-preserved g c =

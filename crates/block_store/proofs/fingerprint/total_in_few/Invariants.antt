@@ -2,7 +2,7 @@ use Rattle.std.proofs.Common.{◌≡◌, ◌+◌, ◌≤◌, map, take}
 use Rattle.lane_sum.specs.Totals.{total_by}
 use Rattle.block_store.specs.Fingerprint.{row_bytes}
 use Rattle.block_store.specs.InBox.{rows_in}
-use Rattle.block_store.proofs.fingerprint.total_in_rows.Given as goal
+use Rattle.block_store.proofs.fingerprint.total_in_few.Given as goal
 
 abbrev pub invariant-loop-at : goal.invariant-loop-at
 invariant-loop-at g l = record {
