@@ -9,6 +9,7 @@ pub mod Completeness
 pub mod Files
 pub mod Given
 pub mod Uses
+pub mod Known
 pub mod Once
 pub mod Parts
 pub mod Heights

@@ -5,6 +5,7 @@ pub mod Accepts
 pub mod Signer
 pub mod KeyChains
 pub mod Key
+pub mod KnownTrees
 pub mod Use
 pub mod UseLaws
 pub mod Reserve

@@ -1,6 +1,6 @@
 //! Keys of the signer and their files.
 
-ghost use Rattle.std.specs.Prelude.{◌≡◌, ◌++◌, ◌+◌, ◌≤◌, ◌==◌, ◌&&◌, bytes_eq, length, take, MatchOption, IfSome, OnOk, OnErr};
+ghost use Rattle.std.specs.Prelude.{◌≡◌, ◌++◌, ◌+◌, ◌≤◌, ◌==◌, ◌&&◌, bytes_eq, length, take, MatchOption, IfSome, IfOk, OnOk, OnErr};
 ghost use Rattle.lms_core.specs.Accepts.{levels, leaves};
 ghost use Rattle.lms_core.specs.Key.{Key, IsKey, key_file, key_at, key_of_height, key_magic, raised};
 ghost use Rattle.lms_core.specs.Signer.{public_key};
@@ -8,9 +8,12 @@ ghost use Rattle.lms_core.specs.Use.{user_key_of};
 
 use crate::bytes::{field_at, four_bytes, join_into, number_at};
 use crate::height::Height;
+use crate::known_tree::KnownTree;
 use crate::tree::Tree;
 use spelling::NoMemory;
+use std::alloc::Global;
 use std::marker::Model;
+use std::thread::Threads;
 use willow_path::UserKey;
 
 /// What a key file begins with.
@@ -54,14 +57,22 @@ impl LmsKey {
     pub fn public(&self) -> [u8; 56]
         ensures { result ≡ public_key self.now.height self.now.identifier self.now.seed }
     {
-        self.tree.public()
+        KnownTree::bare(self.tree).public()
     }
 
     /// The user key for which the signatures are accepted: kind 1, and the SHA-256 of the public key.
     pub fn user_key(&self) -> UserKey
         ensures { result ≡ user_key_of self.now.height self.now.identifier self.now.seed }
     {
-        self.tree.user_key()
+        KnownTree::bare(self.tree).user_key()
+    }
+
+    /// The user key, whose tree is hashed on all processors. It takes the memory of the leaves' values: 32
+    /// kilobytes at height 10, and some more while they are put together.
+    pub fn user_key_on<R: Threads + Sync>(&self, rt: &R, alloc: Global) -> Result<UserKey, NoMemory>
+        ensures { IfOk result (λ key. key ≡ user_key_of self.now.height self.now.identifier self.now.seed) }
+    {
+        Ok(KnownTree::hashed(rt, alloc, self.tree)?.user_key())
     }
 
     /// The first index that is not used, at most the number of leaves.

@@ -7,6 +7,7 @@ mod hashing;
 mod height;
 mod key;
 mod key_chains;
+mod known_tree;
 mod laws;
 mod one_time;
 mod one_use;
@@ -20,7 +21,7 @@ pub use height::Height;
 pub use key::LmsKey;
 pub use laws::{indices_are_handed_out_once, made_signatures_are_accepted};
 pub use one_use::OneUse;
-pub use reserve::{KeyRefusal, reserve_keys};
+pub use reserve::{KeyRefusal, reserve_keys, reserve_keys_on};
 pub use scheme::PeerScheme;
 pub use verify::lms_verify;
 

@@ -8,18 +8,18 @@ ghost use Rattle.lms_core.specs.Accepts.{leaves};
 ghost use Rattle.lms_core.specs.Use.{user_key_of, use_gives, use_signature};
 ghost use Rattle.lms_core.specs.UseLaws.{use_gives-short};
 
-use crate::tree::Tree;
+use crate::known_tree::KnownTree;
 use scheme_core::{SignRefusal, Signer};
 use spelling::End;
 use std::alloc::Global;
 use std::marker::Model;
 use willow_path::UserKey;
 
-/// What signs one message, with one index of a key. It is made by `reserve_keys` alone, which takes the
-/// index off the key's file first.
+/// What signs one message, with one index of a key. It is made by `reserve_keys` and
+/// `reserve_keys_on` alone, which take the index off the key's file first.
 #[derive(Drop)]
 pub struct OneUse {
-    tree: Tree,
+    tree: KnownTree,
     index: u32,
     left: u64,
 }
@@ -38,7 +38,7 @@ impl Model for OneUse {
 
 impl OneUse {
     /// A signer of an index that no other signer has.
-    pub(crate) fn new(tree: Tree, index: u32) -> OneUse
+    pub(crate) fn new(tree: KnownTree, index: u32) -> OneUse
         requires { index < leaves tree.height }
         ensures { result ≡ record { height = tree.height; identifier = tree.identifier; seed = tree.seed; index = index; left = 1 } }
     {

@@ -9,6 +9,7 @@ use crate::bytes::{four_bytes, join_into};
 use crate::hashing::{hash_three, leaf, parent};
 use crate::height::ONE_TIME_TYPE;
 use crate::key_chains::{append_values, key_of_ends, lengthen, secret_chains};
+use crate::known_tree::KnownTree;
 use crate::one_time::digits_of;
 use crate::tree::Tree;
 use sha_lanes::run_chains;
@@ -54,30 +55,6 @@ impl Tree {
         Ok(key_of_ends(&self.identifier, index, &chains))
     }
 
-    /// Appends the siblings on the way from a leaf to the root to `path`, and answers the root's value.
-    fn append_path(
-        &self,
-        index: u32,
-        leaf: &[u8; 32],
-        path: &mut Vec<u8>,
-    ) -> Result<[u8; 32], NoMemory>
-        requires index_in { index < leaves self.now.height }
-        requires leaf_is { leaf.now ≡ node_value self.now.height self.now.identifier self.now.seed 0 (leaves self.now.height + index) }
-        ensures root { IfOk result (λ root. root ≡ root_value self.now.height self.now.identifier self.now.seed) }
-        ensures siblings { OnOk result (path.new.items ≡ path.old.items
-            ++ path_of self.now.height self.now.identifier self.now.seed 0 (leaves self.now.height + index) (levels self.now.height)) }
-    {
-        let mut node = self.height.leaves() + index;
-        let mut reached = *leaf;
-        'levels: for level in 0..self.height.levels() {
-            let other = self.value(level, sibling_of(node));
-            path.extend_from_slice(&other)?;
-            reached = parent(&self.identifier, node, &reached, &other);
-            node /= 2;
-        }
-        Ok(reached)
-    }
-
     /// The parts of a signature joined, behind the public key.
     fn joined(
         &self,
@@ -97,6 +74,33 @@ impl Tree {
         bytes.extend_from_slice(path)?;
         Ok(bytes)
     }
+}
+
+impl KnownTree {
+    /// Appends the siblings on the way from a leaf to the root to `path`, and answers the root's value.
+    fn append_path(
+        &self,
+        index: u32,
+        leaf: &[u8; 32],
+        path: &mut Vec<u8>,
+    ) -> Result<[u8; 32], NoMemory>
+        requires index_in { index < leaves self.now.height }
+        requires leaf_is { leaf.now ≡ node_value self.now.height self.now.identifier self.now.seed 0 (leaves self.now.height + index) }
+        ensures root { IfOk result (λ root. root ≡ root_value self.now.height self.now.identifier self.now.seed) }
+        ensures siblings { OnOk result (path.new.items ≡ path.old.items
+            ++ path_of self.now.height self.now.identifier self.now.seed 0 (leaves self.now.height + index) (levels self.now.height)) }
+    {
+        let tree = self.tree();
+        let mut node = tree.height.leaves() + index;
+        let mut reached = *leaf;
+        'levels: for level in 0..tree.height.levels() {
+            let other = self.value(level, sibling_of(node));
+            path.extend_from_slice(&other)?;
+            reached = parent(&tree.identifier, node, &reached, &other);
+            node /= 2;
+        }
+        Ok(reached)
+    }
 
     /// The public key and a leaf's signature of a message, joined.
     pub(crate) fn signed(
@@ -110,17 +114,18 @@ impl Tree {
         ensures signature { IfOk result (λ v. v.items ≡ public_key self.now.height self.now.identifier self.now.seed
             ++ signature_of self.now.height self.now.identifier self.now.seed index message.now) }
     {
-        let randomizer = self.randomizer(index, message);
-        let digits = digits_of(&self.identifier, index, &randomizer, message);
+        let tree = self.tree();
+        let randomizer = tree.randomizer(index, message);
+        let digits = digits_of(&tree.identifier, index, &randomizer, message);
         let mut values = Vec::new(alloc);
-        let key = self.sign_chains(index, &digits, &mut values)?;
-        let leaf = leaf(&self.identifier, self.height.leaves() + index, &key);
+        let key = tree.sign_chains(index, &digits, &mut values)?;
+        let leaf = leaf(&tree.identifier, tree.height.leaves() + index, &key);
         let mut path = Vec::new(alloc);
         let root = self.append_path(index, &leaf, &mut path)?;
         let mut numbers = [0; 8];
         join_into(&mut numbers, &four_bytes(index), &four_bytes(ONE_TIME_TYPE));
         let mut head = [0; 40];
         join_into(&mut head, &numbers, &randomizer);
-        self.joined(alloc, &self.public_of_root(&root), &head, &values, &path)
+        tree.joined(alloc, &tree.public_of_root(&root), &head, &values, &path)
     }
 }

@@ -1,6 +1,6 @@
 //! A key of the RFC's appendix, signatures of its last index, and the shelf's refusals.
 
-use crate::{Height, KeyRefusal, LmsKey, PeerScheme, reserve_keys};
+use crate::{Height, KeyRefusal, LmsKey, PeerScheme, reserve_keys, reserve_keys_on};
 use hex::FromHex;
 use scheme_core::{SignRefusal, Signer, Verify};
 use sha2::{Digest, Sha256};
@@ -8,6 +8,7 @@ use spelling::End;
 use std::alloc::Global;
 use std::collections::BTreeMap;
 use std::test::Fail;
+use std::thread;
 use willow_outside::{Shelf, SureShelf};
 use willow_path::NamespaceKey;
 
@@ -27,6 +28,13 @@ fn rfc_file(alloc: Global, next: u8) -> Result<Vec<u8>, Fail> {
     file.truncate(56);
     file.push(next)?;
     Ok(file)
+}
+
+/// The digest of the last index's signature of `abc`.
+fn last_digest() -> Result<[u8; 32], Fail> {
+    Ok(<[u8; 32] as FromHex>::from_hex(
+        "306c4f4992e8fe8e9853cc14c6f8306b2dd1adc69287d610d4fc6f1bc527b25d",
+    )?)
 }
 
 #[test]
@@ -74,10 +82,7 @@ fn the_last_index_signs_once(rt: HostRuntime) -> Result<(), Fail> {
     }
     assert!(rt; signer.left() == 1);
     let signature = signer.sign(alloc, b"abc").map_err(|_| "no signature")?;
-    let digest = <[u8; 32] as FromHex>::from_hex(
-        "306c4f4992e8fe8e9853cc14c6f8306b2dd1adc69287d610d4fc6f1bc527b25d",
-    )?;
-    assert!(rt; Sha256::digest(&signature).as_slice() == digest.as_slice());
+    assert!(rt; Sha256::digest(&signature).as_slice() == last_digest()?.as_slice());
     let key = signer.user_key();
     assert!(rt; PeerScheme.verify_user(&key, b"abc", &signature));
     assert!(rt; !PeerScheme.verify_user(&key, b"abd", &signature));
@@ -87,5 +92,28 @@ fn the_last_index_signs_once(rt: HostRuntime) -> Result<(), Fail> {
     assert!(rt; signer.left() == 0);
     let again = signer.sign(alloc, b"abc");
     assert!(rt; matches!(&again, Err(End::Refused(SignRefusal::Spent))));
+    Ok(())
+}
+
+#[test]
+fn signers_share_the_leaves(rt: HostRuntime) -> Result<(), Fail> {
+    let alloc = rt.alloc();
+    let mut contents = BTreeMap::new(alloc);
+    contents.insert(String::from_str(alloc, "k")?, rfc_file(alloc, 30)?)?;
+    let mut shelf = SureShelf::new(alloc, contents);
+    let mut signers = reserve_keys_on(&rt, alloc, &mut shelf, "k", 2).map_err(|_| "no signers")?;
+    assert!(rt; shelf.get("k") == Ok(Some(rfc_file(alloc, 32)?)));
+    let mut last = signers.pop().ok_or("a last signer")?;
+    let mut first = signers.pop().ok_or("a first signer")?;
+    let (early, late) = thread::join(
+        &rt,
+        move || first.sign(alloc, b"abc"),
+        move || last.sign(alloc, b"abc"),
+    );
+    let early = early.map_err(|_| "an early signature")?;
+    let late = late.map_err(|_| "a late signature")?;
+    assert!(rt; Sha256::digest(&late).as_slice() == last_digest()?.as_slice());
+    let key = rfc_key()?.user_key_on(&rt, alloc).map_err(|_| "a key")?;
+    assert!(rt; PeerScheme.verify_user(&key, b"abc", &early));
     Ok(())
 }

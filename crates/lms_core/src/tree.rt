@@ -1,17 +1,22 @@
-//! What a signer keeps of its tree, and the values of the tree's nodes.
+//! What a signer keeps of its tree, and the values of the tree's leaves.
 
-ghost use Rattle.std.specs.Prelude.{◌≡◌, ◌++◌, ◌*◌, ◌-◌, ◌+◌, ◌^◌, ◌<◌, ◌≤◌, length};
-ghost use Rattle.lms_core.specs.Accepts.{levels, leaves};
-ghost use Rattle.lms_core.specs.Signer.{key_of_leaf, node_value, root_value, public_key};
-ghost use Rattle.lms_core.specs.Use.{user_key_of};
+ghost use Rattle.std.specs.Prelude.{◌≡◌, ◌++◌, ◌+◌, ◌<◌, IfOk};
+ghost use Rattle.lms_core.specs.Accepts.{leaves};
+ghost use Rattle.lms_core.specs.Signer.{key_of_leaf, node_value, leaf_values, root_value, public_key};
 
 use crate::bytes::{four_bytes, join_into};
-use crate::hashing::{inner, leaf};
+use crate::hashing::leaf;
 use crate::height::{Height, ONE_TIME_TYPE};
 use crate::key_chains::{key_of_ends, secret_chains};
+use rayon::prelude::*;
 use sha_lanes::run_chains;
-use sha2::{Digest, Sha256};
-use willow_path::UserKey;
+use spelling::NoMemory;
+use std::alloc::Global;
+use std::thread::Threads;
+
+/// How few leaves are worth a thread of their own. A leaf takes about a millisecond, and a thread starts in some
+/// tens of microseconds, so the 32 leaves of a tree of height 5 are worth eight.
+const LEAST_LEAVES: usize = 4;
 
 /// The height of a tree, its identifier, and the seed of its chains.
 #[derive(Clone, Copy, Drop)]
@@ -31,27 +36,34 @@ impl Tree {
         key_of_ends(&self.identifier, index, &chains)
     }
 
-    /// The value of a node that stands `level` levels above the leaves.
-    pub(crate) fn value(&self, level: usize, node: u32) -> [u8; 32]
-        requires level_in { level ≤ levels self.now.height }
-        requires node_from { 2 ^ (levels self.now.height - level) ≤ node }
-        requires node_to { node < 2 * 2 ^ (levels self.now.height - level) }
-        ensures { result ≡ node_value self.now.height self.now.identifier self.now.seed level node }
+    /// The value of a leaf. It hashes 8,700 blocks.
+    pub(crate) fn leaf_value(&self, index: u32) -> [u8; 32]
+        requires { index < leaves self.now.height }
+        ensures { result ≡ node_value self.now.height self.now.identifier self.now.seed 0 (leaves self.now.height + index) }
     {
-        if level == 0 {
-            let key = self.leaf_key(node - self.height.leaves());
-            return leaf(&self.identifier, node, &key);
-        }
-        let left = self.value(level - 1, 2 * node);
-        let right = self.value(level - 1, 2 * node + 1);
-        inner(&self.identifier, node, &left, &right)
+        let key = self.leaf_key(index);
+        leaf(&self.identifier, self.height.leaves() + index, &key)
     }
 
-    /// The value of the root.
-    fn root(&self) -> [u8; 32]
-        ensures { result ≡ root_value self.now.height self.now.identifier self.now.seed }
+    /// The values of all leaves, in order, which are hashed on all processors.
+    pub(crate) fn leaf_values<R: Threads + Sync>(
+        &self,
+        rt: &R,
+        alloc: Global,
+    ) -> Result<Vec<[u8; 32]>, NoMemory>
+        ensures { IfOk result (λ values. values.items ≡ leaf_values self.now.height self.now.identifier self.now.seed) }
     {
-        self.value(self.height.levels(), 1)
+        let values: Vec<[u8; 32]> = (0..self.height.leaves())
+            .into_par_iter()
+            .with_min_len(LEAST_LEAVES)
+            .map(
+                |index: u32| -> [u8; 32]
+                    requires { index < leaves self.now.height }
+                    ensures { result ≡ node_value self.entry.now.height self.entry.now.identifier self.entry.now.seed 0 (leaves self.entry.now.height + index) }
+                { self.leaf_value(index) },
+            )
+            .collect(rt, alloc)?;
+        Ok(values)
     }
 
     /// The public key of the root, which is computed of all leaves unless it is known.
@@ -70,24 +82,5 @@ impl Tree {
         let mut key = [0; 56];
         join_into(&mut key, &front, root);
         key
-    }
-
-    /// The public key. It hashes all leaves: 8,700 blocks each.
-    pub(crate) fn public(&self) -> [u8; 56]
-        ensures { result ≡ public_key self.now.height self.now.identifier self.now.seed }
-    {
-        self.public_of_root(&self.root())
-    }
-
-    /// The key whose body is the digest of the public key.
-    pub(crate) fn user_key(&self) -> UserKey
-        ensures { result ≡ user_key_of self.now.height self.now.identifier self.now.seed }
-    {
-        let mut bytes = [0; 33];
-        join_into(&mut bytes, &[1], &Sha256::digest(self.public()));
-        match UserKey::from_bytes(bytes) {
-            Some(key) => key,
-            None => unreachable!(),
-        }
     }
 }

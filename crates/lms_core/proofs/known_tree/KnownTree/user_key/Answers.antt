@@ -1,5 +1,5 @@
 use Rattle.lms_core.proofs.Given.{user_key_by}
-use Rattle.lms_core.proofs.tree.Tree.user_key.Goals as goal
+use Rattle.lms_core.proofs.known_tree.KnownTree.user_key.Goals as goal
 
 pub returns : goal.returns
 returns c =

@@ -1,7 +1,7 @@
 use Rattle.std.proofs.Common.{◌≡◌, ◌++◌, ◌+◌, ◌-◌, ◌*◌, ◌^◌, ◌<◌, ◌≤◌}
 use Rattle.lms_core.specs.Accepts.{levels, leaves}
 use Rattle.lms_core.specs.Signer.{node_value, path_of}
-use Rattle.lms_core.proofs.tree.Tree.append_path.Given as goal
+use Rattle.lms_core.proofs.known_tree.KnownTree.append_path.Given as goal
 
 abbrev pub invariant-levels : goal.invariant-levels
 invariant-levels l = record {

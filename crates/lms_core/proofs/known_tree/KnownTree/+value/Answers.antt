@@ -1,13 +1,15 @@
 use Rattle.std.proofs.Common.{arith}
 use Rattle.lms_core.specs.Accepts.{levels}
+use Rattle.lms_core.proofs.Known.{leaf_node}
 use Rattle.lms_core.proofs.Nodes.{pow_level_below}
-use Rattle.lms_core.proofs.Secrets.{node_value_leaf, node_value_inner}
-use Rattle.lms_core.proofs.tree.Tree.+value.Goals as goal
+use Rattle.lms_core.proofs.Secrets.{node_value_inner}
+use Rattle.lms_core.proofs.known_tree.KnownTree.+value.Goals as goal
 
 pub returns-then-level-eq0 : goal.returns-then-level-eq0
 returns-then-level-eq0 t c =
     let s = c.args.self.now in
-    node_value_leaf s.height s.identifier s.seed c.args.level c.args.node _ _ _ (omega arith) c.leaves.ensures.value c.leaf_key-key.ensures c.leaf.ensures
+    let count = rw c.self.view_is at c.leaves.ensures.value in
+    leaf_node s.height s.identifier s.seed c.args.level c.args.node c.leaves.result _ (omega arith) count c.requires.node_from c.leaf_value.ensures
 
 pub value-left-requires : goal.value-left-requires
 value-left-requires t c =
@@ -22,4 +24,5 @@ value-right-requires t c =
 pub returns : goal.returns
 returns t c =
     let s = c.args.self.now in
-    node_value_inner s.height s.identifier s.seed c.args.level c.args.node c.value-left.result c.value-right.result _ (omega arith) c.value-left.ensures c.value-right.ensures c.inner.ensures
+    let both = rw c.self.view_is at c.inner.ensures in
+    node_value_inner s.height s.identifier s.seed c.args.level c.args.node c.value-left.result c.value-right.result _ (omega arith) c.value-left.ensures c.value-right.ensures both
