@@ -1,10 +1,11 @@
-//! Keys of height 5: made, signed with, and their signatures verified.
+//! Keys of height 5, and of height 10 on all processors: made, signed with, and their signatures verified.
 
 use lms_core::{Height, LmsKey, PeerScheme, reserve_keys};
 use scheme_core::{Signer, Verify};
 use spelling::NoMemory;
 use std::alloc::Global;
 use std::collections::BTreeMap;
+use std::thread::Threads;
 use willow_outside::{Shelf, SureShelf};
 use willow_path::UserKey;
 
@@ -14,11 +15,11 @@ const MESSAGE: &[u8; 32] = b"a message of the length of a sum";
 // The name of the key's file.
 const NAME: &str = "key";
 
-// A key of height 5.
-fn key_of(seed: u32) -> LmsKey {
+// A key of a height.
+fn key_of(height: Height, seed: u32) -> LmsKey {
     let mut bytes = [7; 32];
     bytes[..4].copy_from_slice(&seed.to_be_bytes());
-    LmsKey::make(Height::H5, [9; 16], bytes)
+    LmsKey::make(height, [9; 16], bytes)
 }
 
 // The last byte of a key.
@@ -30,15 +31,29 @@ fn last_byte(key: &UserKey) -> u64 {
 pub(crate) fn make(rounds: u32) -> u64 {
     let mut out = 0;
     for round in 0..rounds {
-        out ^= last_byte(&key_of(round).user_key());
+        out ^= last_byte(&key_of(Height::H5, round).user_key());
     }
     out
+}
+
+// Makes so many keys of a height, each with its tree on all processors.
+pub(crate) fn make_on<R: Threads + Sync>(
+    rt: &R,
+    alloc: Global,
+    height: Height,
+    rounds: u32,
+) -> Option<u64> {
+    let mut out = 0;
+    for round in 0..rounds {
+        out ^= last_byte(&key_of(height, round).user_key_on(rt, alloc).ok()?);
+    }
+    Some(out)
 }
 
 // The file of the key with no index used.
 fn key_file(alloc: Global) -> Result<Vec<u8>, NoMemory> {
     let mut file = Vec::new(alloc);
-    key_of(0).encode(&mut file)?;
+    key_of(Height::H5, 0).encode(&mut file)?;
     Ok(file)
 }
 
@@ -70,7 +85,7 @@ pub(crate) fn verify(alloc: Global, rounds: u32) -> Option<u64> {
     let mut shelf = SureShelf::new(alloc, BTreeMap::new(alloc));
     shelf.put(NAME, &file).ok()?;
     let signature = sign_once(alloc, &mut shelf)?;
-    let key = key_of(0).user_key();
+    let key = key_of(Height::H5, 0).user_key();
     let mut out = 0u64;
     for _ in 0..rounds {
         if PeerScheme.verify_user(&key, MESSAGE, &signature) {

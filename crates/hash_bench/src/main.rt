@@ -7,8 +7,10 @@ mod digests;
 mod keys;
 mod lanes;
 
+use lms_core::Height;
 use std::alloc::Global;
 use std::process::ExitCode;
+use std::thread::Threads;
 use std::{env, io};
 
 // The front of what came out, as a number.
@@ -19,13 +21,15 @@ fn front_of(bytes: &[u8; 32]) -> u64 {
 }
 
 // What comes out of so many rounds; none where the word is none of the modes, or for want of memory.
-fn run(alloc: Global, mode: &str, rounds: u32) -> Option<u64> {
+fn run<R: Threads + Sync>(rt: &R, alloc: Global, mode: &str, rounds: u32) -> Option<u64> {
     match mode {
         "blocks" => Some(front_of(&digests::blocks(rounds))),
         "rows" => Some(front_of(&digests::rows(rounds))),
         "chains" => Some(front_of(&lanes::chains(rounds))),
         "lists" => Some(front_of(&lanes::lists(rounds))),
         "make" => Some(keys::make(rounds)),
+        "make-on" => keys::make_on(rt, alloc, Height::H5, rounds),
+        "make10-on" => keys::make_on(rt, alloc, Height::H10, rounds),
         "sign" => keys::sign(alloc, rounds),
         "verify" => keys::verify(alloc, rounds),
         _ => None,
@@ -44,21 +48,28 @@ fn words(rt: &HostRuntime) -> Vec<String> {
 }
 
 // What the words ask for.
-fn answer(alloc: Global, words: &[String]) -> Option<u64> {
+fn answer<R: Threads + Sync>(rt: &R, alloc: Global, words: &[String]) -> Option<u64> {
     match words {
-        [mode, rounds] => run(alloc, mode.as_str(), rounds.as_str().parse::<u32>().ok()?),
+        [mode, rounds] => run(
+            rt,
+            alloc,
+            mode.as_str(),
+            rounds.as_str().parse::<u32>().ok()?,
+        ),
         _ => None,
     }
 }
 
 fn main(rt: HostRuntime) -> io::Result<ExitCode> {
-    match answer(rt.alloc(), &words(&rt)) {
+    match answer(&rt, rt.alloc(), &words(&rt)) {
         Some(out) => {
             println!(rt; "{out}")?;
             Ok(ExitCode::from(0))
         }
         None => {
-            println!(rt; "usage: blocks, rows, chains, lists, make, sign or verify, and a number")?;
+            println!(rt;
+                "usage: blocks, rows, chains, lists, make, make-on, make10-on, sign or verify, and a number"
+            )?;
             Ok(ExitCode::from(2))
         }
     }

@@ -5,8 +5,8 @@ use Rattle.lms_core.specs.declared.height.Height.{Height}
 use Rattle.lms_core.specs.declared.tree.Tree.{Tree}
 use Rattle.lms_core.specs.Accepts.{levels, leaves}
 use Rattle.lms_core.specs.Key.{Key}
-use Rattle.lms_core.specs.KnownTrees.{IsTreeOf}
-use Rattle.lms_core.specs.Signer.{node_value, leaf_values}
+use Rattle.lms_core.specs.KnownTrees.{leaf_values, IsTreeOf}
+use Rattle.lms_core.specs.Signer.{node_value}
 use Rattle.lms_core.specs.Use.{Use}
 use Rattle.lms_core.proofs.Uses.{use_at}
 

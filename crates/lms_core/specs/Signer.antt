@@ -1,7 +1,6 @@
 -- The signer: its chains begin at hashes of a seed, and a signature's randomizer is a hash of the seed and the
 -- message. height, id and seed are the tree's height, its identifier I and the 32 bytes of the seed.
-use Rattle.std.specs.Prelude.{ℕ, zero, suc, ◌+◌, ◌-◌, ◌*◌, ◌/◌, ◌%◌, List, [], ◌∷◌, ◌++◌, map, replicate, if◌then◌else◌, ◌==◌}
-use Rattle.std.specs.List.{range_with_len}
+use Rattle.std.specs.Prelude.{ℕ, zero, suc, ◌+◌, ◌-◌, ◌*◌, ◌/◌, ◌%◌, List, [], ◌∷◌, ◌++◌, replicate, if◌then◌else◌, ◌==◌}
 use Rattle.sha2.specs.Sha256.{sha256}
 use Rattle.lms_core.specs.declared.height.Height.{Height}
 use Rattle.lms_core.specs.Bytes.{u32_str}
@@ -32,10 +31,6 @@ unfoldable pub node_value : Height → List ℕ → List ℕ → ℕ → ℕ →
 node_value height id seed zero node = leaf_value id node (key_of_leaf id seed (node - leaves height))
 node_value height id seed (suc level) node =
     inner_value id node (node_value height id seed level (2 * node)) (node_value height id seed level (2 * node + 1))
-
--- T of the leaves, in order
-unfoldable pub leaf_values : Height → List ℕ → List ℕ → List (List ℕ)
-leaf_values height id seed = map (λ q. node_value height id seed 0 (leaves height + q)) (range_with_len 0 (leaves height))
 
 -- T[1]
 unfoldable pub root_value : Height → List ℕ → List ℕ → List ℕ

@@ -28,7 +28,7 @@ impl Model for KnownTree {
     ghost use Rattle.std.specs.Prelude.{◌≡◌, IfSome};
     ghost use Rattle.std.specs.Arc.{arc_value};
     ghost use Rattle.lms_core.specs.declared.tree.Tree.{Tree};
-    ghost use Rattle.lms_core.specs.Signer.{leaf_values};
+    ghost use Rattle.lms_core.specs.KnownTrees.{leaf_values};
 
     ghost Value = { Tree };
 

@@ -2,7 +2,8 @@
 
 ghost use Rattle.std.specs.Prelude.{◌≡◌, ◌++◌, ◌+◌, ◌<◌, IfOk};
 ghost use Rattle.lms_core.specs.Accepts.{leaves};
-ghost use Rattle.lms_core.specs.Signer.{key_of_leaf, node_value, leaf_values, root_value, public_key};
+ghost use Rattle.lms_core.specs.Signer.{key_of_leaf, node_value, root_value, public_key};
+ghost use Rattle.lms_core.specs.KnownTrees.{leaf_values};
 
 use crate::bytes::{four_bytes, join_into};
 use crate::hashing::leaf;

@@ -17,6 +17,7 @@ use peer_stage::{Done, Stop};
 use peer_words::{AreaWords, SignerWord};
 use spelling::{End, NoMemory};
 use std::alloc::Global;
+use std::thread::Threads;
 use willow_area::Area;
 use willow_outside::{Shelf, Sink, Source};
 use willow_path::UserKey;
@@ -27,7 +28,8 @@ use willow_path::UserKey;
 /// before the longer capability is checked, so an index of a key file is used up also where it is refused.
 /// Only where the area has no times the signer is not asked: the first refusal is told of the longer
 /// capability, in which the new delegation counts as one whose area grows.
-pub fn delegate<H: Shelf, I: Source, O: Sink>(
+pub fn delegate<R: Threads + Sync, H: Shelf, I: Source, O: Sink>(
+    rt: &R,
     alloc: Global,
     key: SignerWord,
     to: UserKey,
@@ -44,7 +46,7 @@ pub fn delegate<H: Shelf, I: Source, O: Sink>(
     let capability = read_one(alloc, input)?;
     let area = ask(&capability, &area)?;
     let message = capability.handover(&area, &to)?;
-    let signature = sign_with(alloc, shelf, key, &message)?;
+    let signature = sign_with(rt, alloc, shelf, key, &message)?;
     let delegation = Delegation {
         area,
         user: to,

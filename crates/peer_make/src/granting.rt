@@ -14,6 +14,7 @@ use peer_stage::{Done, Stop, write_output};
 use peer_words::SignerWord;
 use spelling::End;
 use std::alloc::Global;
+use std::thread::Threads;
 use willow_outside::{Shelf, Sink};
 use willow_path::{NamespaceKey, UserKey};
 
@@ -21,7 +22,8 @@ use willow_path::{NamespaceKey, UserKey};
 ///
 /// For an owned namespace the signer signs the initial message; for a communal one there is no signer. An
 /// index of a key file is used up also where the capability is refused then.
-pub fn grant<H: Shelf, O: Sink>(
+pub fn grant<R: Threads + Sync, H: Shelf, O: Sink>(
+    rt: &R,
     alloc: Global,
     namespace: NamespaceKey,
     mode: Mode,
@@ -37,7 +39,7 @@ pub fn grant<H: Shelf, O: Sink>(
         (record others { shelf = H.facts shelf.new; output = O.facts output.new }) result }
 {
     let message = initial_message(mode, &user);
-    let initial = begin(alloc, shelf, key, &message)?;
+    let initial = begin(rt, alloc, shelf, key, &message)?;
     let capability = Capability {
         mode,
         namespace,
@@ -49,7 +51,8 @@ pub fn grant<H: Shelf, O: Sink>(
 }
 
 // The initial signature, where there is a signer.
-fn begin<H: Shelf>(
+fn begin<R: Threads + Sync, H: Shelf>(
+    rt: &R,
     alloc: Global,
     shelf: &mut H,
     key: Option<SignerWord>,
@@ -62,7 +65,7 @@ fn begin<H: Shelf>(
 {
     match key {
         Some(key) => {
-            let signature = sign_with(alloc, shelf, key, message)?;
+            let signature = sign_with(rt, alloc, shelf, key, message)?;
             Ok(Some(signature))
         }
         None => Ok(None),

@@ -17,6 +17,7 @@ use peer_words::SignerWord;
 use scheme_core::{OpenSigner, SignRefusal, Signer};
 use spelling::{End, NoMemory};
 use std::alloc::Global;
+use std::thread::Threads;
 use willow_outside::Shelf;
 use willow_path::UserKey;
 
@@ -63,7 +64,8 @@ impl Signer for KeySigner {
 
 /// The signer of the word, which has not signed. An open key calls nothing of the shelf; of a key file the next index is
 /// used up for it.
-pub fn reserve_signer<H: Shelf>(
+pub fn reserve_signer<R: Threads + Sync, H: Shelf>(
+    rt: &R,
     alloc: Global,
     shelf: &mut H,
     key: SignerWord,
@@ -75,14 +77,15 @@ pub fn reserve_signer<H: Shelf>(
 {
     match key {
         SignerWord::OpenKey(key) => Ok(KeySigner::Open(OpenSigner::new(key))),
-        SignerWord::LmsFile(name) => Ok(KeySigner::Once(take_next(alloc, shelf, name)?)),
+        SignerWord::LmsFile(name) => Ok(KeySigner::Once(take_next(rt, alloc, shelf, name)?)),
     }
 }
 
 /// So many signers of the word, in order, each of which has not signed. An open key calls nothing of the shelf; of a key file
 /// the next `count` indices are used up for them, all by one write. Where no memory is found they may be used up too, though
 /// none is handed out.
-pub fn reserve_signers<H: Shelf>(
+pub fn reserve_signers<R: Threads + Sync, H: Shelf>(
+    rt: &R,
     alloc: Global,
     shelf: &mut H,
     key: SignerWord,
@@ -99,7 +102,7 @@ pub fn reserve_signers<H: Shelf>(
     match key {
         SignerWord::OpenKey(key) => Ok(open_signers(alloc, key, count)?),
         SignerWord::LmsFile(name) => {
-            let uses = take_uses(alloc, shelf, name, count)?;
+            let uses = take_uses(rt, alloc, shelf, name, count)?;
             Ok(once_each(alloc, uses)?)
         }
     }

@@ -11,15 +11,17 @@ use lms_core::{Height, LmsKey};
 use peer_listing::key_line;
 use peer_stage::{Done, Stop, put_bytes, write_output};
 use std::alloc::Global;
+use std::thread::Threads;
 use willow_outside::{Fault, Noise, Shelf, Sink};
 use willow_path::NoMemory;
 
 /// Makes a key under a name of the shelf, which must be absent, and writes the user key as a line.
 ///
 /// Two draws of noise are taken: the first 16 bytes of the first are the key's identifier, and the second is
-/// its seed. The key's file is put before the line is written. It hashes the key's whole tree once: about 80
-/// milliseconds at height 5, and 2.6 seconds at height 10.
-pub fn make_key<H: Shelf, N: Noise, O: Sink>(
+/// its seed. The key's file is put before the line is written. It hashes the key's whole tree once, on all
+/// processors: `LmsKey::user_key_on` says how long.
+pub fn make_key<R: Threads + Sync, H: Shelf, N: Noise, O: Sink>(
+    rt: &R,
     alloc: Global,
     name: String,
     height: Height,
@@ -33,7 +35,7 @@ pub fn make_key<H: Shelf, N: Noise, O: Sink>(
 {
     let name = find_free(shelf, name)?;
     let key = draw_key(height, noise)?;
-    let line = user_key_line(alloc, &key)?;
+    let line = user_key_line(rt, alloc, &key)?;
     put_file(alloc, shelf, name.as_str(), &key)?;
     write_output(output, &line)?;
     Ok(Done::Made)
@@ -108,11 +110,15 @@ fn known(words: &[u8; 32])
 }
 
 // The user key as a line.
-fn user_key_line(alloc: Global, key: &LmsKey) -> Result<Vec<u8>, NoMemory>
+fn user_key_line<R: Threads + Sync>(
+    rt: &R,
+    alloc: Global,
+    key: &LmsKey,
+) -> Result<Vec<u8>, NoMemory>
     ensures { IfOk result (λ line. line.items ≡ key_line (own_user_key key.now)) }
 {
     let mut line = Vec::new(alloc);
-    key_line(&key.user_key(), &mut line)?;
+    key_line(&key.user_key_on(rt, alloc)?, &mut line)?;
     Ok(line)
 }
 

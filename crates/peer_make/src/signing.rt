@@ -5,19 +5,21 @@ ghost use Rattle.peer_words.specs.Signers.{IsSigner};
 ghost use Rattle.peer_stage.specs.Faults.{CountsStep};
 ghost use Rattle.peer_make.specs.Signing.{Signs, SignsOpen, SignsNext, SignsOnce, HandsNext, HandsUses, stop_of};
 
-use lms_core::{KeyRefusal, OneUse, reserve_keys};
+use lms_core::{KeyRefusal, OneUse, reserve_keys_on};
 use mc_cap::Signature;
 use peer_stage::{Origin, Stop};
 use peer_words::SignerWord;
 use scheme_core::{MAX_SIGNATURE, OpenSigner, Signer};
 use spelling::End;
 use std::alloc::Global;
+use std::thread::Threads;
 use willow_outside::Shelf;
 use willow_path::UserKey;
 
 /// Signs a message. An open key calls nothing of the shelf; a key file gives its next index for it, which
 /// is used up also where no memory is found for the signature.
-pub(crate) fn sign_with<H: Shelf>(
+pub(crate) fn sign_with<R: Threads + Sync, H: Shelf>(
+    rt: &R,
     alloc: Global,
     shelf: &mut H,
     key: SignerWord,
@@ -30,7 +32,7 @@ pub(crate) fn sign_with<H: Shelf>(
 {
     match key {
         SignerWord::OpenKey(key) => sign_open(alloc, key, message),
-        SignerWord::LmsFile(name) => sign_next(alloc, shelf, name, message),
+        SignerWord::LmsFile(name) => sign_next(rt, alloc, shelf, name, message),
     }
 }
 
@@ -47,7 +49,8 @@ fn sign_open(alloc: Global, key: UserKey, message: &[u8]) -> Result<Signature, S
 }
 
 // The signature of the next index of a key file.
-fn sign_next<H: Shelf>(
+fn sign_next<R: Threads + Sync, H: Shelf>(
+    rt: &R,
     alloc: Global,
     shelf: &mut H,
     name: String,
@@ -57,12 +60,13 @@ fn sign_next<H: Shelf>(
     ensures read_faults { CountsStep (H.facts shelf.old).read_faults (H.facts shelf.new).read_faults result }
     ensures write_faults { CountsStep (H.facts shelf.old).write_faults (H.facts shelf.new).write_faults result }
 {
-    let signer = take_next(alloc, shelf, name)?;
+    let signer = take_next(rt, alloc, shelf, name)?;
     sign_once(alloc, signer, message)
 }
 
 /// The signer of the next index of a key file, which is used up.
-pub(crate) fn take_next<H: Shelf>(
+pub(crate) fn take_next<R: Threads + Sync, H: Shelf>(
+    rt: &R,
     alloc: Global,
     shelf: &mut H,
     name: String,
@@ -71,7 +75,7 @@ pub(crate) fn take_next<H: Shelf>(
     ensures read_faults { CountsStep (H.facts shelf.old).read_faults (H.facts shelf.new).read_faults result }
     ensures write_faults { CountsStep (H.facts shelf.old).write_faults (H.facts shelf.new).write_faults result }
 {
-    let mut signers = take_uses(alloc, shelf, name, 1)?;
+    let mut signers = take_uses(rt, alloc, shelf, name, 1)?;
     match signers.pop() {
         Some(signer) => Ok(signer),
         None => unreachable!(),
@@ -79,7 +83,8 @@ pub(crate) fn take_next<H: Shelf>(
 }
 
 /// The signers of so many of the next indices of a key file, in order, which are used up.
-pub(crate) fn take_uses<H: Shelf>(
+pub(crate) fn take_uses<R: Threads + Sync, H: Shelf>(
+    rt: &R,
     alloc: Global,
     shelf: &mut H,
     name: String,
@@ -90,7 +95,7 @@ pub(crate) fn take_uses<H: Shelf>(
     ensures read_faults { CountsStep (H.facts shelf.old).read_faults (H.facts shelf.new).read_faults result }
     ensures write_faults { CountsStep (H.facts shelf.old).write_faults (H.facts shelf.new).write_faults result }
 {
-    match reserve_keys(alloc, shelf, name.as_str(), count) {
+    match reserve_keys_on(rt, alloc, shelf, name.as_str(), count) {
         Ok(signers) => Ok(signers),
         Err(End::Refused(refusal)) => Err(stop_of(refusal, name)),
         Err(End::NoMemory) => Err(Stop::NoMemory),

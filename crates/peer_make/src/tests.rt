@@ -13,6 +13,7 @@ use scheme_core::{OpenSigner, Signer, Verify};
 use std::alloc::Global;
 use std::collections::BTreeMap;
 use std::test::Fail;
+use std::thread::Threads;
 use willow_outside::{MemNoise, Shelf, SureShelf, SureSink, SureSource};
 use willow_path::{Digest, NamespaceKey, Path, UserKey};
 
@@ -57,7 +58,12 @@ fn written(
 }
 
 // The capability of the first user that a signer grants.
-fn granted(alloc: Global, fill: u8, key: Option<SignerWord>) -> Result<Vec<u8>, Option<RowRefusal>>
+fn granted<R: Threads + Sync>(
+    rt: &R,
+    alloc: Global,
+    fill: u8,
+    key: Option<SignerWord>,
+) -> Result<Vec<u8>, Option<RowRefusal>>
     requires { IfSome key IsSigner }
 {
     let mut bytes = [fill; 33];
@@ -70,6 +76,7 @@ fn granted(alloc: Global, fill: u8, key: Option<SignerWord>) -> Result<Vec<u8>, 
     let mut shelf = SureShelf::new(alloc, BTreeMap::new(alloc));
     let mut output = SureSink::new(alloc, Vec::new(alloc));
     let end = grant(
+        rt,
         alloc,
         namespace,
         Mode::Write,
@@ -82,9 +89,13 @@ fn granted(alloc: Global, fill: u8, key: Option<SignerWord>) -> Result<Vec<u8>, 
 }
 
 // The same with an open signer.
-fn owned(alloc: Global, signer: u8) -> Result<Vec<u8>, Option<RowRefusal>> {
+fn owned<R: Threads + Sync>(
+    rt: &R,
+    alloc: Global,
+    signer: u8,
+) -> Result<Vec<u8>, Option<RowRefusal>> {
     let key = user(signer).ok_or(None)?;
-    granted(alloc, 0x4f, Some(SignerWord::OpenKey(key)))
+    granted(rt, alloc, 0x4f, Some(SignerWord::OpenKey(key)))
 }
 
 // The words of an area without a subspace and a path.
@@ -98,7 +109,8 @@ fn times(from: Option<u64>, until: Option<Option<u64>>) -> AreaWords {
 }
 
 // The capability of the bytes, handed on to a user.
-fn handed(
+fn handed<R: Threads + Sync>(
+    rt: &R,
     alloc: Global,
     bytes: Vec<u8>,
     key: SignerWord,
@@ -111,15 +123,29 @@ fn handed(
     let mut shelf = SureShelf::new(alloc, BTreeMap::new(alloc));
     let mut input = SureSource::new(alloc, bytes);
     let mut output = SureSink::new(alloc, Vec::new(alloc));
-    let end = delegate(alloc, key, to, area, &mut shelf, &mut input, &mut output);
+    let end = delegate(
+        rt,
+        alloc,
+        key,
+        to,
+        area,
+        &mut shelf,
+        &mut input,
+        &mut output,
+    );
     written(alloc, end, &output)
 }
 
 // The communal capability, handed on by the first user.
-fn handed_once(alloc: Global, to: u8) -> Result<Vec<u8>, Option<RowRefusal>> {
-    let bytes = granted(alloc, 0x4e, None)?;
+fn handed_once<R: Threads + Sync>(
+    rt: &R,
+    alloc: Global,
+    to: u8,
+) -> Result<Vec<u8>, Option<RowRefusal>> {
+    let bytes = granted(rt, alloc, 0x4e, None)?;
     let key = user(0x55).ok_or(None)?;
     handed(
+        rt,
         alloc,
         bytes,
         SignerWord::OpenKey(key),
@@ -129,11 +155,16 @@ fn handed_once(alloc: Global, to: u8) -> Result<Vec<u8>, Option<RowRefusal>> {
 }
 
 // How many bytes the communal capability has, handed on by the first user to itself so often.
-fn handed_often(alloc: Global, count: u32) -> Result<usize, Option<RowRefusal>> {
+fn handed_often<R: Threads + Sync>(
+    rt: &R,
+    alloc: Global,
+    count: u32,
+) -> Result<usize, Option<RowRefusal>> {
     let key = user(0x55).ok_or(None)?;
-    let mut bytes = granted(alloc, 0x4e, None)?;
+    let mut bytes = granted(rt, alloc, 0x4e, None)?;
     for _ in 0..count {
         bytes = handed(
+            rt,
             alloc,
             bytes,
             SignerWord::OpenKey(key),
@@ -145,11 +176,11 @@ fn handed_often(alloc: Global, count: u32) -> Result<usize, Option<RowRefusal>> 
 }
 
 // Why the communal capability is not handed on for times that are none, with a key file that is missing.
-fn handed_for_none(alloc: Global) -> Option<RowRefusal> {
-    let bytes = granted(alloc, 0x4e, None).ok()?;
+fn handed_for_none<R: Threads + Sync>(rt: &R, alloc: Global) -> Option<RowRefusal> {
+    let bytes = granted(rt, alloc, 0x4e, None).ok()?;
     let name = String::from_str(alloc, "missing").ok()?;
     let area = times(Some(5), Some(Some(5)));
-    handed(alloc, bytes, SignerWord::LmsFile(name), 0x56, area).err()?
+    handed(rt, alloc, bytes, SignerWord::LmsFile(name), 0x56, area).err()?
 }
 
 #[test]
@@ -157,30 +188,37 @@ fn capabilities_are_granted_and_handed_on(rt: HostRuntime) {
     empty_areas_count_as_growing();
     let alloc = rt.alloc();
     assert_eq!(rt;
-        granted(alloc, 0x4e, None).ok(),
+        granted(&rt, alloc, 0x4e, None).ok(),
         hex::decode(alloc, COMMUNAL).ok()
     );
-    assert_eq!(rt; owned(alloc, 0x4f).ok(), hex::decode(alloc, OWNED).ok());
-    let refused = RowRefusal::Chain(ChainRefusal::BadInitial);
-    assert_eq!(rt; owned(alloc, 0x55).err(), Some(Some(refused)));
     assert_eq!(rt;
-        handed_once(alloc, 0x56).ok(),
+        owned(&rt, alloc, 0x4f).ok(),
+        hex::decode(alloc, OWNED).ok()
+    );
+    let refused = RowRefusal::Chain(ChainRefusal::BadInitial);
+    assert_eq!(rt; owned(&rt, alloc, 0x55).err(), Some(Some(refused)));
+    assert_eq!(rt;
+        handed_once(&rt, alloc, 0x56).ok(),
         hex::decode(alloc, HANDED).ok()
     );
-    assert_eq!(rt; handed_often(alloc, 8).ok(), Some(956));
+    assert_eq!(rt; handed_often(&rt, alloc, 8).ok(), Some(956));
     let refused = RowRefusal::Chain(ChainRefusal::TooManyDelegations);
-    assert_eq!(rt; handed_often(alloc, 9).err(), Some(Some(refused)));
+    assert_eq!(rt; handed_often(&rt, alloc, 9).err(), Some(Some(refused)));
     let refused = RowRefusal::Chain(ChainRefusal::AreaGrows { at: 1 });
-    assert_eq!(rt; handed_for_none(alloc), Some(refused));
+    assert_eq!(rt; handed_for_none(&rt, alloc), Some(refused));
 }
 
 // The line of the key that is made of the draws 11 and 22, or None where the name is taken.
-fn made_line(alloc: Global, shelf: &mut SureShelf) -> Option<Option<Vec<u8>>> {
+fn made_line<R: Threads + Sync>(
+    rt: &R,
+    alloc: Global,
+    shelf: &mut SureShelf,
+) -> Option<Option<Vec<u8>>> {
     let draws = vec![in alloc; [0x11; 32], [0x22; 32]].ok()?;
     let name = String::from_str(alloc, "k").ok()?;
     let mut noise = MemNoise::new(alloc, draws, Vec::new(alloc));
     let mut output = SureSink::new(alloc, Vec::new(alloc));
-    match make_key(alloc, name, Height::H5, shelf, &mut noise, &mut output) {
+    match make_key(rt, alloc, name, Height::H5, shelf, &mut noise, &mut output) {
         Ok(_) => Some(Some(Vec::from_slice(alloc, output.held()).ok()?)),
         Err(Stop::Taken { .. }) => Some(None),
         Err(_) => None,
@@ -212,9 +250,12 @@ fn line_of(alloc: Global, digits: &str) -> Option<Vec<u8>> {
 fn a_key_is_made_once(rt: HostRuntime) {
     let alloc = rt.alloc();
     let mut shelf = SureShelf::new(alloc, BTreeMap::new(alloc));
-    assert_eq!(rt; made_line(alloc, &mut shelf), Some(line_of(alloc, USER)));
+    assert_eq!(rt;
+        made_line(&rt, alloc, &mut shelf),
+        Some(line_of(alloc, USER))
+    );
     assert_eq!(rt; shelf.get("k").ok(), Some(file_at(alloc, 0)));
-    assert_eq!(rt; made_line(alloc, &mut shelf), Some(None));
+    assert_eq!(rt; made_line(&rt, alloc, &mut shelf), Some(None));
 }
 
 // The open signature by the first user of what is held.
@@ -223,7 +264,11 @@ fn signed(alloc: Global, output: &SureSink) -> Option<Vec<u8>> {
 }
 
 // The open signature of the row that the key file writes, or None where the key is spent.
-fn row_signed(alloc: Global, shelf: &mut SureShelf) -> Option<Option<Vec<u8>>> {
+fn row_signed<R: Threads + Sync>(
+    rt: &R,
+    alloc: Global,
+    shelf: &mut SureShelf,
+) -> Option<Option<Vec<u8>>> {
     let name = String::from_str(alloc, "k").ok()?;
     let mut bytes = hex::decode(alloc, COMMUNAL).ok()?;
     bytes.truncate(34);
@@ -231,6 +276,7 @@ fn row_signed(alloc: Global, shelf: &mut SureShelf) -> Option<Option<Vec<u8>>> {
     let mut input = SureSource::new(alloc, bytes);
     let mut output = SureSink::new(alloc, Vec::new(alloc));
     match write(
+        rt,
         alloc,
         SignerWord::LmsFile(name),
         Path::empty(alloc),
@@ -257,10 +303,10 @@ fn shelf_at(alloc: Global, next: u8) -> Option<SureShelf> {
 }
 
 // What becomes of the key file, whose last index writes a row and then none.
-fn file_after(alloc: Global, wanted: &[u8]) -> Option<Vec<u8>> {
+fn file_after<R: Threads + Sync>(rt: &R, alloc: Global, wanted: &[u8]) -> Option<Vec<u8>> {
     let mut shelf = shelf_at(alloc, 31)?;
-    let first = row_signed(alloc, &mut shelf)??;
-    if first.as_slice() != wanted || row_signed(alloc, &mut shelf)?.is_some() {
+    let first = row_signed(rt, alloc, &mut shelf)??;
+    if first.as_slice() != wanted || row_signed(rt, alloc, &mut shelf)?.is_some() {
         return None;
     }
     shelf.get("k").ok()?
@@ -270,18 +316,23 @@ fn file_after(alloc: Global, wanted: &[u8]) -> Option<Vec<u8>> {
 fn the_last_index_writes_one_row(rt: HostRuntime) {
     let alloc = rt.alloc();
     let file = match hex::decode(alloc, ROW).ok() {
-        Some(wanted) => file_after(alloc, &wanted),
+        Some(wanted) => file_after(&rt, alloc, &wanted),
         None => None,
     };
     assert_eq!(rt; file, file_at(alloc, 32));
 }
 
 // The indices that so many signers of the key file have, or None where it has too few.
-fn reserved(alloc: Global, shelf: &mut SureShelf, count: u32) -> Option<Option<Vec<u32>>>
+fn reserved<R: Threads + Sync>(
+    rt: &R,
+    alloc: Global,
+    shelf: &mut SureShelf,
+    count: u32,
+) -> Option<Option<Vec<u32>>>
     requires { 0 < count }
 {
     let key = SignerWord::LmsFile(String::from_str(alloc, "k").ok()?);
-    match reserve_signers(alloc, shelf, key, count) {
+    match reserve_signers(rt, alloc, shelf, key, count) {
         Ok(signers) => Some(Some(indices_of(alloc, signers)?)),
         Err(Stop::KeySpent) => Some(None),
         Err(_stop) => None,
@@ -306,9 +357,9 @@ fn many_signers_have_indices_of_their_own(rt: HostRuntime) -> Result<(), Fail> {
     let alloc = rt.alloc();
     let mut shelf = shelf_at(alloc, 28).ok_or("a shelf")?;
     let indices = vec![in alloc; 28, 29].ok();
-    assert_eq!(rt; reserved(alloc, &mut shelf, 2), Some(indices));
+    assert_eq!(rt; reserved(&rt, alloc, &mut shelf, 2), Some(indices));
     assert_eq!(rt; shelf.get("k").ok(), Some(file_at(alloc, 30)));
-    assert_eq!(rt; reserved(alloc, &mut shelf, 3), Some(None));
+    assert_eq!(rt; reserved(&rt, alloc, &mut shelf, 3), Some(None));
     assert_eq!(rt; shelf.get("k").ok(), Some(file_at(alloc, 30)));
     Ok(())
 }

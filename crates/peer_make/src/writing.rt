@@ -13,6 +13,7 @@ use peer_stage::{Done, Stop, write_output};
 use peer_words::SignerWord;
 use spelling::End;
 use std::alloc::Global;
+use std::thread::Threads;
 use willow_entry::{Entry, entry_message};
 use willow_outside::{Shelf, Sink, Source};
 use willow_path::{Digest, Path, UserKey};
@@ -22,7 +23,8 @@ use willow_path::{Digest, Path, UserKey};
 ///
 /// Without a subspace the entry is in that of the capability's receiver. An index of a key file is used up
 /// also where the row is refused.
-pub fn write<H: Shelf, I: Source, O: Sink>(
+pub fn write<R: Threads + Sync, H: Shelf, I: Source, O: Sink>(
+    rt: &R,
     alloc: Global,
     key: SignerWord,
     path: Path,
@@ -49,7 +51,7 @@ pub fn write<H: Shelf, I: Source, O: Sink>(
         digest,
     };
     let message = entry_message(alloc, &entry)?;
-    let signature = sign_with(alloc, shelf, key, &message)?;
+    let signature = sign_with(rt, alloc, shelf, key, &message)?;
     let token = WriteToken {
         capability,
         signature,

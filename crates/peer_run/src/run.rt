@@ -25,7 +25,8 @@ use std::thread::Threads;
 use willow_outside::{Door, Noise, Shelf, Sink, Source};
 
 /// Runs a command that calls nobody over the objects that it calls. A command that is not built yet is no command.
-fn run_command<H: Shelf, I: Source, O: Sink, N: Noise>(
+fn run_command<R: Threads + Sync, H: Shelf, I: Source, O: Sink, N: Noise>(
+    rt: &R,
     alloc: Global,
     command: Command,
     shelf: &mut H,
@@ -42,14 +43,16 @@ fn run_command<H: Shelf, I: Source, O: Sink, N: Noise>(
     match command {
         Command::Join { namespace } => join(alloc, &namespace, input, output),
         Command::Show { newest } => show(alloc, newest, input, output),
-        Command::Key { name, height } => make_key(alloc, name, height, shelf, noise, output),
+        Command::Key { name, height } => make_key(rt, alloc, name, height, shelf, noise, output),
         Command::Grant {
             namespace,
             mode,
             user,
             key,
-        } => grant(alloc, namespace, mode, user, key, shelf, output),
-        Command::Delegate { key, to, area } => delegate(alloc, key, to, area, shelf, input, output),
+        } => grant(rt, alloc, namespace, mode, user, key, shelf, output),
+        Command::Delegate { key, to, area } => delegate(
+            rt, alloc, key, to, area, shelf, input, output,
+        ),
         Command::Write {
             key,
             path,
@@ -58,7 +61,7 @@ fn run_command<H: Shelf, I: Source, O: Sink, N: Noise>(
             digest,
             subspace,
         } => write(
-            alloc, key, path, time, length, digest, subspace, shelf, input, output,
+            rt, alloc, key, path, time, length, digest, subspace, shelf, input, output,
         ),
         Command::Gen { rows } => generate(alloc, rows, output),
         Command::Drill { rows } => drill(alloc, rows, output),
@@ -151,7 +154,7 @@ fn run_afar<R: Wait + Threads + Sync, H: Shelf, D: Door, N: Noise>(
 /// Runs a command that words ask for and that calls nobody, over the objects outside, and answers its status, as `peer_run`
 /// does. It waits for nobody.
 pub fn run_local<R: Threads + Sync, H: Shelf, I: Source, O: Sink, E: Sink, N: Noise>(
-    _rt: &R,
+    rt: &R,
     alloc: Global,
     command: Command,
     shelf: &mut H,
@@ -169,7 +172,7 @@ pub fn run_local<R: Threads + Sync, H: Shelf, I: Source, O: Sink, E: Sink, N: No
       status = result;
     }) }
 {
-    let end = run_command(alloc, command, shelf, input, output, noise);
+    let end = run_command(rt, alloc, command, shelf, input, output, noise);
     end_run(alloc, &end, report)
 }
 

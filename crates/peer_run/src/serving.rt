@@ -75,7 +75,7 @@ pub(crate) fn serve<R: Wait + Threads + Sync, H: Shelf, D: Door, N: Noise>(
         opening,
         plan,
         signers,
-    } = open_house(alloc, shelf, image, cap, key, links, &area)?;
+    } = open_house(rt, alloc, shelf, image, cap, key, links, &area)?;
     let draws = draw_all(alloc, noise, links)?;
     let Opening { state, rows, first } = opening;
     let attended = attend(rt, alloc, state, plan, at.as_str(), signers, &draws, door)?;
@@ -83,7 +83,8 @@ pub(crate) fn serve<R: Wait + Threads + Sync, H: Shelf, D: Door, N: Noise>(
 }
 
 // Gets the image and the capability, judges the own hello, and reserves what signs.
-fn open_house<H: Shelf>(
+fn open_house<R: Threads + Sync, H: Shelf>(
+    rt: &R,
     alloc: Global,
     shelf: &mut H,
     image: String,
@@ -97,7 +98,7 @@ fn open_house<H: Shelf>(
     ensures { (others : World) → OpensHouse image cap key links area.now (record others { shelf = H.facts shelf.old }) (record others { shelf = H.facts shelf.new }) result }
 {
     let Prepared { opening, hello } = prepare(alloc, shelf, image, cap, area)?;
-    let signers = reserve_signers(alloc, shelf, key, links)?;
+    let signers = reserve_signers(rt, alloc, shelf, key, links)?;
     Ok(Server {
         opening,
         plan: plan_of(Role::Answerer, hello),

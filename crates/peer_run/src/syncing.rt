@@ -69,7 +69,7 @@ pub(crate) fn sync<R: Wait + Threads + Sync, H: Shelf, D: Door, N: Noise>(
         opening,
         plan,
         signer,
-    } = begin(alloc, shelf, image, cap, key, &area)?;
+    } = begin(rt, alloc, shelf, image, cap, key, &area)?;
     let nonce = nonce_of(&draw(noise)?);
     let Opening { state, rows, first } = opening;
     let called = call(rt, alloc, state, &plan, to.as_str(), signer, nonce, door)?;
@@ -77,7 +77,8 @@ pub(crate) fn sync<R: Wait + Threads + Sync, H: Shelf, D: Door, N: Noise>(
 }
 
 // Gets the image and the capability, judges the own hello, and reserves what signs.
-fn begin<H: Shelf>(
+fn begin<R: Threads + Sync, H: Shelf>(
+    rt: &R,
     alloc: Global,
     shelf: &mut H,
     image: String,
@@ -89,7 +90,7 @@ fn begin<H: Shelf>(
     ensures { (others : World) → Begins image cap key area.now (record others { shelf = H.facts shelf.old }) (record others { shelf = H.facts shelf.new }) result }
 {
     let Prepared { opening, hello } = prepare(alloc, shelf, image, cap, area)?;
-    let signer = reserve_signer(alloc, shelf, key)?;
+    let signer = reserve_signer(rt, alloc, shelf, key)?;
     Ok(Caller {
         opening,
         plan: plan_of(Role::Caller, hello),

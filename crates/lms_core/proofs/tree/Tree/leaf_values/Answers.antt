@@ -4,7 +4,8 @@ use Rattle.std.proofs.lemmas.Slice.Zip.{AllZip-map}
 use Rattle.rayon.specs.Numbers.{nat_range}
 use Rattle.rayon.proofs.ToStd.{nat_range-All}
 use Rattle.lms_core.specs.Accepts.{leaves}
-use Rattle.lms_core.specs.Signer.{node_value, leaf_values}
+use Rattle.lms_core.specs.Signer.{node_value}
+use Rattle.lms_core.specs.KnownTrees.{leaf_values}
 use Rattle.lms_core.proofs.tree.Tree.leaf_values.Goals as goal
 
 pub collect-requires-clause-ready : goal.collect-requires-clause-ready
