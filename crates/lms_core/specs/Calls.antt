@@ -1,4 +1,4 @@
--- Calls of `reserve_keys` for one name of one shelf that tells what it holds, one after the other.
+-- Calls of `reserve_keys` and `reserve_keys_on` for one name of one shelf that tells what it holds, one after the other.
 use Rattle.std.specs.Prelude.{◌≡◌, ℕ, List, [], ◌∷◌, map, flat_map, Result, Ok, Err, Some}
 use Rattle.std.specs.declared.option.Option.{Option}
 use Rattle.std.specs.declared.vec.Vec.{Vec}
@@ -30,7 +30,7 @@ handed_out calls = flat_map (λ c. indices_of c.answer) calls
 abbrev pub told_under : List ℕ → ShelfFacts → Option (Option (List ℕ))
 told_under name shelf = option_map (λ names. names name) shelf.names
 
--- a call does what `reserve_keys` says, where the name held these bytes before it and those after it
+-- a call does what both say, where the name held these bytes before it and those after it
 pub record IsCall (name : List ℕ) (before after : Option (List ℕ)) (c : Call) : Type 0 where
   pub told_before : told_under name c.before ≡ Some before
   pub reserves : Reserves name c.count c.before c.after c.answer

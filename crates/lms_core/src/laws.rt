@@ -12,9 +12,9 @@ pub fn made_signatures_are_accepted()
         → lms_accepts (public_key height id seed) message (signature_of height id seed q message) ≡ true }
 {}
 
-/// A law, and no code: over every list of calls of `reserve_keys` for one name of one shelf that tells what it
-/// holds, whatever each call answered, the indices of the signers handed out rise. So no two signers have the
-/// same index.
+/// A law, and no code: over every list of calls of `reserve_keys` and `reserve_keys_on` for one name of one
+/// shelf that tells what it holds, whatever each call answered, the indices of the signers handed out rise. So
+/// no two signers have the same index.
 pub fn indices_are_handed_out_once()
     ensures { (name : List ℕ) (held : Option (List ℕ)) (calls : List Call) → AreCalls name held calls
         → AllPairs (λ i j. i < j) (handed_out calls) }

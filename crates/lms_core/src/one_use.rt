@@ -49,7 +49,8 @@ impl OneUse {
         }
     }
 
-    /// The key for which the signature is accepted. It hashes the whole tree, as `LmsKey::public` does.
+    /// The key for which the signature is accepted. It hashes the whole tree, as `LmsKey::public` does, unless
+    /// the signer is of `reserve_keys_on`, whose leaves are hashed already.
     pub fn user_key(&self) -> UserKey
         ensures { result ≡ user_key_of self.now.height self.now.identifier self.now.seed }
     {
@@ -64,8 +65,8 @@ impl Signer for OneUse {
 
     ghost faults = { λ _. 0 };
 
-    /// Signs a message, once. It hashes the whole tree, as `LmsKey::public` does. After want of memory the
-    /// signer is as it was.
+    /// Signs a message, once. It hashes the whole tree, as `LmsKey::public` does, or one leaf where the signer is
+    /// of `reserve_keys_on`. After want of memory the signer is as it was.
     fn sign(&mut self, alloc: Global, message: &[u8]) -> Result<Vec<u8>, End<SignRefusal>>
         ensures given { IfOk result (λ signature. use_gives self.old message.now signature.items ≡ true) }
         ensures short { IfOk result (λ signature. length signature.items ≤ MAX_SIGNATURE) }

@@ -1,5 +1,4 @@
-use Rattle.std.proofs.Common.{◌≡◌, ◌<◌, ◌∙◌, List, ℕ, length, get_or, ap, sym, arith}
-use Rattle.lms_core.specs.Accepts.{leaves}
+use Rattle.std.proofs.Common.{◌∙◌, List, ℕ, length, get_or, ap, arith}
 use Rattle.lms_core.proofs.Known.{length_leaf_values, leaf_value_at}
 use Rattle.lms_core.proofs.known_tree.KnownTree.leaf_value.Goals as goal
 
