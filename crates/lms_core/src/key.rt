@@ -67,8 +67,8 @@ impl LmsKey {
         KnownTree::bare(self.tree).user_key()
     }
 
-    /// The user key, whose tree is hashed on all processors: on four, in a third of the time or less. It takes
-    /// memory for the leaves' values, 32 kilobytes at height 10, and some more while they are put together.
+    /// The user key, whose tree is hashed on all processors. It takes memory for the leaves' values, 32 kilobytes
+    /// at height 10, and some more while they are put together.
     pub fn user_key_on<R: Threads + Sync>(&self, rt: &R, alloc: Global) -> Result<UserKey, NoMemory>
         ensures { IfOk result (λ key. key ≡ user_key_of self.now.height self.now.identifier self.now.seed) }
     {
