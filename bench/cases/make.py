@@ -1,6 +1,5 @@
-"""Makes the cases that crates/run_cases runs, what crates/large_join prints, what crates/loopback reads and prints, and the
-files of samples/, by a model of the program that shares no code with it and knows only the rules that docs/FORMATS.md
-tells.
+"""Makes the cases that crates/run_cases runs, what crates/loopback reads and prints, and the files of samples/, by a model
+of the program that shares no code with it and knows only the rules that docs/FORMATS.md tells.
 
     python3 bench/cases/make.py             writes them
     python3 bench/cases/make.py --check     compares them with what is stored, and exits with 0 where nothing differs
@@ -9,11 +8,11 @@ tells.
 The model: `octets` (bytes and readers), `entries` (paths, entries, stores), `lms` (LMS keys), `capabilities`, `rows`
 (tokens, frames, images, the generator), `exchange` (two stores that meet), `sessions` (a session over bytes), `grammar`
 (the words), `outside` (the objects), `commands`, `report`. The cases: `situations` (what they are made of) and a module
-a command; `large`, `loopback` and `samples`.
+a command; `large_cases`, `loopback` and `samples`.
 
-Two things are taken from the program, since what a run must do leaves them open: that each read of the input offers
-room for all that a call may give, and that a listing is written in two pieces. Only cases in which a call fails rest on
-them. Not tried: input past its limit, which is 4 GB, want of memory, and of a session a full log and too many items.
+Two things are taken from the program, since what a run must do leaves them open: how much room each read of the input
+offers, and that a listing is written in two pieces. Only cases in which a call fails, or in which more stands behind what
+stops a join, rest on them. Not tried: input past its limit, which is 4 GB, want of memory, and of a session a full log and too many items.
 """
 import sys
 from pathlib import Path
@@ -26,7 +25,7 @@ import gen_cases
 import grant_cases
 import join_cases
 import key_cases
-import large
+import large_cases
 import loopback
 import meet_cases
 import samples
@@ -49,6 +48,7 @@ COMMANDS = {
     "meet": meet_cases,
     "sync": sync_cases,
     "serve": serve_cases,
+    "gen and join": large_cases,
     "words": words_cases,
 }
 
@@ -79,7 +79,6 @@ def made() -> dict:
     assert len(names) == len(set(names)), "two cases of one name"
     folder = CRATES / "run_cases"
     return {folder / "stdin": text.encode(), folder / "stdout": f"{len(names)} of {len(names)}\n".encode(),
-            CRATES / "large_join" / "stdout": large.lines().encode(),
             **{CRATES / "loopback" / name: data for name, data in loopback.files().items()}, **samples.files()}
 
 

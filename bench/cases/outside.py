@@ -4,7 +4,8 @@ A call is counted from 1, all kinds of call of one object together. A call that 
 the put of a shelf, which leaves the new bytes.
 """
 
-INPUT_PIECE, OUTPUT_PIECE, REPORT_PIECE, LINK_PIECE = 100, 100, 7, 100  # the most bytes a call
+# The most bytes a call: of the input, the output and the links; of the input and the output of a large case; of the report.
+PIECE, LARGE_PIECE, REPORT_PIECE = 100, 1 << 20, 7
 
 # How much room each read of the input offers is not part of what a run must do: it is taken from the program. The cases
 # in which a call of the input fails rest on it, and those of `join` in which rows stand behind what stops it.
@@ -27,7 +28,7 @@ class Counted:
 
 
 class Source(Counted):
-    def __init__(self, data: bytes, fails=(), most: int = INPUT_PIECE):
+    def __init__(self, data: bytes, fails=(), most: int = PIECE):
         super().__init__(fails)
         self.data = data
         self.taken = 0
@@ -92,7 +93,7 @@ class Link(Counted):
 
     def __init__(self, data: bytes, fails=()):
         super().__init__(fails)
-        self.source = Source(data, (), LINK_PIECE)
+        self.source = Source(data, (), PIECE)
         self.held = bytearray()
 
     def read(self) -> bytes:
@@ -101,10 +102,10 @@ class Link(Counted):
         return self.source.read()
 
     def write_whole(self, data: bytes) -> None:
-        for begin in range(0, len(data), LINK_PIECE):
+        for begin in range(0, len(data), PIECE):
             if self.call():
                 raise Fault
-            self.held += data[begin:begin + LINK_PIECE]
+            self.held += data[begin:begin + PIECE]
 
 
 class Door(Counted):
@@ -140,12 +141,12 @@ class Objects:
     which one it is, but for the first. `order` says in which order the sessions of a server begin and end: at the first
     place of its number a session begins, and at the second one it ends."""
 
-    def __init__(self, names: dict, draws, given: bytes, fails: dict, piece: int = INPUT_PIECE, links=(),
+    def __init__(self, names: dict, draws, given: bytes, fails: dict, piece: int = PIECE, links=(),
                  order=one_by_one):
         self.shelf = Shelf(names, fails.get("s", ()))
         self.noise = Noise(draws, fails.get("n", ()))
         self.input = Source(given, fails.get("i", ()), piece)
-        self.output = Sink(OUTPUT_PIECE, fails.get("o", ()))
+        self.output = Sink(piece, fails.get("o", ()))
         self.report = Sink(REPORT_PIECE, fails.get("r", ()))
         self.door = Door([Link(data, fails.get("l" if at == 1 else f"l{at}", ())) for at, data in enumerate(links, 1)],
                          fails.get("d", ()))

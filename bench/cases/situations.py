@@ -9,7 +9,7 @@ from capabilities import (READ, WRITE, Area, Capability, Delegation, entry_messa
 from commands import run
 from entries import Entry, Store, path_bytes
 from octets import number
-from outside import Objects, one_by_one
+from outside import PIECE, Objects, one_by_one
 from rows import Row, generated, image
 
 GREATEST = 2 ** 64 - 1
@@ -174,19 +174,29 @@ class Case:
     fails: str = ""  # as `i1 l2 l3:4`: a letter for the object, of a further link which one, and the number of its call
     links: Optional[tuple] = None  # what the links give to which the door leads, if it leads to any
     by_hand: Optional[ByHand] = None
+    piece = PIECE  # the most bytes that a call of the input or the output moves
 
     def situation(self) -> str:
         """The fields of the case's line that say what is run."""
         return " ".join((
             listed(self.words), listed(f"{name}:{data.hex()}" for name, data in sorted(self.names.items())),
-            listed(draw.hex() for draw in self.draws), hexadecimal(self.given), listed(self.fails.split())))
+            listed(draw.hex() for draw in self.draws), self.told_input(), listed(self.fails.split())))
+
+    def input(self) -> bytes:
+        return self.given
+
+    def told_input(self) -> str:
+        return hexadecimal(self.input())
+
+    def told_output(self, output: bytes) -> str:
+        return hexadecimal(output)
 
     def objects(self, order) -> Objects:
         fails = {}
         for call in self.fails.split():
             link, _, number = call[1:].rpartition(":")
             fails.setdefault(call[0] + link, []).append(int(number))
-        return Objects(self.names, self.draws, self.given, fails, links=self.links or (), order=order)
+        return Objects(self.names, self.draws, self.input(), fails, self.piece, self.links or (), order)
 
     def line(self) -> str:
         """The case's line: its name, what is run, and what comes of it, in whatever order sessions begin and end."""
@@ -201,7 +211,7 @@ class Case:
         assert self.by_hand in (None, came), f"{self.name}: {came}"
         names = sorted(objects.shelf.names.items())
         return " ".join((
-            hexadecimal(objects.output.held), hexadecimal(objects.report.held), str(status),
+            self.told_output(objects.output.held), hexadecimal(objects.report.held), str(status),
             listed(f"{name}:{data.hex()}" for name, data in names), *self.traffic(objects)))
 
     def traffic(self, objects: Objects) -> list:

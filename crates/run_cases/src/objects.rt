@@ -1,6 +1,6 @@
 //! The objects that a case is run over.
 
-ghost use Rattle.std.specs.Prelude.{IfOk};
+ghost use Rattle.std.specs.Prelude.{IfOk, ◌≤◌};
 ghost use Rattle.std.specs.List.{AllByRecursion};
 ghost use Rattle.willow_outside.specs.Links.{IsFresh};
 
@@ -8,6 +8,12 @@ use crate::fields::{bytes_of, draws_of, fails_of, link_fails_of, names_of};
 use hex::FromHexError;
 use std::alloc::{AllocError, Global};
 use willow_outside::{Link, MemDoor, MemLink, MemNoise, MemShelf, MemSink, MemSource, Shelf};
+
+/// The most bytes that a call of the input, the output or a link moves.
+pub(crate) const PIECE: usize = 100;
+
+/// The same of the input and the output where so much is moved that few calls have to do.
+pub(crate) const LARGE_PIECE: usize = 1 << 20;
 
 /// The objects outside.
 #[derive(Drop)]
@@ -20,9 +26,11 @@ pub struct Objects {
     pub door: MemDoor<MemLink>,
 }
 
-fn output_of(alloc: Global, faults: &str) -> Result<MemSink, FromHexError> {
+fn output_of(alloc: Global, faults: &str, piece: usize) -> Result<MemSink, FromHexError>
+    requires { 1 ≤ piece }
+{
     let fails = fails_of(alloc, faults, 'o')?;
-    Ok(MemSink::new(alloc, Vec::new(alloc), fails, 100))
+    Ok(MemSink::new(alloc, Vec::new(alloc), fails, piece))
 }
 
 fn report_of(alloc: Global, faults: &str) -> Result<MemSink, FromHexError> {
@@ -36,10 +44,16 @@ fn shelf_of(alloc: Global, names: &str, faults: &str) -> Result<MemShelf, FromHe
     Ok(MemShelf::new(alloc, names, fails))
 }
 
-fn input_of(alloc: Global, bytes: &str, faults: &str) -> Result<MemSource, FromHexError> {
-    let bytes = bytes_of(alloc, bytes)?;
+fn input_of(
+    alloc: Global,
+    bytes: Vec<u8>,
+    faults: &str,
+    piece: usize,
+) -> Result<MemSource, FromHexError>
+    requires { 1 ≤ piece }
+{
     let fails = fails_of(alloc, faults, 'i')?;
-    Ok(MemSource::new(alloc, bytes, fails, 100))
+    Ok(MemSource::new(alloc, bytes, fails, piece))
 }
 
 fn noise_of(alloc: Global, draws: &str, faults: &str) -> Result<MemNoise, FromHexError> {
@@ -72,26 +86,29 @@ fn links_of(alloc: Global, field: Option<&str>, faults: &str) -> Result<Vec<MemL
         let left = bytes_of(alloc, bytes)?;
         let fails = link_fails_of(alloc, faults, number)?;
         links
-            .push(MemLink::new(alloc, left, fails, 100))
+            .push(MemLink::new(alloc, left, fails, PIECE))
             .map_err(|unsaid| AllocError::from(unsaid))?;
     }
     Ok(links)
 }
 
 impl Objects {
-    /// The objects that the fields say.
+    /// The objects that the fields say, with that input; a call of input or output moves at most so large a piece.
     pub(crate) fn new(
         alloc: Global,
         names: &str,
         draws: &str,
-        input: &str,
+        input: Vec<u8>,
         faults: &str,
         links: Option<&str>,
-    ) -> Result<Objects, FromHexError> {
+        piece: usize,
+    ) -> Result<Objects, FromHexError>
+        requires { 1 ≤ piece }
+    {
         let shelf = shelf_of(alloc, names, faults)?;
         let noise = noise_of(alloc, draws, faults)?;
-        let input = input_of(alloc, input, faults)?;
-        let output = output_of(alloc, faults)?;
+        let input = input_of(alloc, input, faults, piece)?;
+        let output = output_of(alloc, faults, piece)?;
         let door = door_of(alloc, links, faults)?;
         let report = report_of(alloc, faults)?;
         Ok(Objects {

@@ -1,0 +1,76 @@
+//! A run over the objects of a case, and inputs that runs make.
+
+use crate::fields::{bytes_of, words_of};
+use crate::objects::{LARGE_PIECE, Objects};
+use hex::FromHexError;
+use peer_run::peer_run;
+use std::alloc::Global;
+use std::sync::Wait;
+use std::thread::Threads;
+use willow_outside::{Door, Noise, Shelf, Sink, Source};
+
+/// The status of a run. It has no clause, and knows nothing of the objects: so what a run promises is not looked through again
+/// for the objects in memory, which takes a check of this program many times as long.
+fn status_of<R: Wait + Threads + Sync, H: Shelf, I: Source, O: Sink, E: Sink, D: Door, N: Noise>(
+    rt: &R,
+    alloc: Global,
+    words: &[String],
+    shelf: &mut H,
+    input: &mut I,
+    output: &mut O,
+    report: &mut E,
+    door: &mut D,
+    noise: &mut N,
+) -> u8 {
+    peer_run(rt, alloc, words, shelf, input, output, report, door, noise)
+}
+
+/// The status of the run of the words.
+pub(crate) fn run<R: Wait + Threads + Sync>(
+    rt: &R,
+    alloc: Global,
+    words: &[String],
+    objects: &mut Objects,
+) -> u8 {
+    status_of(
+        rt,
+        alloc,
+        words,
+        &mut objects.shelf,
+        &mut objects.input,
+        &mut objects.output,
+        &mut objects.report,
+        &mut objects.door,
+        &mut objects.noise,
+    )
+}
+
+/// What the program's `gen` puts out for so many rows.
+fn generated<R: Wait + Threads + Sync>(
+    rt: &R,
+    alloc: Global,
+    rows: &str,
+) -> Result<Vec<u8>, FromHexError> {
+    let words = words_of(alloc, format!(in alloc; "gen,--rows,{rows}")?.as_str())?;
+    let none = Vec::new(alloc);
+    let mut objects = Objects::new(alloc, "-", "-", none, "-", None, LARGE_PIECE)?;
+    let _status = run(rt, alloc, &words, &mut objects);
+    Ok(Vec::from_slice(alloc, objects.output.held())?)
+}
+
+/// The bytes of an input: its pieces are bytes, or generated rows.
+pub(crate) fn input_bytes<R: Wait + Threads + Sync>(
+    rt: &R,
+    alloc: Global,
+    field: &str,
+) -> Result<Vec<u8>, FromHexError> {
+    let mut input = Vec::new(alloc);
+    for piece in field.split('+') {
+        let bytes = match piece.strip_prefix("gen:") {
+            Some(rows) => generated(rt, alloc, rows)?,
+            None => bytes_of(alloc, piece)?,
+        };
+        input.extend_from_slice(&bytes)?;
+    }
+    Ok(input)
+}
