@@ -12,7 +12,8 @@ a command; `large_cases`, `loopback` and `samples`.
 
 Two things are taken from the program, since what a run must do leaves them open: how much room each read of the input
 offers, and that a listing is written in two pieces. Only cases in which a call fails, or in which more stands behind what
-stops a join, rest on them. Not tried: input past its limit, which is 4 GB, want of memory, and of a session a full log and too many items.
+stops a join, rest on them. Not tried: input past its limit, which is 4 GB, want of memory, and of a session a full log
+and too many items.
 """
 import sys
 from pathlib import Path
