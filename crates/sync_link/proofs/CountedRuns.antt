@@ -34,7 +34,8 @@ use Rattle.sync_link.specs.Ran.{Ran, side, opening_of, IsDone, IsOther, most_cou
 use Rattle.sync_link.specs.declared.plan.SessionReport.{SessionReport}
 use Rattle.sync_link.proofs.CountedTalk.{said_items, heard_count}
 use Rattle.sync_link.proofs.CoveringRuns.{same_box}
-use Rattle.sync_link.proofs.OtherSides.{meets, meets_back, is_over, all_written, own_opens}
+use Rattle.sync_link.proofs.MetSides.{is_met}
+use Rattle.sync_link.proofs.OtherSides.{IsMet, meets, meets_back, is_over, all_written, own_opens}
 use Rattle.sync_link.proofs.ReadOn.{noting_stands}
 use Rattle.sync_link.proofs.Settled.{caller, answerer, pair, greet, exchanged, inside, inside_rises, inside_few, inside_sendable, same_exchange, rises, calling, answering}
 use Rattle.sync_link.proofs.TakingTurns.{by_items, take_turns}
@@ -141,17 +142,22 @@ counts_for p q can =
 -- ---- the bound
 
 few_turns : (p q : Party) (rows others : List RowValue) → IsOpening p.namespace rows → IsOpening p.namespace others
-    → count_of_items (turns_between p q rows others) ≤ most_counted (length (rows_of_area (box_with p q.hello) rows)) (length (rows_of_area (box_with p q.hello) others))
+    → count_of_items (turns_between p q rows others) ≤ most_counted (box_with p q.hello) (length (rows_of_area (box_with p q.hello) rows)) (length (rows_of_area (box_with p q.hello) others))
 few_turns p q rows others own theirs = by_box (box_with p q.hello)
   where
-    by_box : (box : Option Ranges) → count_of_items (exchange sync_rules rows others box) ≤ most_counted (length (rows_of_area box rows)) (length (rows_of_area box others))
+    by_box : (box : Option Ranges) → count_of_items (exchange sync_rules rows others box) ≤ most_counted box (length (rows_of_area box rows)) (length (rows_of_area box others))
     by_box None = omega arith
     by_box (Some area) =
         omega (arith, counted_exchange sync_rules rows others area disjoint (can_cut_rows rows (rises p.namespace rows own)) (can_cut_rows others (rises p.namespace others theirs)))
 
+-- whichever side the rows are of
+either_way : (box : Option Ranges) (a b : ℕ) → most_counted box a b ≤ most_counted box b a
+either_way None a b = omega arith
+either_way (Some area) a b = omega arith
+
 -- ---- a session that was done
 
-module _ (p : List ℕ → Party) (ran : Ran p) (q : Party) (others : List RowValue) (other : IsOther ran q others) (done : IsDone ran.answer) where
+module _ (p : List ℕ → Party) (ran : Ran p) (q : Party) (others : List RowValue) (other : IsMet ran q others) (done : IsDone ran.answer) where
   abbrev party : Party
   party = side ran
 
@@ -180,7 +186,7 @@ module _ (p : List ℕ → Party) (ran : Ran p) (q : Party) (others : List RowVa
       (ap (λ (m : reading.Move SessionStage SessionMessage SessionMessage SessionCause). m.rows) (read_over notes bytes other.hears.behind over_there))
 
   abbrev IsFew : Type 0
-  IsFew = counted (said party rows bytes) + counted (heard party rows bytes) ≤ most_counted (length (own_common ran q)) (length (other_common ran q others))
+  IsFew = counted (said party rows bytes) + counted (heard party rows bytes) ≤ most_counted (box_with (side ran) q.hello) (length (own_common ran q)) (length (other_common ran q others))
 
   few_as_caller : CanMeet party q → IsFew
   few_as_caller can =
@@ -194,15 +200,15 @@ module _ (p : List ℕ → Party) (ran : Ran p) (q : Party) (others : List RowVa
       let theirs = subst (λ n. IsOpening n others) can.same_namespace other.opens in
       let c = counts_for q party can others rows others_bytes ran.did.written can.accepts can.accepted theirs own (meets_back p ran q others other over (all_written p ran q others other done)) in
       let box = same_box party q can.answers can.calls in
-      omega (
+      subst (λ (x : Option Ranges). counted (said party rows bytes) + counted (heard party rows bytes) ≤ most_counted x (length (rows_of_area x rows)) (length (rows_of_area x others))) box
+      (omega (
         arith,
         c.by_answerer,
         ap counted said_all,
         ap counted heard_all,
         few_turns q party others rows theirs own,
-        ap (λ x. length (rows_of_area x rows)) box,
-        ap (λ x. length (rows_of_area x others)) box,
-      )
+        either_way (box_with q party.hello) (length (rows_of_area (box_with q party.hello) others)) (length (rows_of_area (box_with q party.hello) rows)),
+      ))
 
   pub few : IsFew
   few = by_role other.can_meet
@@ -212,9 +218,10 @@ module _ (p : List ℕ → Party) (ran : Ran p) (q : Party) (others : List RowVa
       by_role (inr can) = few_as_answerer can
 
 module _ (p : List ℕ → Party) (ran : Ran p) (report : SessionReport) (q : Party) (others : List RowValue) (ok : ran.answer ≡ Ok report) (other : IsOther ran q others) where
-  pub runs_counted : report.sent + report.read ≤ most_counted (length (own_common ran q)) (length (other_common ran q others))
+  pub runs_counted : report.sent + report.read ≤ most_counted (box_with (side ran) q.hello) (length (own_common ran q)) (length (other_common ran q others))
   runs_counted =
+      let done = subst IsDone (sym ok) tt in
       let reports : IfOk ran.answer (Reports (side ran) ran.did.log ran.did.bytes ran.did.rows (length ran.did.grown) (length ran.after.seen)) = ran.did.reported in
       let r : Reports (side ran) ran.did.log ran.did.bytes ran.did.rows (length ran.did.grown) (length ran.after.seen) report =
       subst (λ a. IfOk a (Reports (side ran) ran.did.log ran.did.bytes ran.did.rows (length ran.did.grown) (length ran.after.seen))) ok reports in
-      omega (arith, r.sent, r.read, few p ran q others other (subst IsDone (sym ok) tt))
+      omega (arith, r.sent, r.read, few p ran q others (is_met p ran q others other done) done)

@@ -33,7 +33,8 @@ use Rattle.sync_link.specs.declared.plan.SessionReport.{SessionReport}
 use Rattle.sync_link.proofs.CoveredRows.{rows_behind}
 use Rattle.sync_link.proofs.Grants.{in_rows}
 use Rattle.sync_link.proofs.Settled.{rises}
-use Rattle.sync_link.proofs.OtherSides.{got_as_caller, got_as_answerer, is_over, all_written, all_sent, own_opens}
+use Rattle.sync_link.proofs.MetSides.{is_met}
+use Rattle.sync_link.proofs.OtherSides.{IsMet, got_as_caller, got_as_answerer, is_over, all_written, all_sent, own_opens}
 
 -- ---- authorised rows
 
@@ -110,7 +111,7 @@ apart_back role box rows others answers h = subst (λ r. AreApartAs r box rows o
 
 -- ---- the log
 
-module _ (p : List ℕ → Party) (ran : Ran p) (q : Party) (others : List RowValue) (other : IsOther ran q others) (done : IsDone ran.answer) where
+module _ (p : List ℕ → Party) (ran : Ran p) (q : Party) (others : List RowValue) (other : IsMet ran q others) (done : IsDone ran.answer) where
   abbrev party : Party
   party = side ran
 
@@ -154,6 +155,9 @@ module _ (p : List ℕ → Party) (ran : Ran p) (report : SessionReport) (q : Pa
   is_done : IsDone ran.answer
   is_done = subst IsDone (sym ok) tt
 
+  met : IsMet ran q others
+  met = is_met p ran q others other is_done
+
   sent_covered : (r : RowValue) → Contains others r → Contains (map row_of ran.did.rows) r → HasCovering (log_rows ran.after.seen) r
   sent_covered r whose c =
       let one = All-contains (IsAuthorisedRow here.rules here.namespace) others r leave whose in
@@ -162,14 +166,14 @@ module _ (p : List ℕ → Party) (ran : Ran p) (report : SessionReport) (q : Pa
       All-contains (HasCovering (log_rows ran.after.seen)) (authorised_rows here.rules here.namespace ran.did.rows) r all (kept here.rules here.namespace ran.did.rows ran.did.read_out r one c)
 
   covered : (r : RowValue) → Contains others r → Contains (opening_of ran) r ⊎ Contains (map row_of ran.did.rows) r → HasCovering (log_rows ran.after.seen) r
-  covered r whose (inl c) = own_covered p ran q others other is_done r c
+  covered r whose (inl c) = own_covered p ran q others met is_done r c
   covered r whose (inr c) = sent_covered r whose c
 
   pub runs_cover : AreApartAs here.role (box_with here q.hello) (opening_of ran) others → All (HasCovering (log_rows ran.after.seen)) (other_common ran q others)
   runs_cover apart k d within =
       let r = get_or (other_common ran q others) k d in
       let c = All-contains_itself (other_common ran q others) k d within in
-      covered r (in_area_of (box_with here q.hello) r c) (gets p ran q others other is_done apart r c)
+      covered r (in_area_of (box_with here q.hello) r c) (gets p ran q others met is_done apart r c)
     where
       in_area_of : (box : Option Ranges) (r : RowValue) → Contains (rows_of_area box others) r → Contains others r
       in_area_of None r c = absurd (none_in r c)

@@ -24,9 +24,11 @@ use Rattle.sync_link.specs.Granting.{message_due}
 use Rattle.sync_link.specs.Settling.{IsOpening, Accepts}
 use Rattle.sync_link.specs.Talking.{own_message}
 use Rattle.sync_link.specs.Run.{Answer, IsAllOf, Ends, CountsReads, CountsWrites, CountsEnds, CountsSigns, IsProofOf}
-use Rattle.sync_link.specs.Ran.{Ran, side, opening_of, IsDone, CanMeetAs, AreBothRoles, HasOther, SignsWell, IsFaultless}
+use Rattle.sync_link.specs.Ran.{Ran, side, opening_of, IsDone, AreBothRoles, HasOther, SignsWell, IsFaultless}
 use Rattle.sync_link.proofs.Greeted.{Quiet, Proved, told}
 use Rattle.sync_link.proofs.GreetedRuns.{not_quiet}
+use Rattle.sync_link.proofs.MetSides.{passes_at, meet_as}
+use Rattle.sync_link.proofs.OtherSides.{MeetAs}
 use Rattle.sync_link.proofs.Settled.{settled}
 use Rattle.sync_link.proofs.Spellings.{hello_as, hello_back}
 
@@ -84,9 +86,7 @@ module _ (p : List ℕ → Party) (ran : Ran p) (q : Party) (others : List RowVa
   all = out q others ran.did.written
 
   passes_there : Passes q.rules q.namespace party.hello
-  passes_there =
-      subst (λ rules. Passes rules q.namespace party.hello) (sym other.same_rules)
-      (subst (λ n. Passes party.rules n party.hello) (sym other.same_namespace) other.hello_passes)
+  passes_there = passes_at party q party.hello other.same_rules other.same_namespace ran.did.own_passes
 
   accepted : IsProofOf party ran.gives bytes → Accepts q party
   accepted proof =
@@ -95,7 +95,7 @@ module _ (p : List ℕ → Party) (ran : Ran p) (q : Party) (others : List RowVa
       let message : own_message party.role party.hello proof.other ≡ message_due q.role q.hello party.hello =
       ap (own_message party.role party.hello) is ∙ same_message party.role q.role party.hello q.hello other.roles in
       record {
-        hello_fits = other.hello_fits;
+        hello_fits = ran.did.own_fits;
         hello_passes = passes_there;
         proof_fits = proof.fits;
         proved =
@@ -103,17 +103,13 @@ module _ (p : List ℕ → Party) (ran : Ran p) (q : Party) (others : List RowVa
             (subst (λ m. IsTrue (party.rules.user (receiver_of party.hello.capability) m party.signature)) message well);
       }
 
-  can_meet : IsProofOf party ran.gives bytes → CanMeetAs party q
-  can_meet proof = by_roles other.roles
-    where
-      by_roles : AreBothRoles party.role q.role → CanMeetAs party q
-      by_roles (inl r) = inl (record { calls = r.0; answers = r.1; same_rules = other.same_rules; same_namespace = other.same_namespace; accepts = other.accepts; accepted = accepted proof })
-      by_roles (inr r) = inr (record { calls = r.1; answers = r.0; same_rules = sym other.same_rules; same_namespace = sym other.same_namespace; accepts = accepted proof; accepted = other.accepts })
+  can_meet : IsProofOf party ran.gives bytes → MeetAs party q
+  can_meet proof = meet_as party q other.roles other.same_rules other.same_namespace other.accepts (accepted proof)
 
   -- ---- where all that is due to all of the other's bytes was written
 
   module _ (own : IsOpening party.namespace rows) (wrote : ran.did.written ≡ out party rows all) where
-    done_as : CanMeetAs party q → ending party rows all ≡ reading.Done
+    done_as : MeetAs party q → ending party rows all ≡ reading.Done
     done_as (inl can) =
         (settled party q can rows others ran.did.written all own other.opens (record { left_writes = wrote; right_writes = refl })).caller_done
     done_as (inr can) =
@@ -126,7 +122,7 @@ module _ (p : List ℕ → Party) (ran : Ran p) (q : Party) (others : List RowVa
       where
         by_case : IsProofOf party ran.gives bytes ⊎ IsFront ran.did.written (hello_spelling party.hello) → ending party rows all ≡ reading.Done
         by_case (inl proof) = done_as (can_meet proof)
-        by_case (inr quiet) = absurd (not_quiet party q rows others other.accepts other.hello_fits passes_there ran.did.written wrote other.roles quiet)
+        by_case (inr quiet) = absurd (not_quiet party q rows others other.accepts ran.did.own_fits passes_there ran.did.written wrote other.roles quiet)
 
   -- where it read all of them, or nothing further counts, it is done
   module _ (own : IsOpening party.namespace rows) (wrote : ran.did.written ≡ out party rows bytes) where

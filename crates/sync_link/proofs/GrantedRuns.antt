@@ -1,6 +1,5 @@
 -- What a session wrote tells rows and fingerprints only to one that may read them.
 use Rattle.std.proofs.Common.{◌≡◌, ◌⊎◌, inl, inr, ℕ, List, All, Ok, Err, refl}
-use Rattle.willow_area.specs.Area.{IsArea}
 use Rattle.willow_entry.specs.EntryForm.{IsEntry}
 use Rattle.session_end.specs.declared.end.SessionEnd.TheVariants.{LinkRead, LinkWrite, ClosedEarly, BadMessage, Hello, Core, SignFault, LogFull, NoMemory}
 use Rattle.session_rules.specs.Rounds.{IsFront}
@@ -38,7 +37,7 @@ wanting_or_not (Err SignFault) = inr (λ e. cc)
 wanting_or_not (Err (LogFull missed)) = inr (λ e. cc)
 wanting_or_not (Err NoMemory) = inl refl
 
-module _ (p : List ℕ → Party) (ran : Ran p) (own_fits : IsArea (side ran).hello.ask)
+module _ (p : List ℕ → Party) (ran : Ran p)
     (wanting_fits : IsWanting ran.answer → All (λ row. IsEntry row.entry) (opening_of ran)) where
   entries_fit : All (λ row. IsEntry row.entry) (opening_of ran)
   entries_fit = by_answer (wanting_or_not ran.answer)
@@ -54,5 +53,5 @@ module _ (p : List ℕ → Party) (ran : Ran p) (own_fits : IsArea (side ran).he
       record {
         wrote = front_of (out party rows ran.did.bytes) ran.did.written ran.answer ran.did.wrote;
         items = λ item c. item_granted party rows ran.did.bytes ran.did.are_bytes item c;
-        rows = λ row c. row_told party rows ran.did.bytes ran.did.are_bytes own_fits entries_fit row c;
+        rows = λ row c. row_told party rows ran.did.bytes ran.did.are_bytes ran.did.own_fits.ask_fits entries_fit row c;
       }

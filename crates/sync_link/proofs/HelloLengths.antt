@@ -1,10 +1,10 @@
 -- How long a capability of a hello that passes can be.
-use Rattle.std.proofs.Common.{◌≡◌, ℕ, ◌+◌, ◌*◌, ◌≤◌, List, [], ◌∷◌, ◌++◌, length, Option, Some, None, refl, arith}
+use Rattle.std.proofs.Common.{◌≡◌, ℕ, ◌+◌, ◌*◌, ◌≤◌, ◌<◌, ◌^◌, List, [], ◌∷◌, ◌++◌, length, Option, Some, None, refl, arith}
 use Rattle.std.specs.Prelude.{IfSome}
 use Rattle.std.specs.List.{flat_map, AllByRecursion}
 use Rattle.std.specs.Int.{w64, to_be_bytes}
 use Rattle.std.proofs.lemmas.List.{length-append}
-use Rattle.spelling.specs.Spelling.{option_spelling}
+use Rattle.spelling.specs.Spelling.{option_spelling, AreSoManyBytes}
 use Rattle.scheme_core.specs.Rules.{Rules}
 use Rattle.scheme_core.specs.declared.signer.TheConstants.{MAX_SIGNATURE}
 use Rattle.willow_path.specs.declared.limits.TheConstants.{MAX_PARTS, MAX_TOTAL}
@@ -21,7 +21,7 @@ use Rattle.mc_cap.specs.declared.chain.Delegation.{Delegation}
 use Rattle.mc_cap.specs.declared.check.TheConstants.{MAX_DELEGATIONS}
 use Rattle.mc_cap.specs.declared.capability.Capability.{Capability}
 use Rattle.sync_hello.specs.Checked.{hello_refusal}
-use Rattle.sync_hello.specs.HelloForm.{HasSpelling}
+use Rattle.sync_hello.specs.HelloForm.{HasSpelling, IsHello}
 use Rattle.sync_hello.specs.declared.hello.Hello.{Hello}
 use Rattle.sync_hello.proofs.Meaning.{passes_means}
 
@@ -110,3 +110,7 @@ pub has_spelling : (rules : Rules) (namespace : List ℕ) (hello : Hello) → Is
 has_spelling rules namespace hello fits none =
     let few = ((passes_means rules namespace hello).0 none).valid.few in
     omega (arith, capability_long hello.capability fits few)
+
+pub is_hello : (rules : Rules) (namespace : List ℕ) (hello : Hello) → hello.version < 2 ^ 8 → AreSoManyBytes 16 hello.nonce → IsArea hello.ask → IsCapability hello.capability → hello_refusal rules namespace hello ≡ None → IsHello hello
+is_hello rules namespace hello version nonce ask capability none =
+    record { version_fits = version; nonce_fits = nonce; ask_fits = ask; capability_fits = capability; short = has_spelling rules namespace hello capability none }

@@ -40,9 +40,10 @@ pub mod HelloLengths
 pub mod AlikeRuns
 pub mod GrantedRuns
 pub mod OtherSides
+pub mod GreetedRuns
+pub mod MetSides
 pub mod CoveringRuns
 pub mod CountedTalk
 pub mod CountedRuns
-pub mod GreetedRuns
 pub mod EndedRuns
 pub mod MeetingRuns

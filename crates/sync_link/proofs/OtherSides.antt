@@ -1,5 +1,5 @@
 -- A session that was done, which read what another side writes: both meet.
-use Rattle.std.proofs.Common.{◌≡◌, ℕ, List, length, map, Ok, Err, refl, sym, ◌∙◌, subst}
+use Rattle.std.proofs.Common.{◌≡◌, ◌⊎◌, ℕ, List, length, map, Ok, Err, refl, sym, ◌∙◌, subst}
 use Rattle.willow_entry.specs.Row.{RowValue}
 use Rattle.cap_codec.specs.Rows.{row_of}
 use Rattle.session_end.specs.declared.end.SessionEnd.TheVariants.{LinkRead, LinkWrite, ClosedEarly, BadMessage, Hello, Core, SignFault, LogFull, NoMemory}
@@ -10,10 +10,20 @@ use Rattle.session_rules.proofs.Growing.{same_over}
 use Rattle.sync_link.specs.Sessions.{Party, SessionCause, session_of, out, got, ending}
 use Rattle.sync_link.specs.Settling.{IsOpening, CanMeet, AreDone, turns_between}
 use Rattle.sync_link.specs.Run.{Answer, IsAllOf, Ends}
-use Rattle.sync_link.specs.Ran.{Ran, side, opening_of, IsDone, IsOther}
+use Rattle.sync_link.specs.Ran.{Ran, side, opening_of, IsDone, HearsFrom}
 use Rattle.sync_link.proofs.Settled.{settled}
 
-done_all : {A : Type 0} (all part : List A) (answer : Answer) → IsDone answer → IsAllOf all part answer → part ≡ all
+-- The two can meet, in either role.
+abbrev pub MeetAs : Party → Party → Type 0
+MeetAs p q = CanMeet p q ⊎ CanMeet q p
+
+-- the other side of a session, which can meet this one
+pub record IsMet {p : List ℕ → Party} (ran : Ran p) (q : Party) (others : List RowValue) : Type 0 where
+  pub can_meet : MeetAs (side ran) q
+  pub opens : IsOpening (side ran).namespace others
+  pub hears : HearsFrom ran q others
+
+pub done_all : {A : Type 0} (all part : List A) (answer : Answer) → IsDone answer → IsAllOf all part answer → part ≡ all
 done_all all part (Ok report) done e = e
 done_all all part (Err LinkRead) done e = absurd done
 done_all all part (Err LinkWrite) done e = absurd done
@@ -25,7 +35,7 @@ done_all all part (Err SignFault) done e = absurd done
 done_all all part (Err (LogFull missed)) done e = e
 done_all all part (Err NoMemory) done e = absurd done
 
-done_ends : (end : reading.Ending SessionCause) (n : ℕ) (answer : Answer) → IsDone answer → Ends end n answer → end ≡ reading.Done
+pub done_ends : (end : reading.Ending SessionCause) (n : ℕ) (answer : Answer) → IsDone answer → Ends end n answer → end ≡ reading.Done
 done_ends end n (Ok report) done e = e
 done_ends end n (Err LinkRead) done e = absurd done
 done_ends end n (Err LinkWrite) done e = absurd done
@@ -46,7 +56,7 @@ done_over end is more = apart (sym is ∙ more)
     apart : {G : Type 0} → ◌≡◌ {A = reading.Ending G} reading.Done reading.More → ⊥
     apart e = cc
 
-module _ (p : List ℕ → Party) (ran : Ran p) (q : Party) (others : List RowValue) (other : IsOther ran q others) where
+module _ (p : List ℕ → Party) (ran : Ran p) (q : Party) (others : List RowValue) (other : IsMet ran q others) where
   abbrev pub party : Party
   party = side ran
 

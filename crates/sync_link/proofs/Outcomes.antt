@@ -110,6 +110,8 @@ module _ (start : Start) (side : Fed) (bytes all : List ℕ) (raws : List RawVal
         written = all;
         rows = raws;
         grown = grew.grown;
+        own_fits = start.own_fits;
+        own_passes = start.own_passes;
         later = grew.later;
         opening = opening;
         opens = λ some. opens;
@@ -141,6 +143,8 @@ module _ (start : Start) (side : Fed) (bytes all : List ℕ) (raws : List RawVal
         written = written;
         rows = raws;
         grown = grew.grown;
+        own_fits = start.own_fits;
+        own_passes = start.own_passes;
         later = grew.later;
         opening = opening;
         opens = λ some. opens;

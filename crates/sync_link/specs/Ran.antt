@@ -1,5 +1,5 @@
 -- Sessions that were run, and what holds of them where the other side is one of the same kind.
-use Rattle.std.specs.Prelude.{◌≡◌, ◌⊎◌, ℕ, ◌+◌, ◌*◌, max, Bool, true, List, length, Option, map, All, Contains, Ok, Err, IsTrue}
+use Rattle.std.specs.Prelude.{◌≡◌, ◌⊎◌, ℕ, ◌+◌, ◌*◌, max, Bool, true, List, length, Option, None, Some, map, All, Contains, Ok, Err, IsTrue}
 use Rattle.scheme_core.specs.Rules.{Rules}
 use Rattle.willow_outside.specs.Counts.{HasRisen}
 use Rattle.willow_outside.specs.Facts.{LinkFacts}
@@ -16,15 +16,13 @@ use Rattle.sync_msg.specs.Items.{ItemValue}
 use Rattle.sync_msg.specs.declared.item.Item.TheVariants.{Row}
 use Rattle.sync_msg.specs.declared.role.Role.{Role}
 use Rattle.sync_msg.specs.declared.role.Role.TheVariants.{Caller, Answerer}
-use Rattle.sync_hello.specs.Checked.{Passes}
-use Rattle.sync_hello.specs.HelloForm.{IsHello}
 use Rattle.sync_core.specs.Place.{rows_of_area}
 use Rattle.session_rules.specs.Reading as reading
 use Rattle.session_rules.specs.Rounds.{IsFront}
 use Rattle.session_rules.specs.Session.{Item}
 use Rattle.sync_link.specs.Sessions.{Party, SessionCause, said, out, box_with}
-use Rattle.sync_link.specs.Granting.{IsGranted, GrantsRow}
-use Rattle.sync_link.specs.Settling.{IsOpening, Accepts, CanMeet, AreApartIn}
+use Rattle.sync_link.specs.Granting.{IsGranted, GrantsRow, message_due}
+use Rattle.sync_link.specs.Settling.{IsOpening, Accepts, AreApartIn}
 use Rattle.sync_link.specs.Kept.{log_rows}
 use Rattle.sync_link.specs.Run.{Answer, IsAllOf, Ends, Runs}
 
@@ -122,17 +120,35 @@ pub record IsAuthorisedRow (rules : Rules) (namespace : List ℕ) (row : RowValu
   pub read_out : row_of raw ≡ row
   pub authorised : IsAuthorised rules namespace raw
 
--- a side of the other role, by the same scheme and in the same namespace; each accepts the other
-abbrev pub CanMeetAs : Party → Party → Type 0
-CanMeetAs p q = CanMeet p q ⊎ CanMeet q p
+-- the one calls and the other answers
+abbrev pub AreBothRoles : Role → Role → Type 0
+AreBothRoles one other = ((one ≡ Caller) × (other ≡ Answerer)) ⊎ ((one ≡ Answerer) × (other ≡ Caller))
+
+-- the other's signature is accepted for its capability's receiver, over the message that is due of it
+abbrev pub IsProved : Party → Party → Type 0
+IsProved p other = IsTrue (p.rules.user (receiver_of other.hello.capability) (message_due p.role p.hello other.hello) other.signature)
+
+-- Two sessions can meet: one calls and one answers, by one scheme and in one namespace, and both proofs are accepted.
+pub record CanMeetAs {p q : List ℕ → Party} (one : Ran p) (other : Ran q) : Type 0 where
+  pub roles : AreBothRoles (side one).role (side other).role
+  pub same_rules : (side other).rules ≡ (side one).rules
+  pub same_namespace : (side other).namespace ≡ (side one).namespace
+  pub proof_fits : IsSignature (side other).signature
+  pub accepts : IsProved (side one) (side other)
+  pub accepted : IsProved (side other) (side one)
 
 -- The session read what the other side, which has these rows, writes to what this one wrote, or a front of that.
 abbrev pub HearsFrom : {p : List ℕ → Party} → Ran p → Party → List RowValue → Type 0
 HearsFrom ran q others = IsFront ran.did.bytes (out q others ran.did.written)
 
--- The other side of a session: a store with these rows, whose bytes the session read.
+-- The other side of a session: a store with these rows, whose bytes the session read. It is of the other role, by the same
+-- scheme and in the same namespace; its hello and proof are accepted, and it accepts the own proof.
 pub record IsOther {p : List ℕ → Party} (ran : Ran p) (q : Party) (others : List RowValue) : Type 0 where
-  pub can_meet : CanMeetAs (side ran) q
+  pub roles : AreBothRoles (side ran).role q.role
+  pub same_rules : q.rules ≡ (side ran).rules
+  pub same_namespace : q.namespace ≡ (side ran).namespace
+  pub accepts : Accepts (side ran) q
+  pub accepted : IsProved q (side ran)
   pub opens : IsOpening (side ran).namespace others
   pub hears : HearsFrom ran q others
 
@@ -152,9 +168,10 @@ own_common ran q = rows_of_area (box_with (side ran) q.hello) (opening_of ran)
 abbrev pub other_common : {p : List ℕ → Party} → Ran p → Party → List RowValue → List RowValue
 other_common ran q others = rows_of_area (box_with (side ran) q.hello) others
 
--- of so many rows of both sides there are at most so many counted items
-abbrev pub most_counted : ℕ → ℕ → ℕ
-most_counted own other = max 3 (3 * (own + other))
+-- of so many rows of both sides in the area that both may read there are at most so many counted items, and none without one
+abbrev pub most_counted : Option Ranges → ℕ → ℕ → ℕ
+most_counted None own other = 0
+most_counted (Some box) own other = max 3 (3 * (own + other))
 
 -- ---- a session that comes to its end
 
@@ -169,19 +186,13 @@ pub record IsFaultless {p : List ℕ → Party} (ran : Ran p) : Type 0 where
   pub writes : HasRisen ran.link.write_faults ran.link'.write_faults → ⊥
   pub signs : HasRisen ran.faults ran.faults' → ⊥
 
--- the one calls and the other answers
-abbrev pub AreBothRoles : Role → Role → Type 0
-AreBothRoles one other = ((one ≡ Caller) × (other ≡ Answerer)) ⊎ ((one ≡ Answerer) × (other ≡ Caller))
-
 -- The other side is one that can meet this one, if only the own signer signs well: it is of the other role, by the same
--- scheme and in the same namespace; the own hello passes, and so do its hello and proof. The session read what it writes, or a
--- front of that; and a read met the end only where all of it was read.
+-- scheme and in the same namespace, and its hello and proof are accepted. The session read what it writes, or a front of that;
+-- and a read met the end only where all of it was read.
 pub record HasOther {p : List ℕ → Party} (ran : Ran p) (q : Party) (others : List RowValue) : Type 0 where
   pub roles : AreBothRoles (side ran).role q.role
   pub same_rules : q.rules ≡ (side ran).rules
   pub same_namespace : q.namespace ≡ (side ran).namespace
-  pub hello_fits : IsHello (side ran).hello
-  pub hello_passes : Passes (side ran).rules (side ran).namespace (side ran).hello
   pub accepts : Accepts (side ran) q
   pub opens : IsOpening (side ran).namespace others
   pub hears : HearsFrom ran q others

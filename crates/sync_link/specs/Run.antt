@@ -15,7 +15,8 @@ use Rattle.ns_state.specs.declared.live_log.TheConstants.{LOG_LIMIT}
 use Rattle.ns_cell.specs.Passes.{PassValue, IsLater}
 use Rattle.session_end.specs.declared.end.SessionEnd.{SessionEnd}
 use Rattle.session_end.specs.declared.end.SessionEnd.TheVariants.{LinkRead, LinkWrite, ClosedEarly, BadMessage, Hello, Core, SignFault, LogFull, NoMemory}
-use Rattle.sync_hello.specs.HelloForm.{hello_spelling}
+use Rattle.sync_hello.specs.Checked.{Passes}
+use Rattle.sync_hello.specs.HelloForm.{hello_spelling, IsHello}
 use Rattle.sync_hello.specs.declared.hello.Hello as hello
 use Rattle.session_rules.specs.Greeting.{HasHello}
 use Rattle.session_rules.specs.Reading as reading
@@ -173,7 +174,7 @@ pub record IsProofOf (p : Party) (gives : List ℕ → List ℕ → Bool) (bytes
 
 -- What a session did, of a side that brings this, each by its signature: to its pass and to its link.
 -- `signature`: the own proof. The signer may give it for this session, unless no more was written than the own hello
--- (`signed`).
+-- (`signed`). The own hello is in the grammar and passes (`own_fits`, `own_passes`).
 -- `log`: the log as the session began, with all that the pass had seen (`opening`); what is live of it are the own rows,
 -- which can be told to the other (`opens`).
 -- `bytes`, `written`: what was read of the link, each number a byte (`are_bytes`), and what was written to it (`taken`,
@@ -188,6 +189,8 @@ pub record Runs (p : List ℕ → Party) (gives : List ℕ → List ℕ → Bool
   pub written : List ℕ
   pub rows : List RawValue
   pub grown : List (LogRow AuthorisedValue)
+  pub own_fits : IsHello (p signature).hello
+  pub own_passes : Passes (p signature).rules (p signature).namespace (p signature).hello
   pub later : IsLater before after
   pub opening : IsPrefix before.seen log × IsPrefix log after.seen
   pub opens : (answer ≡ Err NoMemory → ⊥) → IsOpening (p signature).namespace (live (log_rows log))

@@ -14,6 +14,8 @@ use Rattle.auth_entry.specs.Authorised.{AuthorisedValue}
 use Rattle.ns_cell.specs.Passes.{PassValue, IsPass, IsLater}
 use Rattle.session_end.specs.declared.end.SessionEnd.{SessionEnd}
 use Rattle.sync_msg.specs.declared.role.Role.{Role}
+use Rattle.sync_hello.specs.Checked.{Passes}
+use Rattle.sync_hello.specs.HelloForm.{IsHello}
 use Rattle.sync_hello.specs.declared.hello.Hello.{Hello}
 use Rattle.sync_link.specs.Sessions.{Party}
 use Rattle.sync_link.specs.Settling.{IsOpening}
@@ -52,13 +54,15 @@ pub record AreTold (rows : List RowValue) : Type 0 where
 
 -- ---- the session
 
--- What a session began with: what it brings, and which signatures its signer may give; the log; and its pass, its link and
--- its signer as they were.
+-- What a session began with: what it brings, whose hello is in the grammar and passes, and which signatures its signer may
+-- give; the log; and its pass, its link and its signer as they were.
 pub record Start : Type 0 where
   pub rules : Rules
   pub namespace : List ℕ
   pub role : Role
   pub hello : Hello
+  pub own_fits : IsHello hello
+  pub own_passes : Passes rules namespace hello
   pub gives : List ℕ → List ℕ → Bool
   pub log : List (LogRow AuthorisedValue)
   pub pass : PassValue AuthorisedValue

@@ -2,8 +2,9 @@
 
 ghost use Rattle.std.specs.Prelude.{◌≡◌, ◌++◌, ℕ, List, map, IfOk, OnOk, None};
 ghost use Rattle.scheme_core.specs.Rules.{Rules};
+ghost use Rattle.spelling.specs.Spelling.{AreSoManyBytes};
 ghost use Rattle.sync_hello.specs.Checked.{hello_refusal};
-ghost use Rattle.sync_hello.specs.HelloForm.{HasSpelling};
+ghost use Rattle.sync_hello.specs.HelloForm.{HasSpelling, IsHello};
 ghost use Rattle.sync_link.specs.Fed.{begun, first_bytes};
 ghost use Rattle.sync_link.specs.Kept.{entry_row};
 ghost use Rattle.sync_link.specs.Plans.{own_hello};
@@ -66,4 +67,20 @@ fn known_hello(hello: &Hello)
     ensures { (rules : Rules) (namespace : List ℕ) → hello_refusal rules namespace hello.now ≡ None → HasSpelling hello.now }
 {
     hello.capability.known();
+}
+
+// Does nothing: it is called for its clause, that the hello of a plan is in the grammar where it passes.
+pub(crate) fn known_plan<S: Scheme>(plan: &SessionPlan<S>, nonce: [u8; 16])
+    ensures { (rules : Rules) (namespace : List ℕ) → hello_refusal rules namespace (own_hello plan.now nonce) ≡ None → IsHello (own_hello plan.now nonce) }
+{
+    known_nonce(&nonce);
+    plan.ask.known();
+    plan.capability.known();
+}
+
+// Does nothing: it is called for its clause, that a nonce has 16 bytes.
+fn known_nonce(nonce: &[u8; 16])
+    ensures { AreSoManyBytes 16 nonce.now }
+{
+    let _bytes = nonce.as_slice();
 }

@@ -14,7 +14,7 @@ ghost use Rattle.sync_link.specs.Settling.{IsOpening};
 ghost use Rattle.sync_link.specs.UnderWay.{Start, IsCounted, IsReady, IsUnderWay, GoesOn, Opens, brought, now_of};
 
 use crate::intake::Tally;
-use crate::opening::{begin_side, known_rows};
+use crate::opening::{begin_side, known_plan, known_rows};
 use crate::piece::{Session, hear_piece};
 use crate::plan::{SessionPlan, SessionReport};
 use crate::sending::send;
@@ -57,6 +57,7 @@ pub fn run_session<R: Wait + Threads + Sync, S: Scheme, C: Checker<S>, K: Signer
     ensures namespace { C.judged_in checker.new ≡ C.judged_in checker.old }
     ensures gives { K.gives signer.new ≡ K.gives signer.old }
 {
+    known_plan(plan, nonce);
     let snapshot = match cell.snapshot(rt, pass) {
         Ok(snapshot) => snapshot,
         Err(_) => return Err(SessionEnd::NoMemory),

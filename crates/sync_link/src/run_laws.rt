@@ -1,7 +1,6 @@
 //! What holds of sessions that were run. These functions do nothing: each is called, if at all, for its clauses.
 
 ghost use Rattle.std.specs.Prelude.{◌≡◌, ◌⊎◌, ℕ, ◌+◌, ◌≤◌, List, All, length, Ok, Err};
-ghost use Rattle.willow_area.specs.Area.{IsArea};
 ghost use Rattle.willow_entry.specs.EntryForm.{IsEntry};
 ghost use Rattle.willow_entry.specs.Row.{RowValue, HasCovering, join};
 ghost use Rattle.session_end.specs.declared.end.SessionEnd.TheVariants.{NoMemory};
@@ -25,8 +24,7 @@ pub fn runs_alike()
 /// front of that; there each item stands behind an accepted hello and proof, and each row is one that the hello's capability
 /// grants.
 pub fn runs_granted()
-    ensures { (p : List ℕ → Party) (ran : Ran p) → IsArea (side ran).hello.ask
-        → (ran.answer ≡ Err NoMemory → All (λ row. IsEntry row.entry) (opening_of ran))
+    ensures { (p : List ℕ → Party) (ran : Ran p) → (ran.answer ≡ Err NoMemory → All (λ row. IsEntry row.entry) (opening_of ran))
         → TellsGranted ran }
 {}
 
@@ -34,18 +32,19 @@ pub fn runs_granted()
 /// other, if that had memory. So the bound below holds of both, and covering where its further premises do.
 pub fn runs_meet()
     ensures { (p q : List ℕ → Party) (one : Ran p) (other : Ran q)
-        → CanMeetAs (side one) (side other) → (other.answer ≡ Err NoMemory → ⊥)
+        → CanMeetAs one other → (other.answer ≡ Err NoMemory → ⊥)
         → IsFront one.did.bytes other.did.written → IsFront other.did.bytes one.did.written
         → IsOther one (side other) (opening_of other) }
 {}
 
 /// Where a session answers Ok that read what such another side writes, at most so many counted items were sent and read: 3,
-/// or thrice the rows that both have in the area that both may read. The log that its pass has seen covers all that the other
-/// has there, if its rows are authorised and the fingerprints of their exchange tell rows apart.
+/// or thrice the rows that both have in the area that both may read, and none where there is no such area. The log that its
+/// pass has seen covers all that the other has there, if its rows are authorised and the fingerprints of their exchange tell
+/// rows apart.
 pub fn runs_cover()
     ensures counted { (p : List ℕ → Party) (ran : Ran p) (report : SessionReport) (q : Party) (others : List RowValue)
         → ran.answer ≡ Ok report → IsOther ran q others
-        → report.sent + report.read ≤ most_counted (length (own_common ran q)) (length (other_common ran q others)) }
+        → report.sent + report.read ≤ most_counted (box_with (side ran) q.hello) (length (own_common ran q)) (length (other_common ran q others)) }
     ensures covers { (p : List ℕ → Party) (ran : Ran p) (report : SessionReport) (q : Party) (others : List RowValue)
         → ran.answer ≡ Ok report → IsOther ran q others → AreAuthorised ran others
         → AreApartAs (side ran).role (box_with (side ran) q.hello) (opening_of ran) others

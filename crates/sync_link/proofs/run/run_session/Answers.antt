@@ -3,6 +3,7 @@ use Rattle.sync_link.specs.Kept.{entry_row}
 use Rattle.sync_link.specs.Plans.{own_hello, planned}
 use Rattle.sync_link.specs.UnderWay.{Start, IsReady, brought, now_of}
 use Rattle.ns_cell.specs.Passes.{CellValue}
+use Rattle.sync_hello.proofs.Meaning.{passes_means}
 use Rattle.sync_link.proofs.LinkEnds.{stored_few}
 use Rattle.sync_link.proofs.Begun.{no_snapshot}
 use Rattle.sync_link.proofs.Openings.{opening_of}
@@ -10,7 +11,7 @@ use Rattle.sync_link.proofs.run.run_session.Goals as goal
 
 pub returns-in-Err-clause-runs : goal.returns-in-Err-clause-runs
 returns-in-Err-clause-runs g c =
-    let start : Start = record { rules = g.S.Verify.rules; namespace = c.args.cell.now.namespace; role = c.args.plan.now.role; hello = own_hello c.args.plan.now c.args.nonce; gives = g.K.Signer.gives c.args.signer.now; log = c.snapshot.new.pass.seen; pass = c.args.pass.now; link = g.L.Link.facts c.args.link.now; left = g.K.Signer.left c.args.signer.now; faults = g.K.Signer.faults c.args.signer.now } in
+    let start : Start = record { rules = g.S.Verify.rules; namespace = c.args.cell.now.namespace; role = c.args.plan.now.role; hello = own_hello c.args.plan.now c.args.nonce; own_fits = c.known_plan.ensures g.S.Verify.rules c.args.cell.now.namespace c.requires.hello; own_passes = (passes_means g.S.Verify.rules c.args.cell.now.namespace (own_hello c.args.plan.now c.args.nonce)).0 c.requires.hello; gives = g.K.Signer.gives c.args.signer.now; log = c.snapshot.new.pass.seen; pass = c.args.pass.now; link = g.L.Link.facts c.args.link.now; left = g.K.Signer.left c.args.signer.now; faults = g.K.Signer.faults c.args.signer.now } in
     no_snapshot start c.snapshot.new.pass c.snapshot.ensures.later c.snapshot.ensures.own
 
 pub open_session-requires-clause-rows : goal.open_session-requires-clause-rows
@@ -29,7 +30,7 @@ returns-in-Err-open_session-clause-runs g c =
     let rows = map entry_row c.in-Ok.snapshot in
     let same : c.namespace.result ≡ cell.namespace = c.namespace.ensures ∙ c.requires.namespace in
     let there : pass.cell.namespace ≡ cell.namespace = ap (λ (x : CellValue). x.namespace) (c.snapshot.ensures.later.cell ∙ c.requires.pass) in
-    let start : Start = record { rules = g.S.Verify.rules; namespace = cell.namespace; role = c.args.plan.now.role; hello = own_hello c.args.plan.now c.args.nonce; gives = g.K.Signer.gives c.args.signer.now; log = pass.seen; pass = c.args.pass.now; link = g.L.Link.facts c.args.link.now; left = g.K.Signer.left c.args.signer.now; faults = g.K.Signer.faults c.args.signer.now } in
+    let start : Start = record { rules = g.S.Verify.rules; namespace = cell.namespace; role = c.args.plan.now.role; hello = own_hello c.args.plan.now c.args.nonce; own_fits = c.known_plan.ensures g.S.Verify.rules c.args.cell.now.namespace c.requires.hello; own_passes = (passes_means g.S.Verify.rules c.args.cell.now.namespace (own_hello c.args.plan.now c.args.nonce)).0 c.requires.hello; gives = g.K.Signer.gives c.args.signer.now; log = pass.seen; pass = c.args.pass.now; link = g.L.Link.facts c.args.link.now; left = g.K.Signer.left c.args.signer.now; faults = g.K.Signer.faults c.args.signer.now } in
     let ready : IsReady start rows pass = record { rows_are = c.in-Ok.ensures.live; opens = opening_of cell.namespace pass rows c.in-Ok.ensures.live c.snapshot.ensures.pass there c.known_rows.ensures; later = c.snapshot.ensures.later; seen = refl; own = c.snapshot.ensures.own; pass = c.snapshot.ensures.pass } in
     let party : brought start ≡ planned g.S.Verify.rules c.namespace.result c.args.plan.now c.args.nonce = ap (λ (n : List ℕ). planned g.S.Verify.rules n c.args.plan.now c.args.nonce) (sym same) in
     c.in-Err-open_session.ensures.opens start pass party refl ready
@@ -41,7 +42,7 @@ report-requires-clause-few g c κs within =
     let rows = map entry_row c.in-Ok.snapshot in
     let same : c.namespace.result ≡ cell.namespace = c.namespace.ensures ∙ c.requires.namespace in
     let there : pass.cell.namespace ≡ cell.namespace = ap (λ (x : CellValue). x.namespace) (c.snapshot.ensures.later.cell ∙ c.requires.pass) in
-    let start : Start = record { rules = g.S.Verify.rules; namespace = cell.namespace; role = c.args.plan.now.role; hello = own_hello c.args.plan.now c.args.nonce; gives = g.K.Signer.gives c.args.signer.now; log = pass.seen; pass = c.args.pass.now; link = g.L.Link.facts c.args.link.now; left = g.K.Signer.left c.args.signer.now; faults = g.K.Signer.faults c.args.signer.now } in
+    let start : Start = record { rules = g.S.Verify.rules; namespace = cell.namespace; role = c.args.plan.now.role; hello = own_hello c.args.plan.now c.args.nonce; own_fits = c.known_plan.ensures g.S.Verify.rules c.args.cell.now.namespace c.requires.hello; own_passes = (passes_means g.S.Verify.rules c.args.cell.now.namespace (own_hello c.args.plan.now c.args.nonce)).0 c.requires.hello; gives = g.K.Signer.gives c.args.signer.now; log = pass.seen; pass = c.args.pass.now; link = g.L.Link.facts c.args.link.now; left = g.K.Signer.left c.args.signer.now; faults = g.K.Signer.faults c.args.signer.now } in
     let ready : IsReady start rows pass = record { rows_are = c.in-Ok.ensures.live; opens = opening_of cell.namespace pass rows c.in-Ok.ensures.live c.snapshot.ensures.pass there c.known_rows.ensures; later = c.snapshot.ensures.later; seen = refl; own = c.snapshot.ensures.own; pass = c.snapshot.ensures.pass } in
     let party : brought start ≡ planned g.S.Verify.rules c.namespace.result c.args.plan.now c.args.nonce = ap (λ (n : List ℕ). planned g.S.Verify.rules n c.args.plan.now c.args.nonce) (sym same) in
     let u = c.in-Ok-open_session.ensures.opens start pass party refl ready in
@@ -55,7 +56,7 @@ returns-in-Ok-talk-clause-runs g c =
     let rows = map entry_row c.in-Ok.snapshot in
     let same : c.namespace.result ≡ cell.namespace = c.namespace.ensures ∙ c.requires.namespace in
     let there : pass.cell.namespace ≡ cell.namespace = ap (λ (x : CellValue). x.namespace) (c.snapshot.ensures.later.cell ∙ c.requires.pass) in
-    let start : Start = record { rules = g.S.Verify.rules; namespace = cell.namespace; role = c.args.plan.now.role; hello = own_hello c.args.plan.now c.args.nonce; gives = g.K.Signer.gives c.args.signer.now; log = pass.seen; pass = c.args.pass.now; link = g.L.Link.facts c.args.link.now; left = g.K.Signer.left c.args.signer.now; faults = g.K.Signer.faults c.args.signer.now } in
+    let start : Start = record { rules = g.S.Verify.rules; namespace = cell.namespace; role = c.args.plan.now.role; hello = own_hello c.args.plan.now c.args.nonce; own_fits = c.known_plan.ensures g.S.Verify.rules c.args.cell.now.namespace c.requires.hello; own_passes = (passes_means g.S.Verify.rules c.args.cell.now.namespace (own_hello c.args.plan.now c.args.nonce)).0 c.requires.hello; gives = g.K.Signer.gives c.args.signer.now; log = pass.seen; pass = c.args.pass.now; link = g.L.Link.facts c.args.link.now; left = g.K.Signer.left c.args.signer.now; faults = g.K.Signer.faults c.args.signer.now } in
     let ready : IsReady start rows pass = record { rows_are = c.in-Ok.ensures.live; opens = opening_of cell.namespace pass rows c.in-Ok.ensures.live c.snapshot.ensures.pass there c.known_rows.ensures; later = c.snapshot.ensures.later; seen = refl; own = c.snapshot.ensures.own; pass = c.snapshot.ensures.pass } in
     let party : brought start ≡ planned g.S.Verify.rules c.namespace.result c.args.plan.now c.args.nonce = ap (λ (n : List ℕ). planned g.S.Verify.rules n c.args.plan.now c.args.nonce) (sym same) in
     let u = c.in-Ok-open_session.ensures.opens start pass party refl ready in
@@ -69,7 +70,7 @@ returns-clause-runs g c =
     let rows = map entry_row c.in-Ok.snapshot in
     let same : c.namespace.result ≡ cell.namespace = c.namespace.ensures ∙ c.requires.namespace in
     let there : pass.cell.namespace ≡ cell.namespace = ap (λ (x : CellValue). x.namespace) (c.snapshot.ensures.later.cell ∙ c.requires.pass) in
-    let start : Start = record { rules = g.S.Verify.rules; namespace = cell.namespace; role = c.args.plan.now.role; hello = own_hello c.args.plan.now c.args.nonce; gives = g.K.Signer.gives c.args.signer.now; log = pass.seen; pass = c.args.pass.now; link = g.L.Link.facts c.args.link.now; left = g.K.Signer.left c.args.signer.now; faults = g.K.Signer.faults c.args.signer.now } in
+    let start : Start = record { rules = g.S.Verify.rules; namespace = cell.namespace; role = c.args.plan.now.role; hello = own_hello c.args.plan.now c.args.nonce; own_fits = c.known_plan.ensures g.S.Verify.rules c.args.cell.now.namespace c.requires.hello; own_passes = (passes_means g.S.Verify.rules c.args.cell.now.namespace (own_hello c.args.plan.now c.args.nonce)).0 c.requires.hello; gives = g.K.Signer.gives c.args.signer.now; log = pass.seen; pass = c.args.pass.now; link = g.L.Link.facts c.args.link.now; left = g.K.Signer.left c.args.signer.now; faults = g.K.Signer.faults c.args.signer.now } in
     let ready : IsReady start rows pass = record { rows_are = c.in-Ok.ensures.live; opens = opening_of cell.namespace pass rows c.in-Ok.ensures.live c.snapshot.ensures.pass there c.known_rows.ensures; later = c.snapshot.ensures.later; seen = refl; own = c.snapshot.ensures.own; pass = c.snapshot.ensures.pass } in
     let party : brought start ≡ planned g.S.Verify.rules c.namespace.result c.args.plan.now c.args.nonce = ap (λ (n : List ℕ). planned g.S.Verify.rules n c.args.plan.now c.args.nonce) (sym same) in
     let u = c.in-Ok-open_session.ensures.opens start pass party refl ready in
