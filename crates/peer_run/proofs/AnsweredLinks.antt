@@ -5,8 +5,7 @@ use Rattle.willow_outside.specs.Counts.{HasRisen}
 use Rattle.willow_outside.specs.Links.{IsFresh}
 use Rattle.willow_outside.specs.Told.{Extends}
 use Rattle.session_rules.specs.Rounds.{IsFront}
-use Rattle.sync_hello.specs.Checked.{Passes}
-use Rattle.sync_link.specs.Ran.{Ran, HasOther, side}
+use Rattle.sync_link.specs.Ran.{Ran, HasOther}
 use Rattle.sync_link.specs.Sessions.{Party, out}
 use Rattle.peer_run.specs.Answered.{IsAnsweredOver}
 
@@ -20,8 +19,8 @@ whole (Some xs) new bytes told empty grew is =
     let same : xs ++ bytes ≡ told = cc in
     sym same ∙ ap (λ (l : List ℕ). l ++ bytes) empty
 
-pub has_other : {p : List ℕ → Party} (ran : Ran p) → IsFresh ran.link → (over : IsAnsweredOver p ran.link') → Passes (side ran).rules (side ran).namespace (side ran).hello → HasOther ran over.other over.rows
-has_other {p} ran fresh over passes =
+pub has_other : {p : List ℕ → Party} (ran : Ran p) → IsFresh ran.link → (over : IsAnsweredOver p ran.link') → HasOther ran over.other over.rows
+has_other {p} ran fresh over =
     let can = over.can_answer ran.did.signature in
     let taken = whole ran.link.taken ran.link'.taken ran.did.bytes over.taken fresh.3 ran.did.taken.1 over.are_taken in
     let held = whole ran.link.held ran.link'.held ran.did.written over.held fresh.4 ran.did.held over.are_held in
@@ -29,8 +28,6 @@ has_other {p} ran fresh over passes =
       roles = can.roles;
       same_rules = can.same_rules;
       same_namespace = can.same_namespace;
-      hello_fits = can.hello_fits;
-      hello_passes = passes;
       accepts = can.accepts;
       opens = can.opens;
       hears =

@@ -2,7 +2,8 @@
 use Rattle.std.proofs.Common.{◌≡◌, ◌≢◌, ◌∙◌, ℕ, ◌≤◌, Bool, true, false, List, Option, None, Some, inl, inr, refl, sym, subst, ap, arith}
 use Rattle.std.specs.Prelude.{Result, Ok, Err}
 use Rattle.std.specs.String.{string_bytes}
-use Rattle.willow_outside.specs.Facts.{LinkFacts}
+use Rattle.willow_outside.specs.Counts.{Rose}
+use Rattle.willow_outside.specs.Facts.{LinkFacts, ShelfFacts}
 use Rattle.willow_outside.specs.Links.{list_with}
 use Rattle.willow_entry.specs.declared.row.LogRow.{LogRow}
 use Rattle.auth_entry.specs.Authorised.{AuthorisedValue}
@@ -19,7 +20,8 @@ use Rattle.peer_make.specs.Making.{DrawsOne}
 use Rattle.peer_make.proofs.Signers.{signer_ready}
 use Rattle.peer_stage.specs.Deed.{IsLawful}
 use Rattle.peer_stage.specs.Status.{status_of}
-use Rattle.peer_stage.specs.Steps.{OnNoise, OnDoor}
+use Rattle.peer_stage.specs.Shelves.{PutsBytes}
+use Rattle.peer_stage.specs.Steps.{OnNoise, OnDoor, OnShelf}
 use Rattle.peer_stage.specs.World.{World}
 use Rattle.peer_stage.specs.declared.outcome.Done.{Done}
 use Rattle.peer_stage.specs.declared.outcome.Done.TheVariants as done
@@ -29,9 +31,9 @@ use Rattle.peer_stage.specs.declared.outcome.Stop.TheVariants as stop
 use Rattle.peer_stage.specs.declared.outcome.Synced.{Synced}
 use Rattle.peer_stage.proofs.Ends.{IsCondition, synced_status, synced_is}
 use Rattle.peer_run.specs.Calling.{Calls}
-use Rattle.peer_run.specs.Closing.{IsForWant, counts_of}
+use Rattle.peer_run.specs.Closing.{IsForWant, counts_of, put_answer}
 use Rattle.peer_run.specs.Preparing.{nonce_of}
-use Rattle.peer_run.specs.Sync.{Begins, Finishes, Syncs, synced_of}
+use Rattle.peer_run.specs.Sync.{Begins, Finishes, Syncs, image_behind, synced_of}
 use Rattle.peer_run.specs.SyncDeed.{CanSync, HadSession, SyncReads, SyncWrites, sync_deed}
 use Rattle.peer_run.specs.SyncGiven.{CallGiven}
 use Rattle.peer_run.specs.SyncRun.{WasRun, as_ran}
@@ -42,7 +44,6 @@ use Rattle.peer_run.proofs.AnsweredLinks.{has_other}
 use Rattle.peer_run.proofs.CallBegun.{HasBegun, has_begun}
 use Rattle.peer_run.proofs.CallHad.{had_session}
 use Rattle.peer_run.proofs.DoneSessions.{done_so}
-use Rattle.peer_run.proofs.OwnPasses.{own_passes}
 use Rattle.peer_run.proofs.SideBegun.{has_prepared}
 use Rattle.peer_run.proofs.SideDeeds.{from_none}
 use Rattle.peer_run.proofs.SideEnds.{given_is, prepares_free}
@@ -100,13 +101,17 @@ module _ (words : SyncWords) (old new : World) (can : CanSync words old new) whe
           signs = λ risen. omega (arith, risen.rose);
         }
 
+    -- the image was put
+    is_put : (name bytes : List ℕ) (put : Bool) (behind : World) → behind.shelf.write_faults ≡ old.shelf.write_faults → OnShelf (PutsBytes name bytes) behind new (put_answer put) → OnShelf (PutsBytes name bytes) behind new (Ok tt)
+    is_put name bytes true behind same puts = puts
+    is_put name bytes false behind same puts = absurd (no_write (inl (subst (λ (count : ℕ). Rose count new.shelf.write_faults) same puts.does.0)))
+
     -- over an answered link it is done
     session_done : (answer : Answer) → HadSession words can.given old new answer → (IsForWant answer → ⊥) → (report : SessionReport) × (answer ≡ Ok report)
     session_done answer had not_wanted =
         let ran = as_ran had.run in
-        let passes = own_passes can.given.namespace words.area can.given.cap (nonce_of had.draw) can.are_given.passes in
         let over = can.answered had.link had.back had.draw had.drawn in
-        done_so ran over.other over.rows (has_other ran had.run.fresh over passes) (can.signs had.signer had.reserved had.is_signer) (faultless had.back had.run) answer refl
+        done_so ran over.other over.rows (has_other ran had.run.fresh over) (can.signs had.signer had.reserved had.is_signer) (faultless had.back had.run) answer refl
         (λ missed is. can.unfilled missed (subst (λ (a : Answer). HadSession words can.given old new a) is had)) not_wanted
 
     small_session : (session : Result SessionCounts SessionEnd) (put : Bool) (first : Option RefusedRow) (counts : SessionCounts) → session ≡ Ok counts → synced_status session put first ≢ 4 → synced_status session put first ≤ 1
@@ -127,7 +132,9 @@ module _ (words : SyncWords) (old new : World) (can : CanSync words old new) whe
             → Finishes (string_bytes words.image) c.opening.rows c.opening.first x called new (Ok d) → status_of (Ok d) ≢ 4 → status_of (Ok d) ≤ 1
         ended (done.Synced s) c began begun draw drawn draws x called did f four =
             let given = given_is old can.names can.given words.image words.cap words.area can.are_told can.are_given old (record { opening = c.opening; hello = begun.hello }) begun.front in
-            let had = subst (λ (g : CallGiven). HadSession words g old new x.end) given (had_session words old new c began draw drawn x called begun draws did f.2.others) in
+            let same_shelf : called.shelf ≡ began.shelf = ap (λ (w : World). w.shelf) did.others ∙ ap (λ (w : World). w.shelf) draws.others in
+            let all_put = is_put (string_bytes words.image) (image_behind x) s.put called (ap (λ (h : ShelfFacts). h.write_faults) same_shelf ∙ begun.counted) f.2 in
+            let had = subst (λ (g : CallGiven). HadSession words g old new x.end) given (had_session words old new c began draw drawn x called begun draws did all_put) in
             let over = session_done x.end had f.0 in
             let told : s.session ≡ Ok (counts_of over.0) = ap (λ (t : Synced). t.session) (f.1 ∙ ap (λ (a : Answer). synced_of c.opening.rows c.opening.first a s.put) over.1) in
             let is = synced_is s.session s.put s.first in

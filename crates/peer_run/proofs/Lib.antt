@@ -35,7 +35,6 @@ pub mod WholeCall
 pub mod CallReady
 pub mod SyncSteps
 pub mod CallAbove
-pub mod OwnPasses
 pub mod AnsweredLinks
 pub mod CallHad
 pub mod CallEnds

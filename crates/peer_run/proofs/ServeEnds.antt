@@ -1,9 +1,10 @@
 -- A server that is ready comes to its end.
-use Rattle.std.proofs.Common.{◌≡◌, ◌≢◌, ◌∙◌, ℕ, ◌+◌, ◌≤◌, ◌<◌, List, map, Contains, Option, None, Some, inl, inr, refl, sym, subst, ap, arith}
+use Rattle.std.proofs.Common.{◌≡◌, ◌≢◌, ◌∙◌, ℕ, ◌+◌, ◌≤◌, ◌<◌, Bool, true, false, List, map, Contains, Option, None, Some, inl, inr, refl, sym, subst, ap, arith}
 use Rattle.std.specs.Prelude.{Result, Ok, Err}
 use Rattle.std.specs.Global.{Vec}
 use Rattle.std.specs.String.{string_bytes}
 use Rattle.std.proofs.lemmas.List.Elements.{All-contains}
+use Rattle.willow_outside.specs.Counts.{Rose}
 use Rattle.willow_outside.specs.Facts.{ShelfFacts}
 use Rattle.lms_core.specs.Accepts.{leaves}
 use Rattle.lms_core.specs.Key.{Key, key_file}
@@ -24,7 +25,8 @@ use Rattle.peer_make.specs.Signing.{StopsSigners}
 use Rattle.peer_make.proofs.Signers.{given}
 use Rattle.peer_stage.specs.Deed.{IsLawful}
 use Rattle.peer_stage.specs.Status.{status_of, session_status}
-use Rattle.peer_stage.specs.Steps.{OnNoise}
+use Rattle.peer_stage.specs.Shelves.{PutsBytes}
+use Rattle.peer_stage.specs.Steps.{OnNoise, OnShelf}
 use Rattle.peer_stage.specs.World.{World}
 use Rattle.peer_stage.specs.declared.outcome.Done.{Done}
 use Rattle.peer_stage.specs.declared.outcome.Done.TheVariants as done
@@ -32,7 +34,7 @@ use Rattle.peer_stage.specs.declared.outcome.SessionCounts.{SessionCounts}
 use Rattle.peer_stage.specs.declared.outcome.Stop.{Stop}
 use Rattle.peer_stage.specs.declared.outcome.Stop.TheVariants as stop
 use Rattle.peer_stage.proofs.Ends.{IsCondition}
-use Rattle.peer_run.specs.Closing.{IsForWant}
+use Rattle.peer_run.specs.Closing.{IsForWant, image_of, put_answer}
 use Rattle.peer_run.specs.Hosting.{Visit, Attends, ran_of}
 use Rattle.peer_run.specs.Preparing.{Prepares, nonce_of}
 use Rattle.peer_run.specs.Serve.{AtDoor, AreNotForWant, OpensHouse, ClosesHouse, Serves, told_of}
@@ -44,7 +46,6 @@ use Rattle.peer_run.specs.declared.serving.Server as server
 use Rattle.peer_run.specs.declared.serving.ServeWords.{ServeWords}
 use Rattle.peer_run.proofs.AnsweredLinks.{has_other}
 use Rattle.peer_run.proofs.DoneSessions.{done_so}
-use Rattle.peer_run.proofs.OwnPasses.{own_passes}
 use Rattle.peer_run.proofs.ServeBegun.{has_house}
 use Rattle.peer_run.proofs.ServeDeeds.{serve_closes}
 use Rattle.peer_run.proofs.ServeHad.{HadSo, had_sessions}
@@ -135,7 +136,6 @@ module _ (words : ServeWords) (old new : World) (can : CanServe words old new) w
           let answered = can.answered links had.back had.draws had.drawn had.many in
           let one = answered_visit had.opening had.log (party_of Answerer words.area can.given) can.given.cap 1 had.signers had.draws had.visits had.are_visits signs answered visit at in
           let ran = ran_of one.is_visit in
-          let passes = own_passes can.given.namespace words.area can.given.cap (nonce_of one.draw) can.are_given.passes in
           let among = contains_map (λ (visit : Visit). visit.link) had.visits visit at in
           let faultless : IsFaultless ran =
           record {
@@ -144,13 +144,19 @@ module _ (words : ServeWords) (old new : World) (can : CanServe words old new) w
             signs = λ risen. omega (arith, risen.rose);
           } in
           let not_wanted = All-contains (λ (answer : Answer). IsForWant answer → ⊥) (map (λ (visit : Visit). visit.answer) had.visits) visit.answer (subst (λ (all : List Answer). AreNotForWant all) so.ends wants) (contains_map (λ (visit : Visit). visit.answer) had.visits visit at) in
-          done_so ran one.answered.other one.answered.rows (has_other ran one.is_visit.fresh one.answered passes) one.signs faultless visit.answer refl (can.unfilled had visit at) not_wanted
+          done_so ran one.answered.other one.answered.rows (has_other ran one.is_visit.fresh one.answered) one.signs faultless visit.answer refl (can.unfilled had visit at) not_wanted
 
       session_done : (sessions : List (Result SessionCounts SessionEnd)) → sessions ≡ map told_of answers → (session : Result SessionCounts SessionEnd) → Contains sessions session → session_status session ≡ 0
       session_done sessions told session at =
           let of = told_visit had.visits sessions session (told ∙ ap (λ (all : List Answer). map told_of all) so.ends) at in
           let over = visit_done of.0 of.1 in
           sym (ap session_status of.2) ∙ ap (λ (answer : Answer). session_status (told_of answer)) over.1
+
+    -- ---- the image was put
+
+    is_put : (name bytes : List ℕ) (put : Bool) (behind : World) → behind.shelf.write_faults ≡ old.shelf.write_faults → OnShelf (PutsBytes name bytes) behind new (put_answer put) → OnShelf (PutsBytes name bytes) behind new (Ok tt)
+    is_put name bytes true behind same puts = puts
+    is_put name bytes false behind same puts = absurd (no_write (inl (subst (λ (count : ℕ). Rose count new.shelf.write_faults) same puts.does.0)))
 
     -- ---- so it comes to its end
 
@@ -160,7 +166,9 @@ module _ (words : ServeWords) (old new : World) (can : CanServe words old new) w
     ended (done.Served served) s opened opens draws drawn draws_so x behind did f three four =
         let begun = has_house words.image words.cap words.key words.links words.area old opened s opens in
         let given = given_is old can.names can.given words.image words.cap words.area can.are_told can.are_given old (record { opening = s.opening; hello = begun.hello }) begun.front in
-        let so = subst (λ (g : SideGiven). HadSo words old new x.ends.items g) given (had_sessions words old new s opened draws drawn x behind begun draws_so did f.2.others) in
+        let same_shelf : behind.shelf ≡ opened.shelf = ap (λ (w : World). w.shelf) did.others ∙ ap (λ (w : World). w.shelf) draws_so.others in
+        let all_put = is_put (string_bytes words.image) (image_of x.state) served.put behind (ap (λ (h : ShelfFacts). h.write_faults) same_shelf ∙ begun.counted) f.2 in
+        let so = subst (λ (g : SideGiven). HadSo words old new x.ends.items g) given (had_sessions words old new s opened draws drawn x behind begun draws_so did all_put) in
         served_small served (session_done x.ends.items so f.0 served.sessions.items f.1.sessions) three four
     ended d s opened opens draws drawn draws_so x behind did f three four = absurd f
 

@@ -2,6 +2,7 @@
 use Rattle.std.proofs.Common.{◌≡◌, ◌≢◌, ◌∙◌, ◌⊎◌, ℕ, ◌≤◌, Bool, true, false, List, [], ◌∷◌, ◌++◌, Option, None, inl, inr, refl, sym, subst, ap, flat_map, length, arith}
 use Rattle.std.specs.Prelude.{Result, Ok, Err}
 use Rattle.std.specs.String.{string_bytes}
+use Rattle.willow_outside.specs.Draws.{IsDraw}
 use Rattle.willow_outside.specs.Facts.{ShelfFacts, DoorFacts, NoiseFacts}
 use Rattle.willow_entry.specs.Row.{RowValue, live}
 use Rattle.willow_entry.specs.declared.row.LogRow.{LogRow}
@@ -124,7 +125,7 @@ puts_as name false n rows h h' puts = puts
 
 module _ (words : SyncWords) (run : Run) (c : caller.Caller) (began : World) (draw : List ℕ) (drawn : World) (x : Called) (called : World) (s : Synced)
     (begun : HasBegun words.image words.cap words.key words.area run.old began c)
-    (taken : TakesDraws began.noise drawn.noise (draw ∷ [])) (only_noise : drawn ≡ record began { noise = drawn.noise })
+    (is_draw : IsDraw draw) (taken : TakesDraws began.noise drawn.noise (draw ∷ [])) (only_noise : drawn ≡ record began { noise = drawn.noise })
     (did : IsCalled (string_bytes words.to) (planned peer_rules c.opening.state.namespace c.plan (nonce_of draw)) c.signer c.opening.state drawn.door called.door x) (only_door : called ≡ record drawn { door = called.door })
     (is_told : s ≡ synced_of c.opening.rows c.opening.first x.end s.put)
     (puts : OnShelf (PutsBytes (string_bytes words.image) (image_behind x)) called (before_report run) (put_answer s.put)) where
@@ -234,6 +235,7 @@ module _ (words : SyncWords) (run : Run) (c : caller.Caller) (began : World) (dr
         is_signer = begun.reserved;
         counted = begun.counted;
         draw = draw;
+        is_draw = is_draw;
         drawn = one_draw;
         link = session.link;
         is_back = is_back;
@@ -375,8 +377,8 @@ module _ (words : SyncWords) (run : Run) where
           → Finishes (string_bytes words.image) c.opening.rows c.opening.first x called after (Ok d) → Keeps words run (Ok d)
       put_so (done.Synced s) c began begun draw drawn draws x called did f =
           record {
-            called = λ reports memory. inr (has_called words run c began draw drawn x called s begun draws.does.1 draws.others did.does did.others f.1 f.2 reports);
-            whole = λ reports status small. is_whole words run c began draw drawn x called s begun draws.does.1 draws.others did.does did.others f.1 f.2 reports status small;
+            called = λ reports memory. inr (has_called words run c began draw drawn x called s begun draws.does.0 draws.does.1 draws.others did.does did.others f.1 f.2 reports);
+            whole = λ reports status small. is_whole words run c began draw drawn x called s begun draws.does.0 draws.does.1 draws.others did.does did.others f.1 f.2 reports status small;
           }
       put_so d c began begun draw drawn draws x called did f = absurd f
 
@@ -405,6 +407,7 @@ called_as words other run same c =
       is_signer = signer_as words.key other.key run.old.shelf c.reserved c.signer same.key c.is_signer;
       counted = c.counted;
       draw = c.draw;
+      is_draw = c.is_draw;
       drawn = c.drawn;
       link = c.link;
       is_back = subst (λ (place : List ℕ). IsLinkBack place run.old.door run.new.door c.link) (sym same.to) c.is_back;

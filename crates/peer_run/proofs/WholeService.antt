@@ -1,8 +1,9 @@
 -- A run of `serve` kept to the headline.
 use Rattle.std.proofs.Common.{◌≡◌, ◌≢◌, ◌∙◌, ◌⊎◌, ℕ, ◌≤◌, Bool, true, false, List, Option, None, length, map, inl, inr, refl, sym, subst, ap, arith}
-use Rattle.std.specs.Prelude.{Result, Ok, Err}
+use Rattle.std.specs.Prelude.{All, Result, Ok, Err}
 use Rattle.std.specs.Global.{Vec}
 use Rattle.std.specs.String.{string_bytes}
+use Rattle.willow_outside.specs.Draws.{IsDraw}
 use Rattle.willow_outside.specs.Facts.{ShelfFacts, DoorFacts, NoiseFacts}
 use Rattle.willow_entry.specs.Row.{RowValue, live}
 use Rattle.willow_entry.specs.declared.row.LogRow.{LogRow}
@@ -105,7 +106,7 @@ plans_of c draw = planned peer_rules c.opening.state.namespace c.plan (nonce_of 
 
 module _ (words : ServeWords) (run : Run) (c : server.Server) (began : World) (draws : Vec (List ℕ)) (drawn : World) (x : Attended) (attended : World) (s : Served)
     (begun : HasHouse words.image words.cap words.key words.links words.area run.old began c)
-    (many : length draws.items ≡ words.links) (taken : TakesDraws began.noise drawn.noise draws.items) (only_noise : drawn ≡ record began { noise = drawn.noise })
+    (many : length draws.items ≡ words.links) (are_draws : All IsDraw draws.items) (taken : TakesDraws began.noise drawn.noise draws.items) (only_noise : drawn ≡ record began { noise = drawn.noise })
     (did : AreAttended (string_bytes words.at) (plans_of c) c.signers.items draws.items c.opening.state drawn.door attended.door x) (only_door : attended ≡ record drawn { door = attended.door })
     (is_told : IsServed c.opening.rows c.opening.first x.ends.items x.accepted s.put s)
     (puts : OnShelf (PutsBytes (string_bytes words.image) (image_of x.state)) attended (before_report run) (put_answer s.put)) where
@@ -202,6 +203,7 @@ module _ (words : ServeWords) (run : Run) (c : server.Server) (began : World) (d
         are_signers = begun.reserved;
         counted = begun.counted;
         draws = draws.items;
+        are_draws = are_draws;
         drawn = all_draws;
         as_many = (as_many_signers, many);
         visits = did.visits;
@@ -323,8 +325,8 @@ module _ (words : ServeWords) (run : Run) where
           → ClosesHouse (string_bytes words.image) c.opening.rows c.opening.first x attended after (Ok d) → Keeps words run (Ok d)
       put_so (done.Served s) c began begun draws drawn drew x attended did f =
           record {
-            served = λ reports memory. inr (has_served words run c began draws drawn x attended s begun drew.does.0 drew.does.2 drew.others did.does did.others f.1 f.2 reports);
-            whole = λ reports status small. is_whole words run c began draws drawn x attended s begun drew.does.0 drew.does.2 drew.others did.does did.others f.1 f.2 reports status small;
+            served = λ reports memory. inr (has_served words run c began draws drawn x attended s begun drew.does.0 drew.does.1 drew.does.2 drew.others did.does did.others f.1 f.2 reports);
+            whole = λ reports status small. is_whole words run c began draws drawn x attended s begun drew.does.0 drew.does.1 drew.does.2 drew.others did.does did.others f.1 f.2 reports status small;
           }
       put_so d c began begun draws drawn drew x attended did f = absurd f
 
@@ -356,6 +358,7 @@ served_as words other run same c =
           (signers_as words.key other.key other.links run.old.shelf c.reserved c.signers same.key c.are_signers);
       counted = c.counted;
       draws = c.draws;
+      are_draws = c.are_draws;
       drawn = c.drawn;
       as_many = (c.as_many.0 ∙ sym same.links, c.as_many.1 ∙ sym same.links);
       visits = c.visits;

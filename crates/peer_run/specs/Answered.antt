@@ -8,7 +8,6 @@ use Rattle.mc_cap.specs.Grant.{receiver_of}
 use Rattle.mc_cap.specs.Signature.{IsSignature}
 use Rattle.mc_cap.specs.declared.capability.Capability.{Capability}
 use Rattle.session_rules.specs.Rounds.{IsFront}
-use Rattle.sync_hello.specs.HelloForm.{IsHello}
 use Rattle.sync_link.specs.Ran.{AreBothRoles}
 use Rattle.sync_link.specs.Sessions.{Party, out}
 use Rattle.sync_link.specs.Settling.{Accepts, IsOpening}
@@ -18,12 +17,11 @@ use Rattle.peer_make.specs.declared.key_signer.KeySigner.{KeySigner}
 -- ---- the link
 
 -- The other side, which has these rows, can meet one that brings this: it is of the other role, by the same scheme and in the
--- same namespace; the own hello is in the grammar, and the other's hello and proof are accepted.
+-- same namespace, and its hello and proof are accepted.
 pub record CanAnswer (p other : Party) (rows : List RowValue) : Type 0 where
   pub roles : AreBothRoles p.role other.role
   pub same_rules : other.rules ≡ p.rules
   pub same_namespace : other.namespace ≡ p.namespace
-  pub hello_fits : IsHello p.hello
   pub accepts : Accepts p other
   pub opens : IsOpening p.namespace rows
 

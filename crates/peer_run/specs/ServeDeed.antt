@@ -4,6 +4,7 @@ use Rattle.std.specs.String.{string_bytes}
 use Rattle.willow_outside.specs.Counts.{Rose}
 use Rattle.willow_outside.specs.Facts.{Names, LinkFacts, DoorFacts, ShelfFacts}
 use Rattle.link_host.specs.Hosted.{list_with_all}
+use Rattle.willow_entry.specs.Row.{live}
 use Rattle.willow_entry.specs.declared.row.LogRow.{LogRow}
 use Rattle.auth_entry.specs.Authorised.{AuthorisedValue}
 use Rattle.lms_core.specs.Accepts.{leaves}
@@ -16,7 +17,9 @@ use Rattle.peer_make.specs.KeySigners.{AreSignersOf}
 use Rattle.peer_make.specs.Making.{TakesDraws}
 use Rattle.peer_make.specs.declared.key_signer.KeySigner.{KeySigner}
 use Rattle.peer_rows.specs.Logged.{PassesLog, authorised_rows}
+use Rattle.peer_image.specs.Image.{image}
 use Rattle.peer_stage.specs.Deed.{Deed}
+use Rattle.peer_stage.specs.Shelves.{IsPut}
 use Rattle.peer_stage.specs.World.{World}
 use Rattle.peer_words.specs.declared.command.SignerWord.{SignerWord}
 use Rattle.peer_words.specs.declared.command.SignerWord.TheVariants.{OpenKey, LmsFile}
@@ -60,7 +63,8 @@ CanSignAll (OpenKey key) count h = Unit {0}
 CanSignAll (LmsFile name) count h = HasIndices h (string_bytes name) count
 
 -- The sessions that a run had, over the links that are back: the words' signers signed in them, and draws of the run were their
--- nonces. They began with the log of the image's authorised rows, and left one log of the namespace.
+-- nonces. They began with the log of the image's authorised rows, and left one log of the namespace: that of which the image
+-- was put (`is_put`).
 pub record HadSessions (words : ServeWords) (given : SideGiven) (old new : World) : Type 0 where
   pub signers : List KeySigner
   pub reserved : ShelfFacts
@@ -76,6 +80,7 @@ pub record HadSessions (words : ServeWords) (given : SideGiven) (old new : World
   pub shared : IsShared opening log (length visits)
   pub is_log : IsLog entry_row given.namespace log
   pub are_visits : AreVisits opening log (party_of Answerer words.area given) 1 signers draws visits
+  pub is_put : IsPut (string_bytes words.image) (image given.namespace (live (log_rows log))) reserved new.shelf
 
 -- The shelf tells that the names hold what a server goes by, the rows of the image fit a log, and the signer has a signature
 -- left for each link and signs for the capability's receiver. Another side answered over each link that is back (`answered`),

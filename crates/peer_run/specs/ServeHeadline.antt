@@ -5,6 +5,7 @@
 -- session began in that area and of what was read.
 use Rattle.std.specs.Prelude.{◌≡◌, ◌≢◌, ◌⊎◌, ℕ, ◌≤◌, Bool, true, List, length, map, All, IsNone, IsSome, Ok, Err}
 use Rattle.std.specs.String.{string_bytes}
+use Rattle.willow_outside.specs.Draws.{IsDraw}
 use Rattle.willow_outside.specs.Facts.{ShelfFacts}
 use Rattle.willow_entry.specs.Row.{RowValue, HasCovering, live}
 use Rattle.willow_entry.specs.declared.row.LogRow.{LogRow}
@@ -78,8 +79,9 @@ pub record HasServed (words : ServeWords) (run : Run) : Type 0 where
   pub reserved : ShelfFacts
   pub are_signers : AreSignersOf words.key words.links run.old.shelf reserved signers
   pub counted : reserved.write_faults ≡ run.old.shelf.write_faults
-  -- as many draws were taken
+  -- as many draws were taken, each of 32 bytes
   pub draws : List (List ℕ)
+  pub are_draws : All IsDraw draws
   pub drawn : TakesDraws run.old.noise run.new.noise draws
   pub as_many : (length signers ≡ words.links) × (length draws ≡ words.links)
   -- all links are back in order, and the place was asked for once; fewer came only where the door failed

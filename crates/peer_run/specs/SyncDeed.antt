@@ -1,8 +1,10 @@
 -- The command `sync` as a value.
 use Rattle.std.specs.Prelude.{◌≡◌, ℕ, ◌⊎◌, List, [], ◌∷◌, Some, Err}
+use Rattle.std.specs.String.{string_bytes}
 use Rattle.willow_outside.specs.Counts.{Rose}
 use Rattle.willow_outside.specs.Facts.{Names, LinkFacts, DoorFacts, ShelfFacts}
 use Rattle.willow_outside.specs.Links.{list_with}
+use Rattle.willow_entry.specs.Row.{live}
 use Rattle.willow_entry.specs.declared.row.LogRow.{LogRow}
 use Rattle.auth_entry.specs.Authorised.{AuthorisedValue}
 use Rattle.ns_state.specs.Log.{IsLog}
@@ -14,7 +16,9 @@ use Rattle.peer_make.specs.KeySigners.{gives_of, IsSignerOf}
 use Rattle.peer_make.specs.Making.{TakesDraws}
 use Rattle.peer_make.specs.declared.key_signer.KeySigner.{KeySigner}
 use Rattle.peer_rows.specs.Logged.{PassesLog, authorised_rows}
+use Rattle.peer_image.specs.Image.{image}
 use Rattle.peer_stage.specs.Deed.{Deed}
+use Rattle.peer_stage.specs.Shelves.{IsPut}
 use Rattle.peer_stage.specs.World.{World}
 use Rattle.peer_run.specs.Answered.{IsAnsweredOver, SignsFor}
 use Rattle.peer_run.specs.Sync.{Syncs}
@@ -40,7 +44,8 @@ SyncWrites old new = Rose old.shelf.write_faults new.shelf.write_faults ⊎ HasF
 -- ---- what it needs
 
 -- A session that a run had: the words' signer signed in it, and a draw of the run was its nonce. It was run over the link that
--- is back, began with the log of the image's authorised rows, and left a log of the namespace.
+-- is back, began with the log of the image's authorised rows, and left a log of the namespace: that of which the image was put
+-- (`is_put`).
 pub record HadSession (words : SyncWords) (given : CallGiven) (old new : World) (answer : Answer) : Type 0 where
   pub signer : KeySigner
   pub reserved : ShelfFacts
@@ -53,6 +58,7 @@ pub record HadSession (words : SyncWords) (given : CallGiven) (old new : World) 
   pub log : List (LogRow AuthorisedValue)
   pub opens : log_rows opening ≡ authorised_rows given.namespace given.rows
   pub is_log : IsLog entry_row given.namespace log
+  pub is_put : IsPut (string_bytes words.image) (image given.namespace (live (log_rows log))) reserved new.shelf
   pub run : WasRun (calling_party words.area given draw) (gives_of signer) opening log link answer
 
 -- The shelf tells that the names hold what a call goes by, the rows of the image fit a log, and the signer has a signature left

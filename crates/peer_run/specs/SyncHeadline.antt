@@ -4,6 +4,7 @@
 use Rattle.std.specs.Prelude.{◌≡◌, ◌≢◌, ◌⊎◌, ℕ, ◌≤◌, Bool, true, false, List, [], ◌∷◌, ◌++◌, length, All, Option, IsNone, IsSome, Ok, Err}
 use Rattle.std.specs.String.{string_bytes}
 use Rattle.willow_outside.specs.Counts.{Rose}
+use Rattle.willow_outside.specs.Draws.{IsDraw}
 use Rattle.willow_outside.specs.Facts.{LinkFacts, ShelfFacts}
 use Rattle.willow_entry.specs.Row.{RowValue, HasCovering, live}
 use Rattle.willow_entry.specs.declared.row.LogRow.{LogRow}
@@ -89,8 +90,9 @@ pub record HasCalled (words : SyncWords) (run : Run) : Type 0 where
   pub reserved : ShelfFacts
   pub is_signer : IsSignerOf words.key run.old.shelf reserved signer
   pub counted : reserved.write_faults ≡ run.old.shelf.write_faults
-  -- one draw was taken
+  -- one draw was taken, of 32 bytes
   pub draw : List ℕ
+  pub is_draw : IsDraw draw
   pub drawn : TakesDraws run.old.noise run.new.noise (draw ∷ [])
   -- the link is back, and the place was asked for once
   pub link : LinkFacts
