@@ -65,8 +65,8 @@ impl Signer for OneUse {
 
     ghost faults = { λ _. 0 };
 
-    /// Signs a message, once. It hashes the whole tree, as `LmsKey::public` does, or one leaf where the signer is
-    /// of `reserve_keys_on`. After want of memory the signer is as it was.
+    /// Signs a message, once. It hashes the whole tree, as `LmsKey::public` does, or one leaf and the nodes above
+    /// the leaves where the signer is of `reserve_keys_on`. After want of memory the signer is as it was.
     fn sign(&mut self, alloc: Global, message: &[u8]) -> Result<Vec<u8>, End<SignRefusal>>
         ensures given { IfOk result (λ signature. use_gives self.old message.now signature.items ≡ true) }
         ensures short { IfOk result (λ signature. length signature.items ≤ MAX_SIGNATURE) }

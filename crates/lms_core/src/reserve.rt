@@ -147,7 +147,8 @@ pub fn reserve_keys<H: Shelf>(
 }
 
 /// Does what `reserve_keys` does, and hashes the leaves of the key's tree once, on all processors, before the file
-/// is put back. The signers share the leaves' values, so that signing hashes one leaf, and no tree.
+/// is put back. The signers share the leaves' values, so that signing hashes one leaf, its own, and the nodes above the
+/// leaves.
 pub fn reserve_keys_on<R: Threads + Sync, H: Shelf>(
     rt: &R,
     alloc: Global,

@@ -22,10 +22,15 @@ impl Positions {
         }
     }
 
-    /// The row is known to stand there.
-    pub(crate) fn put<R: Row>(&mut self, row: &R, at: u32) -> Result<(), NoMemory> {
-        self.by_hash.insert(hash_of(row), at)?;
+    /// Makes room for one row more.
+    pub(crate) fn reserve(&mut self) -> Result<(), NoMemory> {
+        self.by_hash.reserve(1)?;
         Ok(())
+    }
+
+    /// The row of this hash is known to stand there, if there is room for it; else the log is walked over for it.
+    pub(crate) fn put(&mut self, hash: u64, at: u32) {
+        let _known = self.by_hash.insert(hash, at);
     }
 
     /// Where a row with the entry of this one may stand.
@@ -34,8 +39,8 @@ impl Positions {
     }
 }
 
-// A hash of the row's entry.
-fn hash_of<R: Row>(row: &R) -> u64 {
+/// A hash of the row's entry.
+pub(crate) fn hash_of<R: Row>(row: &R) -> u64 {
     let mut hasher = FoldHasher::default();
     hasher.write(row.entry_bytes());
     hasher.finish()

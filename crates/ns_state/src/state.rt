@@ -7,7 +7,7 @@ ghost use Rattle.ns_state.specs.Recent.{recent};
 ghost use Rattle.ns_state.specs.Answer.{IsAnswer, IsOffer};
 
 use crate::live_log::{LiveLog, LogFull};
-use crate::positions::Positions;
+use crate::positions::{Positions, hash_of};
 use crate::ranking::gone_items;
 use block_store::Snapshot;
 use recency_index::{Ranked, Recency};
@@ -120,10 +120,12 @@ impl<R: Row> NsState<R> {
         let gone = gone_items(self.log.store(), &row)?;
         let item = Ranked::of(row.entry())?;
         self.recency.reserve(1)?;
-        self.positions.put(&row, self.log.front())?;
+        self.positions.reserve()?;
+        let hash = hash_of(&row);
         match self.log.offer(pass, row)? {
             Some(at) => {
                 self.recency.replace(&gone, item);
+                self.positions.put(hash, at);
                 Ok(Told::Stored { at })
             }
             None => unreachable!(),

@@ -19,7 +19,7 @@ use willow_path::NoMemory;
 ///
 /// Two draws of noise are taken: the first 16 bytes of the first are the key's identifier, and the second is
 /// its seed. The key's file is put before the line is written. It hashes the key's whole tree once, on all
-/// processors: `LmsKey::user_key_on` says how long.
+/// processors: about a second of one at height 10.
 pub fn make_key<R: Threads + Sync, H: Shelf, N: Noise, O: Sink>(
     rt: &R,
     alloc: Global,

@@ -128,7 +128,8 @@ AreBothRoles one other = ((one ≡ Caller) × (other ≡ Answerer)) ⊎ ((one �
 abbrev pub IsProved : Party → Party → Type 0
 IsProved p other = IsTrue (p.rules.user (receiver_of other.hello.capability) (message_due p.role p.hello other.hello) other.signature)
 
--- Two sessions can meet: one calls and one answers, by one scheme and in one namespace, and both proofs are accepted.
+-- Two sessions can meet: one calls and one answers, by one scheme and in one namespace; both proofs are accepted, and the
+-- other's is a signature in form.
 pub record CanMeetAs {p q : List ℕ → Party} (one : Ran p) (other : Ran q) : Type 0 where
   pub roles : AreBothRoles (side one).role (side other).role
   pub same_rules : (side other).rules ≡ (side one).rules

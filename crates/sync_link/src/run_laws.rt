@@ -29,7 +29,7 @@ pub fn runs_granted()
 {}
 
 /// Of two sessions that can meet, where each read what the other wrote or a front of that, the one is the other side of the
-/// other, if that had memory. So the bound below holds of both, and covering where its further premises do.
+/// other, if that had memory. So the bound below holds of it, and covering where its further premises do.
 pub fn runs_meet()
     ensures { (p q : List ℕ → Party) (one : Ran p) (other : Ran q)
         → CanMeetAs one other → (other.answer ≡ Err NoMemory → ⊥)
