@@ -2,11 +2,14 @@
 
 usage: python3 bench/sessions.py PROGRAM [ROWS [EVERY]]
 
-The server has rows 0 to ROWS - 1 of the generator, the one that calls all but each EVERY-th of them; both may read all. What
-reading and writing an image takes is timed apart, by a listing of it.
+The server has rows 0 to ROWS - 1 of the generator, the one that calls all but each EVERY-th of them; both may read all. The
+server has read its image before it is called. What the caller takes to read its own is timed apart, by a call to a place where
+nobody listens. Told are medians of five runs.
 """
 import os
 import resource
+import shutil
+import statistics
 import subprocess
 import sys
 import tempfile
@@ -36,14 +39,23 @@ def store(program: str, folder: str, rows: bytes, capability: bytes) -> None:
         file.write(capability)
 
 
+COMMON = ["--image", "image", "--cap", "cap", "--key", "open:" + USER]
+RUNS = 5
+
+
+def reading(program: str, folder: str) -> float:
+    start = time.monotonic()
+    subprocess.run([program, "sync", *COMMON, "--to", "127.0.0.1:47818"], cwd=f"{folder}/caller", stderr=subprocess.DEVNULL)
+    return time.monotonic() - start
+
+
 def session(program: str, folder: str) -> tuple:
-    common = ["--image", "image", "--cap", "cap", "--key", "open:" + USER]
-    server = subprocess.Popen([program, "serve", *common, "--at", "127.0.0.1:47817", "--links", "1"],
+    server = subprocess.Popen([program, "serve", *COMMON, "--at", "127.0.0.1:47817", "--links", "1"],
                               cwd=f"{folder}/server", stderr=subprocess.PIPE)
     time.sleep(1)  # until it listens
     before = resource.getrusage(resource.RUSAGE_CHILDREN)
     start = time.monotonic()
-    caller = subprocess.run([program, "sync", *common, "--to", "127.0.0.1:47817"], cwd=f"{folder}/caller",
+    caller = subprocess.run([program, "sync", *COMMON, "--to", "127.0.0.1:47817"], cwd=f"{folder}/caller",
                             stderr=subprocess.PIPE)
     elapsed = time.monotonic() - start
     lines = (caller.stderr + server.communicate()[1]).decode()
@@ -61,13 +73,19 @@ def main() -> None:
     with tempfile.TemporaryDirectory() as folder:
         store(program, f"{folder}/server", b"".join(made), capability)
         store(program, f"{folder}/caller", b"".join(row for at, row in enumerate(made) if at % every), capability)
-        with open(f"{folder}/server/image", "rb") as file:
-            image = file.read()
-        start = time.monotonic()
-        run([program, "show"], image)
-        print(f"a listing of the image: {time.monotonic() - start:.2f} s")
-        elapsed, used, lines = session(program, folder)
-        print(f"the call: {elapsed:.2f} s by the clock; both programs: {used:.2f} s of processors")
+        for side in ("server", "caller"):
+            shutil.copy(f"{folder}/{side}/image", f"{folder}/{side}/kept")
+        reads, calls, used = [], [], []
+        for _ in range(RUNS):
+            for side in ("server", "caller"):
+                shutil.copy(f"{folder}/{side}/kept", f"{folder}/{side}/image")
+            reads.append(reading(program, folder))
+            elapsed, processors, lines = session(program, folder)
+            calls.append(elapsed)
+            used.append(processors)
+        read, call = statistics.median(reads), statistics.median(calls)
+        print(f"the caller's image is read in {read:.2f} s; the whole call takes {call:.2f} s, which is {call - read:.2f} s more")
+        print(f"both programs: {statistics.median(used):.2f} s of processors")
         print(lines, end="")
 
 
