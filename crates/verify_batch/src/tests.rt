@@ -1,0 +1,1 @@
+//! Claims of both kinds of keys.
