@@ -63,6 +63,17 @@ fn signatures(alloc: Global, claims: &[Claim<'_>]) -> Result<Vec<[u8; 32]>, NoMe
     Ok(made)
 }
 
+/// The claims that need a digest, in order.
+fn needing<'a>(alloc: Global, claims: &[Claim<'a>]) -> Result<Vec<Claim<'a>>, NoMemory>
+    ensures { IfOk result (λ needing. needing.items ≡ filter needs_digest claims.now) }
+{
+    Ok(claims
+        .iter()
+        .filter(|claim| needs_digest(claim))
+        .copied()
+        .collect(alloc)?)
+}
+
 /// The open signatures of those claims that need a digest, in order.
 pub(crate) fn needed_signatures(
     alloc: Global,
@@ -70,10 +81,5 @@ pub(crate) fn needed_signatures(
 ) -> Result<Vec<[u8; 32]>, NoMemory>
     ensures { IfOk result (λ made. made.items ≡ map open_signature_of (filter needs_digest claims.now)) }
 {
-    let needing: Vec<Claim<'_>> = claims
-        .iter()
-        .filter(|claim| needs_digest(claim))
-        .copied()
-        .collect(alloc)?;
-    signatures(alloc, &needing)
+    signatures(alloc, &needing(alloc, claims)?)
 }
