@@ -67,11 +67,13 @@ fn signatures(alloc: Global, claims: &[Claim<'_>]) -> Result<Vec<[u8; 32]>, NoMe
 fn needing<'a>(alloc: Global, claims: &[Claim<'a>]) -> Result<Vec<Claim<'a>>, NoMemory>
     ensures { IfOk result (λ needing. needing.items ≡ filter needs_digest claims.now) }
 {
-    Ok(claims
-        .iter()
-        .filter(|claim| needs_digest(claim))
-        .copied()
-        .collect(alloc)?)
+    Ok(
+        claims
+            .iter()
+            .filter(|claim| needs_digest(claim))
+            .copied()
+            .collect(alloc)?,
+    )
 }
 
 /// The open signatures of those claims that need a digest, in order.

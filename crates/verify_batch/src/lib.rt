@@ -14,3 +14,5 @@ pub use together::verify_together;
 
 #[cfg(test)]
 mod tests;
+#[cfg(test)]
+mod vectors;

@@ -7,5 +7,5 @@ use Rattle.verify_batch.proofs.digests.messages.Given as goal
 abbrev pub invariant-claims : goal.invariant-claims
 invariant-claims l = record {
   left : l.left ≡ flat_map front_of (drop l.claim-index l.claims);
-  put : map bytes_of l.messages.items ≡ map signed_bytes (take l.claim-index l.claims)
+  put : map bytes_of l.messages.items ≡ map signed_bytes (take l.claim-index l.claims);
 }

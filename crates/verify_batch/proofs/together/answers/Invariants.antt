@@ -6,5 +6,5 @@ use Rattle.verify_batch.proofs.together.answers.Given as goal
 abbrev pub invariant-claims : goal.invariant-claims
 invariant-claims g l = record {
   answered : l.answers.items ≡ map (accepts_claim g.S.Verify.rules) (take l.claim-index l.claims);
-  left : drop l.next l.made ≡ map open_signature_of (filter needs_digest (drop l.claim-index l.claims))
+  left : drop l.next l.made ≡ map open_signature_of (filter needs_digest (drop l.claim-index l.claims));
 }
