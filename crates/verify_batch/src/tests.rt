@@ -102,7 +102,10 @@ fn row<'a>(alloc: Global, opens: &'a [Signed], wrong: usize) -> Result<Vec<Claim
         } else {
             open
         };
-        claims.push(open.claim(number % 9 * 21, &signer.signature))?;
+        match claims.push(open.claim(number % 9 * 21, &signer.signature)) {
+            Ok(()) => {}
+            Err(_) => return Err(NoMemory),
+        }
     }
     Ok(claims)
 }
@@ -147,6 +150,24 @@ fn signatures_of_other_lengths(rt: HostRuntime) -> Result<(), Fail> {
     check(&rt, alloc, &claims, &[false, true, false, false])
 }
 
+// Claims of two open keys and an LMS key, of which the fourth and those behind it but the last are wrong.
+fn mixed<'a>(
+    first: &'a Signed,
+    second: &'a Signed,
+    lms: &'a Signed,
+    digest: &'a [u8],
+) -> [Claim<'a>; 7] {
+    [
+        first.claim(9, &first.signature),
+        lms.claim(5, &lms.signature),
+        second.claim(9, &second.signature),
+        lms.claim(22, digest),
+        second.claim(9, &lms.signature),
+        first.claim(0, &second.signature),
+        lms.claim(0, &lms.signature),
+    ]
+}
+
 #[test]
 fn keys_of_both_kinds(rt: HostRuntime) -> Result<(), Fail> {
     let alloc = rt.alloc();
@@ -154,26 +175,15 @@ fn keys_of_both_kinds(rt: HostRuntime) -> Result<(), Fail> {
     let lms = lms(alloc)?;
     let digest = hex::decode(alloc, LMS_DIGEST)?;
     let (first, second) = (opens.get(1).ok_or("a line")?, opens.get(3).ok_or("a line")?);
-    let claims = [
-        first.claim(9, &first.signature),
-        lms.claim(5, &lms.signature),
-        second.claim(9, &second.signature),
-        lms.claim(22, &digest),
-        second.claim(9, &lms.signature),
-        first.claim(0, &second.signature),
-        lms.claim(0, &lms.signature),
-        first.claim(22, &first.signature),
-    ];
-    let by_open = OpenScheme.verify_users(alloc, &claims)?;
-    assert_eq!(rt;
-        by_open.as_slice(),
-        [true, false, true, false, false, false, false, true].as_slice()
-    );
-    let wanted = [true, true, true, false, false, false, true, true];
-    let by_peer = PeerScheme.verify_users(alloc, &claims)?;
-    assert_eq!(rt; by_peer.as_slice(), wanted.as_slice());
+    let claims = mixed(first, second, &lms, &digest);
+    let wanted = [true, true, true, false, false, false, true];
+    let together = PeerScheme.verify_users(alloc, &claims)?;
+    assert_eq!(rt; together.as_slice(), wanted.as_slice());
     let one_by_one = verify_each(&PeerScheme, alloc, &claims)?;
     assert_eq!(rt; one_by_one.as_slice(), wanted.as_slice());
+    let by_open = OpenScheme.verify_users(alloc, &claims)?;
+    let open_alone = [true, false, true, false, false, false, false];
+    assert_eq!(rt; by_open.as_slice(), open_alone.as_slice());
     Ok(())
 }
 
