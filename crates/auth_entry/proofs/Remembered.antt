@@ -13,7 +13,7 @@ use Rattle.auth_entry.specs.Known.{IsKnown}
 
 module _ (rules : Rules) (known : Vec ℕ) (c : Capability) (fits : IsCapability c) (spelled : known.items ≡ capability_spelling c) (valid : capability_refusal rules c ≡ None) where
   -- no other capability has the spelling
-  is_known : IsKnown rules known
+  pub is_known : IsKnown rules known
   is_known d fits' same =
       subst (λ (e : Capability). capability_refusal rules e ≡ None) (one_spelling capability-reads c d [] [] fits fits' (ap (λ (l : List ℕ). l ++ []) (sym spelled ∙ same))).0 valid
 

@@ -4,9 +4,12 @@
 
 mod authorised;
 mod checker;
+mod checks;
 mod known;
 pub mod laws;
 mod refusal;
+mod standing;
+mod unknown;
 
 pub use authorised::{AuthorisedEntry, authorise};
 pub use checker::{Checker, PlainChecker};

@@ -5,7 +5,7 @@ ghost use Rattle.scheme_core.specs.Open.{open_rules};
 use super::*;
 use cap_codec::RawRow;
 use mc_cap::ChainRefusal;
-use scheme_core::{OpenScheme, Verify};
+use scheme_core::{OpenScheme, Scheme, Verify};
 use spelling::End;
 use std::alloc::Global;
 use std::sync::atomic::{AtomicU64, Ordering};
@@ -124,7 +124,7 @@ fn has_bytes<R: SharedRow>(alloc: Global, row: &R, text: &str, entry_len: usize)
 }
 
 // What a checker answers of the rows.
-fn judged<S: Verify>(
+fn judged<S: Scheme>(
     rt: &(impl Threads + Sync),
     alloc: Global,
     checker: &mut PlainChecker<S>,
@@ -183,6 +183,8 @@ impl Verify for Counting<'_> {
         OpenScheme.is_communal(key)
     }
 }
+
+impl Scheme for Counting<'_> {}
 
 // How many signatures of users a checker has asked about after it judged the row, and after it did again.
 fn asked_twice(rt: &(impl Threads + Sync), alloc: Global, text: &str) -> Option<(u64, u64)> {
