@@ -52,7 +52,11 @@ fn advanced_four(first: Chain, second: Chain, third: Chain, fourth: Chain, count
     ]
 }
 
-/// Runs four chains of a list until one of them ends. A place that is named twice is run once.
+/// How many steps four chains take at most before others may have their lanes. It is a fifth of the longest chain: so
+/// the 34 chains of a key share all lanes nearly to the end also where they are equally long.
+const MOST_STEPS: u8 = 51;
+
+/// Runs four chains of a list until one of them ends or most steps are taken. A place that is named twice is run once.
 fn advance(chains: &mut [Chain], first: usize, second: usize, third: usize, fourth: usize)
     requires first { IsUnfinished chains.old first }
     requires second { IsUnfinished chains.old second }
@@ -65,7 +69,8 @@ fn advance(chains: &mut [Chain], first: usize, second: usize, third: usize, four
         .left()
         .min(two.left())
         .min(three.left())
-        .min(four.left());
+        .min(four.left())
+        .min(MOST_STEPS);
     let advanced = advanced_four(one, two, three, four, count);
     chains[fourth] = advanced[3];
     chains[third] = advanced[2];
@@ -73,38 +78,39 @@ fn advance(chains: &mut [Chain], first: usize, second: usize, third: usize, four
     chains[first] = advanced[0];
 }
 
-/// A chain to run beside the first: the last one while it stands behind the first and has steps left, else the next
-/// that has, and the first itself where there is none.
-fn beside(chains: &[Chain], first: usize, last: usize, next: &mut usize) -> usize
+/// How many chains from the first on are looked at for one to run beside it.
+const WINDOW: usize = 64;
+
+/// A chain to run beside the first: of those behind it that have no lane yet the one with most steps left, and the
+/// first itself where there is none.
+fn beside(chains: &[Chain], first: usize, second: usize, third: usize) -> usize
     requires { IsUnfinished chains.now first }
     ensures { IsUnfinished chains.now result }
 {
-    if last > first && last < chains.len() && chains[last].left() > 0 {
-        return last;
-    }
-    'search: for place in (*next).max(first + 1)..chains.len() {
-        if chains[place].left() > 0 {
-            *next = place + 1;
-            return place;
+    let mut longest = first;
+    let mut most = 0;
+    'search: for place in first + 1..chains.len().min(first + WINDOW) {
+        let left = chains[place].left();
+        if left > most && place != second && place != third {
+            longest = place;
+            most = left;
         }
     }
-    *next = chains.len();
-    first
+    longest
 }
 
 /// Runs each chain to its end. It takes no memory.
 ///
-/// Chains of any lengths run in four lanes: where one ends, the next of the list takes its lane.
+/// Chains of any lengths run in four lanes: beside the first that is not at its end those three of the 63 behind it
+/// that have most steps left. So nearly no lane is idle before the last steps.
 pub fn run_chains(chains: &mut [Chain])
     ensures { chains.new ≡ map ended chains.old }
 {
-    let (mut second, mut third, mut fourth) = (0, 0, 0);
-    let mut next = 0;
     'chains: for first in 0..chains.len() {
         'steps: while chains[first].left() > 0 {
-            second = beside(chains, first, second, &mut next);
-            third = beside(chains, first, third, &mut next);
-            fourth = beside(chains, first, fourth, &mut next);
+            let second = beside(chains, first, first, first);
+            let third = beside(chains, first, second, second);
+            let fourth = beside(chains, first, second, third);
             advance(chains, first, second, third, fourth);
         }
     }

@@ -1,0 +1,127 @@
+"""Times a key of height 10, a signature by it, and the joining of signed rows, and prints a table in Markdown.
+
+usage: python3 bench/signing.py PROGRAM [OTHER]
+
+PROGRAM and OTHER are executables `willow_peer`. PROGRAM makes a key of height 10 and ROWS rows, which KEYS keys of height 5
+signed; that takes some 40 seconds of processors. Then `key --height 10`, `write` with that key and `join` of these rows are
+timed by the clock and in the time of the processors. The runs of all of them take turns, so that what else the machine does
+falls on all alike; told are medians of RUNS runs. Both programs get the same files, and have to write the same rows and images.
+"""
+import os
+import shutil
+import statistics
+import subprocess
+import sys
+import tempfile
+import time
+from concurrent.futures import ThreadPoolExecutor
+
+RUNS = 7
+KEYS = 40
+ROWS = 1_000
+NAMESPACE = "00" + "4e" * 32  # communal: nobody signs its capabilities
+DIGEST = "11" * 32
+PARTS = ("key", "write", "join")
+TOLD = {
+    "key": "`key --height 10`",
+    "write": "`write` with a key of height 10",
+    "join": f"`join` of {ROWS:,} rows, each signed by a key of height 5",
+}
+
+
+def made(program, folder, words, given=b""):
+    """What the program writes in a folder."""
+    ran = subprocess.run([program, *words], cwd=folder, input=given, stdout=subprocess.PIPE, check=True)
+    return ran.stdout
+
+
+def timed(program, folder, words, given):
+    """The seconds of a run by the clock and of the processors, and what it wrote. Its input is a file."""
+    wrote = os.path.join(folder, "wrote")
+    with open(given, "rb") as source, open(wrote, "wb") as sink, open(os.path.join(folder, "report"), "wb") as report:
+        begun = time.perf_counter()
+        child = subprocess.Popen([program, *words], cwd=folder, stdin=source, stdout=sink, stderr=report)
+        _, status, used = os.wait4(child.pid, 0)
+        took = time.perf_counter() - begun
+    child.returncode = os.waitstatus_to_exitcode(status)
+    if child.returncode != 0:
+        raise SystemExit(f"{program} {' '.join(words)} ended with {child.returncode}")
+    with open(wrote, "rb") as file:
+        return took, used.ru_utime + used.ru_stime, file.read()
+
+
+def write_words(key, row):
+    return ["write", "--key", f"lms:{key}", "--path", f"/{row:08x}", "--time", str(row), "--length", "80", "--digest", DIGEST]
+
+
+def make_key(program, folder, name, height):
+    """Puts a key and a capability for its user into a folder."""
+    user = made(program, folder, ["key", "--name", name, "--height", str(height)]).decode().strip()
+    capability = made(program, folder, ["grant", "--namespace", NAMESPACE, "--mode", "write", "--user", user])
+    with open(os.path.join(folder, f"{name}.cap"), "wb") as file:
+        file.write(capability)
+    return capability
+
+
+def rows_of_key(program, folder, number):
+    """The rows that one key signs: each KEYS-th."""
+    name = f"key{number}"
+    capability = make_key(program, folder, name, 5)
+    return [made(program, folder, write_words(name, row), capability) for row in range(number, ROWS, KEYS)]
+
+
+def make_files(program, folder):
+    make_key(program, folder, "tall", 10)
+    with ThreadPoolExecutor(os.cpu_count()) as pool:
+        by_key = list(pool.map(lambda number: rows_of_key(program, folder, number), range(KEYS)))
+    with open(os.path.join(folder, "rows"), "wb") as file:
+        for row in range(ROWS):
+            file.write(by_key[row % KEYS][row // KEYS])
+
+
+def run(program, folder, part):
+    """A run of one part in a folder of its own, where the key's file is as new."""
+    file = {name: os.path.join(folder, name) for name in ("tall", "tall.cap", "rows")}
+    with tempfile.TemporaryDirectory(dir=folder) as place:
+        if part == "key":
+            return timed(program, place, ["key", "--name", "made", "--height", "10"], os.devnull)
+        if part == "write":
+            shutil.copy(file["tall"], place)
+            return timed(program, place, write_words("tall", ROWS), file["tall.cap"])
+        return timed(program, place, ["join", "--namespace", NAMESPACE], file["rows"])
+
+
+def take_turns(programs, folder):
+    """Of each part and program the seconds by the clock and of the processors, one pair a run."""
+    taken = {(part, program): [] for part in PARTS for program in programs}
+    wrote = {}
+    for _ in range(RUNS):
+        for part in PARTS:
+            for program in programs:
+                took, used, output = run(program, folder, part)
+                taken[part, program].append((took, used))
+                # A key is drawn anew each time; what is signed and joined is the same in each run.
+                if part != "key" and wrote.setdefault(part, output) != output:
+                    raise SystemExit(f"{program}: {part} wrote something else than before")
+    return taken
+
+
+def show(programs, taken):
+    print("| | " + " | ".join(f"{program} by the clock | of the processors" for program in programs) + " |")
+    print("|---|" + "---|---|" * len(programs))
+    for part in PARTS:
+        medians = [statistics.median(times) for program in programs for times in zip(*taken[part, program])]
+        print(f"| {TOLD[part]} | " + " | ".join(f"{seconds:.3f} s" for seconds in medians) + " |")
+
+
+def main():
+    programs = [os.path.abspath(word) for word in sys.argv[1:]]
+    if not 1 <= len(programs) <= 2:
+        raise SystemExit("usage: python3 bench/signing.py PROGRAM [OTHER]")
+    with tempfile.TemporaryDirectory() as folder:
+        make_files(programs[0], folder)
+        show(programs, take_turns(programs, folder))
+
+
+if __name__ == "__main__":
+    main()
