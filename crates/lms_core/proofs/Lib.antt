@@ -13,3 +13,4 @@ pub mod Known
 pub mod Once
 pub mod Parts
 pub mod Heights
+pub mod OpenKeys

@@ -24,6 +24,3 @@ pub use one_use::OneUse;
 pub use reserve::{KeyRefusal, reserve_keys, reserve_keys_on};
 pub use scheme::PeerScheme;
 pub use verify::lms_verify;
-
-#[cfg(test)]
-mod tests;

@@ -4,8 +4,10 @@ ghost use Rattle.std.specs.Prelude.{◌≡◌};
 ghost use Rattle.lms_core.specs.Use.{lms_key_accepts, peer_accepts, peer_rules};
 
 use crate::verify::lms_verify;
-use scheme_core::{OpenScheme, Scheme, Verify};
+use scheme_core::{Claim, OpenScheme, Scheme, Verify, VerifyMany, verify_together};
 use sha2::{Digest, Sha256};
+use spelling::NoMemory;
+use std::alloc::Global;
 use willow_path::{NamespaceKey, UserKey};
 
 /// Whether a signature is accepted for a key of kind 1.
@@ -54,6 +56,12 @@ impl Verify for PeerScheme {
 
     fn is_communal(&self, key: &NamespaceKey) -> bool {
         OpenScheme.is_communal(key)
+    }
+}
+
+impl VerifyMany for PeerScheme {
+    fn verify_users(&self, alloc: Global, claims: &[Claim<'_>]) -> Result<Vec<bool>, NoMemory> {
+        verify_together(self, alloc, claims)
     }
 }
 

@@ -1,1 +1,3 @@
 pub mod OpenSignatures
+pub mod Made
+pub mod Accepting

@@ -1,3 +1,5 @@
 pub mod Rules
 pub mod Open
 pub mod OpenLaws
+pub mod Claims
+pub mod OpenClaims

@@ -1,5 +1,5 @@
 -- Open keys: keys of kind 0, whose signatures anyone can make. They show who is meant, and protect nothing.
-use Rattle.std.specs.Prelude.{ℕ, ◌%◌, ◌==◌, ◌&&◌, Bool, List, ◌++◌, slice_index}
+use Rattle.std.specs.Prelude.{◌≡◌, ℕ, ◌%◌, ◌==◌, ◌&&◌, Bool, List, ◌++◌, slice_index}
 use Rattle.std.specs.Str.{bytes_eq}
 use Rattle.sha2.specs.Sha256.{sha256}
 use Rattle.scheme_core.specs.Rules.{Rules}
@@ -19,3 +19,7 @@ is_communal key = slice_index key 32 % 2 == 0
 -- the rules of open keys, for users and for namespaces
 abbrev pub open_rules : Rules
 open_rules = record { user = open_accepts; owner = open_accepts; communal = is_communal }
+
+-- The rules accept of an open key, one of kind 0, exactly what is its open signature.
+abbrev pub AcceptsOpenKeys : Rules → Type 0
+AcceptsOpenKeys rules = (key message signature : List ℕ) → slice_index key 0 ≡ 0 → rules.user key message signature ≡ open_accepts key message signature

@@ -5,9 +5,12 @@ ghost use Rattle.spelling.specs.declared.ending.End.TheVariants as ends;
 ghost use Rattle.scheme_core.specs.Open.{open_accepts, open_rules, open_signature};
 ghost use Rattle.scheme_core.specs.OpenLaws.{open_accepts-short};
 
-use crate::scheme::{Scheme, Verify};
+use crate::claim::Claim;
+use crate::scheme::{Scheme, Verify, VerifyMany};
 use crate::signer::{MAX_SIGNATURE, SignRefusal, Signer};
+use crate::together::verify_together;
 use sha2::{Digest, Sha256};
+use spelling::NoMemory;
 use std::alloc::Global;
 use std::marker::Model;
 use willow_path::{End, NamespaceKey, UserKey};
@@ -48,6 +51,12 @@ impl Verify for OpenScheme {
     #[tactic(auto, unfolding(crate::specs::Open::is_communal))]
     fn is_communal(&self, key: &NamespaceKey) -> bool {
         key.to_bytes()[32] % 2 == 0
+    }
+}
+
+impl VerifyMany for OpenScheme {
+    fn verify_users(&self, alloc: Global, claims: &[Claim<'_>]) -> Result<Vec<bool>, NoMemory> {
+        verify_together(self, alloc, claims)
     }
 }
 

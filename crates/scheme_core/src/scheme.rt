@@ -1,8 +1,13 @@
 //! Schemes of keys.
 
-ghost use Rattle.std.specs.Prelude.{◌≡◌};
+ghost use Rattle.std.specs.Prelude.{◌≡◌, map, IfOk};
+ghost use Rattle.scheme_core.specs.Claims.{accepts_claim};
 ghost use Rattle.scheme_core.specs.Rules.{Rules};
 
+use crate::claim::Claim;
+use crate::many::verify_each;
+use spelling::NoMemory;
+use std::alloc::Global;
 use willow_path::{NamespaceKey, UserKey};
 
 /// What verifies signatures. What it answers is a fact of the type, its `rules`, and not of the value.
@@ -22,5 +27,15 @@ pub trait Verify: Copy {
         ensures { result ≡ rules.communal key.now };
 }
 
+/// What verifies many signatures by one call.
+pub trait VerifyMany: Verify {
+    /// Whether each signature is accepted, in order.
+    fn verify_users(&self, alloc: Global, claims: &[Claim<'_>]) -> Result<Vec<bool>, NoMemory>
+        ensures { IfOk result (λ answers. answers.items ≡ map (accepts_claim Self.rules) claims.now) }
+    {
+        verify_each(self, alloc, claims)
+    }
+}
+
 /// A scheme that threads may share.
-pub trait Scheme: Verify + Send + Sync {}
+pub trait Scheme: VerifyMany + Send + Sync {}
