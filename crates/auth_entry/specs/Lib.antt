@@ -1,2 +1,5 @@
 pub mod Authorised
 pub mod Known
+pub mod Places
+pub mod Batch
+pub mod Standings

@@ -1,18 +1,23 @@
 //! What checks many rows.
 
-ghost use Rattle.std.specs.Prelude.{◌≡◌, ℕ, List, map, IfOk};
-ghost use Rattle.auth_entry.specs.Authorised.{verdict};
+ghost use Rattle.std.specs.Prelude.{◌≡◌, ℕ, List, map, None, IfOk, IsTrue};
+ghost use Rattle.auth_entry.specs.Authorised.{capability_refusal, row_refusal, verdict};
+ghost use Rattle.auth_entry.specs.Places.{carried};
 
-use crate::authorised::{AuthorisedEntry, authorise};
+use crate::authorised::AuthorisedEntry;
+use crate::checks::capability_causes;
+use crate::signatures::row_causes;
+use crate::standing::{all_settled, all_stand};
+use crate::unknown::Unknown;
 use cap_codec::RawRow;
 use mc_cap::RowRefusal;
-use scheme_core::Verify;
-use spelling::End;
+use scheme_core::{Scheme, Verify};
 use std::alloc::Global;
 use std::thread::Threads;
 use willow_path::{NamespaceKey, NoMemory};
 
-/// What checks rows in one namespace by the rules of S. It may remember what it found.
+/// What checks rows in one namespace by the rules of S. A checker tells its namespace and its scheme; it may remember
+/// capabilities that it found valid, and may let rows be checked on all processors. None of that changes a verdict.
 pub trait Checker<S: Verify>: Drop {
     ghost judged_in: { Self → List ℕ };
 
@@ -20,18 +25,56 @@ pub trait Checker<S: Verify>: Drop {
     fn namespace(&self) -> NamespaceKey
         ensures { result ≡ judged_in self.now };
 
-    /// What `authorise` answers for each row, in order.
-    fn check_all<R: Threads + Sync>(
+    /// The scheme by which rows are judged.
+    fn scheme(&self) -> S;
+
+    /// Whether rows are checked on all processors, where they are enough.
+    fn takes_threads(&self) -> bool {
+        false
+    }
+
+    /// Whether the row's capability is remembered as a valid one.
+    fn recalls(&mut self, row: &RawRow) -> bool
+        ensures valid { IsTrue result → capability_refusal S.rules row.now.token.capability ≡ None }
+        ensures same { judged_in self.new ≡ judged_in self.old }
+    {
+        false
+    }
+
+    /// Hands over the row's capability, which is valid, to be remembered.
+    fn remember(&mut self, alloc: Global, row: &RawRow) -> Result<(), NoMemory>
+        requires { capability_refusal S.rules row.now.token.capability ≡ None }
+        ensures { judged_in self.new ≡ judged_in self.old }
+    {
+        Ok(())
+    }
+
+    /// What `authorise` answers for each row, in order. Each capability that is not remembered is checked once.
+    final fn check_all<R: Threads + Sync>(
         &mut self,
         rt: &R,
         alloc: Global,
         rows: Vec<RawRow>,
     ) -> Result<Vec<Result<AuthorisedEntry<S>, RowRefusal>>, NoMemory>
+    where
+        S: Scheme,
         ensures verdicts { IfOk result (λ verdicts. verdicts.items ≡ map (verdict S.rules (judged_in self.old)) rows.items) }
-        ensures same { judged_in self.new ≡ judged_in self.old };
+        ensures same { judged_in self.new ≡ judged_in self.old }
+    {
+        let namespace = self.namespace();
+        let refusals = refusals_of(rt, alloc, self, &rows)?;
+        verdicts(alloc, &namespace, rows, &refusals)
+    }
 }
 
-/// Checks one row after the other, and remembers nothing. A contract sees the namespace.
+/// A checker that can be made once its namespace is known.
+pub trait NewChecker<S: Verify>: Checker<S> {
+    /// What checks rows in the namespace by the scheme, and remembers nothing yet.
+    fn begin(alloc: Global, scheme: S, namespace: NamespaceKey) -> Result<Self, NoMemory>
+        ensures { IfOk result (λ checker. Self.judged_in checker ≡ namespace) };
+}
+
+/// Checks on one thread, and remembers nothing from one call to the next. A contract sees the namespace.
 #[derive(Drop)]
 pub struct PlainChecker<S: Verify> {
     scheme: S,
@@ -54,45 +97,97 @@ impl<S: Verify> Checker<S> for PlainChecker<S> {
         self.namespace
     }
 
-    fn check_all<R: Threads + Sync>(
-        &mut self,
-        rt: &R,
-        alloc: Global,
-        rows: Vec<RawRow>,
-    ) -> Result<Vec<Result<AuthorisedEntry<S>, RowRefusal>>, NoMemory> {
-        verdicts(alloc, &self.scheme, &self.namespace, rows)
+    fn scheme(&self) -> S {
+        self.scheme
     }
 }
 
-// What `authorise` answers for each row, in order.
+impl<S: Verify> NewChecker<S> for PlainChecker<S> {
+    fn begin(_alloc: Global, scheme: S, namespace: NamespaceKey) -> Result<Self, NoMemory> {
+        Ok(PlainChecker::new(scheme, namespace))
+    }
+}
+
+// Why each of the rows is refused, where it is.
+fn refusals_of<S: Scheme, C: Checker<S>>(
+    rt: &(impl Threads + Sync),
+    alloc: Global,
+    checker: &mut C,
+    rows: &[RawRow],
+) -> Result<Vec<Option<RowRefusal>>, NoMemory>
+    ensures refusals { IfOk result (λ refusals. refusals.items ≡ map (row_refusal S.rules (C.judged_in checker.old)) rows.now) }
+    ensures same { C.judged_in checker.new ≡ C.judged_in checker.old }
+{
+    let (namespace, scheme) = (checker.namespace(), checker.scheme());
+    let threads = checker.takes_threads();
+    let mut unknown = Unknown::new(alloc);
+    let stood = all_stand(alloc, &namespace, checker, &mut unknown, rows)?;
+    let causes = capability_causes(rt, alloc, &scheme, threads, unknown.rows())?;
+    remember_valid(alloc, checker, unknown.rows(), &causes)?;
+    let pending = all_settled(alloc, &causes, &stood)?;
+    row_causes(rt, alloc, &scheme, threads, &pending)
+}
+
+// The checker is handed the capabilities of those rows for which there is no cause to refuse them.
+fn remember_valid<S: Verify, C: Checker<S>>(
+    alloc: Global,
+    checker: &mut C,
+    rows: &[&RawRow],
+    causes: &[Option<RowRefusal>],
+) -> Result<(), NoMemory>
+    requires { causes.now ≡ map (capability_refusal S.rules) (carried rows.now) }
+    ensures { C.judged_in checker.new ≡ C.judged_in checker.old }
+{
+    for (row, cause) in rows.iter().zip(causes) {
+        remember_if_valid(alloc, checker, *row, *cause)?;
+    }
+    Ok(())
+}
+
+// The checker is handed the row's capability, where there is no cause to refuse it.
+fn remember_if_valid<S: Verify, C: Checker<S>>(
+    alloc: Global,
+    checker: &mut C,
+    row: &RawRow,
+    cause: Option<RowRefusal>,
+) -> Result<(), NoMemory>
+    requires { cause ≡ capability_refusal S.rules row.now.token.capability }
+    ensures { C.judged_in checker.new ≡ C.judged_in checker.old }
+{
+    match cause {
+        None => checker.remember(alloc, row),
+        Some(_) => Ok(()),
+    }
+}
+
+// The rows that are not refused, and why the others are, in order.
 fn verdicts<S: Verify>(
     alloc: Global,
-    scheme: &S,
     namespace: &NamespaceKey,
     rows: Vec<RawRow>,
+    refusals: &[Option<RowRefusal>],
 ) -> Result<Vec<Result<AuthorisedEntry<S>, RowRefusal>>, NoMemory>
+    requires { refusals.now ≡ map (row_refusal S.rules namespace.now) rows.items }
     ensures { IfOk result (λ verdicts. verdicts.items ≡ map (verdict S.rules namespace.now) rows.items) }
 {
     let mut verdicts = Vec::with_capacity(alloc, rows.len())?;
-    for row in rows {
-        let verdict = verdict(alloc, scheme, namespace, row)?;
-        verdicts.push(verdict)?;
+    for (row, refusal) in rows.into_iter().zip(refusals) {
+        verdicts.push(verdict_by(namespace, row, *refusal))?;
     }
     Ok(verdicts)
 }
 
-// What `authorise` answers, without want of memory.
-fn verdict<S: Verify>(
-    alloc: Global,
-    scheme: &S,
+// The row, or why it is refused.
+fn verdict_by<S: Verify>(
     namespace: &NamespaceKey,
     row: RawRow,
-) -> Result<Result<AuthorisedEntry<S>, RowRefusal>, NoMemory>
-    ensures { IfOk result (λ answer. answer ≡ verdict S.rules namespace.now row) }
+    refusal: Option<RowRefusal>,
+) -> Result<AuthorisedEntry<S>, RowRefusal>
+    requires { refusal ≡ row_refusal S.rules namespace.now row }
+    ensures { result ≡ verdict S.rules namespace.now row }
 {
-    match authorise(alloc, scheme, namespace, row) {
-        Ok(entry) => Ok(Ok(entry)),
-        Err(End::Refused(refusal)) => Ok(Err(refusal)),
-        Err(End::NoMemory) => Err(NoMemory),
+    match refusal {
+        None => Ok(AuthorisedEntry::new(*namespace, row)),
+        Some(refusal) => Err(refusal),
     }
 }

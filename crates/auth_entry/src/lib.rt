@@ -4,15 +4,15 @@
 
 mod authorised;
 mod checker;
-mod known;
+mod checks;
+mod chunks;
 pub mod laws;
 mod refusal;
+mod signatures;
+mod standing;
+mod unknown;
 
 pub use authorised::{AuthorisedEntry, authorise};
-pub use checker::{Checker, PlainChecker};
-pub use known::KnownCapabilities;
+pub use checker::{Checker, NewChecker, PlainChecker};
 pub use mc_cap::RowRefusal;
 pub use refusal::{check_capability, check_entry, check_row, claim_refusal};
-
-#[cfg(test)]
-mod tests;

@@ -66,8 +66,22 @@ pub fn check_capability<S: Verify>(
     }
 }
 
+// The fourth condition, which matters once the capability is valid: why its grant does not include the entry, where it
+// does not.
+pub(crate) fn grant_refusal(row: &RawRow) -> Option<RowRefusal>
+    ensures { result ≡ grant_refusal row.now.token.capability row.now.entry }
+{
+    let (entry, capability) = (row.entry(), &row.token().capability);
+    if capability.grants(&entry.subspace, &entry.path, entry.timestamp) {
+        None
+    } else {
+        Some(RowRefusal::OutsideGrant)
+    }
+}
+
 /// The last two conditions, which matter once the capability is valid: whether its grant includes the
 /// entry, and its receiver signed it. Only the signature needs memory.
+#[tactic(auto, unfolding(crate::specs::Authorised::entry_refusal))]
 pub fn check_entry<S: Verify>(
     alloc: Global,
     scheme: &S,
@@ -76,32 +90,14 @@ pub fn check_entry<S: Verify>(
     ensures answer { Judges result (entry_refusal S.rules row.now) }
     ensures granted { IsErrOf result ends.NoMemory → grant_refusal row.now.token.capability row.now.entry ≡ None }
 {
-    let mut message = Vec::new(alloc);
-    check_entry_in(&mut message, scheme, row)
-}
-
-// The same, where the vector gives the room for what is signed: whatever stands there is lost.
-#[tactic(auto, unfolding(crate::specs::Authorised::entry_refusal))]
-pub(crate) fn check_entry_in<S: Verify>(
-    message: &mut Vec<u8>,
-    scheme: &S,
-    row: &RawRow,
-) -> Result<(), End<RowRefusal>>
-    ensures answer { Judges result (entry_refusal S.rules row.now) }
-    ensures granted { IsErrOf result ends.NoMemory → grant_refusal row.now.token.capability row.now.entry ≡ None }
-{
-    let entry = row.entry();
-    let token = row.token();
-    if !token
-        .capability
-        .grants(&entry.subspace, &entry.path, entry.timestamp)
-    {
-        return Err(End::Refused(RowRefusal::OutsideGrant));
+    if let Some(refusal) = grant_refusal(row) {
+        return Err(End::Refused(refusal));
     }
-    message.clear();
-    put_row_message(row, message)?;
+    let mut message = Vec::new(alloc);
+    put_row_message(row, &mut message)?;
+    let token = row.token();
     let receiver = token.capability.receiver();
-    if !scheme.verify_user(&receiver, message, token.signature.as_slice()) {
+    if !scheme.verify_user(&receiver, &message, token.signature.as_slice()) {
         return Err(End::Refused(RowRefusal::BadEntrySignature));
     }
     Ok(())

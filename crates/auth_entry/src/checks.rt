@@ -1,0 +1,70 @@
+//! Capabilities that are checked side by side.
+
+ghost use Rattle.std.specs.Prelude.{◌≡◌, map, IfOk};
+ghost use Rattle.auth_entry.specs.Authorised.{capability_refusal};
+ghost use Rattle.auth_entry.specs.Places.{carried};
+
+use crate::chunks::{chunk_len, work_of};
+use crate::refusal::check_capability;
+use cap_codec::RawRow;
+use mc_cap::{Capability, RowRefusal};
+use rayon::prelude::*;
+use scheme_core::{Scheme, Verify};
+use spelling::{End, NoMemory};
+use std::alloc::Global;
+use std::thread::Threads;
+
+// Why the row's capability is not valid, where it is not.
+fn capability_cause<S: Verify>(scheme: &S, row: &RawRow) -> Result<Option<RowRefusal>, NoMemory>
+    ensures { IfOk result (λ cause. cause ≡ capability_refusal S.rules row.now.token.capability) }
+{
+    match check_capability(scheme, &row.token().capability) {
+        Ok(()) => Ok(None),
+        Err(End::Refused(refusal)) => Ok(Some(refusal)),
+        Err(End::NoMemory) => Err(NoMemory),
+    }
+}
+
+/// Why the capability of each row is not valid, where it is not. Where threads are taken they are checked side by side.
+pub(crate) fn capability_causes<S: Scheme>(
+    rt: &(impl Threads + Sync),
+    alloc: Global,
+    scheme: &S,
+    threads: bool,
+    rows: &[&RawRow],
+) -> Result<Vec<Option<RowRefusal>>, NoMemory>
+    ensures { IfOk result (λ causes. causes.items ≡ map (capability_refusal S.rules) (carried rows.now)) }
+{
+    let least = chunk_len(threads, rows.len(), capabilities_work(rows));
+    let causes: Result<Vec<Option<RowRefusal>>, NoMemory> = rows
+        .par_iter()
+        .with_min_len(least)
+        .map(
+            |row: &&RawRow| -> Result<Option<RowRefusal>, NoMemory>
+                ensures { IfOk result (λ cause. cause ≡ capability_refusal S.rules row.now.now.token.capability) }
+            { capability_cause(scheme, *row) },
+        )
+        .collect(rt, alloc)?;
+    causes
+}
+
+// How much work the signatures of the capabilities are.
+fn capabilities_work(rows: &[&RawRow]) -> usize {
+    let mut work: usize = 0;
+    for row in rows {
+        work = work.saturating_add(capability_work(&row.token().capability));
+    }
+    work
+}
+
+// How much work the signatures of the capability are.
+fn capability_work(capability: &Capability) -> usize {
+    let mut work = match &capability.initial {
+        Some(signature) => work_of(signature.as_slice()),
+        None => 0,
+    };
+    for delegation in capability.chain.as_slice() {
+        work = work.saturating_add(work_of(delegation.signature.as_slice()));
+    }
+    work
+}

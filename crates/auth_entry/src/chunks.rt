@@ -1,0 +1,23 @@
+//! How many checks one thread makes.
+
+ghost use Rattle.std.specs.Prelude.{◌<◌};
+
+// Signatures of so many bytes are worth a thread of their own: one of an LMS key is.
+const WORTH: usize = 1_024;
+
+// A signature of so few bytes is one of an open key, which is checked in less time than a thread takes to start.
+const SHORT: usize = 32;
+
+/// How many of a signature's bytes count as work: none of a short one's.
+pub(crate) fn work_of(signature: &[u8]) -> usize {
+    signature.len().saturating_sub(SHORT)
+}
+
+/// How many checks one thread makes at least, where so many are to be made of so much work: all of them where no thread is
+/// to be taken.
+pub(crate) fn chunk_len(threads: bool, count: usize, work: usize) -> usize
+    ensures { 0 < result }
+{
+    let chunks = if threads { (work / WORTH).max(1) } else { 1 };
+    (count / chunks).max(1)
+}
