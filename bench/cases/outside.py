@@ -9,7 +9,7 @@ PIECE, LARGE_PIECE, REPORT_PIECE = 100, 1 << 20, 7
 
 # How much room each read of the input offers is not part of what a run must do: it is taken from the program. The cases
 # in which a call of the input fails rest on it, and those of `join` in which rows stand behind what stops it.
-ROOM = 16_384
+ROOM = 65_536
 
 
 class Fault(Exception):

@@ -1,8 +1,8 @@
 -- What a log holds of the rows that were offered to it.
-use Rattle.std.specs.Prelude.{◌≡◌, ℕ, ◌<◌, Bool, List, [], ◌∷◌, ◌++◌, length, map, Result, Ok, Err, if◌then◌else◌}
+use Rattle.std.specs.Prelude.{◌≡◌, ◌<◌, Bool, List, [], ◌∷◌, ◌++◌, length, Result, Ok, Err, if◌then◌else◌}
 use Rattle.spelling.specs.declared.ending.End.{End}
 use Rattle.spelling.specs.declared.ending.End.TheVariants.{Refused, NoMemory}
-use Rattle.willow_entry.specs.Row.{RowValue, live, new}
+use Rattle.willow_entry.specs.Row.{RowValue, new}
 use Rattle.ns_state.specs.Log.{StateValue, values}
 use Rattle.ns_state.specs.declared.live_log.LogFull.{LogFull}
 use Rattle.ns_state.specs.declared.live_log.TheConstants.{LOG_LIMIT}

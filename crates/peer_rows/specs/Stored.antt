@@ -4,7 +4,6 @@ use Rattle.std.specs.List.{AllByRecursion}
 use Rattle.spelling.specs.declared.ending.End.{End}
 use Rattle.spelling.specs.declared.ending.End.TheVariants as ends
 use Rattle.willow_outside.specs.Facts.{SourceFacts}
-use Rattle.willow_entry.specs.Row.{RowValue}
 use Rattle.cap_codec.specs.Rows.{RawValue, row_of, IsRawRow, FitsFrame, AreFrames}
 use Rattle.cap_codec.specs.Streams.{FramesStopAt}
 use Rattle.row_stream.specs.Streams.{IsStream}

@@ -5,13 +5,15 @@ ghost use Rattle.spelling.specs.declared.ending.End.TheVariants as ends;
 ghost use Rattle.peer_rows.specs.Images.{ReadsImageFrom, LogsImage, log_stop};
 
 use crate::log::Log;
-use auth_entry::AuthorisedEntry;
+use crate::offering::offer_all;
+use auth_entry::{AuthorisedEntry, NewChecker};
 use lms_core::PeerScheme;
 use ns_state::{LiveLog, LogFull};
 use peer_image::{Image, ImageRefusal, read_image};
 use peer_stage::{JoinCounts, Origin, Stop};
 use spelling::End;
 use std::alloc::Global;
+use std::thread::Threads;
 
 /// A log of authorised rows.
 pub type EntryLog = LiveLog<AuthorisedEntry<PeerScheme>>;
@@ -35,21 +37,24 @@ pub fn image_from(alloc: Global, bytes: &[u8], origin: Origin) -> Result<Image, 
     }
 }
 
-/// The log of the authorised rows of an image, offered in order, and the numbers of all its rows.
-pub fn log_image(alloc: Global, image: Image) -> Result<(EntryLog, JoinCounts), Stop>
+/// The log of the authorised rows of an image, offered in order, and the numbers of all its rows. A checker of the given
+/// kind judges them together.
+pub fn log_image<C: NewChecker<PeerScheme>, R: Threads + Sync>(
+    rt: &R,
+    alloc: Global,
+    image: Image,
+) -> Result<(EntryLog, JoinCounts), Stop>
     requires { length image.rows.items < 2 ^ 32 }
     ensures logs { LogsImage image.namespace image.rows.items result }
     ensures namespace { IfOk result (λ x. x.0.namespace ≡ image.namespace) }
 {
     let Image { namespace, rows } = image;
+    let mut checker = C::begin(alloc, PeerScheme, namespace)?;
     let mut log = Log::new(alloc, namespace);
-    for row in rows {
-        match log.offer(alloc, row) {
-            Ok(()) => {}
-            Err(end) => return Err(log_stop(end)),
-        }
+    match offer_all(rt, alloc, &mut checker, &mut log, rows) {
+        Ok(()) => Ok((log.kept, log.counts)),
+        Err(end) => Err(log_stop(end)),
     }
-    Ok((log.kept, log.counts))
 }
 
 /// How a command stops where a row met a full log, or memory was wanting.

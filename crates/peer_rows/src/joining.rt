@@ -13,21 +13,26 @@ ghost use Rattle.peer_rows.specs.Stored.{EndsStream, HasSeen, LogsInput, TakesPi
 use crate::imaging::write_image_of;
 use crate::log::Log;
 use crate::offering::offer_all;
+use auth_entry::{Checker, NewChecker};
 use cap_codec::{RawRow, RawRows};
+use lms_core::PeerScheme;
 use ns_state::LogFull;
 use peer_stage::{Done, INPUT_LIMIT, Stop};
 use row_stream::{RowStream, StreamRefusal};
 use spelling::{End, NoMemory};
 use std::alloc::Global;
+use std::thread::Threads;
 use willow_outside::{Fault, Sink, Source};
 use willow_path::NamespaceKey;
 
-/// How many bytes are asked for in one read.
-const PIECE: usize = 16_384;
+/// How many bytes are asked for in one read: so many that the rows of a piece are worth being judged side by side.
+const PIECE: usize = 65_536;
 
 /// Reads row frames from the input, keeps the live rows of those that are authorised in the namespace, and
-/// writes their image. Neither all of the input nor all of the image stands in memory.
-pub fn join<I: Source, O: Sink>(
+/// writes their image. The rows that become whole with a piece of the input are judged together, by a checker of the given
+/// kind. Neither all of the input nor all of the image stands in memory.
+pub fn join<C: NewChecker<PeerScheme>, R: Threads + Sync, I: Source, O: Sink>(
+    rt: &R,
     alloc: Global,
     namespace: &NamespaceKey,
     input: &mut I,
@@ -37,17 +42,23 @@ pub fn join<I: Source, O: Sink>(
         (record others { input = I.facts input.old; output = O.facts output.old })
         (record others { input = I.facts input.new; output = O.facts output.new }) result }
 {
-    let log = read_log(alloc, namespace, input)?;
+    let log = read_log::<C, R, I>(rt, alloc, namespace, input)?;
     write_image_of(alloc, namespace, log.kept.store(), output)?;
     Ok(Done::Joined(log.counts))
 }
 
 // The log of the rows of the input, read a piece at a time. What goes wrong in a piece stops the reading.
-fn read_log<I: Source>(alloc: Global, namespace: &NamespaceKey, input: &mut I) -> Result<Log, Stop>
+fn read_log<C: NewChecker<PeerScheme>, R: Threads + Sync, I: Source>(
+    rt: &R,
+    alloc: Global,
+    namespace: &NamespaceKey,
+    input: &mut I,
+) -> Result<Log, Stop>
     ensures logs { LogsInput namespace.now (I.facts input.old) (I.facts input.new) result }
     ensures faults { CountsStep (I.facts input.old).faults (I.facts input.new).faults result }
     ensures ends { (I.facts input.old).ends ≤ (I.facts input.new).ends }
 {
+    let mut checker = C::begin(alloc, PeerScheme, *namespace)?;
     let mut log = Log::new(alloc, *namespace);
     let mut stream = RowStream::<RawRows>::new(alloc);
     let mut piece = room(alloc)?;
@@ -65,7 +76,7 @@ fn read_log<I: Source>(alloc: Global, namespace: &NamespaceKey, input: &mut I) -
                     return Err(Stop::bad_input(INPUT_LIMIT));
                 }
                 left -= n as u64;
-                take_piece(alloc, &mut stream, &mut log, &piece[..n])?;
+                take_piece(rt, alloc, &mut checker, &mut stream, &mut log, &piece[..n])?;
             }
             Err(Fault::Failed) => return Err(Stop::ReadFault),
             Err(Fault::NoMemory) => return Err(Stop::NoMemory),
@@ -82,14 +93,18 @@ fn room(alloc: Global) -> Result<Vec<u8>, NoMemory>
 
 // Takes a piece in: the rows that become whole with it are offered to the log. Bytes that are wrong go before a row that
 // meets a full log.
-fn take_piece(
+fn take_piece<C: Checker<PeerScheme>, R: Threads + Sync>(
+    rt: &R,
     alloc: Global,
+    checker: &mut C,
     stream: &mut RowStream<RawRows>,
     log: &mut Log,
     piece: &[u8],
 ) -> Result<(), Stop>
-    requires { (namespace : List ℕ) × (bytes : List ℕ) × HasSeen namespace bytes stream.old log.old × (length bytes + length piece.now ≤ INPUT_LIMIT) }
-    ensures { (namespace bytes : List ℕ) → HasSeen namespace bytes stream.old log.old
+    requires namespace { C.judged_in checker.old ≡ log.old.kept.namespace }
+    requires seen { (namespace : List ℕ) × (bytes : List ℕ) × HasSeen namespace bytes stream.old log.old × (length bytes + length piece.now ≤ INPUT_LIMIT) }
+    ensures namespace { C.judged_in checker.new ≡ C.judged_in checker.old }
+    ensures takes { (namespace bytes : List ℕ) → HasSeen namespace bytes stream.old log.old
         → TakesPiece namespace (bytes ++ piece.now) stream.new log.new result }
 {
     let rows = match stream.feed(piece) {
@@ -98,7 +113,7 @@ fn take_piece(
         Err(End::NoMemory) => return Err(Stop::NoMemory),
     };
     known_rows(&rows);
-    match offer_all(alloc, log, rows) {
+    match offer_all(rt, alloc, checker, log, rows) {
         Ok(()) => Ok(()),
         Err(End::Refused(LogFull { front: _ })) => Err(Stop::LogFull),
         Err(End::NoMemory) => Err(Stop::NoMemory),

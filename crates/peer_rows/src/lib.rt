@@ -20,6 +20,3 @@ pub use images::{EntryLog, image_from, log_image, log_stop};
 pub use joining::join;
 pub use row_log::offer_rows;
 pub use showing::show;
-
-#[cfg(test)]
-mod tests;

@@ -3,13 +3,12 @@
 ghost use Rattle.std.specs.Prelude.{◌≡◌, ℕ, ◌+◌, ◌-◌, ◌^◌, ◌<◌, ◌≤◌, [], List, length, None, Some, OnOk};
 ghost use Rattle.spelling.specs.Answers.{or_else};
 ghost use Rattle.cap_codec.specs.Rows.{RawValue};
-ghost use Rattle.auth_entry.specs.Authorised.{row_refusal};
+ghost use Rattle.auth_entry.specs.Authorised.{row_refusal, verdict};
 ghost use Rattle.lms_core.specs.Use.{peer_rules};
 ghost use Rattle.peer_rows.specs.Logged.{IsLogOf, Offers, with_offered, with_refused};
 
 use crate::row_log::offer_row;
-use auth_entry::{AuthorisedEntry, KnownCapabilities, RowRefusal};
-use cap_codec::RawRow;
+use auth_entry::{AuthorisedEntry, RowRefusal};
 use lms_core::PeerScheme;
 use mc_cap::RefusedRow;
 use ns_state::{LOG_LIMIT, LiveLog, LogFull};
@@ -18,12 +17,11 @@ use spelling::End;
 use std::alloc::Global;
 use willow_path::NamespaceKey;
 
-/// A log of the authorised ones of the rows that are offered, and the numbers of all of them.
+/// A log of the authorised ones of the rows that were judged for it, and the numbers of all of them.
 #[derive(Drop)]
 pub(crate) struct Log {
     pub(crate) kept: LiveLog<AuthorisedEntry<PeerScheme>>,
     pub(crate) counts: JoinCounts,
-    known: KnownCapabilities<PeerScheme>,
     ghost same: { length kept.log ≡ counts.stored },
     ghost sums: { counts.stored + counts.kept + counts.refused ≡ counts.rows },
 }
@@ -43,25 +41,27 @@ impl Log {
         Log {
             kept: LiveLog::new(alloc, namespace),
             counts,
-            known: KnownCapabilities::new(alloc, PeerScheme),
         }
     }
 
-    /// Offers a row of a stream: one that is not authorised in the log's namespace is left out and counted.
-    pub(crate) fn offer(&mut self, alloc: Global, row: RawRow) -> Result<(), End<LogFull>>
-        requires { self.old.counts.rows < 2 ^ 64 - 1 }
-        ensures offers { (namespace : List ℕ) (seen : List RawValue) → IsLogOf namespace seen self.old.kept self.old.counts
-            → Offers namespace seen row self.new.kept self.new.counts result }
+    /// Takes a row of a stream that was judged in the log's namespace: it is offered to the log where it is authorised, and
+    /// counted.
+    pub(crate) fn take(
+        &mut self,
+        judged: Result<AuthorisedEntry<PeerScheme>, RowRefusal>,
+    ) -> Result<(), End<LogFull>>
+        requires few { self.old.counts.rows < 2 ^ 64 - 1 }
+        requires judged { (row : RawValue) × (judged ≡ verdict peer_rules self.old.kept.namespace row) }
+        ensures offers { (namespace : List ℕ) (seen : List RawValue) (row : RawValue) → judged ≡ verdict peer_rules namespace row
+            → IsLogOf namespace seen self.old.kept self.old.counts → Offers namespace seen row self.new.kept self.new.counts result }
         ensures fits { OnOk result (self.new.counts.stored ≤ LOG_LIMIT) }
     {
-        let namespace = self.kept.namespace();
-        match self.known.check(alloc, &namespace, &row) {
-            Ok(()) => self.keep(AuthorisedEntry::new(namespace, row)),
-            Err(End::Refused(refusal)) => {
+        match judged {
+            Ok(entry) => self.keep(entry),
+            Err(refusal) => {
                 self.count_refused(refusal);
                 Ok(())
             }
-            Err(End::NoMemory) => Err(End::NoMemory),
         }
     }
 

@@ -6,21 +6,34 @@ ghost use Rattle.peer_rows.specs.Logged.{IsLogOf};
 ghost use Rattle.peer_rows.specs.Stored.{OffersAll};
 
 use crate::log::Log;
+use auth_entry::Checker;
 use cap_codec::RawRow;
+use lms_core::PeerScheme;
 use ns_state::{LOG_LIMIT, LogFull};
 use spelling::End;
 use std::alloc::Global;
+use std::thread::Threads;
 
-// Offers the rows to the log, one after the other, up to the first that meets a full log.
-pub(crate) fn offer_all(alloc: Global, log: &mut Log, rows: Vec<RawRow>) -> Result<(), End<LogFull>>
+// Offers the rows to the log: they are judged together, and those that are authorised are taken in order, up to the first
+// that meets a full log.
+pub(crate) fn offer_all<C: Checker<PeerScheme>, R: Threads + Sync>(
+    rt: &R,
+    alloc: Global,
+    checker: &mut C,
+    log: &mut Log,
+    rows: Vec<RawRow>,
+) -> Result<(), End<LogFull>>
+    requires namespace { C.judged_in checker.old ≡ log.old.kept.namespace }
     requires few { (namespace : List ℕ) × (seen : List RawValue) × IsLogOf namespace seen log.old.kept log.old.counts × (length seen + length rows.items < 2 ^ 64) }
     requires fits { log.old.counts.stored ≤ LOG_LIMIT }
+    ensures namespace { C.judged_in checker.new ≡ C.judged_in checker.old }
     ensures offers { (namespace : List ℕ) (seen : List RawValue) → IsLogOf namespace seen log.old.kept log.old.counts
         → OffersAll namespace seen rows.items log.new result }
     ensures fits { OnOk result (log.new.counts.stored ≤ LOG_LIMIT) }
 {
-    for row in rows {
-        log.offer(alloc, row)?;
+    let verdicts = checker.check_all(rt, alloc, rows)?;
+    for judged in verdicts {
+        log.take(judged)?;
     }
     Ok(())
 }

@@ -10,16 +10,21 @@ ghost use Rattle.peer_rows.specs.Listed.{ListsImage, show_counts};
 
 use crate::images::{image_from, log_image};
 use crate::listing::list_log;
+use auth_entry::NewChecker;
+use lms_core::PeerScheme;
 use peer_image::Image;
 use peer_stage::{Done, INPUT_LIMIT, JoinCounts, Origin, ShowCounts, Stop, read_input, write_both};
 use std::alloc::Global;
+use std::thread::Threads;
 use willow_outside::{Sink, Source};
 
 /// Reads an image from the input and writes the listing of those of its rows that are authorised in its
 /// namespace: a head with the number of the lines, and a line for each, in the order of the image; or, where `newest`
 /// says so, for the first so many by recency, or all where there are fewer. Told are the numbers of all rows of the
-/// image and of those that are not authorised, with the first of these, counted from 1.
-pub fn show<I: Source, O: Sink>(
+/// image and of those that are not authorised, with the first of these, counted from 1. A checker of the given kind judges
+/// the rows.
+pub fn show<C: NewChecker<PeerScheme>, R: Threads + Sync, I: Source, O: Sink>(
+    rt: &R,
     alloc: Global,
     newest: Option<u32>,
     input: &mut I,
@@ -29,13 +34,14 @@ pub fn show<I: Source, O: Sink>(
         (record others { input = I.facts input.old; output = O.facts output.old })
         (record others { input = I.facts input.new; output = O.facts output.new }) result }
 {
-    let (head, lines, counts) = show_input(alloc, newest, input)?;
+    let (head, lines, counts) = show_input::<C, R, I>(rt, alloc, newest, input)?;
     write_both(output, &head, &lines)?;
     Ok(Done::Shown(counts))
 }
 
 // The head and the lines of the listing of the input's image, and the numbers.
-fn show_input<I: Source>(
+fn show_input<C: NewChecker<PeerScheme>, R: Threads + Sync, I: Source>(
+    rt: &R,
     alloc: Global,
     newest: Option<u32>,
     input: &mut I,
@@ -45,11 +51,12 @@ fn show_input<I: Source>(
     ensures ends { (I.facts input.old).ends ≤ (I.facts input.new).ends }
 {
     let bytes = read_input(alloc, input, INPUT_LIMIT)?;
-    show_bytes(alloc, newest, &bytes)
+    show_bytes::<C, R>(rt, alloc, newest, &bytes)
 }
 
 // The head and the lines of the listing of an image, and the numbers.
-fn show_bytes(
+fn show_bytes<C: NewChecker<PeerScheme>, R: Threads + Sync>(
+    rt: &R,
     alloc: Global,
     newest: Option<u32>,
     bytes: &[u8],
@@ -57,11 +64,12 @@ fn show_bytes(
     ensures { ShowsBytes newest bytes.now result }
 {
     let image = image_from(alloc, bytes, Origin::Input)?;
-    list_image(alloc, newest, image)
+    list_image::<C, R>(rt, alloc, newest, image)
 }
 
 // The head and the lines of the listing of the rows of an image, and their numbers.
-fn list_image(
+fn list_image<C: NewChecker<PeerScheme>, R: Threads + Sync>(
+    rt: &R,
     alloc: Global,
     newest: Option<u32>,
     image: Image,
@@ -70,7 +78,7 @@ fn list_image(
     requires in_order { order_refusal (raw_rows image.rows.items) ≡ None }
     ensures { ListsImage newest image.namespace image.rows.items result }
 {
-    let (log, counts) = log_image(alloc, image)?;
+    let (log, counts) = log_image::<C, R>(rt, alloc, image)?;
     let _front = log.front();
     let (head, lines) = list_log(alloc, newest, log)?;
     Ok((head, lines, show_counts(&counts)))

@@ -1,5 +1,5 @@
 -- How the log of an image goes on by one row.
-use Rattle.std.proofs.Common.{◌≡◌, ℕ, ◌+◌, ◌<◌, ◌^◌, true, List, [], ◌∷◌, ◌++◌, length, Option, Some, None, refl, sym, ap, ◌∙◌, subst, append_assoc, arith, length-append}
+use Rattle.std.proofs.Common.{◌≡◌, ℕ, ◌+◌, ◌<◌, ◌^◌, true, List, [], ◌∷◌, ◌++◌, length, map, Option, Some, None, Result, refl, sym, ap, ◌∙◌, subst, append_assoc, append-nil, arith, length-append}
 use Rattle.std.specs.Prelude.{Ok, Err}
 use Rattle.spelling.specs.Answers.{or_else, first_some}
 use Rattle.spelling.specs.declared.ending.End.{End}
@@ -9,7 +9,8 @@ use Rattle.willow_entry.specs.Pruning.{new_after}
 use Rattle.willow_entry.specs.Row.{new, HasCovering}
 use Rattle.lms_core.specs.Use.{peer_rules}
 use Rattle.cap_codec.specs.Rows.{RawValue, row_of}
-use Rattle.auth_entry.specs.Authorised.{AuthorisedValue, row_refusal}
+use Rattle.auth_entry.specs.Authorised.{AuthorisedValue, row_refusal, verdict}
+use Rattle.auth_entry.proofs.Verdicts.{AreJudged, first_judged, none_judged}
 use Rattle.mc_cap.specs.declared.refusal.RefusedRow.{RefusedRow}
 use Rattle.mc_cap.specs.declared.refusal.RowRefusal.{RowRefusal}
 use Rattle.ns_state.specs.Answer.{IsAnswer}
@@ -86,27 +87,53 @@ opened_stopped n seen x x' entry state NoMemory fine is answer = tt
 
 -- ---- all rows
 
--- of all rows these were taken, and these are left
-pub record HasOpened (n : List ℕ) (all seen left : List RawValue) (x : Opening) : Type 0 where
+-- of all rows, whose verdicts came, some were taken, and these verdicts are left
+pub record HasOpened (n : List ℕ) (all : List RawValue) (verdicts : List (Result AuthorisedValue RowRefusal)) (x : Opening) : Type 0 where
+  pub seen : List RawValue
+  pub left : List RawValue
+  pub parts : all ≡ seen ++ left
+  pub judged : verdicts ≡ map (verdict peer_rules n) left
   pub so_far : IsOpened n seen x
-  pub whole : all ≡ seen ++ left
 
 -- none was taken yet
-pub opened_start : (n : List ℕ) (all left : List RawValue) (state : StateValue AuthorisedValue) → left ≡ all → state.namespace ≡ n → state.log ≡ [] → HasOpened n all [] left (record { state = state; rows = 0; first = None })
+pub opened_start : (n : List ℕ) (all : List RawValue) (verdicts : List (Result AuthorisedValue RowRefusal)) (state : StateValue AuthorisedValue) → verdicts ≡ map (verdict peer_rules n) all → state.namespace ≡ n → state.log ≡ []
+    → HasOpened n all verdicts (record { state = state; rows = 0; first = None })
 unfolding new_after first_some
-opened_start n all left state same of_namespace empty = record { so_far = start; whole = sym same } where
+opened_start n all verdicts state judged of_namespace empty = record { seen = []; left = all; parts = refl; judged = judged; so_far = start } where
   start : IsOpened n [] (record { state = state; rows = 0; first = None })
   start = record { of_namespace = of_namespace; held = ap (values entry_row) empty; own = subst (AreOf 0) (sym empty) tt; counted = refl; first_is = refl }
 
--- fewer are counted than there are
-pub opened_below : (n : List ℕ) (all seen left left' : List RawValue) (row : RawValue) (x : Opening) → HasOpened n all seen left x → left ≡ row ∷ left' → length all < 2 ^ 32 → x.rows < 2 ^ 32
-opened_below n all seen left left' row x h next few = omega (arith, few, h.so_far.counted, ap length h.whole, ap length next, length-append seen left)
+-- what is so by the taking of a row that was judged so, however it ends
+abbrev TakesJudged : Result AuthorisedValue RowRefusal → Opening → Opening → Result (Unit {0}) (End LogFull) → Type 0
+TakesJudged judged x x' result = (n : List ℕ) (seen : List RawValue) (row : RawValue) → judged ≡ verdict peer_rules n row → IsOpened n seen x → TakesRow n seen row x' result
 
-pub opened_on : (n : List ℕ) (all seen left left' : List RawValue) (row : RawValue) (x x' : Opening) → HasOpened n all seen left x → left ≡ row ∷ left' → TakesRow n seen row x' (Ok tt) → HasOpened n all (seen ++ row ∷ []) left' x'
-opened_on n all seen left left' row x x' h next takes = record { so_far = takes; whole = h.whole ∙ ap (λ (l : List RawValue). seen ++ l) next ∙ sym (append_assoc seen (row ∷ []) left') }
+module _ (n : List ℕ) (all : List RawValue) (judged : Result AuthorisedValue RowRefusal) (verdicts rest : List (Result AuthorisedValue RowRefusal)) (x : Opening) (h : HasOpened n all verdicts x) (next : verdicts ≡ judged ∷ rest) where
+  first : AreJudged peer_rules n h.left judged rest
+  first = first_judged peer_rules n h.left judged rest (sym next ∙ h.judged)
 
--- where one of the rows is refused they are too many
-pub opened_stops : (n : List ℕ) (all seen left left' : List RawValue) (row : RawValue) (x x' : Opening) (e : End LogFull) → HasOpened n all seen left x → left ≡ row ∷ left' → TakesRow n seen row x' (Err e) → OpensLog n all (Err (log_stop e))
-opened_stops n all seen left left' row x x' (Refused full) h next past =
-    subst (λ (rows : List RawValue). PassesLog n rows) (sym (h.whole ∙ ap (λ (l : List RawValue). seen ++ l) next ∙ sym (append_assoc seen (row ∷ []) left'))) (PassesLog-longer n (seen ++ row ∷ []) left' past)
-opened_stops n all seen left left' row x x' NoMemory h next past = tt
+  parts_on : all ≡ (h.seen ++ first.row ∷ []) ++ first.others
+  parts_on = h.parts ∙ ap (λ (l : List RawValue). h.seen ++ l) first.parts ∙ sym (append_assoc h.seen (first.row ∷ []) first.others)
+
+  -- fewer are counted than there are
+  pub opened_below : length all < 2 ^ 32 → x.rows < 2 ^ 32
+  opened_below few = omega (arith, few, h.so_far.counted, ap length h.parts, ap length first.parts, length-append h.seen h.left)
+
+  -- the next one is on a row, in the namespace of the log
+  pub opened_here : (row : RawValue) × (judged ≡ verdict peer_rules x.state.namespace row)
+  opened_here = (first.row, first.judged_is ∙ ap (λ (m : List ℕ). verdict peer_rules m first.row) (sym h.so_far.of_namespace))
+
+  pub opened_on : (x' : Opening) → TakesJudged judged x x' (Ok tt) → HasOpened n all rest x'
+  opened_on x' takes = record { seen = h.seen ++ first.row ∷ []; left = first.others; parts = parts_on; judged = first.rest_are; so_far = takes n h.seen first.row first.judged_is h.so_far }
+
+  -- where one of the rows is refused they are too many
+  pub opened_stops : (x' : Opening) (e : End LogFull) → TakesJudged judged x x' (Err e) → OpensLog n all (Err (log_stop e))
+  opened_stops x' e takes = told e (takes n h.seen first.row first.judged_is h.so_far)
+    where
+      told : (d : End LogFull) → TakesRow n h.seen first.row x' (Err d) → OpensLog n all (Err (log_stop d))
+      told (Refused full) past = subst (λ (rows : List RawValue). PassesLog n rows) (sym parts_on) (PassesLog-longer n (h.seen ++ first.row ∷ []) first.others past)
+      told NoMemory past = tt
+
+-- all were taken
+pub opened_all : (n : List ℕ) (all : List RawValue) (verdicts : List (Result AuthorisedValue RowRefusal)) (x : Opening) → HasOpened n all verdicts x → verdicts ≡ [] → IsOpened n all x
+opened_all n all verdicts x h none =
+    subst (λ (rows : List RawValue). IsOpened n rows x) (sym (append-nil h.seen) ∙ ap (λ (l : List RawValue). h.seen ++ l) (sym (none_judged peer_rules n h.left verdicts none h.judged)) ∙ sym h.parts) h.so_far

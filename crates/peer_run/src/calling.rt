@@ -11,7 +11,8 @@ ghost use Rattle.sync_link.specs.Plans.{own_hello, planned};
 ghost use Rattle.sync_link.specs.Run.{Runs};
 ghost use Rattle.peer_run.specs.Calling.{Calls, Connects};
 
-use auth_entry::{AuthorisedEntry, PlainChecker};
+use crate::judging::RowChecker;
+use auth_entry::{AuthorisedEntry, NewChecker};
 use lms_core::PeerScheme;
 use ns_cell::{NsCell, Pass};
 use ns_state::NsState;
@@ -20,7 +21,7 @@ use peer_stage::Stop;
 use std::alloc::Global;
 use std::sync::Wait;
 use std::thread::Threads;
-use sync_link::{SessionEnd, SessionPlan, SessionReport, run_session};
+use sync_link::{SessionEnd, SessionPlan, SessionReport, known_plan, run_session};
 use willow_outside::{Door, Fault, Link};
 use willow_path::NamespaceKey;
 
@@ -70,7 +71,7 @@ pub(crate) fn call<R: Wait + Threads + Sync, D: Door>(
     })
 }
 
-/// Runs one session over the link, in which each row that comes is judged by itself.
+/// Runs one session over the link, in which the rows that come with a piece are judged together.
 pub(crate) fn talk<R: Wait + Threads + Sync, L: Link>(
     rt: &R,
     alloc: Global,
@@ -89,7 +90,10 @@ pub(crate) fn talk<R: Wait + Threads + Sync, L: Link>(
     ensures runs { Runs (planned peer_rules cell.now.namespace plan.now nonce) (gives_of signer) pass.old pass.new (L.facts link.old) (L.facts link.new) 0 0 result }
     ensures pass { IsPassOf cell.now pass.new }
 {
-    let mut checker = PlainChecker::new(PeerScheme, namespace);
+    known_plan(plan, nonce);
+    let Ok(mut checker) = RowChecker::begin(alloc, PeerScheme, namespace) else {
+        return Err(SessionEnd::NoMemory);
+    };
     let mut signer = signer;
     run_session(
         rt,

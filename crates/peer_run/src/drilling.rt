@@ -5,33 +5,40 @@ ghost use Rattle.peer_stage.specs.World.{World};
 ghost use Rattle.peer_run.specs.Drill.{Drills, drill_text};
 
 use crate::exchanging::exchange;
+use crate::judging::RowChecker;
 use ns_state::LogFull;
 use peer_listing::{DrillCounts, GENERATED_ROWS, drill_summary};
 use peer_rows::generated_logs;
 use peer_stage::{Done, Stop, write_output};
 use spelling::{End, NoMemory};
 use std::alloc::Global;
+use std::thread::Threads;
 use willow_area::Area;
 use willow_outside::Sink;
 
 /// Stores the first `rows` rows of the generator on the left and the first half of them on the right, lets both sides
 /// meet over the full area, and writes how many rows each had before and after, and how much was said. There are at
 /// most `GENERATED_ROWS`.
-pub(crate) fn drill<O: Sink>(alloc: Global, rows: u32, output: &mut O) -> Result<Done, Stop>
+pub(crate) fn drill<R: Threads + Sync, O: Sink>(
+    rt: &R,
+    alloc: Global,
+    rows: u32,
+    output: &mut O,
+) -> Result<Done, Stop>
     requires { rows ≤ GENERATED_ROWS }
     ensures { (others : World) → Drills rows (record others { output = O.facts output.old }) (record others { output = O.facts output.new }) result }
 {
-    let text = drill_text(alloc, rows)?;
+    let text = drill_text(rt, alloc, rows)?;
     write_output(output, &text)?;
     Ok(Done::Made)
 }
 
 // The summary of the meeting.
-fn drill_text(alloc: Global, rows: u32) -> Result<Vec<u8>, NoMemory>
+fn drill_text<R: Threads + Sync>(rt: &R, alloc: Global, rows: u32) -> Result<Vec<u8>, NoMemory>
     requires { rows ≤ GENERATED_ROWS }
     ensures { IfOk result (λ text. text.items ≡ drill_text rows) }
 {
-    let (mut left, mut right) = generated_logs(alloc, rows)?;
+    let (mut left, mut right) = generated_logs::<RowChecker, R>(rt, alloc, rows)?;
     let before = (left.store().len(), right.store().len());
     let full = Some(Area::full(alloc));
     let exchanged = match exchange(alloc, &mut left, &mut right, &full) {

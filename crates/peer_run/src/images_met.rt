@@ -4,12 +4,14 @@ ghost use Rattle.std.specs.Prelude.{◌≡◌, ◌^◌, ◌<◌, ◌≤◌, IfSo
 ghost use Rattle.peer_run.specs.ImagesMet.{IsImageOfRows, MeetsImages, first_of_both, meet_counts, side_counts};
 
 use crate::exchanging::{Came, Exchanged, exchange};
+use crate::judging::RowChecker;
 use crate::transcript::transcript_of;
 use mc_cap::RefusedRow;
 use peer_image::{Image, write_store_image};
 use peer_rows::{log_image, log_stop};
 use peer_stage::{JoinCounts, MeetCounts, SideCounts, Stop};
 use std::alloc::Global;
+use std::thread::Threads;
 use willow_area::Area;
 
 /// The images of what both sides have then, what was said, and the numbers.
@@ -22,7 +24,8 @@ pub(crate) struct Met {
 }
 
 /// Lets the authorised rows of two images of one namespace meet over the area that both sides may read.
-pub(crate) fn meet_images(
+pub(crate) fn meet_images<R: Threads + Sync>(
+    rt: &R,
     alloc: Global,
     left: Image,
     right: Image,
@@ -34,8 +37,8 @@ pub(crate) fn meet_images(
     ensures { MeetsImages left.namespace left.rows.items right.rows.items area.now result }
 {
     let namespace = left.namespace;
-    let (mut left_log, left_counts) = log_image(alloc, left)?;
-    let (mut right_log, right_counts) = log_image(alloc, right)?;
+    let (mut left_log, left_counts) = log_image::<RowChecker, R>(rt, alloc, left)?;
+    let (mut right_log, right_counts) = log_image::<RowChecker, R>(rt, alloc, right)?;
     let exchanged = match exchange(alloc, &mut left_log, &mut right_log, area) {
         Ok(exchanged) => exchanged,
         Err(end) => return Err(log_stop(end)),

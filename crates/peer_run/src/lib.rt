@@ -10,6 +10,7 @@ mod getting;
 mod greeting;
 mod hosting;
 mod images_met;
+mod judging;
 mod meeting;
 mod opening;
 mod preparing;

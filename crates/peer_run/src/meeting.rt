@@ -12,6 +12,7 @@ use peer_image::Image;
 use peer_stage::{Done, Stop, put_bytes, write_output};
 use peer_words::AreaWords;
 use std::alloc::Global;
+use std::thread::Threads;
 use sync_hello::{HelloRefusal, common_area};
 use willow_area::Area;
 use willow_outside::{Shelf, Sink};
@@ -47,7 +48,8 @@ pub(crate) struct Sides {
 ///
 /// Both images are of one namespace, and nothing may be against the hello of either side, which asks for the area of
 /// the words; a field without a word is that of what the side's capability grants.
-pub(crate) fn meet<H: Shelf, O: Sink>(
+pub(crate) fn meet<R: Threads + Sync, H: Shelf, O: Sink>(
+    rt: &R,
     alloc: Global,
     words: MeetWords,
     shelf: &mut H,
@@ -79,7 +81,7 @@ pub(crate) fn meet<H: Shelf, O: Sink>(
         right_cap,
         &area,
     )?;
-    let met = meet_images(alloc, left, right, &area)?;
+    let met = meet_images(rt, alloc, left, right, &area)?;
     put_and_write(shelf, &left_out, &right_out, met, output)
 }
 

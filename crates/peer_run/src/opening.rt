@@ -1,13 +1,13 @@
 //! The log with which a call begins.
 
-ghost use Rattle.std.specs.Prelude.{◌≡◌, ◌+◌, ◌^◌, ◌<◌, List, length, None};
+ghost use Rattle.std.specs.Prelude.{◌≡◌, ℕ, ◌+◌, ◌^◌, ◌<◌, List, length, None};
 ghost use Rattle.cap_codec.specs.Rows.{RawValue};
-ghost use Rattle.auth_entry.specs.Authorised.{row_refusal};
+ghost use Rattle.auth_entry.specs.Authorised.{row_refusal, verdict};
 ghost use Rattle.lms_core.specs.Use.{peer_rules};
 ghost use Rattle.peer_run.specs.Opening.{IsOpened, OpensLog, TakesRow, with_refused};
 
-use auth_entry::{AuthorisedEntry, KnownCapabilities, RowRefusal};
-use cap_codec::RawRow;
+use crate::judging::RowChecker;
+use auth_entry::{AuthorisedEntry, Checker, NewChecker, RowRefusal};
 use lms_core::PeerScheme;
 use mc_cap::RefusedRow;
 use ns_state::{LogFull, NsState};
@@ -16,7 +16,7 @@ use peer_rows::log_stop;
 use peer_stage::Stop;
 use spelling::End;
 use std::alloc::Global;
-use willow_path::NamespaceKey;
+use std::thread::Threads;
 
 // All opening rows are those of the first pass.
 const OPENING_PASS: u32 = 0;
@@ -29,20 +29,25 @@ pub(crate) struct Opening {
     pub(crate) first: Option<RefusedRow>,
 }
 
-/// The log of the authorised rows of an image, offered in order.
-pub(crate) fn open_log(alloc: Global, image: Image) -> Result<Opening, Stop>
-    requires { length image.rows.items < 2 ^ 32 }
+/// The log of the authorised rows of an image, offered in order. They are judged together.
+pub(crate) fn open_log<R: Threads + Sync>(
+    rt: &R,
+    alloc: Global,
+    image: Image,
+) -> Result<Opening, Stop>
+    requires few { length image.rows.items < 2 ^ 32 }
     ensures { OpensLog image.namespace image.rows.items result }
 {
     let Image { namespace, rows } = image;
-    let mut known = KnownCapabilities::new(alloc, PeerScheme);
+    let mut checker = RowChecker::begin(alloc, PeerScheme, namespace)?;
+    let verdicts = checker.check_all(rt, alloc, rows)?;
     let mut opening = Opening {
         state: NsState::new(alloc, namespace),
         rows: 0,
         first: None,
     };
-    for row in rows {
-        match opening.take(alloc, &mut known, &namespace, row) {
+    for judged in verdicts {
+        match opening.take(judged) {
             Ok(()) => {}
             Err(end) => return Err(log_stop(end)),
         }
@@ -51,25 +56,22 @@ pub(crate) fn open_log(alloc: Global, image: Image) -> Result<Opening, Stop>
 }
 
 impl Opening {
-    // Takes the next row of the image: one that is not authorised is left out.
+    // Takes the next row of the image, which was judged in the log's namespace: one that is not authorised is left out.
     fn take(
         &mut self,
-        alloc: Global,
-        known: &mut KnownCapabilities<PeerScheme>,
-        namespace: &NamespaceKey,
-        row: RawRow,
+        judged: Result<AuthorisedEntry<PeerScheme>, RowRefusal>,
     ) -> Result<(), End<LogFull>>
         requires few { self.old.rows < 2 ^ 32 }
-        requires namespace { namespace.now ≡ self.old.state.namespace }
-        ensures { (seen : List RawValue) → IsOpened namespace.now seen self.old → TakesRow namespace.now seen row self.new result }
+        requires judged { (row : RawValue) × (judged ≡ verdict peer_rules self.old.state.namespace row) }
+        ensures { (namespace : List ℕ) (seen : List RawValue) (row : RawValue) → judged ≡ verdict peer_rules namespace row
+            → IsOpened namespace seen self.old → TakesRow namespace seen row self.new result }
     {
-        match known.check(alloc, namespace, &row) {
-            Ok(()) => self.keep(AuthorisedEntry::new(*namespace, row)),
-            Err(End::Refused(refusal)) => {
+        match judged {
+            Ok(entry) => self.keep(entry),
+            Err(refusal) => {
                 self.leave_out(refusal);
                 Ok(())
             }
-            Err(End::NoMemory) => Err(End::NoMemory),
         }
     }
 

@@ -13,6 +13,7 @@ use peer_stage::Stop;
 use peer_words::AreaWords;
 use spelling::NoMemory;
 use std::alloc::Global;
+use std::thread::Threads;
 use sync_hello::Hello;
 use sync_link::SessionPlan;
 use sync_msg::Role;
@@ -29,7 +30,8 @@ pub(crate) struct Prepared {
 }
 
 /// Gets the image and the capability, and judges the own hello.
-pub(crate) fn prepare<H: Shelf>(
+pub(crate) fn prepare<R: Threads + Sync, H: Shelf>(
+    rt: &R,
     alloc: Global,
     shelf: &mut H,
     image: String,
@@ -40,7 +42,7 @@ pub(crate) fn prepare<H: Shelf>(
 {
     let image = get_image(alloc, shelf, image)?;
     let namespace = image.namespace;
-    let opening = open_log(alloc, image)?;
+    let opening = open_log(rt, alloc, image)?;
     let capability = get_capability(alloc, shelf, cap)?;
     let hello = greet(&namespace, area, capability, NO_NONCE)?;
     Ok(Prepared { opening, hello })

@@ -10,6 +10,7 @@ ghost use Rattle.peer_run.specs.Run.{RunsWords};
 ghost use Rattle.peer_run.specs.Promises.{KeepsPromises};
 
 use crate::drilling::drill;
+use crate::judging::RowChecker;
 use crate::meeting::{MeetWords, meet};
 use crate::serving::{ServeWords, serve};
 use crate::syncing::{SyncWords, sync};
@@ -41,8 +42,12 @@ fn run_command<R: Threads + Sync, H: Shelf, I: Source, O: Sink, N: Noise>(
         (record others { shelf = H.facts shelf.new; input = I.facts input.new; output = O.facts output.new; noise = N.facts noise.new }) result }
 {
     match command {
-        Command::Join { namespace } => join(alloc, &namespace, input, output),
-        Command::Show { newest } => show(alloc, newest, input, output),
+        Command::Join { namespace } => {
+            join::<RowChecker, R, I, O>(rt, alloc, &namespace, input, output)
+        }
+        Command::Show { newest } => {
+            show::<RowChecker, R, I, O>(rt, alloc, newest, input, output)
+        }
         Command::Key { name, height } => make_key(rt, alloc, name, height, shelf, noise, output),
         Command::Grant {
             namespace,
@@ -64,7 +69,7 @@ fn run_command<R: Threads + Sync, H: Shelf, I: Source, O: Sink, N: Noise>(
             rt, alloc, key, path, time, length, digest, subspace, shelf, input, output,
         ),
         Command::Gen { rows } => generate(alloc, rows, output),
-        Command::Drill { rows } => drill(alloc, rows, output),
+        Command::Drill { rows } => drill(rt, alloc, rows, output),
         Command::Meet {
             left,
             right,
@@ -83,7 +88,7 @@ fn run_command<R: Threads + Sync, H: Shelf, I: Source, O: Sink, N: Noise>(
                 right_out,
                 area,
             };
-            meet(alloc, words, shelf, output)
+            meet(rt, alloc, words, shelf, output)
         }
         Command::Sync { .. } | Command::Serve { .. } => unreachable!(),
         Command::Watch { .. } => Err(Stop::Usage),

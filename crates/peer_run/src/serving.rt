@@ -97,7 +97,7 @@ fn open_house<R: Threads + Sync, H: Shelf>(
     requires links { 1 ≤ links }
     ensures { (others : World) → OpensHouse image cap key links area.now (record others { shelf = H.facts shelf.old }) (record others { shelf = H.facts shelf.new }) result }
 {
-    let Prepared { opening, hello } = prepare(alloc, shelf, image, cap, area)?;
+    let Prepared { opening, hello } = prepare(rt, alloc, shelf, image, cap, area)?;
     let signers = reserve_signers(rt, alloc, shelf, key, links)?;
     Ok(Server {
         opening,

@@ -89,7 +89,7 @@ fn begin<R: Threads + Sync, H: Shelf>(
     requires { IsSigner key }
     ensures { (others : World) → Begins image cap key area.now (record others { shelf = H.facts shelf.old }) (record others { shelf = H.facts shelf.new }) result }
 {
-    let Prepared { opening, hello } = prepare(alloc, shelf, image, cap, area)?;
+    let Prepared { opening, hello } = prepare(rt, alloc, shelf, image, cap, area)?;
     let signer = reserve_signer(rt, alloc, shelf, key)?;
     Ok(Caller {
         opening,

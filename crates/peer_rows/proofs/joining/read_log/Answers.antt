@@ -1,15 +1,18 @@
-use Rattle.std.proofs.Common.{◌≡◌, ℕ, List, ◌-◌, ◌≤◌, ◌<◌, ◌++◌, length, take, drop, refl, ap, subst, arith, inl}
+use Rattle.std.proofs.Common.{◌≡◌, ℕ, List, ◌-◌, ◌≤◌, ◌<◌, ◌++◌, length, take, drop, refl, sym, ap, ◌∙◌, subst, arith, inl}
 use Rattle.std.specs.Prelude.{Err}
 use Rattle.std.specs.Io.KnownBytes.{Consumes}
 use Rattle.std.proofs.lemmas.Result.{err_from_is_err_and}
+use Rattle.willow_outside.specs.Counts.{CountsCause}
+use Rattle.willow_outside.specs.declared.fault.Fault.{Fault}
 use Rattle.peer_rows.specs.Stored.{TakesPiece}
 use Rattle.peer_rows.proofs.Pieces.{nothing_seen}
-use Rattle.peer_rows.proofs.ReadLog.{buffer_given, nothing_read, has_read_on, read_too_far, piece_stops, log_read, end_stops}
+use Rattle.peer_rows.proofs.ReadLog.{buffer_given, nothing_read, has_read_on, read_failed, read_too_far, piece_stops, log_read, end_stops}
 use Rattle.peer_rows.proofs.joining.read_log.Goals as goal
 
 pub pieces-init : goal.pieces-init
 pieces-init g c = record {
   read = nothing_read c.args.namespace.now (g.I.Source.facts c.args.input.now) c.new-stream.result c.new-log.result (nothing_seen c.args.namespace.now c.new-stream.result c.new-log.result c.new-stream.ensures c.new-log.ensures.kept c.new-log.ensures.counts);
+  checks = c.in_ok-checker.ensures;
   room = omega (arith, c.in_ok-piece.ensures);
 }
 
@@ -43,6 +46,16 @@ returns-then-left-eq0-clause-logs g c =
     c.if-left-eq0.true some in
     rw c.bad_input.ensures (inl (long, refl), tt)
 
+pub take_piece-requires-clause-namespace : goal.take_piece-requires-clause-namespace
+take_piece-requires-clause-namespace g c κs within = c.pieces.invariant.checks ∙ sym c.pieces.invariant.read.seen.is_log.of_namespace
+
+pub returns-in-Err-Failed-clause-logs : goal.returns-in-Err-Failed-clause-logs
+returns-in-Err-Failed-clause-logs g c =
+    let i = g.I.Source.facts c.pieces.input in
+    let i' = g.I.Source.facts c.read.new.self in
+    read_failed c.args.namespace.now (g.I.Source.facts c.args.input.now) i i' c.pieces.left c.pieces.stream c.pieces.log c.pieces.invariant.read c.in-Err-Failed.ensures.bytes c.in-Err-Failed.ensures.end
+    (subst (λ (x : Fault). CountsCause i.faults i'.faults x) c.in-Err-Failed.field-0-is c.in-Err-Failed.ensures.cause).rose
+
 pub pieces-preserved : goal.pieces-preserved
 pieces-preserved g c =
     let n = c.in-Ok.n in
@@ -54,7 +67,8 @@ pieces-preserved g c =
     record {
       read =
           has_read_on c.args.namespace.now (g.I.Source.facts c.args.input.now) (g.I.Source.facts c.pieces.input) (g.I.Source.facts c.read.new.self) c.pieces.left c.pieces.stream c.pieces.log c.pieces.invariant.read (take n buf) c.in-Ok.ensures.bytes.0 few (c.in-Ok.ensures.end.gave_some some)
-          (c.pieces.left - n) c.take_piece.new.stream c.take_piece.new.log (ap (λ (k : ℕ). c.pieces.left - k) c.in-Ok.ensures.bound.1) (rw given at (c.in_ok-take_piece-in-Ok.ensures c.args.namespace.now c.pieces.invariant.read.bytes c.pieces.invariant.read.seen)) c.in-Ok.ensures.cause;
+          (c.pieces.left - n) c.take_piece.new.stream c.take_piece.new.log (ap (λ (k : ℕ). c.pieces.left - k) c.in-Ok.ensures.bound.1) (rw given at (c.in_ok-take_piece-in-Ok.ensures.takes c.args.namespace.now c.pieces.invariant.read.bytes c.pieces.invariant.read.seen)) c.in-Ok.ensures.cause;
+      checks = c.in_ok-take_piece-in-Ok.ensures.namespace ∙ c.pieces.invariant.checks;
       room = subst (λ (l : List ℕ). 0 < length l) c.deref.ensures.value (omega (arith, ap length given, some, c.in-Ok.ensures.bound));
     }
 
@@ -69,4 +83,4 @@ returns-in_err-take_piece-in-Ok-clause-logs g c =
     let e = c.in_err-take_piece-in-Ok.field-0.0 in
     let p = err_from_is_err_and c.from_residual-in_err-take_piece-in-Ok.result c.from_residual-in_err-take_piece-in-Ok.ensures.1 in
     rw (p.1, p.2) (piece_stops c.args.namespace.now (g.I.Source.facts c.args.input.now) (g.I.Source.facts c.pieces.input) (g.I.Source.facts c.read.new.self) c.pieces.left c.pieces.stream c.pieces.log c.pieces.invariant.read (take n buf) c.in-Ok.ensures.bytes.0 few (c.in-Ok.ensures.end.gave_some some)
-    e c.take_piece.new.stream c.take_piece.new.log (subst (λ (l : List ℕ). TakesPiece c.args.namespace.now (c.pieces.invariant.read.bytes ++ take n l) c.take_piece.new.stream c.take_piece.new.log (Err e)) given (c.in_err-take_piece-in-Ok.ensures c.args.namespace.now c.pieces.invariant.read.bytes c.pieces.invariant.read.seen)))
+    e c.take_piece.new.stream c.take_piece.new.log (subst (λ (l : List ℕ). TakesPiece c.args.namespace.now (c.pieces.invariant.read.bytes ++ take n l) c.take_piece.new.stream c.take_piece.new.log (Err e)) given (c.in_err-take_piece-in-Ok.ensures.takes c.args.namespace.now c.pieces.invariant.read.bytes c.pieces.invariant.read.seen)))

@@ -2,7 +2,7 @@ use Rattle.std.proofs.Common.{◌++◌, map, ap, ◌∙◌}
 use Rattle.willow_entry.specs.Row.{RowValue}
 use Rattle.peer_listing.specs.Listing.{listing_line}
 use Rattle.peer_rows.specs.Logged.{entry_row, live_rows}
-use Rattle.peer_rows.proofs.Listed.{none_listed, listed_on, all_listed}
+use Rattle.peer_rows.proofs.Listed.{listed_on}
 use Rattle.peer_rows.proofs.listing.list_all.Goals as goal
 
 pub rows-preserved : goal.rows-preserved

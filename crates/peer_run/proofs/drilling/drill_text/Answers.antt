@@ -11,21 +11,21 @@ use Rattle.peer_run.proofs.DrilledText.{drilled_framed, is_drill_text}
 use Rattle.peer_run.proofs.drilling.drill_text.Goals as goal
 
 pub exchange-requires-clause-one_namespace : goal.exchange-requires-clause-one_namespace
-exchange-requires-clause-one_namespace c = c.in_ok-left.ensures.one_namespace
+exchange-requires-clause-one_namespace g c = c.in_ok-left.ensures.one_namespace
 
 pub exchange-requires-clause-left_frames : goal.exchange-requires-clause-left_frames
-exchange-requires-clause-left_frames c = drilled_framed c.args.rows c.in_ok-left.left c.in_ok-left.ensures.whole
+exchange-requires-clause-left_frames g c = drilled_framed c.args.rows c.in_ok-left.left c.in_ok-left.ensures.whole
 
 pub exchange-requires-clause-right_frames : goal.exchange-requires-clause-right_frames
-exchange-requires-clause-right_frames c = drilled_framed (c.args.rows / 2) c.in_ok-left.right c.in_ok-left.ensures.half
+exchange-requires-clause-right_frames g c = drilled_framed (c.args.rows / 2) c.in_ok-left.right c.in_ok-left.ensures.half
 
 pub unreachable-requires : goal.unreachable-requires
-unreachable-requires c =
+unreachable-requires g c =
     let ends = rw c.in-Err-Refused.field-0-is at c.in-Err-Refused.ensures in
     drill_fits c.args.rows (boxed (Some c.full.result)) c.requires (ends (generated_rows c.args.rows) (generated_rows (c.args.rows / 2)) c.in_ok-left.ensures.whole c.in_ok-left.ensures.half)
 
 pub returns : goal.returns
-returns c =
+returns g c =
     let n = c.args.rows in
     let counts : DrillCounts = record { rows = n; left = c.len.result; right = c.len-2.result; left_after = c.len-3.result; right_after = c.len-4.result; items = c.in-Ok.exchanged.items; turns = c.len-5.result } in
     let is = subst (λ (area : Area). AreMet (generated_rows n) (generated_rows (n / 2)) (boxed (Some area)) c.exchange.new.left c.exchange.new.right c.in-Ok.exchanged) c.full.ensures.full

@@ -10,16 +10,16 @@ use Rattle.peer_run.proofs.MetImages.{logged_framed, left_framed, right_framed, 
 use Rattle.peer_run.proofs.images_met.meet_images.Goals as goal
 
 pub exchange-requires-clause-one_namespace : goal.exchange-requires-clause-one_namespace
-exchange-requires-clause-one_namespace c = c.in_ok-right_log.ensures.namespace ∙ c.requires.one_namespace ∙ sym c.in_ok-left_log.ensures.namespace
+exchange-requires-clause-one_namespace g c = c.in_ok-right_log.ensures.namespace ∙ c.requires.one_namespace ∙ sym c.in_ok-left_log.ensures.namespace
 
 pub exchange-requires-clause-left_frames : goal.exchange-requires-clause-left_frames
-exchange-requires-clause-left_frames c = logged_framed c.args.left.namespace c.args.left.rows.items c.in_ok-left_log.left_log c.in_ok-left_log.ensures.logs.0 c.requires.left_image
+exchange-requires-clause-left_frames g c = logged_framed c.args.left.namespace c.args.left.rows.items c.in_ok-left_log.left_log c.in_ok-left_log.ensures.logs.0 c.requires.left_image
 
 pub exchange-requires-clause-right_frames : goal.exchange-requires-clause-right_frames
-exchange-requires-clause-right_frames c = logged_framed c.args.right.namespace c.args.right.rows.items c.in_ok-right_log.right_log c.in_ok-right_log.ensures.logs.0 c.requires.right_image
+exchange-requires-clause-right_frames g c = logged_framed c.args.right.namespace c.args.right.rows.items c.in_ok-right_log.right_log c.in_ok-right_log.ensures.logs.0 c.requires.right_image
 
 pub write_store_image-requires : goal.write_store_image-requires
-write_store_image-requires c =
+write_store_image-requires g c =
     let n = c.args.left.namespace in
     let a = authorised_rows n c.args.left.rows.items in
     let b = authorised_rows n c.args.right.rows.items in
@@ -29,7 +29,7 @@ write_store_image-requires c =
     (left_framed n c.args.left.rows.items c.args.right.rows.items c.args.area.now c.exchange.new.left c.in-Ok.exchanged.left c.requires.left_image c.requires.right_image is.left)
 
 pub write_store_image-requires-2 : goal.write_store_image-requires-2
-write_store_image-requires-2 c =
+write_store_image-requires-2 g c =
     let n = c.args.left.namespace in
     let a = authorised_rows n c.args.left.rows.items in
     let b = authorised_rows n c.args.right.rows.items in
@@ -39,11 +39,11 @@ write_store_image-requires-2 c =
     (right_framed n c.args.left.rows.items c.args.right.rows.items c.args.area.now c.exchange.new.right c.in-Ok.exchanged.right c.requires.left_image c.requires.right_image is.right)
 
 pub counts_of-requires-clause-right_few : goal.counts_of-requires-clause-right_few
-counts_of-requires-clause-right_few c =
+counts_of-requires-clause-right_few g c =
     first_few c.args.right.namespace c.args.right.rows.items c.in_ok-right_log.right_counts.first c.in_ok-right_log.ensures.logs.1.first c.requires.right_image.count
 
 pub returns : goal.returns
-returns c =
+returns g c =
     let n = c.args.left.namespace in
     let a = authorised_rows n c.args.left.rows.items in
     let b = authorised_rows n c.args.right.rows.items in

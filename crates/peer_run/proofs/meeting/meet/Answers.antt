@@ -9,17 +9,17 @@ use Rattle.peer_run.proofs.GotImages.{untold, left_got, right_got}
 use Rattle.peer_run.proofs.meeting.meet.Goals as goal
 
 pub meet_images-requires-clause-left_image : goal.meet_images-requires-clause-left_image
-meet_images-requires-clause-left_image g c =
+meet_images-requires-clause-left_image g c κs within =
     let words = c.args.words in
     left_got words.left words.right words.left_cap words.right_cap (record untold { shelf = g.H.Shelf.facts c.args.shelf.now }) (record untold { shelf = g.H.Shelf.facts c.gather.new.shelf }) c.in_ok-left.field-0 (c.in_ok-left.ensures untold)
 
 pub meet_images-requires-clause-right_image : goal.meet_images-requires-clause-right_image
-meet_images-requires-clause-right_image g c =
+meet_images-requires-clause-right_image g c κs within =
     let words = c.args.words in
     right_got words.left words.right words.left_cap words.right_cap (record untold { shelf = g.H.Shelf.facts c.args.shelf.now }) (record untold { shelf = g.H.Shelf.facts c.gather.new.shelf }) c.in_ok-left.field-0 (c.in_ok-left.ensures untold)
 
 pub meet_images-requires-clause-one_namespace : goal.meet_images-requires-clause-one_namespace
-meet_images-requires-clause-one_namespace g c =
+meet_images-requires-clause-one_namespace g c κs within =
     let s = c.in_ok-left.field-0 in
     one_namespace c.args.words.area s.left.namespace s.right.namespace s.left_cap s.right_cap c.in_ok-area.ensures.0
 

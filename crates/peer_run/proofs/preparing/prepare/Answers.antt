@@ -10,8 +10,8 @@ use Rattle.peer_run.specs.declared.preparing.Prepared.{Prepared}
 use Rattle.peer_run.proofs.GotImages.{image_got, untold}
 use Rattle.peer_run.proofs.preparing.prepare.Goals as goal
 
-pub open_log-requires : goal.open_log-requires
-open_log-requires g c =
+pub open_log-requires-clause-few : goal.open_log-requires-clause-few
+open_log-requires-clause-few g c κs within =
     (image_got c.args.image (record untold { shelf = g.H.Shelf.facts c.args.shelf.now }) (record untold { shelf = g.H.Shelf.facts c.get_image.new.shelf }) c.in_ok-image.image (c.in_ok-image.ensures untold)).count
 
 pub returns-in_err-opening : goal.returns-in_err-opening
