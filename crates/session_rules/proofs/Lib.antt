@@ -9,6 +9,7 @@ pub mod Talking
 pub mod Shifting
 pub mod Sessions
 pub mod Worlds
+pub mod Retelling
 pub mod Greeted
 pub mod Settling
 pub mod Turning

@@ -10,7 +10,7 @@ use Rattle.session_rules.specs.Messages.{CanReadAll, hear, CanTalk}
 use Rattle.session_rules.specs.Session.{ends_as}
 use Rattle.session_rules.specs.Pairs.{Pair, calling, answering, caller_side, answerer_side, by_caller, by_answerer, GreetEachOther, exchanged}
 use Rattle.session_rules.specs.Turns.{View, TakeTurns, CanReadTurns, AreExchanged, HearsAll}
-use Rattle.session_rules.proofs.Settling.{are_settled}
+use Rattle.session_rules.proofs.Settling.{sessions_do_meet, are_settled}
 use Rattle.session_rules.proofs.Exchanging.{all_said, caller_hears, answerer_hears}
 
 done_over : {G : Type 0} (end : Ending G) → end ≡ Done → IsOver end
@@ -54,14 +54,26 @@ module _ {H P X F R T I G C : Type 0} (p : Pair H P X F R T I G) (v : View R X C
       subst (λ items. HearsAll (answerer_side p) p.talk.spelling items (to_right all_turns)) (sym (said_in (suc enough_rounds) (omega arith)))
       (answerer_hears v rules (caller_side p) (answerer_side p) rows others box disjoint can can' take_turns)
 
+  caller_done : ending_of (hear (caller_side p) p.talk.spelling (exchanged p enough_rounds).1).stand ≡ Done
+  caller_done = ap ending_of caller_all.over
+
+  caller_over : IsOver (ending_of (hear (caller_side p) p.talk.spelling (exchanged p enough_rounds).1).stand)
+  caller_over = done_over (ending_of (hear (caller_side p) p.talk.spelling (exchanged p enough_rounds).1).stand) caller_done
+
+  pub they_meet : (left : List ℕ) × (right : List ℕ) × Meet (out (calling p)) (out (answering p)) left right
+  they_meet = (
+    by_caller p ++ flat_map p.talk.spelling (exchanged p (suc enough_rounds)).0,
+    by_answerer p ++ flat_map p.talk.spelling (exchanged p (suc enough_rounds)).1,
+    sessions_do_meet p greet enough_rounds can_talk caller_over,
+  )
+
   pub exchanged_all : (left right : List ℕ) → Meet (out (calling p)) (out (answering p)) left right → AreExchanged p v all_turns left right
   exchanged_all left right meet =
-      let done = ap ending_of caller_all.over in
-      let settled = are_settled p greet enough_rounds can_talk (done_over (ending_of (hear (caller_side p) p.talk.spelling (exchanged p enough_rounds).1).stand) done) left right meet in
+      let settled = are_settled p greet enough_rounds can_talk caller_over left right meet in
       record {
         caller_writes = settled.caller_writes ∙ ap (λ items. by_caller p ++ spell items) (said_in (suc enough_rounds) (omega arith));
         answerer_writes = settled.answerer_writes ∙ ap (λ items. by_answerer p ++ spell items) (heard_in (suc enough_rounds) (omega arith));
-        caller_done = settled.caller_ends ∙ ap (ends_as (length (by_answerer p))) done;
+        caller_done = settled.caller_ends ∙ ap (ends_as (length (by_answerer p))) caller_done;
         caller_got = settled.caller_got ∙ caller_all.takes;
         answerer_done = settled.answerer_ends ∙ ap (λ stand. ends_as (length (by_caller p)) (ending_of stand)) answerer_all.over;
         answerer_got = settled.answerer_got ∙ answerer_all.takes;

@@ -109,6 +109,18 @@ abbrev pub SameInCommon : {H P X F R T I G : Type 0} → Greeting H P X F → Ta
 SameInCommon {H} g k own bytes rows others =
     (hello : H) → HasHello g bytes hello → common_rows g k own rows hello ≡ common_rows g k own others hello
 
+-- ---- another proof
+
+-- the same own part but for its proof
+abbrev pub with_proof : {H P : Type 0} → P → Own H P → Own H P
+with_proof proof own = record own { proof = proof }
+
+-- the same message, but that each proof is this one
+abbrev pub retold : {H P I : Type 0} → P → Message H P I → Message H P I
+retold proof (Hello hello) = Hello hello
+retold proof (Proof other) = Proof proof
+retold proof (Item item) = Item item
+
 -- ---- behind the greeting
 
 -- how the session ends where the exchange does so, which begins at an offset

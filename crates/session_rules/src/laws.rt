@@ -1,7 +1,7 @@
 //! The laws of sessions, each the contract of a function that does nothing, at whatever states, messages, rows and causes
 //! to refuse there are.
 
-ghost use Rattle.std.specs.Prelude.{◌≡◌, ℕ, suc, ◌≤◌, List, [], ◌∷◌, ◌++◌, length, flat_map, Contains, Option, Some};
+ghost use Rattle.std.specs.Prelude.{◌≡◌, ℕ, suc, ◌≤◌, List, [], ◌∷◌, ◌++◌, length, map, flat_map, Contains, Option, Some};
 ghost use Rattle.std.specs.List.{concat};
 ghost use Rattle.exchange_rules.specs.Rules.{Rules};
 ghost use Rattle.exchange_rules.specs.Items.{counted as count_of_items, caller_turns, answerer_turns, to_left, to_right};
@@ -14,7 +14,7 @@ ghost use Rattle.session_rules.specs.Rounds.{IsFront, IsOver, rounds, Meet};
 ghost use Rattle.session_rules.specs.Messages.{ArePart, taken, CanReadAll, hear, dialogue, CanTalk, IsDialogue};
 ghost use Rattle.session_rules.specs.Talk.{Caller, Answerer, Talk, TellsOwn};
 ghost use Rattle.session_rules.specs.Greeting.{Greeting, Own, HasHello, IsGreeted, Greets, greeting_bytes};
-ghost use Rattle.session_rules.specs.Session.{Item, Proof, InGreeting, common_rows, exchange_with, session, SameInCommon, ends_as};
+ghost use Rattle.session_rules.specs.Session.{Item, Proof, InGreeting, common_rows, exchange_with, session, SameInCommon, with_proof, retold, ends_as};
 ghost use Rattle.session_rules.specs.Pairs.{Pair, calling, answering, caller_side, answerer_side, by_caller, by_answerer, GreetEachOther, exchanged, AreSettled};
 ghost use Rattle.session_rules.specs.Turns.{View, TakeTurns, HearsAll, CanReadTurns, AreExchanged};
 ghost use Rattle.session_rules.specs.WholeTurns.{by_turns, as_turns};
@@ -174,6 +174,17 @@ pub fn worlds<H, P, X, F, R, T, I, G>()
         → ending (session g k own rows) bytes ≡ ending (session g k own others) bytes }
 {}
 
+/// The own proof is told, and nothing else hangs on it: a side with another one says the same with that in its place, takes
+/// the same rows and comes to the same end.
+pub fn another_proof<H, P, X, F, R, T, I, G>()
+    ensures said { (g : Greeting H P X F) (k : Talk R X T I G) (own : Own H P) (proof : P) (rows : List R) (bytes : List ℕ)
+        → said (session g k (with_proof proof own) rows) bytes ≡ map (retold proof) (said (session g k own rows) bytes) }
+    ensures got { (g : Greeting H P X F) (k : Talk R X T I G) (own : Own H P) (proof : P) (rows : List R) (bytes : List ℕ)
+        → got (session g k (with_proof proof own) rows) bytes ≡ got (session g k own rows) bytes }
+    ensures ending { (g : Greeting H P X F) (k : Talk R X T I G) (own : Own H P) (proof : P) (rows : List R) (bytes : List ℕ)
+        → ending (session g k (with_proof proof own) rows) bytes ≡ ending (session g k own rows) bytes }
+{}
+
 /// Behind a hello that passes and a proof that is accepted a session is the exchange, over the rows in the area that both
 /// may read.
 pub fn goes_on_as_exchange<H, P, X, F, R, T, I, G>()
@@ -242,12 +253,17 @@ pub fn whole_turns<R, X, C>()
 
 /// Two sessions whose greetings pass and whose sides take the turns of an exchange, each of which reads what the other
 /// writes: whatever they write are their greetings and these turns, both are done, and each has the rows that the exchange
-/// sends it.
+/// sends it; and so there is such a pair.
 pub fn settles<H, P, X, F, R, T, I, G, C>()
-    ensures { (p : Pair H P X F R T I G) (v : View R X C T I) (rules : Rules R X C) (rows others : List R) (box : Option X) (left right : List ℕ)
+    ensures settled { (p : Pair H P X F R T I G) (v : View R X C T I) (rules : Rules R X C) (rows others : List R) (box : Option X) (left right : List ℕ)
         → HasDisjointParts rules → CanCut rules rows → CanCut rules others
         → GreetEachOther p → TakeTurns v rules (caller_side p) (answerer_side p) rows others box
         → CanReadTurns v (caller_side p) (answerer_side p) (exchange rules rows others box)
         → Meet (out (calling p)) (out (answering p)) left right
         → AreExchanged p v (exchange rules rows others box) left right }
+    ensures they_meet { (p : Pair H P X F R T I G) (v : View R X C T I) (rules : Rules R X C) (rows others : List R) (box : Option X)
+        → HasDisjointParts rules → CanCut rules rows → CanCut rules others
+        → GreetEachOther p → TakeTurns v rules (caller_side p) (answerer_side p) rows others box
+        → CanReadTurns v (caller_side p) (answerer_side p) (exchange rules rows others box)
+        → (left : List ℕ) × (right : List ℕ) × Meet (out (calling p)) (out (answering p)) left right }
 {}

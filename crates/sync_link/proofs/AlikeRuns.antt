@@ -1,9 +1,12 @@
 -- Two sessions that read the same bytes, with the same rows in the area that both sides may read.
-use Rattle.std.proofs.Common.{◌≡◌, inl, inr, ℕ, List, ◌++◌, length, flat_map, map, Ok, Err, refl, sym, ap, ◌∙◌, subst}
+use Rattle.std.proofs.Common.{◌≡◌, ◌⊎◌, inl, inr, ℕ, ◌≤◌, List, ◌++◌, length, flat_map, map, Ok, Err, refl, sym, ap, ◌∙◌, subst}
+use Rattle.std.proofs.lemmas.Bool.{cases_lt}
 use Rattle.willow_entry.specs.Row.{RowValue}
 use Rattle.cap_codec.specs.Rows.{row_of}
 use Rattle.session_end.specs.declared.end.SessionEnd.TheVariants.{LinkRead, LinkWrite, ClosedEarly, BadMessage, Hello, Core, SignFault, LogFull, NoMemory}
+use Rattle.sync_hello.specs.HelloForm.{hello_spelling}
 use Rattle.session_rules.specs.Reading as reading
+use Rattle.session_rules.specs.Reading.{read, start}
 use Rattle.session_rules.specs.Session.{InGreeting, InTalk}
 use Rattle.session_rules.proofs.Growing.{says_of, rows_of}
 use Rattle.session_rules.proofs.Worlds.{same_read}
@@ -11,7 +14,8 @@ use Rattle.sync_link.specs.Greetings.{greeting}
 use Rattle.sync_link.specs.Places.{places}
 use Rattle.sync_link.specs.Sessions.{Party, SessionCause, AreSameInCommon, own_part, session_of, out, got, ending}
 use Rattle.sync_link.specs.Run.{Answer, IsAllOf, Ends}
-use Rattle.sync_link.specs.Ran.{Ran, side, opening_of, IsUnfailed, IsDone, EndAlike, AreAlike}
+use Rattle.sync_link.specs.Ran.{Ran, side, opening_of, BringSame, HasProved, IsUnfailed, IsDone, EndAlike, AreAlike}
+use Rattle.sync_link.proofs.Resigned.{got_resigned, ending_resigned, quiet_resigned}
 
 -- what is answered where nothing failed, by how the session ends to so many bytes
 abbrev Answers : reading.Ending SessionCause → ℕ → Answer → Type 0
@@ -41,7 +45,8 @@ both (reading.BadMessage at) n one other a b = inr (BadMessage at, a, b)
 both (reading.Refusal (InGreeting cause)) n one other a b = inr (Hello cause, a, b)
 both (reading.Refusal (InTalk cause)) n one other a b = inr (Core cause, a, b)
 
-module _ (p : List ℕ → Party) (one other : Ran p) (signed : other.did.signature ≡ one.did.signature) (heard : other.did.bytes ≡ one.did.bytes)
+module _ (p q : List ℕ → Party) (one : Ran p) (other : Ran q) (bring : BringSame (side one) (side other))
+    (signed : HasProved one → HasProved other → (side other).signature ≡ (side one).signature) (heard : other.did.bytes ≡ one.did.bytes)
     (same : AreSameInCommon (side one) one.did.bytes (opening_of one) (opening_of other)) where
   abbrev party : Party
   party = side one
@@ -49,37 +54,71 @@ module _ (p : List ℕ → Party) (one other : Ran p) (signed : other.did.signat
   abbrev bytes : List ℕ
   bytes = one.did.bytes
 
-  -- whatever is told of both, it is told alike
-  alike : {A : Type 0} (f : Party → List RowValue → List ℕ → A) → f party (opening_of one) bytes ≡ f party (opening_of other) bytes
-      → f party (opening_of one) bytes ≡ f (side other) (opening_of other) other.did.bytes
-  alike f e = e ∙ ap (f party (opening_of other)) (sym heard) ∙ ap (λ s. f (p s) (opening_of other) other.did.bytes) (sym signed)
+  abbrev rows : List RowValue
+  rows = opening_of one
 
-  out_alike : out party (opening_of one) bytes ≡ out party (opening_of other) bytes
-  out_alike =
-      let a = session_of party (opening_of one) in
-      ap (λ m. flat_map a.spelling (a.opening ++ says_of m)) (same_read (greeting party.rules party.namespace) places (own_part party) (opening_of one) (opening_of other) bytes same)
+  -- the same with the other's signature
+  abbrev twin : Party
+  twin = record party { signature = (side other).signature }
 
-  got_alike : got party (opening_of one) bytes ≡ got party (opening_of other) bytes
-  got_alike = ap rows_of (same_read (greeting party.rules party.namespace) places (own_part party) (opening_of one) (opening_of other) bytes same)
+  -- whatever is told of the other, is told of that one with the same rows
+  as_twin : {A : Type 0} (f : Party → List RowValue → List ℕ → A) → f twin rows bytes ≡ f twin (opening_of other) bytes → f twin rows bytes ≡ f (side other) (opening_of other) other.did.bytes
+  as_twin f e = e ∙ ap (f twin (opening_of other)) (sym heard) ∙ ap (λ party. f party (opening_of other) other.did.bytes) (sym bring)
 
-  ending_alike : ending party (opening_of one) bytes ≡ ending party (opening_of other) bytes
-  ending_alike = ap (λ m. reading.ending_of m.stand) (same_read (greeting party.rules party.namespace) places (own_part party) (opening_of one) (opening_of other) bytes same)
+  same_moves : read (session_of twin rows) (start (session_of twin rows)) bytes ≡ read (session_of twin (opening_of other)) (start (session_of twin (opening_of other))) bytes
+  same_moves = same_read (greeting party.rules party.namespace) places (own_part twin) rows (opening_of other) bytes same
 
-  other_ended : Ends (ending party (opening_of one) bytes) (length bytes) other.answer
+  out_alike : out twin rows bytes ≡ out (side other) (opening_of other) other.did.bytes
+  out_alike = let a = session_of twin rows in as_twin out (ap (λ m. flat_map a.spelling (a.opening ++ says_of m)) same_moves)
+
+  got_alike : got party rows bytes ≡ got (side other) (opening_of other) other.did.bytes
+  got_alike = sym (got_resigned party (side other).signature rows bytes) ∙ as_twin got (ap rows_of same_moves)
+
+  ending_alike : ending party rows bytes ≡ ending (side other) (opening_of other) other.did.bytes
+  ending_alike = sym (ending_resigned party (side other).signature rows bytes) ∙ as_twin ending (ap (λ m. reading.ending_of m.stand) same_moves)
+
+  other_ended : Ends (ending party rows bytes) (length bytes) other.answer
   other_ended =
-      subst (λ n. Ends (ending party (opening_of one) bytes) n other.answer) (ap length heard)
-      (subst (λ end. Ends end (length other.did.bytes) other.answer) (sym (alike ending ending_alike)) other.did.ended)
+      subst (λ n. Ends (ending party rows bytes) n other.answer) (ap length heard)
+      (subst (λ end. Ends end (length other.did.bytes) other.answer) (sym ending_alike) other.did.ended)
+
+  -- ---- what both wrote
+
+  other_wrote : IsAllOf (out twin rows bytes) other.did.written other.answer
+  other_wrote = subst (λ all. IsAllOf all other.did.written other.answer) (sym out_alike) other.did.wrote
+
+  abbrev WroteOf : List ℕ → Type 0
+  WroteOf all = IsAllOf all one.did.written one.answer × IsAllOf all other.did.written other.answer
+
+  abbrev IsQuiet : List ℕ → Type 0
+  IsQuiet written = length written ≤ length (hello_spelling party.hello)
+
+  -- the hellos are one
+  own_hello : (side other).hello ≡ party.hello
+  own_hello = ap (λ (x : Party). x.hello) bring
+
+  wrote_alike : (HasProved one ⊎ IsQuiet one.did.written) → (HasProved other ⊎ IsQuiet other.did.written) → (all : List ℕ) × WroteOf all
+  wrote_alike (inl a) (inl b) =
+      (out party rows bytes, (one.did.wrote, subst (λ s. IsAllOf (out (record party { signature = s }) rows bytes) other.did.written other.answer) (signed a b) other_wrote))
+  wrote_alike (inr quiet) b = (out twin rows bytes, (quiet_resigned party (side other).signature rows bytes one.did.written one.answer quiet one.did.wrote, other_wrote))
+  wrote_alike (inl a) (inr quiet) = (out party rows bytes, (one.did.wrote, quiet_resigned twin party.signature rows bytes other.did.written other.answer quiet other_wrote))
+
+  other_quiet : HasProved other ⊎ (length other.did.written ≤ length (hello_spelling (side other).hello)) → HasProved other ⊎ IsQuiet other.did.written
+  other_quiet (inl b) = inl b
+  other_quiet (inr quiet) = inr (subst (λ h. length other.did.written ≤ length (hello_spelling h)) own_hello quiet)
 
   pub runs_alike : AreAlike one other
-  runs_alike = record {
-    bytes = out party (opening_of one) bytes;
-    wrote = (one.did.wrote, subst (λ all. IsAllOf all other.did.written other.answer) (sym (alike out out_alike)) other.did.wrote);
-    rows = got party (opening_of one) bytes;
-    sent = (one.did.sent, subst (λ all. IsAllOf all (map row_of other.did.rows) other.answer) (sym (alike got got_alike)) other.did.sent);
-    end = ending party (opening_of one) bytes;
-    ended = (one.did.ended, subst (λ end. Ends end (length other.did.bytes) other.answer) (sym (alike ending ending_alike)) other.did.ended);
-    answered = λ ok ok'.
-        both (ending party (opening_of one) bytes) (length bytes) one.answer other.answer
-        (answers (ending party (opening_of one) bytes) (length bytes) one.answer ok one.did.ended)
-        (answers (ending party (opening_of one) bytes) (length bytes) other.answer ok' other_ended);
-  }
+  runs_alike =
+      let wrote = wrote_alike (cases_lt (length (hello_spelling party.hello)) (length one.did.written)) (other_quiet (cases_lt (length (hello_spelling (side other).hello)) (length other.did.written))) in
+      record {
+        bytes = wrote.0;
+        wrote = wrote.1;
+        rows = got party rows bytes;
+        sent = (one.did.sent, subst (λ all. IsAllOf all (map row_of other.did.rows) other.answer) (sym got_alike) other.did.sent);
+        end = ending party rows bytes;
+        ended = (one.did.ended, subst (λ end. Ends end (length other.did.bytes) other.answer) (sym ending_alike) other.did.ended);
+        answered = λ ok ok'.
+            both (ending party rows bytes) (length bytes) one.answer other.answer
+            (answers (ending party rows bytes) (length bytes) one.answer ok one.did.ended)
+            (answers (ending party rows bytes) (length bytes) other.answer ok' other_ended);
+      }

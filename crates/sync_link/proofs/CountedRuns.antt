@@ -224,4 +224,4 @@ module _ (p : List ℕ → Party) (ran : Ran p) (report : SessionReport) (q : Pa
       let reports : IfOk ran.answer (Reports (side ran) ran.did.log ran.did.bytes ran.did.rows (length ran.did.grown) (length ran.after.seen)) = ran.did.reported in
       let r : Reports (side ran) ran.did.log ran.did.bytes ran.did.rows (length ran.did.grown) (length ran.after.seen) report =
       subst (λ a. IfOk a (Reports (side ran) ran.did.log ran.did.bytes ran.did.rows (length ran.did.grown) (length ran.after.seen))) ok reports in
-      omega (arith, r.sent, r.read, few p ran q others (is_met p ran q others other done) done)
+      omega (arith, r.sent, r.read, few p ran q others (is_met p ran q others other) done)

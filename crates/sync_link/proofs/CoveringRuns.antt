@@ -156,7 +156,7 @@ module _ (p : List ℕ → Party) (ran : Ran p) (report : SessionReport) (q : Pa
   is_done = subst IsDone (sym ok) tt
 
   met : IsMet ran q others
-  met = is_met p ran q others other is_done
+  met = is_met p ran q others other
 
   sent_covered : (r : RowValue) → Contains others r → Contains (map row_of ran.did.rows) r → HasCovering (log_rows ran.after.seen) r
   sent_covered r whose c =

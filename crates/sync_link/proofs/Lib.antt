@@ -37,6 +37,8 @@ pub mod Talked
 pub mod Openings
 pub mod Begun
 pub mod HelloLengths
+pub mod AuthorisedStores
+pub mod Resigned
 pub mod AlikeRuns
 pub mod GrantedRuns
 pub mod OtherSides

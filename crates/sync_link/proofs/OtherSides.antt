@@ -23,7 +23,7 @@ pub record IsMet {p : List ℕ → Party} (ran : Ran p) (q : Party) (others : Li
   pub opens : IsOpening (side ran).namespace others
   pub hears : HearsFrom ran q others
 
-pub done_all : {A : Type 0} (all part : List A) (answer : Answer) → IsDone answer → IsAllOf all part answer → part ≡ all
+done_all : {A : Type 0} (all part : List A) (answer : Answer) → IsDone answer → IsAllOf all part answer → part ≡ all
 done_all all part (Ok report) done e = e
 done_all all part (Err LinkRead) done e = absurd done
 done_all all part (Err LinkWrite) done e = absurd done
@@ -35,7 +35,7 @@ done_all all part (Err SignFault) done e = absurd done
 done_all all part (Err (LogFull missed)) done e = e
 done_all all part (Err NoMemory) done e = absurd done
 
-pub done_ends : (end : reading.Ending SessionCause) (n : ℕ) (answer : Answer) → IsDone answer → Ends end n answer → end ≡ reading.Done
+done_ends : (end : reading.Ending SessionCause) (n : ℕ) (answer : Answer) → IsDone answer → Ends end n answer → end ≡ reading.Done
 done_ends end n (Ok report) done e = e
 done_ends end n (Err LinkRead) done e = absurd done
 done_ends end n (Err LinkWrite) done e = absurd done
@@ -50,7 +50,7 @@ done_ends end n (Err NoMemory) done e = absurd done
 remembers : (answer : Answer) → IsDone answer → answer ≡ Err NoMemory → ⊥
 remembers answer done e = absurd (subst IsDone e done)
 
-pub done_over : {G : Type 0} (end : reading.Ending G) → end ≡ reading.Done → IsOver end
+done_over : {G : Type 0} (end : reading.Ending G) → end ≡ reading.Done → IsOver end
 done_over end is more = apart (sym is ∙ more)
   where
     apart : {G : Type 0} → ◌≡◌ {A = reading.Ending G} reading.Done reading.More → ⊥

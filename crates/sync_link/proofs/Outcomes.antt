@@ -24,7 +24,7 @@ use Rattle.sync_link.specs.Kept.{log_rows, authorised_rows}
 use Rattle.sync_link.specs.Tallies.{HasGrown}
 use Rattle.sync_link.specs.Run.{Answer, IsAllOf, Ends, Covers, Counts, Reports, IsProofOf, Runs}
 use Rattle.sync_link.specs.UnderWay.{Start, brought, Reached}
-use Rattle.sync_link.proofs.Reaching.{chosen, may_chosen, front_trans, has_read, ending_is, signed_or_quiet}
+use Rattle.sync_link.proofs.Reaching.{chosen, may_chosen, front_trans, has_read, ending_is, proof_fits, signed_or_quiet}
 
 -- the whole list is all of it, whatever is answered
 pub is_all : {A : Type 0} (all part : List A) (answer : Answer) → part ≡ all → IsAllOf all part answer
@@ -110,11 +110,13 @@ module _ (start : Start) (side : Fed) (bytes all : List ℕ) (raws : List RawVal
         written = all;
         rows = raws;
         grown = grew.grown;
+        proof_fits = proof_fits start side bytes all raws r;
         own_fits = start.own_fits;
         own_passes = start.own_passes;
         later = grew.later;
         opening = opening;
         opens = λ some. opens;
+        begun = inl opens;
         are_bytes = r.are_bytes;
         taken = taken;
         held = held;
@@ -143,11 +145,13 @@ module _ (start : Start) (side : Fed) (bytes all : List ℕ) (raws : List RawVal
         written = written;
         rows = raws;
         grown = grew.grown;
+        proof_fits = proof_fits start side bytes all raws r;
         own_fits = start.own_fits;
         own_passes = start.own_passes;
         later = grew.later;
         opening = opening;
         opens = λ some. opens;
+        begun = inl opens;
         are_bytes = All-append _ bytes more r.are_bytes are;
         taken = taken;
         held = held;

@@ -1,5 +1,5 @@
 -- What the side of a session has come to, piece by piece.
-use Rattle.std.proofs.Common.{◌≡◌, ◌⊎◌, inl, inr, true, ℕ, List, [], ◌∷◌, ◌++◌, map, flat_map, All, Option, None, Some, refl, sym, ap, ◌∙◌, subst, append_assoc, append-nil}
+use Rattle.std.proofs.Common.{◌≡◌, ◌⊎◌, inl, inr, true, ℕ, List, [], ◌∷◌, ◌++◌, map, flat_map, All, Option, None, Some, refl, sym, ap, ◌∙◌, subst, append_assoc, append-nil, arith}
 use Rattle.std.specs.Prelude.{IfSome}
 use Rattle.std.proofs.lemmas.List.{map-append, append_cancel_left}
 use Rattle.std.proofs.lemmas.List.Elements.{All-append}
@@ -107,6 +107,14 @@ module _ (start : Start) where
         by_case : (made : Option (List ℕ)) → side.side.signature ≡ made → IsProofOf (brought start (chosen made)) start.gives (bytes ++ more) ⊎ IsFront written own
         by_case None e = inr (unsigned_quiet bytes written (λ signature. (has_read signature (subst (λ o. MayBe o signature) (sym e) tt)).wrote))
         by_case (Some signature) e = inl (longer signature (r.signed signature e))
+
+    -- it is a signature in form
+    pub proof_fits : IsSignature (chosen side.side.signature)
+    proof_fits = by_case side.side.signature refl
+      where
+        by_case : (made : Option (List ℕ)) → side.side.signature ≡ made → IsSignature (chosen made)
+        by_case None e = (omega arith, tt)
+        by_case (Some signature) e = (r.signed signature e).fits
 
     -- ---- a piece more
 

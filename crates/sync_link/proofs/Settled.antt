@@ -32,7 +32,7 @@ use Rattle.session_rules.specs.Talk as talk
 use Rattle.session_rules.specs.Rounds.{Meet}
 use Rattle.session_rules.specs.Pairs.{Pair, GreetEachOther}
 use Rattle.session_rules.specs.Turns.{AreExchanged}
-use Rattle.session_rules.proofs.Settled.{exchanged_all}
+use Rattle.session_rules.proofs.Settled.{exchanged_all, they_meet as do_meet}
 use Rattle.sync_link.specs.Greetings.{greeting}
 use Rattle.sync_link.specs.Places.{places}
 use Rattle.sync_link.specs.Sessions.{Party, own_part, out, box_with}
@@ -128,6 +128,17 @@ module _ (rules : Rules) (namespace : List ℕ) (hello other : Hello) (signature
         (can_read_turns (inside box rows) (inside box others) up down few few' (inside_sendable namespace rows own box) (inside_sendable namespace others theirs box) box)
         left right meet
 
+    they_meet : (left : List ℕ) × (right : List ℕ) × Meet (out caller rows) (out answerer others) left right
+    they_meet =
+        let up = inside_rises namespace rows own box in
+        let down = inside_rises namespace others theirs box in
+        let few = inside_few namespace rows own box in
+        let few' = inside_few namespace others theirs box in
+        do_meet (pair rows others) by_items sync_rules (inside box rows) (inside box others) box disjoint (can_cut_rows (inside box rows) up) (can_cut_rows (inside box others) down)
+        (greet rows others accepts accepted)
+        (take_turns (inside box rows) (inside box others) up down few' few box)
+        (can_read_turns (inside box rows) (inside box others) up down few few' (inside_sendable namespace rows own box) (inside_sendable namespace others theirs box) box)
+
     both_done : (left right : List ℕ) → Meet (out caller rows) (out answerer others) left right → AreDone caller answerer rows others left right
     both_done left right meet =
         let e = exchanged left right meet in
@@ -135,6 +146,9 @@ module _ (rules : Rules) (namespace : List ℕ) (hello other : Hello) (signature
         record { caller_done = e.caller_done; caller_got = e.caller_got ∙ ap to_left same; answerer_done = e.answerer_done; answerer_got = e.answerer_got ∙ ap to_right same }
 
 -- ---- two parties
+
+abbrev Meets : Party → Party → Type 0
+Meets p q = (rows others : List RowValue) → Accepts p q → Accepts q p → IsOpening p.namespace rows → IsOpening p.namespace others → (left : List ℕ) × (right : List ℕ) × Meet (out p rows) (out q others) left right
 
 abbrev Settles : Party → Party → Type 0
 Settles p q = (rows others : List RowValue) (left right : List ℕ) → Accepts p q → Accepts q p → IsOpening p.namespace rows → IsOpening p.namespace others → Meet (out p rows) (out q others) left right → AreDone p q rows others left right
@@ -155,6 +169,16 @@ module _ (p q : Party) (can : CanMeet p q) where
       λ rows others left right accepts accepted own theirs meet. both_done p.rules p.namespace p.hello q.hello p.signature q.signature rows others own theirs accepts accepted left right meet in
       let P : Party → Type 0 = λ x. Settles (record p { role = roles.Caller }) x in
       subst (λ x. Settles x q) calling (subst P answering plain)
+
+  meets_for : Meets p q
+  meets_for =
+      let plain : Meets (record p { role = roles.Caller }) (record q { rules = p.rules; namespace = p.namespace; role = roles.Answerer }) =
+      λ rows others accepts accepted own theirs. they_meet p.rules p.namespace p.hello q.hello p.signature q.signature rows others own theirs accepts accepted in
+      let P : Party → Type 0 = λ x. Meets (record p { role = roles.Caller }) x in
+      subst (λ x. Meets x q) calling (subst P answering plain)
+
+  pub meets : (rows others : List RowValue) → IsOpening p.namespace rows → IsOpening p.namespace others → (left : List ℕ) × (right : List ℕ) × Meet (out p rows) (out q others) left right
+  meets rows others own theirs = meets_for rows others can.accepts can.accepted own theirs
 
   pub settled : (rows others : List RowValue) (left right : List ℕ) → IsOpening p.namespace rows → IsOpening p.namespace others → Meet (out p rows) (out q others) left right → AreDone p q rows others left right
   settled rows others left right own theirs meet = settles_for rows others left right can.accepts can.accepted own theirs meet

@@ -13,7 +13,7 @@ use Rattle.willow_entry.proofs.Between.{covering_from_at}
 use Rattle.mc_cap.specs.declared.refusal.RowRefusal.{RowRefusal}
 use Rattle.mc_cap.specs.declared.refusal.RefusedRow.{RefusedRow}
 use Rattle.cap_codec.specs.Rows.{RawValue, row_of}
-use Rattle.auth_entry.specs.Authorised.{AuthorisedValue, authorised, is_authorised, row_refusal, verdict, verdict_by}
+use Rattle.auth_entry.specs.Authorised.{AuthorisedValue, authorised, is_authorised, row_refusal}
 use Rattle.log_rule.proofs.Prefixes.{prefix_trans, prefix_whole}
 use Rattle.ns_state.specs.declared.live_log.LogFull.{LogFull}
 use Rattle.ns_state.specs.declared.state.Told.{Told}
@@ -43,22 +43,7 @@ last_covers log log' row e =
     rw (e, map-append (λ (l : LogRow AuthorisedValue). entry_row l.row) log (row ∷ []))
     (entry_row row.row, Contains-push (log_rows log) (entry_row row.row), inl refl)
 
--- ---- verdicts
-
--- what a verdict says of a row
-pub verdict_ok : (rules : Rules) (n : List ℕ) (row : RawValue) (entry : AuthorisedValue) → Ok entry ≡ verdict rules n row → (row_refusal rules n row ≡ None) × (entry ≡ record { namespace = n; row = row })
-verdict_ok rules n row entry e = by_case (row_refusal rules n row) refl e
-  where
-    by_case : (o : Option RowRefusal) → row_refusal rules n row ≡ o → Ok entry ≡ verdict_by (record { namespace = n; row = row }) o → (row_refusal rules n row ≡ None) × (entry ≡ record { namespace = n; row = row })
-    by_case None is e = (is, cc)
-    by_case (Some refusal) is e = cc
-
-pub verdict_err : (rules : Rules) (n : List ℕ) (row : RawValue) (refusal : RowRefusal) → Err refusal ≡ verdict rules n row → row_refusal rules n row ≡ Some refusal
-verdict_err rules n row refusal e = by_case (row_refusal rules n row) refl e
-  where
-    by_case : (o : Option RowRefusal) → row_refusal rules n row ≡ o → Err refusal ≡ verdict_by (record { namespace = n; row = row }) o → row_refusal rules n row ≡ Some refusal
-    by_case None is e = cc
-    by_case (Some other) is e = cc
+-- ---- authorised rows
 
 module _ (rules : Rules) (namespace : List ℕ) where
   authorised-push : (rows : List RawValue) (row : RawValue) (o : Option RowRefusal) → row_refusal rules namespace row ≡ o → authorised_rows rules namespace (rows ++ row ∷ []) ≡ authorised_rows rules namespace rows ++ cond (not (is_some o)) (row_of row ∷ []) []

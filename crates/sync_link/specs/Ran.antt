@@ -1,5 +1,5 @@
 -- Sessions that were run, and what holds of them where the other side is one of the same kind.
-use Rattle.std.specs.Prelude.{◌≡◌, ◌⊎◌, ℕ, ◌+◌, ◌*◌, max, Bool, true, List, length, Option, None, Some, map, All, Contains, Ok, Err, IsTrue}
+use Rattle.std.specs.Prelude.{◌≡◌, ◌⊎◌, ℕ, ◌+◌, ◌*◌, ◌<◌, max, Bool, true, List, length, Option, None, Some, map, All, Contains, Ok, Err, IsTrue}
 use Rattle.scheme_core.specs.Rules.{Rules}
 use Rattle.willow_outside.specs.Counts.{HasRisen}
 use Rattle.willow_outside.specs.Facts.{LinkFacts}
@@ -16,6 +16,7 @@ use Rattle.sync_msg.specs.Items.{ItemValue}
 use Rattle.sync_msg.specs.declared.item.Item.TheVariants.{Row}
 use Rattle.sync_msg.specs.declared.role.Role.{Role}
 use Rattle.sync_msg.specs.declared.role.Role.TheVariants.{Caller, Answerer}
+use Rattle.sync_hello.specs.HelloForm.{hello_spelling}
 use Rattle.sync_core.specs.Place.{rows_of_area}
 use Rattle.session_rules.specs.Reading as reading
 use Rattle.session_rules.specs.Rounds.{IsFront}
@@ -58,6 +59,14 @@ abbrev pub LiesAbove : List RowValue → List RowValue → Type 0
 LiesAbove store rows = All (HasCovering store) rows
 
 -- ---- two worlds
+
+-- the same is brought, but that the signatures may differ
+abbrev pub BringSame : Party → Party → Type 0
+BringSame p q = q ≡ record p { signature = q.signature }
+
+-- more was written than the own hello: behind it stands the own proof, or a front of it
+abbrev pub HasProved : {p : List ℕ → Party} → Ran p → Type 0
+HasProved ran = length (hello_spelling (side ran).hello) < length ran.did.written
 
 -- neither a fault came nor was memory wanting
 abbrev pub IsUnfailed : Answer → Type 0
@@ -128,13 +137,11 @@ AreBothRoles one other = ((one ≡ Caller) × (other ≡ Answerer)) ⊎ ((one �
 abbrev pub IsProved : Party → Party → Type 0
 IsProved p other = IsTrue (p.rules.user (receiver_of other.hello.capability) (message_due p.role p.hello other.hello) other.signature)
 
--- Two sessions can meet: one calls and one answers, by one scheme and in one namespace; both proofs are accepted, and the
--- other's is a signature in form.
+-- Two sessions can meet: one calls and one answers, by one scheme and in one namespace, and both proofs are accepted.
 pub record CanMeetAs {p q : List ℕ → Party} (one : Ran p) (other : Ran q) : Type 0 where
   pub roles : AreBothRoles (side one).role (side other).role
   pub same_rules : (side other).rules ≡ (side one).rules
   pub same_namespace : (side other).namespace ≡ (side one).namespace
-  pub proof_fits : IsSignature (side other).signature
   pub accepts : IsProved (side one) (side other)
   pub accepted : IsProved (side other) (side one)
 

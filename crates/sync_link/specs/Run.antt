@@ -1,5 +1,5 @@
 -- What a session does.
-use Rattle.std.specs.Prelude.{◌≡◌, ◌⊎◌, ℕ, ◌+◌, ◌≤◌, Bool, true, List, ◌++◌, map, length, All, Result, Ok, Err, IfOk}
+use Rattle.std.specs.Prelude.{◌≡◌, ◌⊎◌, ℕ, ◌+◌, ◌≤◌, Bool, true, List, [], ◌++◌, map, length, All, Result, Ok, Err, IfOk}
 use Rattle.std.specs.Io.KnownBytes.{Consumes}
 use Rattle.spelling.specs.Form.{AreBytes}
 use Rattle.willow_outside.specs.Told.{Extends}
@@ -164,6 +164,10 @@ pub record Reports (p : Party) (log : List (LogRow AuthorisedValue)) (bytes : Li
 
 -- ---- all of it
 
+-- nothing was read, and nothing written
+abbrev pub IsSilent : List ℕ → List ℕ → Type 0
+IsSilent bytes written = (bytes ≡ []) × (written ≡ [])
+
 -- The signature is one in form, and one that the signer may give of the proof message of the own hello and of one that passes
 -- in front of the bytes.
 pub record IsProofOf (p : Party) (gives : List ℕ → List ℕ → Bool) (bytes : List ℕ) : Type 0 where
@@ -173,10 +177,10 @@ pub record IsProofOf (p : Party) (gives : List ℕ → List ℕ → Bool) (bytes
   pub fits : IsSignature p.signature
 
 -- What a session did, of a side that brings this, each by its signature: to its pass and to its link.
--- `signature`: the own proof. The signer may give it for this session, unless no more was written than the own hello
--- (`signed`). The own hello is in the grammar and passes (`own_fits`, `own_passes`).
+-- `signature`: the own proof, a signature in form (`proof_fits`). The signer may give it for this session, unless no more was
+-- written than the own hello (`signed`). The own hello is in the grammar and passes (`own_fits`, `own_passes`).
 -- `log`: the log as the session began, with all that the pass had seen (`opening`); what is live of it are the own rows,
--- which can be told to the other (`opens`).
+-- which can be told to the other (`opens`), unless memory was wanting before anything was read or written (`begun`).
 -- `bytes`, `written`: what was read of the link, each number a byte (`are_bytes`), and what was written to it (`taken`,
 -- `held`). The latter is all that is due to the former, or a front of it (`wrote`), and the session ends so (`ended`).
 -- `rows`: the rows that came, read out (`sent`). Some of those that are authorised came to the own list, in their order
@@ -189,11 +193,13 @@ pub record Runs (p : List ℕ → Party) (gives : List ℕ → List ℕ → Bool
   pub written : List ℕ
   pub rows : List RawValue
   pub grown : List (LogRow AuthorisedValue)
+  pub proof_fits : IsSignature (p signature).signature
   pub own_fits : IsHello (p signature).hello
   pub own_passes : Passes (p signature).rules (p signature).namespace (p signature).hello
   pub later : IsLater before after
   pub opening : IsPrefix before.seen log × IsPrefix log after.seen
   pub opens : (answer ≡ Err NoMemory → ⊥) → IsOpening (p signature).namespace (live (log_rows log))
+  pub begun : IsOpening (p signature).namespace (live (log_rows log)) ⊎ IsSilent bytes written
   pub are_bytes : AreBytes bytes
   pub taken : Consumes link.left link'.left bytes × Extends link.taken link'.taken bytes
   pub held : Extends link.held link'.held written

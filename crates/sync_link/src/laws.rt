@@ -64,8 +64,11 @@ pub fn speaks_to_the_end()
 /// A caller and an answerer by one scheme and in one namespace, each of which accepts the other's hello and proof and
 /// reads what the other writes: both come to the end, and each is sent the rows that the exchange of their rows in the
 /// area that both may read sends it. Where the fingerprints of that exchange tell rows apart, each covers, with the rows
-/// that it was sent, all that the other has there.
+/// that it was sent, all that the other has there. And there is what they write to each other.
 pub fn settles()
+    ensures they_meet { (p q : Party) (rows others : List RowValue)
+        → CanMeet p q → IsOpening p.namespace rows → IsOpening p.namespace others
+        → (left : List ℕ) × (right : List ℕ) × Meet (out p rows) (out q others) left right }
     ensures done { (p q : Party) (rows others : List RowValue) (left right : List ℕ)
         → CanMeet p q → IsOpening p.namespace rows → IsOpening p.namespace others
         → Meet (out p rows) (out q others) left right → AreDone p q rows others left right }

@@ -4,8 +4,6 @@
 //! the bytes that it reads.
 #![tactic(auto)]
 
-#[cfg(test)]
-mod checks;
 mod due;
 mod ear;
 mod find;
@@ -28,17 +26,7 @@ mod take_all;
 mod talker;
 
 pub use mc_cap::RefusedRow;
+pub use opening::known_plan;
 pub use plan::{SessionPlan, SessionReport, VERSION};
 pub use run::run_session;
 pub use session_end::SessionEnd;
-
-#[cfg(test)]
-mod fakes;
-#[cfg(test)]
-mod meetings;
-#[cfg(test)]
-mod runs;
-#[cfg(test)]
-mod tests;
-#[cfg(test)]
-mod trials;

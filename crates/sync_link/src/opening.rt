@@ -69,8 +69,8 @@ fn known_hello(hello: &Hello)
     hello.capability.known();
 }
 
-// Does nothing: it is called for its clause, that the hello of a plan is in the grammar where it passes.
-pub(crate) fn known_plan<S: Scheme>(plan: &SessionPlan<S>, nonce: [u8; 16])
+/// Does nothing: it is called for its clause, that the hello of a plan is in the grammar where it passes.
+pub fn known_plan<S: Scheme>(plan: &SessionPlan<S>, nonce: [u8; 16])
     ensures { (rules : Rules) (namespace : List ℕ) → hello_refusal rules namespace (own_hello plan.now nonce) ≡ None → IsHello (own_hello plan.now nonce) }
 {
     known_nonce(&nonce);

@@ -2,8 +2,11 @@ use Rattle.std.proofs.Common.{All, subst, sym}
 use Rattle.willow_entry.specs.Row.{HasCovering, join}
 use Rattle.sync_core.specs.Place.{rows_of_area}
 use Rattle.sync_link.specs.Sessions.{box_with}
-use Rattle.sync_link.proofs.Settled.{settled, caller_covers, answerer_covers}
+use Rattle.sync_link.proofs.Settled.{meets, settled, caller_covers, answerer_covers}
 use Rattle.sync_link.proofs.laws.settles.Goals as goal
+
+pub returns-clause-they_meet : goal.returns-clause-they_meet
+returns-clause-they_meet c = λ p q rows others can own theirs. meets p q can rows others own theirs
 
 pub returns-clause-done : goal.returns-clause-done
 returns-clause-done c = λ p q rows others left right can own theirs meet. settled p q can rows others left right own theirs meet

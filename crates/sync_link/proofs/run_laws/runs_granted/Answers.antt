@@ -2,4 +2,4 @@ use Rattle.sync_link.proofs.GrantedRuns.{runs_granted}
 use Rattle.sync_link.proofs.run_laws.runs_granted.Goals as goal
 
 pub returns : goal.returns
-returns c = λ p ran wanting_fits. runs_granted p ran wanting_fits
+returns c = λ p ran. runs_granted p ran
