@@ -1,7 +1,7 @@
 """Prints what is said in exchanges of two stores: how long each turn is, and the SHA-256 digest of all of them together.
 
 It goes by docs/FORMATS.md and by what it means that a side answers an ask, over plain sorted lists, and shares no code
-with the crates. The table is that of the tests of `sync_pair`: for each case how many rows are made, from which number
+with the crates. The table is that of the pairs of `exchange_trials`: for each case how many rows are made, from which number
 and how far apart, for which area, the lengths of the turns, the number of items, how many rows each side gets, and the digest. With
 `--check` it compares its table with that of the tests.
 
@@ -14,7 +14,7 @@ from pathlib import Path
 
 FEW = 16
 WORD = 1 << 64
-TESTS = Path(__file__).resolve().parents[2] / "crates" / "sync_pair" / "src" / "tests.rt"
+TESTS = Path(__file__).resolve().parents[2] / "crates" / "exchange_trials" / "src" / "pairs.rt"
 
 
 def key(byte):

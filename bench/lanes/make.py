@@ -1,4 +1,4 @@
-"""Makes the tables of the tests of `crates/sha_lanes`: digests of messages and ends of chains, by Python's hashlib.
+"""Makes the tables of the digests of `crates/signature_trials`: digests of messages and ends of chains, by Python's hashlib.
 
 Byte k of the message of n bytes is 5 k + n, byte k of the front of chain c is 11 k + c, and byte k of its value 7 k + c,
 each modulo 256. Step j of a chain hashes its front, j in one byte and its value.
@@ -11,7 +11,7 @@ import sys
 from hashlib import sha256
 from pathlib import Path
 
-TESTS = Path(__file__).resolve().parents[2] / "crates" / "sha_lanes" / "src" / "tests.rt"
+TESTS = Path(__file__).resolve().parents[2] / "crates" / "signature_trials" / "src" / "digests.rt"
 
 # four lengths a line that take equally many blocks of 64 bytes, with nine bytes or more of padding each
 ALIKE = [(0, 1, 54, 55), (56, 63, 64, 119), (120, 127, 128, 183), (184, 200, 246, 247)]

@@ -13,6 +13,3 @@ pub use frame::{BadFrames, behind, decode_frame, frames_in_front, read_frames};
 pub use row::{RawRow, RawRows, SpelledRow};
 pub use token::{WriteToken, read_token};
 pub use willow_entry::{MAX_FRAME, encode_row_frame as encode_frame};
-
-#[cfg(test)]
-mod tests;

@@ -7,6 +7,3 @@ pub mod laws;
 mod words;
 
 pub use lanes::Lanes;
-
-#[cfg(test)]
-mod tests;

@@ -17,6 +17,3 @@ mod vacant;
 
 pub use arena::Arena;
 pub use twice::{Order, Twice};
-
-#[cfg(test)]
-mod tests;

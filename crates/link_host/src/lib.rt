@@ -8,6 +8,3 @@ mod worker;
 
 pub use host::Host;
 pub use hosting::{Hosted, host_links};
-
-#[cfg(test)]
-mod tests;

@@ -17,6 +17,3 @@ pub use check::{ChainRefusal, MAX_DELEGATIONS};
 pub use messages::initial_message;
 pub use refusal::{RefusedRow, RowRefusal};
 pub use signature::Signature;
-
-#[cfg(test)]
-mod tests;

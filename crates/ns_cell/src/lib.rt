@@ -18,6 +18,3 @@ pub use cell::NsCell;
 pub use limits::PASS_LIMIT;
 pub use ns_state::{LogFull, NsState, Told};
 pub use pass::Pass;
-
-#[cfg(test)]
-mod tests;

@@ -13,6 +13,3 @@ mod state;
 
 pub use live_log::{LOG_LIMIT, LiveLog, LogFull};
 pub use state::{NsState, Told};
-
-#[cfg(test)]
-mod tests;

@@ -9,6 +9,3 @@ mod pipe;
 
 pub use gate_link::GateLink;
 pub use pair_link::{PairLink, pair};
-
-#[cfg(test)]
-mod tests;

@@ -11,6 +11,3 @@ mod write;
 pub use read::{Image, read_image};
 pub use refusal::ImageRefusal;
 pub use write::{put_head, put_trailer, write_image, write_rows, write_store_image};
-
-#[cfg(test)]
-mod tests;

@@ -12,6 +12,3 @@ pub use frames::GeneratedFrames;
 pub use generator::{GENERATED_ROWS, generated_row, generator_namespace};
 pub use listing::{key_line, listing_head, listing_line};
 pub use summary::{DrillCounts, drill_summary};
-
-#[cfg(test)]
-mod tests;

@@ -21,6 +21,3 @@ pub use laws::{
 pub use making::{draw, draw_all, make_key};
 pub use reading::capability_from;
 pub use writing::write;
-
-#[cfg(test)]
-mod tests;

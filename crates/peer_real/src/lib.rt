@@ -13,6 +13,3 @@ pub use noise::RandomNoise;
 pub use shelf::FileShelf;
 pub use streams::{StdReport, StdSink, StdSource};
 pub use tcp::{TcpDoor, TcpLink};
-
-#[cfg(test)]
-mod tests;

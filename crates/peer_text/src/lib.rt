@@ -7,6 +7,3 @@ mod session;
 
 pub use refusals::row_refusal_text;
 pub use session::session_end_text;
-
-#[cfg(test)]
-mod tests;

@@ -18,6 +18,3 @@ mod word;
 pub use command::{AreaWords, Command, SignerWord, Usage};
 pub use limits::{MOST_LINKS, MOST_NAME_BYTES, MOST_PLACE_BYTES, MOST_PORT, MOST_ROWS};
 pub use read::read_words;
-
-#[cfg(test)]
-mod tests;

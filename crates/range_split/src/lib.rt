@@ -11,8 +11,3 @@ mod rows;
 
 pub use choice::{Choice, ENTRIES_MAX, choose};
 pub use rows::nth;
-
-#[cfg(test)]
-mod tests;
-#[cfg(test)]
-mod trials;

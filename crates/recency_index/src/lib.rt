@@ -8,6 +8,3 @@ mod ranked;
 
 pub use index::Recency;
 pub use ranked::{Ranked, by_recency};
-
-#[cfg(test)]
-mod tests;

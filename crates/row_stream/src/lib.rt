@@ -12,6 +12,3 @@ mod stream;
 
 pub use refusal::StreamRefusal;
 pub use stream::RowStream;
-
-#[cfg(test)]
-mod tests;

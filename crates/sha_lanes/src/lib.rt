@@ -18,6 +18,3 @@ pub use chain::Chain;
 pub use message::Message;
 pub use messages::{sha256_all, sha256_four};
 pub use running::run_chains;
-
-#[cfg(test)]
-mod tests;

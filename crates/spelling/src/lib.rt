@@ -10,6 +10,3 @@ mod output;
 pub use ending::{End, NoMemory, NotHere};
 pub use input::{Input, Unread, guard};
 pub use output::{put_byte, put_bytes, put_u16, put_u32, put_u64};
-
-#[cfg(test)]
-mod tests;

@@ -21,8 +21,3 @@ pub use out_item::OutItem;
 pub use side::SyncCore;
 pub use stage::{SNAPSHOT_MAX, Stage};
 pub use sync_msg::{CoreRefusal, Item, Role};
-
-#[cfg(test)]
-mod tests;
-#[cfg(test)]
-mod trials;

@@ -17,6 +17,3 @@ pub use hello::Hello;
 pub use proof::{check_proof, proof_message};
 pub use read::{HelloStep, read_hello};
 pub use session_end::{HelloRefusal, SessionEnd};
-
-#[cfg(test)]
-mod tests;

@@ -18,6 +18,3 @@ pub use reader::{BadItem, ItemReader, Step};
 pub use refusal::CoreRefusal;
 pub use role::Role;
 pub use willow_entry::encode_row_frame;
-
-#[cfg(test)]
-mod tests;

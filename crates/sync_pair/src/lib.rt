@@ -10,12 +10,3 @@ mod peer;
 
 pub use meet::{PairRun, meet_rows};
 pub use sync_core::SNAPSHOT_MAX;
-
-#[cfg(test)]
-mod checks;
-#[cfg(test)]
-mod laws_tests;
-#[cfg(test)]
-mod tests;
-#[cfg(test)]
-mod trials;

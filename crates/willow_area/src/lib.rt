@@ -15,6 +15,3 @@ pub use area_codec::read_area;
 pub use box3::{Box3, box_of};
 pub use cut::{CutAt, CutOutside};
 pub use times::TimeRange;
-
-#[cfg(test)]
-mod tests;

@@ -25,6 +25,3 @@ pub use row::{
     same,
 };
 pub use row_form::RowForm;
-
-#[cfg(test)]
-mod tests;

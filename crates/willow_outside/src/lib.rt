@@ -43,6 +43,3 @@ pub use sure_shelf::SureShelf;
 pub use sure_sink::SureSink;
 pub use sure_source::SureSource;
 pub use writing::write_whole;
-
-#[cfg(test)]
-mod tests;

@@ -14,6 +14,3 @@ pub use limits::{MAX_PART, MAX_PARTS, MAX_TOTAL};
 pub use path::{Path, PathRefusal};
 pub use path_codec::read_path;
 pub use spelling::{End, NoMemory, NotHere};
-
-#[cfg(test)]
-mod tests;

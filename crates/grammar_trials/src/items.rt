@@ -1,0 +1,153 @@
+//! Items that are spelled, read, and not read.
+
+use crate::keys::key;
+use spelling::{End, NoMemory};
+use std::alloc::Global;
+use std::test::*;
+use sync_msg::{BadItem, CoreRefusal, Item, ItemReader, Role, Step, encode_item, laws};
+use willow_area::CutAt;
+use willow_entry::{BareRow, BareRows, Entry, Row};
+use willow_path::{Digest, NamespaceKey, Path, UserKey};
+
+// The first byte of the spelling of a head, and how many bytes were taken; or 00 where more is asked for, ff where the
+// bytes are bad, with the place told.
+fn told(answer: Result<Step<BareRow>, End<BadItem>>) -> (u8, u64) {
+    match answer {
+        Ok(Step::Got { item, taken }) => (kind_of(&item), taken as u64),
+        Ok(Step::More) => (0, 0),
+        Err(End::Refused(bad)) => (255, bad.at),
+        Err(End::NoMemory) => (254, 0),
+    }
+}
+
+fn kind_of(item: &Item<BareRow>) -> u8 {
+    match item {
+        Item::First { .. } => 1,
+        Item::Agree => 2,
+        Item::Split { .. } => 3,
+        Item::Entries { .. } => 4,
+        Item::Rest { .. } => 5,
+        Item::EndTurn => 6,
+        Item::Bye => 7,
+        Item::Row(_) => 8,
+    }
+}
+
+// What a new reader answers.
+fn answer(alloc: Global, bytes: &[u8]) -> (u8, u64) {
+    let mut reader = ItemReader::<BareRows>::new(alloc);
+    told(reader.next(bytes))
+}
+
+#[test]
+fn answers(rt: HostRuntime) {
+    assert_eq!(rt; answer(rt.alloc(), &[2]), (2, 1));
+    assert_eq!(rt; answer(rt.alloc(), &[3]), (0, 0));
+    assert_eq!(rt; answer(rt.alloc(), &[8]), (255, 0));
+    assert_eq!(rt; answer(rt.alloc(), &[4, 17]), (255, 0));
+    assert_eq!(rt; answer(rt.alloc(), &[5, 0, 1, 0, 0]), (5, 5));
+    assert_eq!(rt; answer(rt.alloc(), &[5, 0, 1, 0, 1]), (255, 0));
+}
+
+// What a reader answers behind an `Entries` of one row, which was read.
+fn answer_behind(alloc: Global, bytes: &[u8]) -> (u8, u64) {
+    let mut reader = ItemReader::<BareRows>::new(alloc);
+    match reader.next(&[4, 1]) {
+        Ok(
+            Step::Got {
+                item: Item::Entries { count: 1 },
+                taken: 2,
+            },
+        ) => told(reader.next(bytes)),
+        other => told(other),
+    }
+}
+
+#[test]
+fn rows_that_are_due(rt: HostRuntime) {
+    assert_eq!(rt; answer_behind(rt.alloc(), &[0, 2, 0]), (0, 0));
+    assert_eq!(rt; answer_behind(rt.alloc(), &[0, 2, 0, 1]), (255, 2));
+    assert_eq!(rt; answer_behind(rt.alloc(), &[0, 0, 0, 0]), (255, 2));
+    assert_eq!(rt; answer_behind(rt.alloc(), &[2]), (255, 2));
+}
+
+// A row at the empty path.
+fn row(alloc: Global) -> Result<BareRow, Fail> {
+    let entry = Entry {
+        namespace: NamespaceKey::from_bytes(key(0x4e)).ok_or("a namespace key")?,
+        subspace: UserKey::from_bytes(key(0x55)).ok_or("a user key")?,
+        path: Path::empty(alloc),
+        timestamp: 5,
+        length: 1,
+        digest: Digest([0x11; 32]),
+    };
+    Ok(
+        BareRow::new(alloc, entry, Vec::new(alloc))
+            .ok()
+            .ok_or("memory")?,
+    )
+}
+
+// The frame of a short row.
+#[tactic(auto, unfolding(willow_entry::specs::RowBody::row_body))]
+fn frame_of(alloc: Global, row: BareRow) -> Result<Vec<u8>, Fail> {
+    let mut frame = Vec::new(alloc);
+    if row.entry_bytes().len() < 1000 && row.token_bytes().len() < 1000 {
+        encode_item(&Item::Row(row), &mut frame)
+            .ok()
+            .ok_or("memory")?;
+    }
+    Ok(frame)
+}
+
+#[test]
+fn rows(rt: HostRuntime) -> Result<(), Fail> {
+    let mut frame = frame_of(rt.alloc(), row(rt.alloc())?)?;
+    assert_eq!(rt; frame.len(), 119);
+    assert!(rt; frame.starts_with(&[0, 0, 0, 115, 0, 0x4e]));
+    assert_eq!(rt; answer_behind(rt.alloc(), &frame), (8, 119));
+    frame.truncate(118);
+    assert_eq!(rt; answer_behind(rt.alloc(), &frame), (0, 0));
+    Ok(())
+}
+
+// The spellings of a split and of the longest counts, one after the other.
+fn three_items(alloc: Global) -> Result<Vec<u8>, NoMemory> {
+    let mut out = Vec::new(alloc);
+    let split: Item<BareRow> = Item::Split {
+        at: CutAt::Path(Path::empty(alloc)),
+        lower: [0x22; 32],
+        upper: [0x33; 32],
+    };
+    encode_item(&split, &mut out)?;
+    encode_item::<BareRow>(&Item::Entries { count: 16 }, &mut out)?;
+    encode_item::<BareRow>(&Item::Rest { count: 65_536 }, &mut out)?;
+    Ok(out)
+}
+
+#[test]
+fn spellings(rt: HostRuntime) -> Result<(), Fail> {
+    let text = three_items(rt.alloc()).ok().ok_or("memory")?;
+    assert_eq!(rt; text.len(), 74);
+    assert!(rt; text.starts_with(&[3, 1, 0, 0x22]));
+    assert!(rt; text.ends_with(&[0x33, 4, 16, 5, 0, 1, 0, 0]));
+    assert_eq!(rt; answer(rt.alloc(), &text), (3, 67));
+    Ok(())
+}
+
+#[test]
+fn values(rt: HostRuntime) {
+    let rest: Item<BareRow> = Item::Rest { count: 2 };
+    let bye: Item<BareRow> = Item::Bye;
+    assert!(rt; rest.is_counted() && !bye.is_counted());
+    assert!(rt; Role::Caller != Role::Answerer);
+    assert!(rt; CoreRefusal::TooManyItems { items: 3 } != CoreRefusal::BadCut);
+}
+
+#[test]
+fn the_laws_can_be_called() {
+    laws::limits();
+    laws::readers();
+    laws::one_spelling();
+    laws::one_answer::<BareRows>();
+}

@@ -1,0 +1,14 @@
+//! Tries the commands over rows; it has tests alone.
+//! What comes of `join`, `show` and `generate` is compared with images, listings and frames that were made elsewhere.
+#![tactic(auto)]
+
+#[cfg(test)]
+mod bytes;
+#[cfg(test)]
+mod endings;
+#[cfg(test)]
+mod frames;
+#[cfg(test)]
+mod images;
+#[cfg(test)]
+mod pieces;

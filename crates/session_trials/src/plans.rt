@@ -1,0 +1,68 @@
+//! What a side brings to a session.
+
+ghost use Rattle.std.specs.Prelude.{◌≡◌, None, IsTrue, IfOk, IfSome};
+ghost use Rattle.scheme_core.specs.Open.{open_rules};
+ghost use Rattle.sync_hello.specs.Checked.{hello_refusal};
+ghost use Rattle.sync_link.specs.Plans.{own_hello};
+
+use crate::rows::{ask, capability};
+use mc_cap::Mode;
+use scheme_core::OpenScheme;
+use spelling::NoMemory;
+use std::alloc::Global;
+use sync_hello::{Hello, check_hello};
+use sync_link::{SessionPlan, VERSION};
+use sync_msg::Role;
+use willow_path::NamespaceKey;
+
+// The nonce of a side.
+pub(crate) fn nonce(role: Role) -> [u8; 16] {
+    match role {
+        Role::Caller => [1; 16],
+        Role::Answerer => [2; 16],
+    }
+}
+
+// The plan of a side that asks for the user's subspace, where its hello passes.
+pub(crate) fn plan(
+    alloc: Global,
+    namespace: &NamespaceKey,
+    role: Role,
+    nonce: [u8; 16],
+) -> Option<SessionPlan<OpenScheme>>
+    ensures { IfSome result (λ plan. hello_refusal open_rules namespace.now (own_hello plan nonce) ≡ None) }
+{
+    let plan = SessionPlan {
+        scheme: OpenScheme,
+        role,
+        capability: capability(alloc, Mode::Read)?,
+        ask: ask(alloc)?,
+    };
+    let hello = hello_of(&plan, nonce).ok()?;
+    if !passes(namespace, &hello) {
+        return None;
+    }
+    Some(plan)
+}
+
+// The hello of a side with this plan.
+fn hello_of(plan: &SessionPlan<OpenScheme>, nonce: [u8; 16]) -> Result<Hello, NoMemory>
+    ensures { IfOk result (λ hello. hello ≡ own_hello plan.now nonce) }
+{
+    Ok(Hello {
+        version: VERSION,
+        nonce,
+        ask: plan.ask.copy()?,
+        capability: plan.capability.copy()?,
+    })
+}
+
+// Whether the hello passes.
+fn passes(namespace: &NamespaceKey, hello: &Hello) -> bool
+    ensures { IsTrue result → hello_refusal open_rules namespace.now hello.now ≡ None }
+{
+    match check_hello(&OpenScheme, namespace, hello) {
+        Ok(()) => true,
+        Err(_) => false,
+    }
+}

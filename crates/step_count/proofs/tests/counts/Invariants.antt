@@ -1,5 +1,0 @@
--- The ledger that the counter names is the blank's.
-use Rattle.step_count.proofs.tests.counts.Given as goal
-
-abbrev pub ghosts-three_steps : goal.ghosts-three_steps
-ghosts-three_steps g a = record { name = a.blank.name; parts = a.blank.parts }

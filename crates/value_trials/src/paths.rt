@@ -1,0 +1,289 @@
+//! Keys and paths: their limits, orders, successors and spellings.
+
+use crate::names::path_of;
+use spelling::{Input, Unread};
+use std::alloc::Global;
+use std::cmp::Ordering;
+use std::test::*;
+use willow_path::{
+    Digest, End, MAX_PARTS, NamespaceKey, NotHere, Path, PathRefusal, UserKey, laws, read_digest,
+    read_namespace_key, read_path, read_user_key,
+};
+
+// Components of as many bytes as one may have.
+const HIGH: &[u8] = &[0xff; 255];
+
+const LONG: &[u8] = &[0x61; 255];
+
+// As many components as a path may have.
+const MANY: &[&[u8]] = &[
+    b"a", b"", b"ccc", b"d", b"e", b"f", b"g", b"h", b"i", b"j", b"k", b"l", b"m", b"n", b"o",
+    b"pp",
+];
+
+// Components of as many bytes as a path may have.
+const WIDE: &[&[u8]] = &[LONG, HIGH, LONG, HIGH, b"abcd"];
+
+// Whether the least path above all extensions of a path is this one, or there is none.
+fn comes_after(alloc: Global, parts: &[&[u8]], due: Option<&[&[u8]]>) -> Option<bool> {
+    let found = path_of(alloc, parts)?.after_prefixed().ok()?;
+    match due {
+        None => Some(found.is_none()),
+        Some(parts) => Some(found? == path_of(alloc, parts)?),
+    }
+}
+
+#[test]
+fn successors_of_paths(rt: HostRuntime) {
+    let alloc = rt.alloc();
+    let rows: [(&[&[u8]], Option<&[&[u8]]>); 5] = [
+        (&[], None),
+        (&[b"a"], Some(&[b"a\0"])),
+        (&[HIGH], None),
+        (&[b"a", HIGH], Some(&[b"a\0"])),
+        (
+            &[LONG, LONG, LONG, LONG, b"b\xff\xff\xff"],
+            Some(&[LONG, LONG, LONG, LONG, b"c"]),
+        ),
+    ];
+    for (parts, due) in rows {
+        assert_eq!(rt; comes_after(alloc, parts, due), Some(true));
+    }
+}
+
+// What a path of so many long components answers to one more, of so many bytes.
+fn pushed(alloc: Global, count: usize, len: usize) -> Option<Result<(), End<PathRefusal>>> {
+    let mut path = Path::empty(alloc);
+    for _ in 0..count {
+        path.push(LONG).ok()?;
+    }
+    Some(path.push([0x61; 256].get(..len)?))
+}
+
+// How many components a path has at most, and what it answers to one more.
+fn pushed_onto_most(alloc: Global) -> Option<(usize, Result<(), End<PathRefusal>>)> {
+    let mut path = Path::empty(alloc);
+    for _ in 0..MAX_PARTS {
+        path.push(b"a").ok()?;
+    }
+    Some((path.count(), path.push(b"a")))
+}
+
+// The numbers of components and of bytes of the path of these components.
+fn numbers_of(alloc: Global, parts: &[&[u8]]) -> Option<(usize, usize)> {
+    let path = path_of(alloc, parts)?;
+    Some((path.count(), path.total()))
+}
+
+#[test]
+fn limits_of_paths(rt: HostRuntime) {
+    let alloc = rt.alloc();
+    let rows = [
+        (0, 256, Err(PathRefusal::ComponentTooLong { len: 256 })),
+        (0, 255, Ok(())),
+        (4, 5, Err(PathRefusal::PathTooLong { total: 1025 })),
+        (4, 4, Ok(())),
+    ];
+    for (count, len, due) in rows {
+        assert_eq!(rt;
+            pushed(alloc, count, len),
+            Some(due.map_err(|e| End::Refused(e)))
+        );
+    }
+    let full = Err(End::Refused(PathRefusal::TooManyComponents));
+    assert_eq!(rt; pushed_onto_most(alloc), Some((16, full)));
+    assert_eq!(rt; numbers_of(alloc, &[LONG, b"", b"bc"]), Some((3, 257)));
+    assert_eq!(rt; numbers_of(alloc, MANY), Some((16, 18)));
+    assert_eq!(rt; numbers_of(alloc, WIDE), Some((5, 1024)));
+}
+
+// How many bytes the path in front of the bytes takes, and its spelling behind a byte 09.
+fn read_again(alloc: Global, bytes: &[u8]) -> Result<(usize, Vec<u8>), End<NotHere>> {
+    let (path, taken) = Path::decode(alloc, bytes)?;
+    let mut text = Vec::new(alloc);
+    text.push(9)?;
+    path.encode(&mut text)?;
+    Ok((taken, text))
+}
+
+// Whether a path takes so many of the bytes and is spelled as these are.
+fn is_read(alloc: Global, bytes: &[u8], due: usize) -> bool {
+    match read_again(alloc, bytes) {
+        Ok((taken, text)) => taken == due && text.get(1..) == bytes.get(..due),
+        Err(_) => false,
+    }
+}
+
+// The components of the path of these bytes, joined by a byte `/`.
+fn joined_parts(alloc: Global, bytes: &[u8]) -> Option<Vec<u8>> {
+    let (path, _) = Path::decode(alloc, bytes).ok()?;
+    let mut text = Vec::new(alloc);
+    for i in 0..path.count() {
+        text.push(b'/').ok()?;
+        text.extend_from_slice(path.part(i)).ok()?;
+    }
+    Some(text)
+}
+
+// Whether the path of these components is read back from its spelling, which is as long as the path tells.
+fn is_read_back(alloc: Global, parts: &[&[u8]]) -> Option<bool> {
+    let path = path_of(alloc, parts)?;
+    let mut text = Vec::new(alloc);
+    path.encode(&mut text).ok()?;
+    let (again, taken) = Path::decode(alloc, &text).ok()?;
+    Some(again == path && taken == text.len() && taken == path.spelled_len())
+}
+
+#[test]
+fn spellings_of_paths(rt: HostRuntime) {
+    let alloc = rt.alloc();
+    let bytes = [2, 1, 0x61, 1, 0x62, 0xff];
+    assert!(rt; is_read(alloc, &bytes, 5));
+    assert_eq!(rt;
+        joined_parts(alloc, &bytes),
+        Vec::from_slice(alloc, b"/a/b").ok()
+    );
+    assert_eq!(rt;
+        read_again(alloc, &[1, 2, 0x61]),
+        Err(End::Refused(NotHere))
+    );
+    for parts in [
+        MANY,
+        WIDE,
+        &[b""],
+        &[b"fifteen letters"],
+        &[b"sixteen letters!"],
+    ] {
+        assert_eq!(rt; is_read_back(alloc, parts), Some(true));
+    }
+}
+
+// Whether the first path is a prefix of the second, and how they are ordered.
+fn compared(alloc: Global, one: &[&[u8]], other: &[&[u8]]) -> Option<(bool, Ordering)> {
+    let (one, other) = (path_of(alloc, one)?, path_of(alloc, other)?);
+    Some((one.is_prefix_of(&other), one.cmp(&other)))
+}
+
+// Whether a copy of the path is equal to it.
+fn is_copied(alloc: Global, parts: &[&[u8]]) -> Option<bool> {
+    let path = path_of(alloc, parts)?;
+    Some(path.copy().ok()? == path)
+}
+
+#[test]
+fn order_of_some_paths(rt: HostRuntime) {
+    let alloc = rt.alloc();
+    let rows: [(&[&[u8]], &[&[u8]], bool, Ordering); 13] = [
+        (&[b"a"], &[b"a", b"b"], true, Ordering::Less),
+        (&[b"a", b"b"], &[b"a"], false, Ordering::Greater),
+        (&[b"a"], &[b"ab"], false, Ordering::Less),
+        (&[b"a", b"b"], &[b"ab"], false, Ordering::Less),
+        (&[b"b"], &[b"aa"], false, Ordering::Greater),
+        (&[b"b"], &[b"aa", b"c"], false, Ordering::Greater),
+        (&[b"x", b"aa"], &[b"x", b"b", b""], false, Ordering::Less),
+        (&[b"x"], &[b"x", b"aa"], true, Ordering::Less),
+        (&[], &[b""], true, Ordering::Less),
+        (&[b""], &[b"", b"a"], true, Ordering::Less),
+        (&[b""], &[b"a"], false, Ordering::Less),
+        (MANY, MANY, true, Ordering::Equal),
+        (WIDE, MANY, false, Ordering::Greater),
+    ];
+    for (one, other, prefix, order) in rows {
+        assert_eq!(rt; compared(alloc, one, other), Some((prefix, order)));
+    }
+    for parts in [
+        MANY,
+        WIDE,
+        &[b"a", b"a component of more than a few bytes", b""],
+    ] {
+        assert_eq!(rt; is_copied(alloc, parts), Some(true));
+    }
+}
+
+// How the first path is ordered against so many components of the second.
+fn front_compared(alloc: Global, one: &[&[u8]], other: &[&[u8]], count: usize) -> Option<Ordering> {
+    Some(path_of(alloc, one)?.cmp_front(&path_of(alloc, other)?, count))
+}
+
+#[test]
+fn order_against_fronts(rt: HostRuntime) {
+    let alloc = rt.alloc();
+    let rows: [(&[&[u8]], &[&[u8]], usize, Ordering); 6] = [
+        (&[], &[b"a"], 0, Ordering::Equal),
+        (&[b"a", b"b"], &[b"a", b"b", b"c"], 2, Ordering::Equal),
+        (&[b"a", b"b"], &[b"a", b"b", b"c"], 3, Ordering::Less),
+        (&[b"a", b"b"], &[b"a", b"b"], 1, Ordering::Greater),
+        (&[b"b"], &[b"aa"], 5, Ordering::Greater),
+        (MANY, MANY, 99, Ordering::Equal),
+    ];
+    for (one, other, count, order) in rows {
+        assert_eq!(rt; front_compared(alloc, one, other, count), Some(order));
+    }
+}
+
+// A key of zeros with this byte at a place, and another at all places behind it.
+fn key_of(place: usize, byte: u8, behind: u8) -> Option<UserKey> {
+    let mut bytes = [0; 33];
+    bytes.get_mut(place..)?.fill(behind);
+    *bytes.get_mut(place)? = byte;
+    UserKey::from_bytes(bytes)
+}
+
+// How two keys are ordered that differ first at this place, and whether the first is less, and equal.
+fn keys_compared(place: usize) -> Option<(Ordering, bool, bool)> {
+    let (low, high) = (key_of(place, 0, 0xff)?, key_of(place, 1, 0)?);
+    Some((low.cmp(&high), low < high, low == high))
+}
+
+#[test]
+fn order_of_keys(rt: HostRuntime) {
+    for place in 0..33 {
+        assert_eq!(rt; keys_compared(place), Some((Ordering::Less, true, false)));
+    }
+    let (one, same) = (key_of(7, 1, 9), key_of(7, 1, 9));
+    assert!(rt; one == same && one.cmp(&same) == Ordering::Equal && !(one < same));
+}
+
+#[test]
+fn keys(rt: HostRuntime) -> Result<(), Fail> {
+    let mut bytes = [0xff; 33];
+    assert!(rt; UserKey::from_bytes(bytes).is_none() && NamespaceKey::from_bytes(bytes).is_none());
+    bytes[0] = 1;
+    let last = UserKey::from_bytes(bytes).ok_or("a key")?;
+    assert_eq!(rt; last.after(), None);
+    bytes[0] = 0;
+    let open = UserKey::from_bytes(bytes).ok_or("a key")?;
+    let next = open.after().ok_or("there is a greater key")?;
+    let mut want = [0; 33];
+    want[0] = 1;
+    assert_eq!(rt; next.to_bytes().as_slice(), want.as_slice());
+    assert!(rt; UserKey::least() < open && open < next && next < last);
+    let space = NamespaceKey::from_bytes(bytes).ok_or("a key")?;
+    assert_eq!(rt; space.to_bytes().as_slice(), bytes.as_slice());
+    let mut input = Input::new(&bytes);
+    assert_eq!(rt; read_user_key(&mut input), Ok(open));
+    assert_eq!(rt; read_namespace_key(&mut Input::new(&bytes)), Ok(space));
+    assert_eq!(rt;
+        read_namespace_key(&mut Input::new(&[2])),
+        Err(Unread::Wrong)
+    );
+    assert_eq!(rt; read_digest(&mut Input::new(&[7; 40])), Ok(Digest([7; 32])));
+    assert!(rt;
+        matches!(
+            read_path(rt.alloc(), &mut Input::new(&[17])),
+            Err(Unread::Wrong)
+        )
+    );
+    Ok(())
+}
+
+#[test]
+fn laws_can_be_called() {
+    laws::limits();
+    laws::one_spelling();
+    laws::order_of_bytes();
+    laws::order_of_paths();
+    laws::prefixes();
+    laws::readers();
+    laws::successors();
+}
