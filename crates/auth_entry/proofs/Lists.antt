@@ -1,15 +1,16 @@
 -- Lists that are gone through, and what is collected of them.
-use Rattle.std.proofs.Common.{◌≡◌, ◌+◌, ◌<◌, ℕ, List, [], ◌∷◌, ◌++◌, length, map, take, slice_index_or, Result, Ok, Err, refl, sym, ap, subst, ◌∙◌, add-one}
+use Rattle.std.proofs.Common.{◌≡◌, ◌⊎◌, inl, inr, ◌+◌, ◌<◌, ◌≤◌, ℕ, All, List, [], ◌∷◌, ◌++◌, length, map, take, slice_index_or, Some, None, Result, Ok, Err, arith, sym, ap, subst, ◌∙◌, add-one}
 use Rattle.std.proofs.Math.Seq.{take-suc}
 use Rattle.std.proofs.lemmas.List.{map-append}
+use Rattle.std.proofs.lemmas.List.Elements.{All-cons}
+use Rattle.std.proofs.lemmas.Option.{slice_get_cases}
 use Rattle.std.proofs.lemmas.Slice.Zip.{AllZip-map}
-use Rattle.std.specs.Prelude.{IfOk, MatchResult, Contains, flat_map}
+use Rattle.std.specs.Prelude.{IfOk, MatchResult, Contains, slice_get}
 use Rattle.std.specs.Borrow.{Bor}
 use Rattle.std.specs.Global.{Vec}
 use Rattle.std.specs.List.{AllZip}
-use Rattle.rayon.specs.Lists.{chunks_of}
 use Rattle.rayon.proofs.ListFacts.{IfOk-then}
-use Rattle.rayon.proofs.ToStd.{slice-AllZip, chunks_of-concat}
+use Rattle.rayon.proofs.ToStd.{slice-AllZip}
 
 -- one element more of a list that is gone through
 pub passed : {X : Type 0} (xs : List X) (k : ℕ) (x : X) → k < length xs → x ≡ slice_index_or xs k x → take (k + 1) xs ≡ take k xs ++ x ∷ []
@@ -26,6 +27,16 @@ module _ {X Y : Type 0} (f : X → Y) where
 
   pub both_begin : (xs rest : List X) (ys others : List Y) → ys ≡ map f xs → rest ≡ xs → others ≡ ys → others ≡ map f rest
   both_begin xs rest ys others are first second = second ∙ are ∙ ap (map f) (sym first)
+
+-- one element more of a list that is mapped place by place
+pub mapped_on : {X Y : Type 0} (f : X → Y) (xs : List X) (k : ℕ) (ys : List Y) (y : Y) → k < length xs → ys ≡ map f (take k xs) → ((x : X) → slice_get xs k ≡ Some x → y ≡ f x) → ys ++ y ∷ [] ≡ map f (take (k + 1) xs)
+mapped_on {X} {Y} f xs k ys y lt are is = by_case (slice_get_cases xs k).1
+  where
+    by_case : ((x : X) × (k < length xs) × (slice_get xs k ≡ Some x) × (slice_index_or xs k x ≡ x)) ⊎ ((length xs ≤ k) × (slice_get xs k ≡ None)) → ys ++ y ∷ [] ≡ map f (take (k + 1) xs)
+    by_case (inl (x, lt', got, same)) =
+        ap (λ (l : List Y). l ++ y ∷ []) are ∙ ap (λ (z : Y). map f (take k xs) ++ z ∷ []) (is x got) ∙ sym (map-append f (take k xs) (x ∷ []))
+        ∙ ap (map f) (sym (passed xs k x lt (sym same)))
+    by_case (inr past) = absurd (omega (arith, past.0, lt))
 
 module _ {X Y E : Type 0} (R : X → Y → Type 0) where
   -- results that are all there are right, where each is if it is there
@@ -47,26 +58,19 @@ module _ {X Y E : Type 0} (R : X → Y → Type 0) where
   collected s zs rs (Ok c) shown each got = subst (AllZip R s) (sym got.2) (all_there s rs got.0 (slice-AllZip zs s shown (λ x r. IfOk r (R x)) rs each) got.1)
   collected s zs rs (Err e) shown each got = tt
 
+-- what holds of each of the second list, whatever stands beside it
+all_right : {X Y : Type 0} (Q : Y → Type 0) (xs : List X) (ys : List Y) → AllZip (λ x y. Q y) xs ys → All Q ys
+all_right Q [] [] h = λ k d lt. absurd (omega (arith, lt))
+all_right Q [] (y ∷ ys) h = absurd h
+all_right Q (x ∷ xs) [] h = absurd h
+all_right Q (x ∷ xs) (y ∷ ys) h = All-cons Q y ys h.0 (all_right Q xs ys h.1)
+
+-- the same of a collection, where it holds of each result that is there
+pub collected_all : {X Y E : Type 0} (Q : Y → Type 0) (xs : List X) (rs : List (Result Y E)) (v : Result (Vec Y) E) → AllZip (λ x r. IfOk r Q) xs rs
+    → MatchResult v (λ c. (ys : List Y) × (rs ≡ map Ok ys) × (c.items ≡ ys)) (λ e. Contains rs (Err e)) → IfOk v (λ c. All Q c.items)
+collected_all Q xs rs (Ok c) each got = subst (All Q) (sym got.2) (all_right Q xs got.0 (all_there (λ x y. Q y) xs rs got.0 each got.1))
+collected_all Q xs rs (Err e) each got = tt
+
 -- a collection of what each element is mapped to
 pub collected_map : {X Y E : Type 0} (f : X → Y) (s : List X) (v : Result (Vec Y) E) → IfOk v (λ c. AllZip (λ x y. y ≡ f x) s c.items) → IfOk v (λ c. c.items ≡ map f s)
 collected_map f s v all = IfOk-then v (λ c. AllZip (λ x y. y ≡ f x) s c.items) (λ c. c.items ≡ map f s) all (λ c each. AllZip-map f s c.items each)
-
--- what chunks are mapped to, one behind the other
-joined_chunks : {X Y : Type 0} (f : X → Y) (chunks : List (List X)) (vs : List (Vec Y)) → AllZip (λ chunk v. v.items ≡ map f chunk) chunks vs
-    → flat_map (λ (v : Vec Y). v.items) vs ≡ map f (flat_map (λ l. l) chunks)
-joined_chunks f [] [] each = refl
-joined_chunks f [] (v ∷ vs) each = absurd each
-joined_chunks f (chunk ∷ chunks) [] each = absurd each
-joined_chunks {X} {Y} f (chunk ∷ chunks) (v ∷ vs) each =
-    ap (λ (l : List Y). l ++ flat_map (λ (w : Vec Y). w.items) vs) each.0 ∙ ap (λ (l : List Y). map f chunk ++ l) (joined_chunks f chunks vs each.1) ∙ sym (map-append f chunk (flat_map (λ l. l) chunks))
-
--- the chunks of a list mapped one by one are the list mapped
-pub all_chunks : {X Y : Type 0} (f : X → Y) (size : ℕ) (xs : List X) (vs : List (Vec Y)) → 0 < size → AllZip (λ chunk v. v.items ≡ map f chunk) (chunks_of size xs) vs
-    → flat_map (λ (v : Vec Y). v.items) vs ≡ map f xs
-all_chunks f size xs vs some each = joined_chunks f (chunks_of size xs) vs each ∙ ap (map f) (chunks_of-concat size xs some)
-
--- the same of a collection of them
-pub collected_chunks : {X Y E : Type 0} (f : X → Y) (size : ℕ) (xs : List X) (v : Result (Vec (Vec Y)) E) → 0 < size → IfOk v (λ c. AllZip (λ chunk w. w.items ≡ map f chunk) (chunks_of size xs) c.items)
-    → IfOk v (λ c. flat_map (λ (w : Vec Y). w.items) c.items ≡ map f xs)
-collected_chunks {Y = Y} f size xs v some all =
-    IfOk-then v (λ c. AllZip (λ chunk w. w.items ≡ map f chunk) (chunks_of size xs) c.items) (λ c. flat_map (λ (w : Vec Y). w.items) c.items ≡ map f xs) all (λ c each. all_chunks f size xs c.items some each)

@@ -1,5 +1,5 @@
 -- Rows of which some conditions are judged before others.
-use Rattle.std.specs.Prelude.{◌≡◌, ℕ, Bool, not, is_some, List}
+use Rattle.std.specs.Prelude.{◌≡◌, ℕ, Bool, not, is_some, List, Some, slice_get}
 use Rattle.std.specs.declared.option.Option.{Option}
 use Rattle.spelling.specs.Answers.{or_else}
 use Rattle.scheme_core.specs.Rules.{Rules}
@@ -9,6 +9,7 @@ use Rattle.mc_cap.specs.declared.refusal.RowRefusal.{RowRefusal}
 use Rattle.cap_codec.specs.Rows.{RawValue}
 use Rattle.auth_entry.specs.Authorised.{claim_refusal, capability_refusal, grant_refusal, signature_refusal}
 use Rattle.auth_entry.specs.declared.signatures.Pending.{Pending}
+use Rattle.auth_entry.specs.declared.turns.Told.{Told}
 
 -- what refuses a row before its signature is checked: its claim, then its capability, then its grant
 abbrev pub early_cause : Rules → List ℕ → RawValue → Option RowRefusal
@@ -33,3 +34,7 @@ is_signed rules r = rules.user (receiver_of r.token.capability) (entry_message r
 -- the same of a row of which something is known
 abbrev pub pending_signed : Rules → Pending → Bool
 pending_signed rules p = is_signed rules p.row.now
+
+-- If there is a row at the place, this is what refuses it.
+abbrev pub IsTold : Rules → List Pending → Told → Type 0
+IsTold rules pendings told = (p : Pending) → slice_get pendings told.at ≡ Some p → told.cause ≡ pending_refusal rules p

@@ -16,6 +16,9 @@ use std::alloc::Global;
 use std::thread::Threads;
 use willow_path::{NamespaceKey, NoMemory};
 
+// So many rows are judged together: enough for all processors, few enough that what is noted of them stays in their caches.
+const SEGMENT: usize = 1_024;
+
 /// What checks rows in one namespace by the rules of S. A checker tells its namespace and its scheme; it may remember
 /// capabilities that it found valid, and may let rows be checked on all processors. None of that changes a verdict.
 pub trait Checker<S: Verify>: Drop {
@@ -49,7 +52,8 @@ pub trait Checker<S: Verify>: Drop {
         Ok(())
     }
 
-    /// What `authorise` answers for each row, in order. Each capability that is not remembered is checked once.
+    /// What `authorise` answers for each row, in order. Of rows that are judged together each capability that is not
+    /// remembered is checked once.
     final fn check_all<R: Threads + Sync>(
         &mut self,
         rt: &R,
@@ -108,8 +112,28 @@ impl<S: Verify> NewChecker<S> for PlainChecker<S> {
     }
 }
 
-// Why each of the rows is refused, where it is.
+// Why each of the rows is refused, where it is. They are judged some at a time, so that what is noted of them stays near.
 fn refusals_of<S: Scheme, C: Checker<S>>(
+    rt: &(impl Threads + Sync),
+    alloc: Global,
+    checker: &mut C,
+    rows: &[RawRow],
+) -> Result<Vec<Option<RowRefusal>>, NoMemory>
+    ensures refusals { IfOk result (λ refusals. refusals.items ≡ map (row_refusal S.rules (C.judged_in checker.old)) rows.now) }
+    ensures same { C.judged_in checker.new ≡ C.judged_in checker.old }
+{
+    let mut refusals = Vec::with_capacity(alloc, rows.len())?;
+    let mut left = rows;
+    'segments: while !left.is_empty() {
+        let (segment, behind) = left.split_at(left.len().min(SEGMENT));
+        refusals.extend_from_slice(&refusals_in(rt, alloc, checker, segment)?)?;
+        left = behind;
+    }
+    Ok(refusals)
+}
+
+// Why each of these rows is refused, where it is. Each of their capabilities that is not remembered is checked once.
+fn refusals_in<S: Scheme, C: Checker<S>>(
     rt: &(impl Threads + Sync),
     alloc: Global,
     checker: &mut C,

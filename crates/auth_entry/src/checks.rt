@@ -4,8 +4,8 @@ ghost use Rattle.std.specs.Prelude.{◌≡◌, map, IfOk};
 ghost use Rattle.auth_entry.specs.Authorised.{capability_refusal};
 ghost use Rattle.auth_entry.specs.Places.{carried};
 
-use crate::chunks::{chunk_len, work_of};
 use crate::refusal::check_capability;
+use crate::work::{least_checks, work_of};
 use cap_codec::RawRow;
 use mc_cap::{Capability, RowRefusal};
 use rayon::prelude::*;
@@ -35,7 +35,7 @@ pub(crate) fn capability_causes<S: Scheme>(
 ) -> Result<Vec<Option<RowRefusal>>, NoMemory>
     ensures { IfOk result (λ causes. causes.items ≡ map (capability_refusal S.rules) (carried rows.now)) }
 {
-    let least = chunk_len(threads, rows.len(), capabilities_work(rows));
+    let least = least_checks(threads, rows.len(), capabilities_work(rows));
     let causes: Result<Vec<Option<RowRefusal>>, NoMemory> = rows
         .par_iter()
         .with_min_len(least)

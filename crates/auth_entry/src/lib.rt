@@ -5,12 +5,13 @@
 mod authorised;
 mod checker;
 mod checks;
-mod chunks;
 pub mod laws;
 mod refusal;
 mod signatures;
 mod standing;
+mod turns;
 mod unknown;
+mod work;
 
 pub use authorised::{AuthorisedEntry, authorise};
 pub use checker::{Checker, NewChecker, PlainChecker};

@@ -1,19 +1,16 @@
 //! The signatures of rows, many by one call.
 
 ghost use Rattle.std.specs.Prelude.{◌≡◌, not, map, filter, IfOk};
-ghost use Rattle.std.specs.List.{flat_map};
-ghost use Rattle.std.specs.Global.{Vec};
-ghost use Rattle.std.specs.declared.option.Option.{Option};
 ghost use Rattle.spelling.specs.Answers.{cause_if};
 ghost use Rattle.scheme_core.specs.Claims.{accepts_claim};
 ghost use Rattle.scheme_core.specs.Rules.{Rules};
 ghost use Rattle.mc_cap.specs.declared.refusal.RowRefusal.{RowRefusal};
 ghost use Rattle.auth_entry.specs.Batch.{awaits_signature, is_signed, pending_refusal, pending_signed};
 
-use crate::chunks::{chunk_len, work_of};
+use crate::turns::causes_by_turns;
+use crate::work::{is_worth_threads, work_of};
 use cap_codec::RawRow;
 use mc_cap::RowRefusal;
-use rayon::prelude::*;
 use scheme_core::{Claim, Scheme, Verify};
 use spelling::NoMemory;
 use std::alloc::Global;
@@ -87,6 +84,21 @@ fn causes_by<S: Verify>(
     Ok(causes)
 }
 
+/// Why a row is refused, where it is.
+pub(crate) fn cause_of<S: Scheme>(
+    alloc: Global,
+    scheme: &S,
+    pending: &Pending,
+) -> Result<Option<RowRefusal>, NoMemory>
+    ensures { IfOk result (λ cause. cause ≡ pending_refusal S.rules pending.now) }
+{
+    if !awaits_signature(pending) {
+        return Ok(pending.cause);
+    }
+    let answers = scheme.verify_users(alloc, &[claim_of(pending.row)])?;
+    Ok(signature_cause(answers[0]))
+}
+
 // Why a row is refused, where it is, of which the signature alone was to be checked.
 fn signature_cause(accepted: bool) -> Option<RowRefusal>
     ensures { result ≡ cause_if (not accepted) RowRefusal.BadEntrySignature }
@@ -99,7 +111,7 @@ fn signature_cause(accepted: bool) -> Option<RowRefusal>
 }
 
 // Why each row is refused, where it is. One call verifies their signatures.
-fn chunk_causes<S: Scheme>(
+fn causes_together<S: Scheme>(
     alloc: Global,
     scheme: &S,
     pendings: &[Pending],
@@ -111,31 +123,7 @@ fn chunk_causes<S: Scheme>(
     causes_by::<S>(alloc, pendings, &answers)
 }
 
-// Why the rows of each chunk of them are refused. Where threads are taken the chunks are judged side by side.
-fn causes_of_chunks<S: Scheme>(
-    rt: &(impl Threads + Sync),
-    alloc: Global,
-    scheme: &S,
-    threads: bool,
-    pendings: &[Pending],
-) -> Result<Vec<Vec<Option<RowRefusal>>>, NoMemory>
-    ensures { IfOk result (λ chunks. flat_map (λ (chunk : Vec (Option RowRefusal)). chunk.items) chunks.items
-        ≡ map (pending_refusal S.rules) pendings.now) }
-{
-    let len = chunk_len(threads, pendings.len(), signatures_work(pendings));
-    let chunks: Result<Vec<Vec<Option<RowRefusal>>>, NoMemory> = pendings
-        .par_chunks(len)
-        .with_min_len(1)
-        .map(
-            |chunk: &[Pending]| -> Result<Vec<Option<RowRefusal>>, NoMemory>
-                ensures { IfOk result (λ causes. causes.items ≡ map (pending_refusal S.rules) chunk.now) }
-            { chunk_causes(alloc, scheme, chunk) },
-        )
-        .collect(rt, alloc)?;
-    chunks
-}
-
-/// Why each row is refused, where it is.
+/// Why each row is refused, where it is. Long signatures are checked in threads, where these are taken.
 pub(crate) fn row_causes<S: Scheme>(
     rt: &(impl Threads + Sync),
     alloc: Global,
@@ -145,22 +133,11 @@ pub(crate) fn row_causes<S: Scheme>(
 ) -> Result<Vec<Option<RowRefusal>>, NoMemory>
     ensures { IfOk result (λ causes. causes.items ≡ map (pending_refusal S.rules) pendings.now) }
 {
-    let chunks = causes_of_chunks(rt, alloc, scheme, threads, pendings)?;
-    joined(alloc, &chunks)
-}
-
-// The causes of all chunks, one behind the other.
-fn joined(
-    alloc: Global,
-    chunks: &[Vec<Option<RowRefusal>>],
-) -> Result<Vec<Option<RowRefusal>>, NoMemory>
-    ensures { IfOk result (λ causes. causes.items ≡ flat_map (λ (chunk : Vec (Option RowRefusal)). chunk.items) chunks.now) }
-{
-    let mut causes = Vec::new(alloc);
-    'chunks: for chunk in chunks {
-        causes.extend_from_slice(chunk)?;
+    if threads && is_worth_threads(signatures_work(pendings)) {
+        causes_by_turns(rt, alloc, scheme, pendings)
+    } else {
+        causes_together(alloc, scheme, pendings)
     }
-    Ok(causes)
 }
 
 // How much work the signatures are that are to be checked.

@@ -6,7 +6,7 @@ use Rattle.auth_entry.specs.Authorised.{capability_refusal, row_refusal}
 use Rattle.auth_entry.specs.Batch.{pending_refusal}
 use Rattle.auth_entry.specs.Standings.{IsStood, IsStoodBy}
 use Rattle.auth_entry.proofs.Settling.{all_stood_by, all_pending}
-use Rattle.auth_entry.proofs.checker.refusals_of.Goals as goal
+use Rattle.auth_entry.proofs.checker.refusals_in.Goals as goal
 
 pub all_settled-requires : goal.all_settled-requires
 all_settled-requires g c =
