@@ -4,8 +4,10 @@ usage: python3 bench/signing.py PROGRAM [OTHER]
 
 PROGRAM and OTHER are executables `willow_peer`. PROGRAM makes a key of height 10 and ROWS rows, which KEYS keys of height 5
 signed; that takes some 40 seconds of processors. Then `key --height 10`, `write` with that key and `join` of these rows are
-timed by the clock and in the time of the processors. The runs of all of them take turns, so that what else the machine does
-falls on all alike; told are medians of RUNS runs. Both programs get the same files, and have to write the same rows and images.
+timed by the clock and in the time of the processors, and the `join` on one processor too: alone, and while each of the others
+does the same, as a processor of a shared machine may be slower where all are busy. The runs of all of them take turns, so that
+what else the machine does falls on all alike; told are medians of RUNS runs. Both programs get the same files, and have to
+write the same rows and images.
 """
 import os
 import shutil
@@ -21,11 +23,13 @@ KEYS = 40
 ROWS = 1_000
 NAMESPACE = "00" + "4e" * 32  # communal: nobody signs its capabilities
 DIGEST = "11" * 32
-PARTS = ("key", "write", "join")
+PARTS = ("key", "write", "join", "alone", "beside")
 TOLD = {
     "key": "`key --height 10`",
     "write": "`write` with a key of height 10",
     "join": f"`join` of {ROWS:,} rows, each signed by a key of height 5",
+    "alone": "the same on one processor, alone",
+    "beside": "the same on one processor, all busy alike",
 }
 
 
@@ -35,12 +39,13 @@ def made(program, folder, words, given=b""):
     return ran.stdout
 
 
-def timed(program, folder, words, given):
+def timed(program, folder, words, given, processor=None):
     """The seconds of a run by the clock and of the processors, and what it wrote. Its input is a file."""
     wrote = os.path.join(folder, "wrote")
+    bound = None if processor is None else (lambda: os.sched_setaffinity(0, {processor}))
     with open(given, "rb") as source, open(wrote, "wb") as sink, open(os.path.join(folder, "report"), "wb") as report:
         begun = time.perf_counter()
-        child = subprocess.Popen([program, *words], cwd=folder, stdin=source, stdout=sink, stderr=report)
+        child = subprocess.Popen([program, *words], cwd=folder, stdin=source, stdout=sink, stderr=report, preexec_fn=bound)
         _, status, used = os.wait4(child.pid, 0)
         took = time.perf_counter() - begun
     child.returncode = os.waitstatus_to_exitcode(status)
@@ -79,16 +84,33 @@ def make_files(program, folder):
             file.write(by_key[row % KEYS][row // KEYS])
 
 
+def joined(program, folder, given, processor=None):
+    """A join of the rows in a folder of its own."""
+    with tempfile.TemporaryDirectory(dir=folder) as place:
+        return timed(program, place, ["join", "--namespace", NAMESPACE], given, processor)
+
+
+def joined_beside(program, folder, given, processors):
+    """A join on the first of the processors while the others do the same."""
+    with ThreadPoolExecutor(len(processors)) as pool:
+        return list(pool.map(lambda processor: joined(program, folder, given, processor), processors))[0]
+
+
 def run(program, folder, part):
     """A run of one part in a folder of its own, where the key's file is as new."""
     file = {name: os.path.join(folder, name) for name in ("tall", "tall.cap", "rows")}
+    processors = sorted(os.sched_getaffinity(0))
+    if part == "join":
+        return joined(program, folder, file["rows"])
+    if part == "alone":
+        return joined(program, folder, file["rows"], processors[0])
+    if part == "beside":
+        return joined_beside(program, folder, file["rows"], processors)
     with tempfile.TemporaryDirectory(dir=folder) as place:
         if part == "key":
             return timed(program, place, ["key", "--name", "made", "--height", "10"], os.devnull)
-        if part == "write":
-            shutil.copy(file["tall"], place)
-            return timed(program, place, write_words("tall", ROWS), file["tall.cap"])
-        return timed(program, place, ["join", "--namespace", NAMESPACE], file["rows"])
+        shutil.copy(file["tall"], place)
+        return timed(program, place, write_words("tall", ROWS), file["tall.cap"])
 
 
 def take_turns(programs, folder):
@@ -101,7 +123,8 @@ def take_turns(programs, folder):
                 took, used, output = run(program, folder, part)
                 taken[part, program].append((took, used))
                 # A key is drawn anew each time; what is signed and joined is the same in each run.
-                if part != "key" and wrote.setdefault(part, output) != output:
+                what = "write" if part == "write" else "join"
+                if part != "key" and wrote.setdefault(what, output) != output:
                     raise SystemExit(f"{program}: {part} wrote something else than before")
     return taken
 
@@ -114,13 +137,24 @@ def show(programs, taken):
         print(f"| {TOLD[part]} | " + " | ".join(f"{seconds:.3f} s" for seconds in medians) + " |")
 
 
+def show_shares(programs, taken):
+    """What a join takes by the clock, as a share of what it takes on one processor."""
+    count = len(os.sched_getaffinity(0))
+    for program in programs:
+        clock = {part: statistics.median(times[0] for times in taken[part, program]) for part in ("join", "alone", "beside")}
+        alone, beside = clock["join"] / clock["alone"], clock["join"] / clock["beside"]
+        print(f"{program}: on {count} processors {alone:.2f} of one's time alone, {beside:.2f} of its time where all are busy")
+
+
 def main():
     programs = [os.path.abspath(word) for word in sys.argv[1:]]
     if not 1 <= len(programs) <= 2:
         raise SystemExit("usage: python3 bench/signing.py PROGRAM [OTHER]")
     with tempfile.TemporaryDirectory() as folder:
         make_files(programs[0], folder)
-        show(programs, take_turns(programs, folder))
+        taken = take_turns(programs, folder)
+        show(programs, taken)
+        show_shares(programs, taken)
 
 
 if __name__ == "__main__":

@@ -89,7 +89,7 @@ HANDED = tuple(row(handed(communal(), open_key(letter))) for letter in "abcde")
 
 
 if __name__ == "__main__":
-    print("//! Rows under open keys, as `bench/checks/trials.py` makes them: N is a communal namespace, O an owned one.\n")
+    print("//! Rows under open keys, as `bench/checks/make.py` makes them: N is a communal namespace, O an owned one.\n")
     print("\n".join(text.lines() for text in TEXTS))
     print("// the first under delegations from U to five others, signed by these")
     print(f"pub(crate) const HANDED: [&str; {len(HANDED)}] = [")

@@ -1,4 +1,4 @@
-//! Rows under open keys, as `bench/checks/trials.py` makes them: N is a communal namespace, O an owned one.
+//! Rows under open keys, as `bench/checks/make.py` makes them: N is a communal namespace, O an owned one.
 
 // /61 in N by U, under its communal capability
 pub(crate) const PLAIN: &str =
