@@ -3,6 +3,7 @@
 #![tactic(auto)]
 
 mod checker;
+pub mod laws;
 mod valid;
 
 pub use checker::{CachedChecker, REMEMBERED};

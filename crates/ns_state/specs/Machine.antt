@@ -19,17 +19,17 @@ pub data Reply : Type 0 where
   Live : List RowValue → Reply
 
 -- the rows of a log
-abbrev pub rows_of : List LogValue → List RowValue
-rows_of log = map (λ l. l.row) log
+abbrev pub rows_logged : List LogValue → List RowValue
+rows_logged log = map (λ l. l.row) log
 
 -- whether a row of the log is the row or dominates it
 abbrev pub is_covered : List LogValue → RowValue → Bool
-is_covered log r = list_any (λ s. is_covering s r) (rows_of log)
+is_covered log r = list_any (λ s. is_covering s r) (rows_logged log)
 
 -- what is replied to an event
 unfoldable pub reply : List LogValue → Event → Reply
 reply log (Offer l) = if is_covered log l.row then Covered else (if nat_lt (length log) LOG_LIMIT then StoredAt (length log) else Full)
-reply log (Snapshot pass) = Live (live (rows_of log))
+reply log (Snapshot pass) = Live (live (rows_logged log))
 
 -- the log after an event to which this is replied
 abbrev pub log_after : List LogValue → Event → Reply → List LogValue
@@ -63,4 +63,4 @@ unrefused log (e ∷ es) = taken e (reply log e) ++ unrefused (next log e) es
 
 -- the rows that are accepted: those that the log has at first, and those that are offered and stored or covered
 abbrev pub accepted : List LogValue → List Event → List RowValue
-accepted log events = rows_of log ++ unrefused log events
+accepted log events = rows_logged log ++ unrefused log events

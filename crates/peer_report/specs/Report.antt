@@ -103,7 +103,7 @@ link_lines from (session ∷ rest) = link_line from session ++ link_lines (from 
 -- the row that is told as the first refused one: where every session was done, all links came and the image was put, so
 -- at status 1 alone
 abbrev pub served_first : Served → Option RefusedRow
-served_first s = if list_all is_ok s.sessions.items && s.accepted && s.put then s.first else None
+served_first s = if list_all is_ok s.sessions.items && s.all_came && s.put then s.first else None
 
 -- `read fault` where not all links came
 abbrev pub accept_line : Bool → List ℕ
@@ -112,7 +112,7 @@ accept_line false = line (codes "read fault")
 
 -- the lines of a server: one of each link, the first refused row, whether all links came, and whether the image was put
 abbrev pub served_lines : Served → List ℕ
-served_lines s = link_lines 1 s.sessions.items ++ (first_line (served_first s) ++ (accept_line s.accepted ++ put_line s.put))
+served_lines s = link_lines 1 s.sessions.items ++ (first_line (served_first s) ++ (accept_line s.all_came ++ put_line s.put))
 
 -- the name of what bytes came from, `-` for the input
 abbrev pub name_text : Origin → List ℕ
@@ -169,7 +169,7 @@ after_report_fault status = if nat_le status 1 then 4 else status
 
 -- the statuses of what a server met beside its sessions
 abbrev pub others_met : Served → List ℕ
-others_met s = accept_status s.accepted ∷ (put_status s.put ∷ (first_status s.first ∷ []))
+others_met s = accept_status s.all_came ∷ (put_status s.put ∷ (first_status s.first ∷ []))
 
 -- ---- both
 

@@ -20,7 +20,7 @@ pub(crate) fn served_lines(alloc: Global, served: &Served) -> Result<Vec<u8>, No
     let mut text = Vec::new(alloc);
     put_link_lines(alloc, &served.sessions, &mut text)?;
     put_first_line(alloc, served_first(served), &mut text)?;
-    put_accept_line(served.accepted, &mut text)?;
+    put_accept_line(served.all_came, &mut text)?;
     put_put_line(served.put, &mut text)?;
     Ok(text)
 }
@@ -59,7 +59,7 @@ fn put_link_line(
 fn served_first(served: &Served) -> Option<RefusedRow>
     ensures { result ≡ served_first served.now }
 {
-    if all_done(&served.sessions) && served.accepted && served.put {
+    if all_done(&served.sessions) && served.all_came && served.put {
         served.first
     } else {
         None
@@ -74,11 +74,11 @@ fn all_done(sessions: &[Result<SessionCounts, SessionEnd>]) -> bool
 }
 
 // Appends a read fault's line, unless all links came.
-fn put_accept_line(accepted: bool, text: &mut Vec<u8>) -> Result<(), NoMemory>
-    ensures text { OnOk result (text.new.items ≡ text.old.items ++ accept_line accepted) }
-    ensures some { OnErr result (0 < length (accept_line accepted)) }
+fn put_accept_line(all_came: bool, text: &mut Vec<u8>) -> Result<(), NoMemory>
+    ensures text { OnOk result (text.new.items ≡ text.old.items ++ accept_line all_came) }
+    ensures some { OnErr result (0 < length (accept_line all_came)) }
 {
-    if accepted {
+    if all_came {
         Ok(())
     } else {
         put_bytes(text, b"read fault\n")

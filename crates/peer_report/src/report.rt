@@ -117,7 +117,7 @@ fn session_met(sessions: &[Result<SessionCounts, SessionEnd>], status: u8) -> bo
 fn other_met(served: &Served, status: u8) -> bool
     ensures { result ≡ list_any (λ met. met == status) (others_met served.now) }
 {
-    accept_status(served.accepted) == status
+    accept_status(served.all_came) == status
         || put_status(served.put) == status
         || first_status(served.first) == status
 }
@@ -133,10 +133,10 @@ fn session_status(session: &Result<SessionCounts, SessionEnd>) -> u8
 }
 
 /// 0 where all links came, else 3.
-fn accept_status(accepted: bool) -> u8
-    ensures { result ≡ accept_status accepted }
+fn accept_status(all_came: bool) -> u8
+    ensures { result ≡ accept_status all_came }
 {
-    if accepted { 0 } else { 3 }
+    if all_came { 0 } else { 3 }
 }
 
 /// 0 where the image was put, else 4.

@@ -68,7 +68,7 @@ any_of_map p f (x ∷ xs) = ap (λ b. p (f x) || b) (any_of_map p f xs)
 
 -- what a server met beside its sessions
 abbrev pub beside : Served → List ℕ
-beside s = accept_status s.accepted ∷ (put_status s.put ∷ (first_status s.first ∷ []))
+beside s = accept_status s.all_came ∷ (put_status s.put ∷ (first_status s.first ∷ []))
 
 pub served_parts : (s : Served) (status : ℕ) → met_in status (statuses_met (done.Served s)) ≡ (given_by status s.sessions.items || met_in status (beside s))
 served_parts s status =
@@ -80,9 +80,9 @@ pub served_from : (s : Served) (status : ℕ) → status_of (Ok (done.Served s))
 served_from s status is some = or_true _ _ (sym (served_parts s status) ∙ told_was_met told_order (statuses_met (done.Served s)) status is some)
 
 -- a fault of reading is that of a session, or of accepting
-pub served_read : (s : Served) → status_of (Ok (done.Served s)) ≡ 3 → (given_by 3 s.sessions.items ≡ true) ⊎ (s.accepted ≡ false)
-served_read s is = elim (served_from s 3 is (λ e. omega (arith, e))) [ inl given ↦ inl given | inr other ↦ inr (told s.accepted s.put s.first other) ] where
-  told : (accepted put : Bool) (first : Option RefusedRow) → met_in 3 (accept_status accepted ∷ (put_status put ∷ (first_status first ∷ []))) ≡ true → accepted ≡ false
+pub served_read : (s : Served) → status_of (Ok (done.Served s)) ≡ 3 → (given_by 3 s.sessions.items ≡ true) ⊎ (s.all_came ≡ false)
+served_read s is = elim (served_from s 3 is (λ e. omega (arith, e))) [ inl given ↦ inl given | inr other ↦ inr (told s.all_came s.put s.first other) ] where
+  told : (all_came put : Bool) (first : Option RefusedRow) → met_in 3 (accept_status all_came ∷ (put_status put ∷ (first_status first ∷ []))) ≡ true → all_came ≡ false
   told false put first e = refl
   told true true None e = cc
   told true true (Some first) e = cc
@@ -91,9 +91,9 @@ served_read s is = elim (served_from s 3 is (λ e. omega (arith, e))) [ inl give
 
 -- a fault of writing is that of a session, or of the put
 pub served_write : (s : Served) → status_of (Ok (done.Served s)) ≡ 4 → (given_by 4 s.sessions.items ≡ true) ⊎ (s.put ≡ false)
-served_write s is = elim (served_from s 4 is (λ e. omega (arith, e))) [ inl given ↦ inl given | inr other ↦ inr (told s.accepted s.put s.first other) ] where
-  told : (accepted put : Bool) (first : Option RefusedRow) → met_in 4 (accept_status accepted ∷ (put_status put ∷ (first_status first ∷ []))) ≡ true → put ≡ false
-  told accepted false first e = refl
+served_write s is = elim (served_from s 4 is (λ e. omega (arith, e))) [ inl given ↦ inl given | inr other ↦ inr (told s.all_came s.put s.first other) ] where
+  told : (all_came put : Bool) (first : Option RefusedRow) → met_in 4 (accept_status all_came ∷ (put_status put ∷ (first_status first ∷ []))) ≡ true → put ≡ false
+  told all_came false first e = refl
   told true true None e = cc
   told true true (Some first) e = cc
   told false true None e = cc
@@ -107,7 +107,7 @@ served_session s status is none some = elim (served_from s status is some) [ inl
 
 pub record IsWholeServed (s : Served) : Type 0 where
   pub sessions : list_all is_ok s.sessions.items ≡ true
-  pub accepted : s.accepted ≡ true
+  pub all_came : s.all_came ≡ true
   pub put : s.put ≡ true
 
 session_done : (session : Result SessionCounts SessionEnd) → (session_status session == 7) ≡ false → (session_status session == 3) ≡ false → (session_status session == 4) ≡ false
@@ -144,10 +144,10 @@ served_small s small =
     let eight = or_false (given_by 8 s.sessions.items) (met_in 8 (beside s)) (sym (served_parts s 8) ∙ mild.full) in
     record {
       sessions = sessions_done s.sessions.items seven.0 three.0 four.0 six.0 eight.0;
-      accepted = came s.accepted (put_status s.put ∷ (first_status s.first ∷ [])) three.1;
-      put = written (accept_status s.accepted) s.put (first_status s.first ∷ []) four.1;
+      all_came = came s.all_came (put_status s.put ∷ (first_status s.first ∷ [])) three.1;
+      put = written (accept_status s.all_came) s.put (first_status s.first ∷ []) four.1;
     } where
-      came : (accepted : Bool) (rest : List ℕ) → met_in 3 (accept_status accepted ∷ rest) ≡ false → accepted ≡ true
+      came : (all_came : Bool) (rest : List ℕ) → met_in 3 (accept_status all_came ∷ rest) ≡ false → all_came ≡ true
       came true rest e = refl
       came false rest e = cc
 

@@ -55,7 +55,7 @@ statuses_met (done.Joined counts) = refused_status counts.refused ∷ []
 statuses_met (done.Shown counts) = refused_status counts.refused ∷ []
 statuses_met (done.Met counts) = first_status counts.first ∷ []
 statuses_met (done.Synced s) = session_status s.session ∷ (put_status s.put ∷ (first_status s.first ∷ []))
-statuses_met (done.Served s) = map session_status s.sessions.items ++ (accept_status s.accepted ∷ (put_status s.put ∷ (first_status s.first ∷ [])))
+statuses_met (done.Served s) = map session_status s.sessions.items ++ (accept_status s.all_came ∷ (put_status s.put ∷ (first_status s.first ∷ [])))
 statuses_met done.Made = []
 
 -- the first of these statuses that was met, 0 where none was

@@ -101,7 +101,7 @@ pub struct Served {
     /// How the session of each link ended, in the order in which the links came.
     pub sessions: Vec<Result<SessionCounts, SessionEnd>>,
     /// Whether as many links came as were asked for; where not, accepting one failed.
-    pub accepted: bool,
+    pub all_came: bool,
     /// The first row that is not authorised, counted over the image and then the rows that came, link by link; None
     /// where there is none.
     pub first: Option<RefusedRow>,

@@ -8,8 +8,8 @@ use Rattle.spelling.specs.declared.ending.End.TheVariants.{Refused, NoMemory}
 use Rattle.willow_entry.specs.Row.{RowValue}
 use Rattle.row_stream.specs.declared.refusal.StreamRefusal.{StreamRefusal}
 use Rattle.row_stream.specs.Streams.{frames_of, IsStream}
-use Rattle.row_stream.specs.Feeding.{StreamState, nothing_fed, Feeds, HandsOut, Breaks}
-use Rattle.row_stream.specs.Pieces.{Fed, Runs, taken_of, rows_of, all_taken, all_rows, AreFirst, HandsOutAll, HoldsForAnyCutting}
+use Rattle.row_stream.specs.Feeding.{StreamState, nothing_fed, Feeds, HandsOutRows, Breaks}
+use Rattle.row_stream.specs.Pieces.{Fed, Runs, taken_of, rows_answered, all_taken, all_rows, AreFirst, HandsOutAll, HoldsForAnyCutting}
 use Rattle.row_stream.proofs.Longer.{stream_more, stream_on, frames_longer}
 
 none_is_not_some : {A : Type 0} (o : Option A) (x : A) → o ≡ None → o ≡ Some x → ⊥
@@ -34,7 +34,7 @@ module _ (IsRow : RowValue → Type 0) where
         let here : old.at ≡ 0 + length (frames_of rows) = omega (arith, was.1) in
         stream_on IsRow 0 bytes rows old.begun was.0 piece others left why (subst (λ (n : ℕ). IsStream IsRow n (old.begun ++ piece) others left why) here next)
 
-    handed : (piece : List ℕ) (others : List RowValue) → HandsOut IsRow old new piece others → HandsOutAll IsRow (bytes ++ piece) (rows ++ others) new
+    handed : (piece : List ℕ) (others : List RowValue) → HandsOutRows IsRow old new piece others → HandsOutAll IsRow (bytes ++ piece) (rows ++ others) new
     handed piece others h = record {
       unrefused = λ none. (
         from_start piece others new.begun None h.unrefused h.stream,
@@ -50,7 +50,7 @@ module _ (IsRow : RowValue → Type 0) where
     broken : (piece : List ℕ) (refusal : StreamRefusal) → Breaks IsRow old piece refusal → AreFirst IsRow (bytes ++ piece) rows refusal
     broken piece refusal b = record { more = b.wrong.rows; left = b.wrong.left; stream = from_start piece b.wrong.rows b.wrong.left (Some refusal) b.unrefused b.wrong.stream }
 
-    step : (piece : List ℕ) (answer : Result (List RowValue) (End StreamRefusal)) → Feeds IsRow old new piece answer → HandsOutAll IsRow (bytes ++ taken_of piece answer) (rows ++ rows_of answer) new
+    step : (piece : List ℕ) (answer : Result (List RowValue) (End StreamRefusal)) → Feeds IsRow old new piece answer → HandsOutAll IsRow (bytes ++ taken_of piece answer) (rows ++ rows_answered answer) new
     step piece (Ok others) h = handed piece others h
     step piece (Err (Refused refusal)) h = record {
       unrefused = λ none. absurd (none_is_not_some new.refusal refusal none h.0);
@@ -68,11 +68,11 @@ module _ (IsRow : RowValue → Type 0) where
       subst (λ (s : StreamState). HandsOutAll IsRow (bytes ++ []) (rows ++ []) s) (sym is)
       (subst (λ (b : List ℕ). HandsOutAll IsRow b (rows ++ []) old) (sym (append-nil bytes)) (subst (λ (xs : List RowValue). HandsOutAll IsRow bytes xs old) (sym (append-nil rows)) so_far))
   all_steps bytes rows old new (f ∷ more) so_far runs =
-      let next = all_steps (bytes ++ taken_of f.piece f.answer) (rows ++ rows_of f.answer) runs.0 new more (step bytes rows old runs.0 so_far f.piece f.answer runs.1) runs.2 in
+      let next = all_steps (bytes ++ taken_of f.piece f.answer) (rows ++ rows_answered f.answer) runs.0 new more (step bytes rows old runs.0 so_far f.piece f.answer runs.1) runs.2 in
       let taken : (bytes ++ taken_of f.piece f.answer) ++ all_taken more ≡ bytes ++ all_taken (f ∷ more) =
       append_assoc bytes (taken_of f.piece f.answer) (all_taken more) ∙ ap (λ (l : List ℕ). bytes ++ l) (sym (flat_map-cons (λ (x : Fed). taken_of x.piece x.answer) f more)) in
-      let out : (rows ++ rows_of f.answer) ++ all_rows more ≡ rows ++ all_rows (f ∷ more) =
-      append_assoc rows (rows_of f.answer) (all_rows more) ∙ ap (λ (l : List RowValue). rows ++ l) (sym (flat_map-cons (λ (x : Fed). rows_of x.answer) f more)) in
+      let out : (rows ++ rows_answered f.answer) ++ all_rows more ≡ rows ++ all_rows (f ∷ more) =
+      append_assoc rows (rows_answered f.answer) (all_rows more) ∙ ap (λ (l : List RowValue). rows ++ l) (sym (flat_map-cons (λ (x : Fed). rows_answered x.answer) f more)) in
       subst (λ (b : List ℕ). HandsOutAll IsRow b (rows ++ all_rows (f ∷ more)) new) taken (subst (λ (xs : List RowValue). HandsOutAll IsRow ((bytes ++ taken_of f.piece f.answer) ++ all_taken more) xs new) out next)
 
   pub any_cutting : HoldsForAnyCutting IsRow

@@ -3,11 +3,11 @@ use Rattle.std.proofs.Common.{◌≡◌, ℕ, ◌+◌, List, [], ◌++◌, lengt
 use Rattle.std.proofs.lemmas.List.{length-append}
 use Rattle.willow_entry.specs.Row.{RowValue}
 use Rattle.row_stream.specs.Streams.{frames_of, IsStream}
-use Rattle.row_stream.specs.Feeding.{StreamState, HandsOut}
+use Rattle.row_stream.specs.Feeding.{StreamState, HandsOutRows}
 use Rattle.row_stream.specs.Steps.{Adds}
 
 pub handed_out : {R : Type 0} (IsRow : RowValue → Type 0) (value : R → RowValue) (old new : StreamState) (piece : List ℕ) (rows : List R) → old.refusal ≡ None → new.refusal ≡ None
-    → Adds IsRow value old.at (old.begun ++ piece) [] rows new.at new.begun → HandsOut IsRow old new piece (map value rows)
+    → Adds IsRow value old.at (old.begun ++ piece) [] rows new.at new.begun → HandsOutRows IsRow old new piece (map value rows)
 handed_out IsRow value old new piece rows unrefused goes_on a =
     let same : map value a.more ≡ map value rows = ap (map value) (sym a.added) in
     record {

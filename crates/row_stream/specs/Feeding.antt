@@ -24,7 +24,7 @@ handed value (Ok rows) = Ok (map value rows.items)
 handed value (Err e) = Err e
 
 -- the rows that became whole are handed out, and what is left behind their frames has begun
-pub record HandsOut (IsRow : RowValue → Type 0) (old new : StreamState) (piece : List ℕ) (rows : List RowValue) : Type 0 where
+pub record HandsOutRows (IsRow : RowValue → Type 0) (old new : StreamState) (piece : List ℕ) (rows : List RowValue) : Type 0 where
   pub unrefused : old.refusal ≡ None
   pub goes_on : new.refusal ≡ None
   pub stream : IsStream IsRow old.at (old.begun ++ piece) rows new.begun None
@@ -40,7 +40,7 @@ pub record Breaks (IsRow : RowValue → Type 0) (old : StreamState) (piece : Lis
 -- How a piece is answered, and the state behind it. A stream that is refused answers its refusal, and stays so; without
 -- memory it stays as it was.
 abbrev pub Feeds : (RowValue → Type 0) → StreamState → StreamState → List ℕ → Result (List RowValue) (End StreamRefusal) → Type 0
-Feeds IsRow old new piece (Ok rows) = HandsOut IsRow old new piece rows
+Feeds IsRow old new piece (Ok rows) = HandsOutRows IsRow old new piece rows
 Feeds IsRow old new piece (Err (Refused refusal)) = (new.refusal ≡ Some refusal) × ((old.refusal ≡ Some refusal) ⊎ Breaks IsRow old piece refusal)
 Feeds IsRow old new piece (Err NoMemory) = new ≡ old
 

@@ -25,16 +25,16 @@ taken_of piece (Err (Refused refusal)) = piece
 taken_of piece (Err NoMemory) = []
 
 -- the rows of an answer
-abbrev pub rows_of : Result (List RowValue) (End StreamRefusal) → List RowValue
-rows_of (Ok rows) = rows
-rows_of (Err e) = []
+abbrev pub rows_answered : Result (List RowValue) (End StreamRefusal) → List RowValue
+rows_answered (Ok rows) = rows
+rows_answered (Err e) = []
 
 -- all bytes that were taken, and all rows that were handed out
 abbrev pub all_taken : List Fed → List ℕ
 all_taken = flat_map (λ f. taken_of f.piece f.answer)
 
 abbrev pub all_rows : List Fed → List RowValue
-all_rows = flat_map (λ f. rows_of f.answer)
+all_rows = flat_map (λ f. rows_answered f.answer)
 
 -- the rows are the first of those at the front of bytes that go wrong
 pub record AreFirst (IsRow : RowValue → Type 0) (bytes : List ℕ) (rows : List RowValue) (refusal : StreamRefusal) : Type 0 where

@@ -7,6 +7,7 @@ ghost use Rattle.block_store.specs.InBox.{rows_in};
 ghost use Rattle.exchange_rules.specs.Answer.{reply, differing, lacking, opened, turn};
 ghost use Rattle.exchange_rules.specs.Items as rules;
 ghost use Rattle.range_split.specs.Choice.{choice};
+ghost use Rattle.range_split.specs.declared.choice.TheConstants.{ENTRIES_MAX};
 ghost use Rattle.range_split.specs.Points.{cuts_at};
 ghost use Rattle.sync_core.specs.SyncRules.{sync_rules};
 ghost use Rattle.sync_core.specs.Flat.{items_of, turn_items};
@@ -138,7 +139,7 @@ fn entries<R: Row>(
     area: &Box3,
     turn: &mut Turn,
 ) -> Result<(), NoMemory>
-    requires { length (rows_in area.now (map R.value snapshot.now)) ≤ 16 }
+    requires { length (rows_in area.now (map R.value snapshot.now)) ≤ ENTRIES_MAX }
     ensures { OnOk result (Adds (map R.value snapshot.now) turn.old turn.new (differing sync_rules (map R.value snapshot.now) area.now None)) }
 {
     let positions = positions_lacking(alloc, snapshot, area, &[])?;
