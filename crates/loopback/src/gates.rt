@@ -1,5 +1,6 @@
 //! A server over two links in memory with one gate. The first link gives nothing before all is written to the second one: so
-//! the second session must run while the first one waits, and that one may hold no turn of the log meanwhile.
+//! the second session must run while the first one waits, and that one may hold no turn of the log meanwhile. Both bring a row
+//! that is new.
 
 ghost use Rattle.std.specs.Prelude.{IfOk};
 ghost use Rattle.willow_outside.specs.Links.{IsFresh};
@@ -17,7 +18,7 @@ use willow_outside::{Link, MemDoor, MemLink};
 const PIECE: usize = 100;
 
 // How often a read looks whether the gate is open, and lets other threads run, before it fails.
-const TURNS: u64 = 50_000_000;
+const TURNS: u64 = 1_000_000_000;
 
 // A link that gives the bytes of a name, behind the gate.
 fn link_of(
@@ -51,7 +52,7 @@ pub(crate) fn gate_lines<R: Wait + Threads + Sync>(
         draws: "server-draws",
     };
     let served = over(rt, alloc, &serve_words("here:1", "2"), server, &mut door)?;
-    let mut lines = served.lines(alloc, "over two links of one gate")?;
+    let mut lines = served.lines_without_fronts(alloc, "over two links of one gate")?;
     let mut number = 0u64;
     for link in door.back() {
         number = number.saturating_add(1);

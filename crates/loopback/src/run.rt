@@ -76,14 +76,36 @@ impl Outcome {
 
     /// The status, the image that is there behind the run, and the report, below a title.
     pub(crate) fn lines(&self, alloc: Global, title: &str) -> Result<String, AllocError> {
+        let head = self.head(alloc, title)?;
+        let report = self.report_text();
+        format!(in alloc; "{head}{report}")
+    }
+
+    /// The same, but for how many rows the log had, which may rest on what runs at the same time.
+    pub(crate) fn lines_without_fronts(
+        &self,
+        alloc: Global,
+        title: &str,
+    ) -> Result<String, AllocError> {
+        let mut lines = self.head(alloc, title)?;
+        for line in self.report_text().lines() {
+            match (line.split_once("opened "), line.split_once(" stored ")) {
+                (Some((link, _)), Some((_, numbers))) => write!(lines, "{link}stored {numbers}\n")?,
+                _ => write!(lines, "{line}\n")?,
+            }
+        }
+        Ok(lines)
+    }
+
+    // The status and the image that is there behind the run, below a title.
+    fn head(&self, alloc: Global, title: &str) -> Result<String, AllocError> {
         let image = match &self.image {
             Some(image) => image.as_slice(),
             None => &[],
         };
         let status = self.status;
         let image = measure(alloc, image)?;
-        let report = self.report_text();
-        format!(in alloc; "{title}: status {status}, image {image}\n{report}")
+        format!(in alloc; "{title}: status {status}, image {image}\n")
     }
 }
 

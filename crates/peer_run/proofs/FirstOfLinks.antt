@@ -4,7 +4,7 @@ use Rattle.spelling.specs.Answers.{or_else}
 use Rattle.mc_cap.specs.declared.refusal.RefusedRow.{RefusedRow}
 use Rattle.sync_link.specs.Run.{Answer}
 use Rattle.peer_run.specs.Closing.{refused_after}
-use Rattle.peer_run.specs.Serve.{first_of_links, refused_in, rows_of}
+use Rattle.peer_run.specs.Serve.{first_of_links, refused_in, rows_told}
 
 -- a sum that stops there is the same where one of its numbers has stopped there
 stops_once : (a b most : ℕ) → min (min a most + b) most ≡ min (a + b) most
@@ -18,16 +18,16 @@ refused_stops a (Some first) = ap (λ (n : ℕ). Some (record { row = n; refusal
 pub first_stops : (a : ℕ) (answers : List Answer) → first_of_links (min a (2 ^ 64 - 1)) answers ≡ first_of_links a answers
 first_stops a [] = refl
 first_stops a (answer ∷ answers) =
-    let n = rows_of answer in
+    let n = rows_told answer in
     let m = 2 ^ 64 - 1 in
     ap₂ or_else (refused_stops a (refused_in answer))
     (sym (first_stops (min a m + n) answers) ∙ ap (λ (k : ℕ). first_of_links k answers) (stops_once a n m) ∙ first_stops (a + n) answers)
 
 -- where the session at a place refused no row, the first of all is that of those behind it
 pub first_behind : (rows before at : ℕ) (answers : List Answer) (d here : Answer) → at < length answers → get_or answers at d ≡ here → refused_in here ≡ None
-    → first_of_links rows answers ≡ first_of_links before (drop at answers) → first_of_links rows answers ≡ first_of_links (before + rows_of here) (drop (at + 1) answers)
+    → first_of_links rows answers ≡ first_of_links before (drop at answers) → first_of_links rows answers ≡ first_of_links (before + rows_told here) (drop (at + 1) answers)
 first_behind rows before at answers d here within is none so_far =
-    let n = before + rows_of here in
+    let n = before + rows_told here in
     so_far
     ∙ ap (λ (xs : List Answer). first_of_links before xs) (drop-cons answers at d within)
     ∙ ap (λ (x : Answer). first_of_links before (x ∷ drop (suc at) answers)) is

@@ -179,13 +179,13 @@ as_many_jobs [] [] = refl
 as_many_jobs [] (g ∷ gs) = omega (arith, as_many_jobs [] gs)
 as_many_jobs (v ∷ vs) unused = omega (arith, as_many_jobs vs unused)
 
-accepts_so : (old listened new : DoorFacts) (links came : ℕ) (unused : List Guest) (stopped : Option Fault) (accepted : Bool) → links ≡ came + length unused → listened.faults ≡ old.faults
-    → CountsStop listened.faults new.faults unused stopped → IsAccepted stopped accepted → Accepts links came accepted old new
+accepts_so : (old listened new : DoorFacts) (links came : ℕ) (unused : List Guest) (stopped : Option Fault) (all_came : Bool) → links ≡ came + length unused → listened.faults ≡ old.faults
+    → CountsStop listened.faults new.faults unused stopped → IsAccepted stopped all_came → Accepts links came all_came old new
 accepts_so old listened new links came unused None true all same stops is = (omega (arith, all, ap length stops.0), stops.1 ∙ same)
 accepts_so old listened new links came unused (Some fault.Failed) false all same stops is = (omega (arith, all, stops.0), subst (λ (n : ℕ). HasRisen n new.faults) same stops.1)
 accepts_so old listened new links came unused None false all same stops is = absurd is
 accepts_so old listened new links came unused (Some fault.Failed) true all same stops is = absurd is
-accepts_so old listened new links came unused (Some fault.NoMemory) accepted all same stops is = absurd is
+accepts_so old listened new links came unused (Some fault.NoMemory) all_came all same stops is = absurd is
 
 -- no count of the door falls while links are accepted
 stops_above : (before now : ℕ) (unused : List Guest) (stopped : Option Fault) → CountsStop before now unused stopped → before ≤ now
@@ -239,7 +239,7 @@ module _ (place : List ℕ) (plan : SessionPlan PeerScheme) (signers : List KeyS
           out = did.out ∙ heard.1;
           back = did.back ∙ ap₂ (λ (links : List LinkFacts) (told : Option (List LinkFacts)). list_with_all links told) (links_of visits) heard.2;
         };
-        accepts = accepts_so old listened new (length signers) (length (map visit_of visits)) unused hosted.stopped x.accepted (links ∙ ap (λ (n : ℕ). n + length unused) (sym many)) heard.3 did.stopped left.accepts;
+        accepts = accepts_so old listened new (length signers) (length (map visit_of visits)) unused hosted.stopped x.all_came (links ∙ ap (λ (n : ℕ). n + length unused) (sym many)) heard.3 did.stopped left.accepts;
       }
 
   -- and where memory was wanting behind the visits, no count of the door fell

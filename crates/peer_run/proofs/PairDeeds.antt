@@ -35,7 +35,7 @@ use Rattle.peer_stage.proofs.Owing.{Owes, IsLasting, then_owes, writes_owe, insi
 use Rattle.peer_run.specs.Drill.{drill_text}
 use Rattle.peer_run.specs.Getting.{GetsImage, GetsCapability}
 use Rattle.peer_run.specs.ImagesMet.{MeetFullLog, MeetsImages}
-use Rattle.peer_run.specs.Meet.{Agrees, Gathers, Gives, Puts, agreed_area, meeting_refusal}
+use Rattle.peer_run.specs.Meet.{Agrees, Gathers, Yields, Puts, agreed_area, meeting_refusal}
 use Rattle.peer_run.specs.PairDeeds.{CanMeet, drill_deed, meet_deed}
 use Rattle.peer_run.specs.declared.images_met.Met.{Met}
 use Rattle.peer_run.specs.declared.meeting.MeetWords.{MeetWords}
@@ -226,11 +226,11 @@ module _ (words : MeetWords) where
         room = rw (left.of_namespace, left.of_rows, right.of_rows, left_cap, has.right_cap) can.room;
       }
 
-  giving_owes : (a b : Image) (c d : Capability) → Owes Reads Wrote (λ w. HasAll a b c d w.shelf.names) (λ s w. CanGoOn s) (Inside (Gives (record { left = a; right = b; left_cap = c; right_cap = d })))
+  giving_owes : (a b : Image) (c d : Capability) → Owes Reads Wrote (λ w. HasAll a b c d w.shelf.names) (λ s w. CanGoOn s) (Inside (Yields (record { left = a; right = b; left_cap = c; right_cap = d })))
   giving_owes a b c d =
       record {
-        counts = inside_counts (Gives (record { left = a; right = b; left_cap = c; right_cap = d }));
-        unfailed = inside_unfailed (Gives (record { left = a; right = b; left_cap = c; right_cap = d }));
+        counts = inside_counts (Yields (record { left = a; right = b; left_cap = c; right_cap = d }));
+        unfailed = inside_unfailed (Yields (record { left = a; right = b; left_cap = c; right_cap = d }));
         read_fault = λ old new s. absurd s.0;
         write_fault = λ old new s. absurd s.0;
         usage = λ old new s. s.0;

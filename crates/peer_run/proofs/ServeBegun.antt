@@ -24,7 +24,7 @@ use Rattle.peer_words.specs.declared.command.AreaWords.{AreaWords}
 use Rattle.peer_words.specs.declared.command.SignerWord.{SignerWord}
 use Rattle.peer_words.specs.declared.command.SignerWord.TheVariants.{OpenKey, LmsFile}
 use Rattle.peer_run.specs.Greeting.{own_hello}
-use Rattle.peer_run.specs.Meet.{Gives}
+use Rattle.peer_run.specs.Meet.{Yields}
 use Rattle.peer_run.specs.Preparing.{no_nonce, plan_of}
 use Rattle.peer_run.specs.Serve.{OpensHouse}
 use Rattle.peer_run.specs.ServeHeadline.{KeepsButKeys}
@@ -125,7 +125,7 @@ module _ (image cap : String Global) (key : SignerWord) (links : ℕ) (area : Ar
   pub opening_keeps_door : KeepsDoor (OpensHouse image cap key links area)
   opening_keeps_door =
       then_keeps _ _ (preparing_keeps_door image cap area) (λ r.
-      then_keeps _ _ (shelf_keeps (HandsSigners key links)) (λ signers. inside_keeps (Gives (record { opening = r.opening; plan = plan_of Answerer r.hello; signers = signers }))))
+      then_keeps _ _ (shelf_keeps (HandsSigners key links)) (λ signers. inside_keeps (Yields (record { opening = r.opening; plan = plan_of Answerer r.hello; signers = signers }))))
 
   -- no server is refused as what was to be made
   pub opening_never : (refusal : RowRefusal) → Never (OpensHouse image cap key links area) (stop.Refused refusal)

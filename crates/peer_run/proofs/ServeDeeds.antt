@@ -40,7 +40,7 @@ use Rattle.peer_stage.proofs.Faults.{EndsUnfailed}
 use Rattle.peer_stage.proofs.Owing.{Owes, then_owes, onward, unfailed_on, shelf_counts, shelf_unfailed, noise_counts, noise_unfailed, rose_behind}
 use Rattle.peer_run.specs.Closing.{image_of, put_answer}
 use Rattle.peer_run.specs.Hosting.{Visit, Accepts, Attends, AreAttended}
-use Rattle.peer_run.specs.Meet.{Gives}
+use Rattle.peer_run.specs.Meet.{Yields}
 use Rattle.peer_run.specs.Preparing.{nonce_of, plan_of}
 use Rattle.peer_run.specs.Serve.{AtDoor, OpensHouse, ClosesHouse, Serves, IsServed, told_of}
 use Rattle.peer_run.specs.ServeDeed.{ServeReads, ServeWrites}
@@ -109,12 +109,12 @@ module _ (image cap : String Global) (key : SignerWord) (links : ℕ) (area : Ar
   opening_owes =
       then_owes GotReads GotWrites Nothing (λ r. Nothing) (λ s. Nothing) _ _ got_reads_last got_writes_last (preparing_owes image cap area)
       (λ r. then_owes GotReads GotWrites Nothing (λ signers. Nothing) (λ s. Nothing) _ _ got_reads_last got_writes_last (reserving_owes key links)
-      (λ signers. inside_owes (Gives (record { opening = r.opening; plan = plan_of Answerer r.hello; signers = signers })) (λ h. h) (λ h. h) (λ h. h)))
+      (λ signers. inside_owes (Yields (record { opening = r.opening; plan = plan_of Answerer r.hello; signers = signers })) (λ h. h) (λ h. h) (λ h. h)))
 
   pub opening_keeps : KeepsDoor (OpensHouse image cap key links area)
   opening_keeps =
       then_keeps _ _ (preparing_keeps_door image cap area) (λ r.
-      then_keeps _ _ (shelf_keeps (HandsSigners key links)) (λ signers. inside_keeps (Gives (record { opening = r.opening; plan = plan_of Answerer r.hello; signers = signers }))))
+      then_keeps _ _ (shelf_keeps (HandsSigners key links)) (λ signers. inside_keeps (Yields (record { opening = r.opening; plan = plan_of Answerer r.hello; signers = signers }))))
 
 -- ---- a step at the door
 
@@ -129,7 +129,7 @@ module _ {A : Type 0} (P : DoorFacts → DoorFacts → Result A Stop → Type 0)
       subst (λ (w : World). Unfailed old w) (sym s.others)
       (record { shelf_reads = refl; shelf_writes = refl; input = refl; output = refl; report = refl; door = same; noise = refl })
 
-accepts_up : (links came : ℕ) (accepted : Bool) (old new : DoorFacts) → Accepts links came accepted old new → old.faults ≤ new.faults
+accepts_up : (links came : ℕ) (all_came : Bool) (old new : DoorFacts) → Accepts links came all_came old new → old.faults ≤ new.faults
 accepts_up links came true old new accepts = omega (arith, accepts.1)
 accepts_up links came false old new accepts = accepts.1.never_falls
 
@@ -202,7 +202,7 @@ module _ (place : List ℕ) (p : List ℕ → List ℕ → Party) (signers : Lis
           rose = from_none _ _ one.is_visit.fresh.1 counts.rose;
         })
 
-    module _ (s : Served) (told : IsServed rows first x.ends.items x.accepted s.put s) where
+    module _ (s : Served) (told : IsServed rows first x.ends.items x.all_came s.put s) where
       -- all that is told of the sessions is told of the visits
       pub are_told : s.sessions.items ≡ map told_of (map (λ (visit : Visit). visit.answer) a.visits)
       are_told = told.sessions ∙ ap (λ (answers : List Answer). map told_of answers) a.ends
@@ -218,10 +218,10 @@ module _ (place : List ℕ) (p : List ℕ → List ℕ → Party) (signers : Lis
           write_failed visit.0 visit.1 (told_end visit.0.answer ending.LinkWrite (visit.2 ∙ write_end has.0 has.2))
 
       -- fewer links came
-      fewer_came : s.accepted ≡ false → ServeReads old new
+      fewer_came : s.all_came ≡ false → ServeReads old new
       fewer_came fewer =
           let accepts : Accepts (length signers) (length a.visits) false old.door between.door =
-          subst (λ (accepted : Bool). Accepts (length signers) (length a.visits) accepted old.door between.door) (sym told.accepted_is ∙ fewer) a.accepts in
+          subst (λ (all_came : Bool). Accepts (length signers) (length a.visits) all_came old.door between.door) (sym told.accepted_is ∙ fewer) a.accepts in
           inr (inr (inl (subst (λ (d : DoorFacts). Rose old.door.faults d.faults) (sym same) accepts.1.rose)))
 
   -- the image was not put
@@ -246,7 +246,7 @@ module _ (place : List ℕ) (p : List ℕ → List ℕ → Party) (signers : Lis
   -- ---- both
 
   door_up : (old new : DoorFacts) (end : Result Attended Stop) → Attends place p signers draws opening old new end → old.faults ≤ new.faults
-  door_up old new (Ok x) a = accepts_up (length signers) (length a.visits) x.accepted old new a.accepts
+  door_up old new (Ok x) a = accepts_up (length signers) (length a.visits) x.all_came old new a.accepts
   door_up old new (Err stop.ReadFault) a = a.1.never_falls
   door_up old new (Err stop.NoMemory) a = a.1
   door_up old new (Err e) a = absurd a
@@ -255,9 +255,9 @@ module _ (place : List ℕ) (p : List ℕ → List ℕ → Party) (signers : Lis
   attend_counts old new end s = at_door_counts (Attends place p signers draws opening) old new end (door_up old.door new.door end s.does) s
 
   -- no fault stopped the door where all links came
-  door_stood : (x : Attended) (old new : DoorFacts) → x.accepted ≡ true → AreAttended place p signers draws opening old new x → new.faults ≡ old.faults
+  door_stood : (x : Attended) (old new : DoorFacts) → x.all_came ≡ true → AreAttended place p signers draws opening old new x → new.faults ≡ old.faults
   door_stood x old new all a =
-      let accepts : Accepts (length signers) (length a.visits) true old new = subst (λ (accepted : Bool). Accepts (length signers) (length a.visits) accepted old new) all a.accepts in
+      let accepts : Accepts (length signers) (length a.visits) true old new = subst (λ (all_came : Bool). Accepts (length signers) (length a.visits) all_came old new) all a.accepts in
       accepts.1
 
   both_counts : (old new : World) (end : Result Done Stop) → Then Attend Close old new end → NeverFall old new

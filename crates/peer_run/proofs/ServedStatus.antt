@@ -81,11 +81,11 @@ HasStatus s status = (session : Result SessionCounts SessionEnd) × Contains s.s
 
 -- the statuses behind those of the sessions
 abbrev behind_sessions : Served → List ℕ
-behind_sessions s = accept_status s.accepted ∷ (put_status s.put ∷ (first_status s.first ∷ []))
+behind_sessions s = accept_status s.all_came ∷ (put_status s.put ∷ (first_status s.first ∷ []))
 
 -- what gave a status
 abbrev Gave : Served → ℕ → Type 0
-Gave s status = HasStatus s status ⊎ ((accept_status s.accepted ≡ status) ⊎ ((put_status s.put ≡ status) ⊎ (first_status s.first ≡ status)))
+Gave s status = HasStatus s status ⊎ ((accept_status s.all_came ≡ status) ⊎ ((put_status s.put ≡ status) ⊎ (first_status s.first ≡ status)))
 
 one_of_three : (a b c status : ℕ) → Contains (a ∷ (b ∷ (c ∷ []))) status → (a ≡ status) ⊎ ((b ≡ status) ⊎ (c ≡ status))
 one_of_three a b c status at = by at.0 at.1 at.2 where
@@ -100,13 +100,13 @@ gave s status is = elim (subst (λ (k : ℕ). (k ≡ 0) ⊎ Contains (statuses_m
   | inl none ↦ inl none
   | inr at ↦ inr (elim (Contains-append_cases (map session_status s.sessions.items) (behind_sessions s) status at) [
     | inl session ↦ inl (contains_from_map session_status s.sessions.items status session)
-    | inr other ↦ inr (one_of_three (accept_status s.accepted) (put_status s.put) (first_status s.first) status other)
+    | inr other ↦ inr (one_of_three (accept_status s.all_came) (put_status s.put) (first_status s.first) status other)
   ])
 ]
 
 -- ---- statuses of each part
 
-accept_three : (accepted : Bool) (status : ℕ) → accept_status accepted ≡ status → (status ≡ 0) ⊎ ((status ≡ 3) × (accepted ≡ false))
+accept_three : (all_came : Bool) (status : ℕ) → accept_status all_came ≡ status → (status ≡ 0) ⊎ ((status ≡ 3) × (all_came ≡ false))
 accept_three true status is = inl (sym is)
 accept_three false status is = inr (sym is, refl)
 
@@ -121,11 +121,11 @@ first_small (Some first) status is = omega (arith, is)
 -- ---- from a status to what gave it
 
 -- at 3 a session has it, or not all links came
-pub read_gave : (s : Served) → ServedStatus s ≡ 3 → HasStatus s 3 ⊎ (s.accepted ≡ false)
+pub read_gave : (s : Served) → ServedStatus s ≡ 3 → HasStatus s 3 ⊎ (s.all_came ≡ false)
 read_gave s is = elim (gave s 3 is) [
   | inl none ↦ absurd (omega (arith, none))
   | inr (inl session) ↦ inl session
-  | inr (inr (inl accept)) ↦ elim (accept_three s.accepted 3 accept) [ inl none ↦ absurd (omega (arith, none)) | inr fewer ↦ inr fewer.1 ]
+  | inr (inr (inl accept)) ↦ elim (accept_three s.all_came 3 accept) [ inl none ↦ absurd (omega (arith, none)) | inr fewer ↦ inr fewer.1 ]
   | inr (inr (inr (inl put))) ↦ elim (put_four s.put 3 put) [ inl none ↦ absurd (omega (arith, none)) | inr four ↦ absurd (omega (arith, four.0)) ]
   | inr (inr (inr (inr first))) ↦ absurd (omega (arith, first_small s.first 3 first))
 ]
@@ -135,7 +135,7 @@ pub write_gave : (s : Served) → ServedStatus s ≡ 4 → HasStatus s 4 ⊎ (s.
 write_gave s is = elim (gave s 4 is) [
   | inl none ↦ absurd (omega (arith, none))
   | inr (inl session) ↦ inl session
-  | inr (inr (inl accept)) ↦ elim (accept_three s.accepted 4 accept) [ inl none ↦ absurd (omega (arith, none)) | inr three ↦ absurd (omega (arith, three.0)) ]
+  | inr (inr (inl accept)) ↦ elim (accept_three s.all_came 4 accept) [ inl none ↦ absurd (omega (arith, none)) | inr three ↦ absurd (omega (arith, three.0)) ]
   | inr (inr (inr (inl put))) ↦ elim (put_four s.put 4 put) [ inl none ↦ absurd (omega (arith, none)) | inr unput ↦ inr unput.1 ]
   | inr (inr (inr (inr first))) ↦ absurd (omega (arith, first_small s.first 4 first))
 ]
@@ -145,7 +145,7 @@ pub session_gave : (s : Served) (status : ℕ) → ServedStatus s ≡ status →
 session_gave s status is large = elim (gave s status is) [
   | inl none ↦ absurd (omega (arith, none, large))
   | inr (inl session) ↦ session
-  | inr (inr (inl accept)) ↦ elim (accept_three s.accepted status accept) [ inl none ↦ absurd (omega (arith, none, large)) | inr three ↦ absurd (omega (arith, three.0, large)) ]
+  | inr (inr (inl accept)) ↦ elim (accept_three s.all_came status accept) [ inl none ↦ absurd (omega (arith, none, large)) | inr three ↦ absurd (omega (arith, three.0, large)) ]
   | inr (inr (inr (inl put))) ↦ elim (put_four s.put status put) [ inl none ↦ absurd (omega (arith, none, large)) | inr four ↦ absurd (omega (arith, four.0, large)) ]
   | inr (inr (inr (inr first))) ↦ absurd (omega (arith, first_small s.first status first, large))
 ]
@@ -155,15 +155,15 @@ pub served_small : (s : Served) → ((session : Result SessionCounts SessionEnd)
 served_small s done_so three four = elim (gave s (ServedStatus s) refl) [
   | inl none ↦ omega (arith, none)
   | inr (inl session) ↦ let zero_is = done_so session.0 session.1 in omega (arith, zero_is, session.2)
-  | inr (inr (inl accept)) ↦ elim (accept_three s.accepted (ServedStatus s) accept) [ inl none ↦ omega (arith, none) | inr fewer ↦ absurd (three fewer.0) ]
+  | inr (inr (inl accept)) ↦ elim (accept_three s.all_came (ServedStatus s) accept) [ inl none ↦ omega (arith, none) | inr fewer ↦ absurd (three fewer.0) ]
   | inr (inr (inr (inl put))) ↦ elim (put_four s.put (ServedStatus s) put) [ inl none ↦ omega (arith, none) | inr unput ↦ absurd (four unput.0) ]
   | inr (inr (inr (inr first))) ↦ first_small s.first (ServedStatus s) first
 ]
 
 -- but with 3 and 7 all links came
-pub all_came : (s : Served) → ServedStatus s ≢ 3 → ServedStatus s ≢ 7 → s.accepted ≡ true
-all_came s three seven = by s.accepted refl where
-  by : (accepted : Bool) → s.accepted ≡ accepted → s.accepted ≡ true
+pub all_came : (s : Served) → ServedStatus s ≢ 3 → ServedStatus s ≢ 7 → s.all_came ≡ true
+all_came s three seven = by s.all_came refl where
+  by : (all_came : Bool) → s.all_came ≡ all_came → s.all_came ≡ true
   by true is = is
   by false is =
       let at : Contains (behind_sessions s) 3 = (0, omega arith, ap accept_status is) in

@@ -114,7 +114,7 @@ none_one : (sessions : List (Result SessionCounts SessionEnd)) → is_met (map s
 none_one [] = refl
 none_one (session ∷ sessions) = ap (λ (b : Bool). b || is_met (map session_status sessions) 1) (not_one session) ∙ none_one sessions
 
-came : (accepted : Bool) → IsLow (accept_status accepted) → accepted ≡ true
+came : (all_came : Bool) → IsLow (accept_status all_came) → all_came ≡ true
 came true low = refl
 came false low = absurd (low.read refl)
 
@@ -126,9 +126,9 @@ was_put false low = absurd (low.write refl)
 
 -- what stands behind the sessions
 abbrev behind : Bool → Bool → Option RefusedRow → List ℕ
-behind accepted put first = accept_status accepted ∷ (put_status put ∷ (first_status first ∷ []))
+behind all_came put first = accept_status all_came ∷ (put_status put ∷ (first_status first ∷ []))
 
-first_behind : (accepted put : Bool) (first : Option RefusedRow) → accepted ≡ true → put ≡ true → cond (is_met (behind accepted put first) 1) 1 0 ≡ first_status first
+first_behind : (all_came put : Bool) (first : Option RefusedRow) → all_came ≡ true → put ≡ true → cond (is_met (behind all_came put first) 1) 1 0 ≡ first_status first
 first_behind true true None all is = refl
 first_behind true true (Some first) all is = refl
 first_behind true false first all is = absurd cc
@@ -136,7 +136,7 @@ first_behind false put first all is = absurd cc
 
 -- the status of a server that served these visits so tells the first refused row alone
 pub record IsServedWell (visits : List Visit) (s : Served) : Type 0 where
-  pub all_came : s.accepted ≡ true
+  pub all_came : s.all_came ≡ true
   pub all_done : All (λ (visit : Visit). AnswersOk visit.answer) visits
   pub put : s.put ≡ true
   pub told : status_of (Ok (done.Served s)) ≡ first_status s.first
@@ -148,7 +148,7 @@ served_well visits s sessions small = record { all_came = all_links; all_done = 
     met = statuses_met (done.Served s)
 
     last : List ℕ
-    last = behind s.accepted s.put s.first
+    last = behind s.all_came s.put s.first
 
     ended : List ℕ
     ended = map session_status s.sessions.items
@@ -156,8 +156,8 @@ served_well visits s sessions small = record { all_came = all_links; all_done = 
     low_behind : (m : ℕ) → Member last m → IsLow m
     low_behind m here = all_low met small m (member_append_right ended last m here)
 
-    all_links : s.accepted ≡ true
-    all_links = came s.accepted (low_behind (accept_status s.accepted) (inl refl))
+    all_links : s.all_came ≡ true
+    all_links = came s.all_came (low_behind (accept_status s.all_came) (inl refl))
 
     put : s.put ≡ true
     put = was_put s.put (low_behind (put_status s.put) (inr (inl refl)))
@@ -172,4 +172,4 @@ served_well visits s sessions small = record { all_came = all_links; all_done = 
         told_is met small
         ∙ ap (λ (b : Bool). cond b 1 0) (list_any-append (λ m. eqb m 1) ended last)
         ∙ ap (λ (b : Bool). cond (b || is_met last 1) 1 0) (none_one s.sessions.items)
-        ∙ first_behind s.accepted s.put s.first all_links put
+        ∙ first_behind s.all_came s.put s.first all_links put

@@ -22,7 +22,7 @@ use Rattle.peer_stage.proofs.Closing.{KeepsDoor, inside_keeps, shelf_keeps, then
 use Rattle.peer_stage.proofs.Owing.{Owes, IsLasting, then_owes, inside_counts, inside_unfailed, shelf_counts, shelf_unfailed, rose_behind}
 use Rattle.peer_run.specs.Getting.{GetsImage, GetsCapability}
 use Rattle.peer_run.specs.Greeting.{Greets}
-use Rattle.peer_run.specs.Meet.{Gives}
+use Rattle.peer_run.specs.Meet.{Yields}
 use Rattle.peer_run.specs.Opening.{OpensLog}
 use Rattle.peer_run.specs.Preparing.{Prepares, no_nonce}
 
@@ -87,7 +87,7 @@ preparing_owes image cap area =
     (λ i. then_owes GotReads GotWrites Nothing (λ opening. Nothing) (λ r. Nothing) _ _ got_reads_last got_writes_last (inside_owes (OpensLog i.namespace i.rows.items) (λ h. h) (λ h. h) (λ h. h))
     (λ opening. then_owes GotReads GotWrites Nothing (λ c. Nothing) (λ r. Nothing) _ _ got_reads_last got_writes_last (capability_owes cap)
     (λ c. then_owes GotReads GotWrites Nothing (λ h. Nothing) (λ r. Nothing) _ _ got_reads_last got_writes_last (inside_owes (Greets i.namespace area c no_nonce) (λ h. h) (λ h. h) (λ h. h))
-    (λ h. inside_owes (Gives (record { opening = opening; hello = h })) (λ g. g) (λ g. g) (λ g. g)))))
+    (λ h. inside_owes (Yields (record { opening = opening; hello = h })) (λ g. g) (λ g. g) (λ g. g)))))
 
 -- ---- the door
 
@@ -102,7 +102,7 @@ preparing_keeps_door image cap area =
     then_keeps _ _ (image_keeps image) (λ i.
     then_keeps _ _ (inside_keeps (OpensLog i.namespace i.rows.items)) (λ opening.
     then_keeps _ _ (capability_keeps cap) (λ c.
-    then_keeps _ _ (inside_keeps (Greets i.namespace area c no_nonce)) (λ h. inside_keeps (Gives (record { opening = opening; hello = h }))))))
+    then_keeps _ _ (inside_keeps (Greets i.namespace area c no_nonce)) (λ h. inside_keeps (Yields (record { opening = opening; hello = h }))))))
 
 -- ---- what signs, and the link
 

@@ -38,7 +38,7 @@ use Rattle.peer_stage.proofs.Ends.{synced_status, synced_is, synced_known}
 use Rattle.peer_stage.proofs.Faults.{EndsUnfailed}
 use Rattle.peer_stage.proofs.Owing.{Owes, then_owes, onward, unfailed_on, shelf_counts, shelf_unfailed, noise_counts, noise_unfailed, door_counts, door_unfailed, rose_behind}
 use Rattle.peer_run.specs.Calling.{Calls, IsCalled}
-use Rattle.peer_run.specs.Meet.{Gives}
+use Rattle.peer_run.specs.Meet.{Yields}
 use Rattle.peer_run.specs.Closing.{put_answer}
 use Rattle.peer_run.specs.Preparing.{nonce_of, plan_of}
 use Rattle.peer_run.specs.Sync.{Begins, Finishes, Syncs, image_behind, synced_of}
@@ -93,12 +93,12 @@ module _ (image cap : String Global) (key : SignerWord) (area : AreaWords) where
   beginning_owes =
       then_owes GotReads GotWrites Nothing (λ r. Nothing) (λ c. Nothing) _ _ got_reads_last got_writes_last (preparing_owes image cap area)
       (λ r. then_owes GotReads GotWrites Nothing (λ signer. Nothing) (λ c. Nothing) _ _ got_reads_last got_writes_last (reserving_owes key)
-      (λ signer. inside_owes (Gives (record { opening = r.opening; plan = plan_of Caller r.hello; signer = signer })) (λ h. h) (λ h. h) (λ h. h)))
+      (λ signer. inside_owes (Yields (record { opening = r.opening; plan = plan_of Caller r.hello; signer = signer })) (λ h. h) (λ h. h) (λ h. h)))
 
   pub beginning_keeps : KeepsDoor (Begins image cap key area)
   beginning_keeps =
       then_keeps _ _ (preparing_keeps_door image cap area) (λ r.
-      then_keeps _ _ (shelf_keeps (HandsSigner key)) (λ signer. inside_keeps (Gives (record { opening = r.opening; plan = plan_of Caller r.hello; signer = signer }))))
+      then_keeps _ _ (shelf_keeps (HandsSigner key)) (λ signer. inside_keeps (Yields (record { opening = r.opening; plan = plan_of Caller r.hello; signer = signer }))))
 
 -- ---- the link
 

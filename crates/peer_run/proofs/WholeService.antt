@@ -108,7 +108,7 @@ module _ (words : ServeWords) (run : Run) (c : server.Server) (began : World) (d
     (begun : HasHouse words.image words.cap words.key words.links words.area run.old began c)
     (many : length draws.items ≡ words.links) (are_draws : All IsDraw draws.items) (taken : TakesDraws began.noise drawn.noise draws.items) (only_noise : drawn ≡ record began { noise = drawn.noise })
     (did : AreAttended (string_bytes words.at) (plans_of c) c.signers.items draws.items c.opening.state drawn.door attended.door x) (only_door : attended ≡ record drawn { door = attended.door })
-    (is_told : IsServed c.opening.rows c.opening.first x.ends.items x.accepted s.put s)
+    (is_told : IsServed c.opening.rows c.opening.first x.ends.items x.all_came s.put s)
     (puts : OnShelf (PutsBytes (string_bytes words.image) (image_of x.state)) attended (before_report run) (put_answer s.put)) where
   abbrev n : List ℕ
   n = begun.front.given.namespace
@@ -157,10 +157,10 @@ module _ (words : ServeWords) (run : Run) (c : server.Server) (began : World) (d
   are_back : AreBack (string_bytes words.at) run.old.door run.new.door (map (λ (visit : Visit). visit.link) did.visits)
   are_back = at_run (λ (d d' : DoorFacts). AreBack (string_bytes words.at) d d' (map (λ (visit : Visit). visit.link) did.visits)) did.back
 
-  accepts : Accepts words.links (length did.visits) x.accepted run.old.door run.new.door
+  accepts : Accepts words.links (length did.visits) x.all_came run.old.door run.new.door
   accepts =
-      subst (λ (links : ℕ). Accepts links (length did.visits) x.accepted run.old.door run.new.door) as_many_signers
-      (at_run (λ (d d' : DoorFacts). Accepts (length c.signers.items) (length did.visits) x.accepted d d') did.accepts)
+      subst (λ (links : ℕ). Accepts links (length did.visits) x.all_came run.old.door run.new.door) as_many_signers
+      (at_run (λ (d d' : DoorFacts). Accepts (length c.signers.items) (length did.visits) x.all_came d d') did.accepts)
 
   noise_before : began.noise ≡ run.old.noise
   noise_before = ap (λ (w : World). w.noise) begun.others
@@ -187,11 +187,11 @@ module _ (words : ServeWords) (run : Run) (c : server.Server) (began : World) (d
 
   -- ---- all of it
 
-  is_served : IsServed (length rows) (first_refused n rows) (map (λ (visit : Visit). visit.answer) did.visits) x.accepted s.put s
+  is_served : IsServed (length rows) (first_refused n rows) (map (λ (visit : Visit). visit.answer) did.visits) x.all_came s.put s
   is_served =
-      subst (λ (k : ℕ). IsServed k (first_refused n rows) (map (λ (visit : Visit). visit.answer) did.visits) x.accepted s.put s) begun.front.opened.counted
-      (subst (λ (first : Option RefusedRow). IsServed c.opening.rows first (map (λ (visit : Visit). visit.answer) did.visits) x.accepted s.put s) begun.front.opened.first_is
-      (subst (λ (answers : List Answer). IsServed c.opening.rows c.opening.first answers x.accepted s.put s) did.ends is_told))
+      subst (λ (k : ℕ). IsServed k (first_refused n rows) (map (λ (visit : Visit). visit.answer) did.visits) x.all_came s.put s) begun.front.opened.counted
+      (subst (λ (first : Option RefusedRow). IsServed c.opening.rows first (map (λ (visit : Visit). visit.answer) did.visits) x.all_came s.put s) begun.front.opened.first_is
+      (subst (λ (answers : List Answer). IsServed c.opening.rows c.opening.first answers x.all_came s.put s) did.ends is_told))
 
   has_served : Reports run.old.report run.new.report (Ok (done.Served s)) run.status → HasServed words run
   has_served reports =
@@ -208,7 +208,7 @@ module _ (words : ServeWords) (run : Run) (c : server.Server) (began : World) (d
         as_many = (as_many_signers, many);
         visits = did.visits;
         are_back = are_back;
-        accepted = x.accepted;
+        all_came = x.all_came;
         accepts = accepts;
         opening = opening;
         log = x.state.log;
@@ -363,8 +363,8 @@ served_as words other run same c =
       as_many = (c.as_many.0 ∙ sym same.links, c.as_many.1 ∙ sym same.links);
       visits = c.visits;
       are_back = subst (λ (place : List ℕ). AreBack place run.old.door run.new.door (map (λ (visit : Visit). visit.link) c.visits)) (sym same.at) c.are_back;
-      accepted = c.accepted;
-      accepts = subst (λ (links : ℕ). Accepts links (length c.visits) c.accepted run.old.door run.new.door) (sym same.links) c.accepts;
+      all_came = c.all_came;
+      accepts = subst (λ (links : ℕ). Accepts links (length c.visits) c.all_came run.old.door run.new.door) (sym same.links) c.accepts;
       opening = c.opening;
       log = c.log;
       opens = c.opens;

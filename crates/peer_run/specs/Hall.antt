@@ -49,7 +49,7 @@ Listens place old new (Err e) = ⊥
 abbrev pub IsAccepted : Option Fault → Bool → Type 0
 IsAccepted None true = Unit {0}
 IsAccepted (Some fault.Failed) false = Unit {0}
-IsAccepted stopped accepted = ⊥
+IsAccepted stopped all_came = ⊥
 
 -- the own pass, those that the visits handed on, and those of the guests for whom no link came
 abbrev pub passes_behind : PassValue AuthorisedValue → Hosted Guest Parting → List (PassValue AuthorisedValue)
@@ -58,7 +58,7 @@ passes_behind own hosted = own ∷ (map (λ (parting : Parting). parting.pass) h
 -- The cell is closed with all passes: this is its log, and so the visits ended.
 pub record HasLeft (hall : Hall) (own : PassValue AuthorisedValue) (hosted : Hosted Guest Parting) (x : Attended) : Type 0 where
   pub ends : x.ends.items ≡ map (λ (parting : Parting). parting.end) hosted.partings.items
-  pub accepts : IsAccepted hosted.stopped x.accepted
+  pub accepts : IsAccepted hosted.stopped x.all_came
   pub closed : IsClosed (passes_behind own hosted) x.state.log
   pub is_log : IsLog entry_row hall.cell.namespace x.state.log
   pub of_namespace : x.state.namespace ≡ hall.cell.namespace

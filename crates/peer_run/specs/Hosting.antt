@@ -92,7 +92,7 @@ pub record AreAttended (place : List ℕ) (p : List ℕ → List ℕ → Party) 
   pub of_namespace : x.state.namespace ≡ opening.namespace
   pub ends : x.ends.items ≡ map (λ (visit : Visit). visit.answer) visits
   pub back : AreBack place old new (map (λ (visit : Visit). visit.link) visits)
-  pub accepts : Accepts (length signers) (length visits) x.accepted old new
+  pub accepts : Accepts (length signers) (length visits) x.all_came old new
 
 -- nothing was asked, or the place was, and all that was handed out is back
 abbrev pub IsAskedAtMost : List ℕ → DoorFacts → DoorFacts → Type 0

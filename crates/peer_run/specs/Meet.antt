@@ -29,9 +29,9 @@ use Rattle.peer_run.specs.declared.meeting.Sides.{Sides}
 -- ---- what is got
 
 -- it gives just this
-abbrev pub Gives : {A : Type 0} → A → Result A Stop → Type 0
-Gives value (Ok a) = a ≡ value
-Gives value (Err e) = ⊥
+abbrev pub Yields : {A : Type 0} → A → Result A Stop → Type 0
+Yields value (Ok a) = a ≡ value
+Yields value (Err e) = ⊥
 
 -- It gets both images, and then both capabilities.
 abbrev pub Gathers : String Global → String Global → String Global → String Global → Step Sides
@@ -40,7 +40,7 @@ Gathers left right left_cap right_cap =
     Then (GetsImage right) (λ b.
     Then (GetsCapability left_cap) (λ c.
     Then (GetsCapability right_cap) (λ d.
-    Inside (Gives (record { left = a; right = b; left_cap = c; right_cap = d }))))))
+    Inside (Yields (record { left = a; right = b; left_cap = c; right_cap = d }))))))
 
 -- ---- what is agreed
 

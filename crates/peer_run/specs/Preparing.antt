@@ -10,7 +10,7 @@ use Rattle.peer_words.specs.declared.command.AreaWords.{AreaWords}
 use Rattle.peer_stage.specs.Steps.{Step, Then, Inside}
 use Rattle.peer_run.specs.Getting.{GetsImage, GetsCapability}
 use Rattle.peer_run.specs.Greeting.{Greets}
-use Rattle.peer_run.specs.Meet.{Gives}
+use Rattle.peer_run.specs.Meet.{Yields}
 use Rattle.peer_run.specs.Opening.{OpensLog}
 use Rattle.peer_run.specs.declared.preparing.Prepared.{Prepared}
 
@@ -25,7 +25,7 @@ Prepares image cap area =
     Then (Inside (OpensLog i.namespace i.rows.items)) (λ opening.
     Then (GetsCapability cap) (λ c.
     Then (Inside (Greets i.namespace area c no_nonce)) (λ h.
-    Inside (Gives (record { opening = opening; hello = h }))))))
+    Inside (Yields (record { opening = opening; hello = h }))))))
 
 -- the plan of a side of this role that says this of itself
 abbrev pub plan_of : Role → Hello → SessionPlan PeerScheme

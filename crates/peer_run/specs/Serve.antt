@@ -26,7 +26,7 @@ use Rattle.peer_stage.specs.declared.outcome.Stop.TheVariants as stop
 use Rattle.peer_stage.specs.declared.outcome.Served.{Served}
 use Rattle.peer_run.specs.Closing.{IsForWant, counts_of, image_of, put_answer, refused_after}
 use Rattle.peer_run.specs.Hosting.{Attends}
-use Rattle.peer_run.specs.Meet.{Gives}
+use Rattle.peer_run.specs.Meet.{Yields}
 use Rattle.peer_run.specs.Preparing.{Prepares, nonce_of, plan_of}
 use Rattle.peer_run.specs.declared.hosting.Attended.{Attended}
 use Rattle.peer_run.specs.declared.serving.Server as server
@@ -37,7 +37,7 @@ abbrev pub OpensHouse : String Global → String Global → SignerWord → ℕ �
 OpensHouse image cap key links area =
     Then (Prepares image cap area) (λ r.
     Then (OnShelf (HandsSigners key links)) (λ signers.
-    Inside (Gives (record { opening = r.opening; plan = plan_of Answerer r.hello; signers = signers }))))
+    Inside (Yields (record { opening = r.opening; plan = plan_of Answerer r.hello; signers = signers }))))
 
 -- ---- what is told
 
@@ -47,9 +47,9 @@ told_of (Ok report) = Ok (counts_of report)
 told_of (Err end) = Err end
 
 -- how many rows came in a session that was done
-abbrev pub rows_of : Answer → ℕ
-rows_of (Ok report) = report.stored + (report.kept + report.refused)
-rows_of (Err end) = 0
+abbrev pub rows_told : Answer → ℕ
+rows_told (Ok report) = report.stored + (report.kept + report.refused)
+rows_told (Err end) = 0
 
 -- the first row that was refused in a session that was done
 abbrev pub refused_in : Answer → Option RefusedRow
@@ -59,13 +59,13 @@ refused_in (Err end) = None
 -- the first refused row of all sessions, numbered over so many rows and then those that came, link by link
 abbrev pub first_of_links : ℕ → List Answer → Option RefusedRow
 first_of_links before [] = None
-first_of_links before (answer ∷ answers) = or_else (refused_after before (refused_in answer)) (first_of_links (before + rows_of answer) answers)
+first_of_links before (answer ∷ answers) = or_else (refused_after before (refused_in answer)) (first_of_links (before + rows_told answer) answers)
 
 -- what is told of the sessions behind an image of so many rows, of which this is the first refused one, whether all links
 -- came, and whether the image was put
-pub record IsServed (rows : ℕ) (first : Option RefusedRow) (answers : List Answer) (accepted put : Bool) (s : Served) : Type 0 where
+pub record IsServed (rows : ℕ) (first : Option RefusedRow) (answers : List Answer) (all_came put : Bool) (s : Served) : Type 0 where
   pub sessions : s.sessions.items ≡ map told_of answers
-  pub accepted_is : s.accepted ≡ accepted
+  pub accepted_is : s.all_came ≡ all_came
   pub first_is : s.first ≡ or_else first (first_of_links rows answers)
   pub put_is : s.put ≡ put
 
@@ -83,7 +83,7 @@ AreNotForWant answers = All (λ answer. IsForWant answer → ⊥) answers
 -- The image was put, or writing it failed, which the end tells. For want of memory, in a session or behind them, none was put.
 abbrev pub ClosesHouse : List ℕ → ℕ → Option RefusedRow → Attended → Step Done
 ClosesHouse name rows first x old new (Ok (done.Served s)) =
-    AreNotForWant x.ends.items × IsServed rows first x.ends.items x.accepted s.put s × OnShelf (PutsBytes name (image_of x.state)) old new (put_answer s.put)
+    AreNotForWant x.ends.items × IsServed rows first x.ends.items x.all_came s.put s × OnShelf (PutsBytes name (image_of x.state)) old new (put_answer s.put)
 ClosesHouse name rows first x old new (Err stop.NoMemory) = OnShelf (PutsBytes name (image_of x.state)) old new (Err stop.NoMemory)
 ClosesHouse name rows first x old new end = ⊥
 

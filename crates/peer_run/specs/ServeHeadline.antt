@@ -87,8 +87,8 @@ pub record HasServed (words : ServeWords) (run : Run) : Type 0 where
   -- all links are back in order, and the place was asked for once; fewer came only where the door failed
   pub visits : List Visit
   pub are_back : AreBack (string_bytes words.at) run.old.door run.new.door (map (λ (visit : Visit). visit.link) visits)
-  pub accepted : Bool
-  pub accepts : Accepts words.links (length visits) accepted run.old.door run.new.door
+  pub all_came : Bool
+  pub accepts : Accepts words.links (length visits) all_came run.old.door run.new.door
   -- the log began with the authorised rows of the image, and each further row is of one of the links
   pub opening : List (LogRow AuthorisedValue)
   pub log : List (LogRow AuthorisedValue)
@@ -103,13 +103,13 @@ pub record HasServed (words : ServeWords) (run : Run) : Type 0 where
   pub is_put : PutsOrFails (string_bytes words.image) put given.namespace (live (log_rows log)) reserved run.new.shelf
   -- the report and the status tell how each session ended, and that
   pub served : Served
-  pub is_served : IsServed (length given.rows) (first_refused given.namespace given.rows) (map (λ (visit : Visit). visit.answer) visits) accepted put served
+  pub is_served : IsServed (length given.rows) (first_refused given.namespace given.rows) (map (λ (visit : Visit). visit.answer) visits) all_came put served
   pub reports : Reports run.old.report run.new.report (Ok (done.Served served)) run.status
 
 -- At 0 and 1 all links came, each session was done and the image put; at 1 a row is not authorised, and at 0 none.
 pub record IsWholeService (words : ServeWords) (run : Run) : Type 0 where
   pub served : HasServed words run
-  pub all_came : served.accepted ≡ true
+  pub all_came : served.all_came ≡ true
   pub all_done : All (λ (visit : Visit). AnswersOk visit.answer) served.visits
   pub put : served.put ≡ true
   pub all_authorised : run.status ≡ 0 → IsNone served.served.first

@@ -22,7 +22,7 @@ use Rattle.peer_stage.specs.declared.outcome.Stop.TheVariants as stop
 use Rattle.peer_stage.specs.declared.outcome.Synced.{Synced}
 use Rattle.peer_run.specs.Calling.{Calls}
 use Rattle.peer_run.specs.Closing.{IsForWant, counts_of, image_of, put_answer, refused_after}
-use Rattle.peer_run.specs.Meet.{Gives}
+use Rattle.peer_run.specs.Meet.{Yields}
 use Rattle.peer_run.specs.Preparing.{Prepares, nonce_of, plan_of}
 use Rattle.peer_run.specs.declared.calling.Called.{Called}
 use Rattle.peer_run.specs.declared.syncing.Caller as caller
@@ -33,7 +33,7 @@ abbrev pub Begins : String Global → String Global → SignerWord → AreaWords
 Begins image cap key area =
     Then (Prepares image cap area) (λ r.
     Then (OnShelf (HandsSigner key)) (λ signer.
-    Inside (Gives (record { opening = r.opening; plan = plan_of Caller r.hello; signer = signer }))))
+    Inside (Yields (record { opening = r.opening; plan = plan_of Caller r.hello; signer = signer }))))
 
 -- what is told of a session behind an image of so many rows, of which this is the first refused one, and of the put
 abbrev pub synced_of : ℕ → Option RefusedRow → Result SessionReport SessionEnd → Bool → Synced

@@ -9,11 +9,9 @@ use peer_stage::Stop;
 use peer_words::AreaWords;
 use spelling::End;
 use sync_hello::{Hello, HelloRefusal, check_hello};
+use sync_link::VERSION;
 use willow_area::Area;
 use willow_path::NamespaceKey;
-
-/// The version that this program speaks.
-const VERSION: u8 = 1;
 
 /// The hello of a side with a capability, which asks for the area of the words; a field without a word is that of what
 /// the capability grants. It is refused as whoever reads it would refuse it in the namespace. Where the words and the

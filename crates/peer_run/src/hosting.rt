@@ -57,7 +57,7 @@ struct Parting {
 #[derive(Drop)]
 pub(crate) struct Attended {
     pub(crate) ends: Vec<Result<SessionReport, SessionEnd>>,
-    pub(crate) accepted: bool,
+    pub(crate) all_came: bool,
     pub(crate) state: NsState<AuthorisedEntry<PeerScheme>>,
 }
 
@@ -195,12 +195,12 @@ fn leave<R: Wait>(
         unused,
         stopped,
     } = hosted;
-    let accepted = all_came(stopped)?;
+    let all_came = all_came(stopped)?;
     let (passes, ends) = part(alloc, own, partings, unused)?;
     let Hall { cell, .. } = hall;
     Ok(Attended {
         ends,
-        accepted,
+        all_came,
         state: cell.close(rt, passes),
     })
 }

@@ -6,7 +6,7 @@ ghost use Rattle.spelling.specs.Answers.{or_else};
 ghost use Rattle.peer_stage.specs.World.{World};
 ghost use Rattle.peer_words.specs.Signers.{IsSigner};
 ghost use Rattle.peer_run.specs.Closing.{IsForWant, refused_after};
-ghost use Rattle.peer_run.specs.Serve.{AreNotForWant, ClosesHouse, IsServed, OpensHouse, Serves, first_of_links, refused_in, rows_of, told_of};
+ghost use Rattle.peer_run.specs.Serve.{AreNotForWant, ClosesHouse, IsServed, OpensHouse, Serves, first_of_links, refused_in, rows_told, told_of};
 
 use crate::closing::{counts_of, image_of, put_image, wants_memory};
 use crate::hosting::{Attended, attend};
@@ -120,7 +120,7 @@ fn close_house<H: Shelf>(
 {
     let Attended {
         ends,
-        accepted,
+        all_came,
         state,
     } = attended;
     if ends.iter().any(wants_memory) {
@@ -132,7 +132,7 @@ fn close_house<H: Shelf>(
     let put = put_image(shelf, name.as_str(), &image)?;
     Ok(Done::Served(Served {
         sessions,
-        accepted,
+        all_came,
         first,
         put,
     }))
