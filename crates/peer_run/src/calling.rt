@@ -71,7 +71,7 @@ pub(crate) fn call<R: Wait + Threads + Sync, D: Door>(
     })
 }
 
-/// Runs one session over the link, in which the rows that come with a piece are judged together.
+/// Runs one session over the link, in which the rows of a list that come with a piece are judged together.
 pub(crate) fn talk<R: Wait + Threads + Sync, L: Link>(
     rt: &R,
     alloc: Global,

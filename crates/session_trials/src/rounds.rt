@@ -24,6 +24,7 @@ fn unrun(alloc: Global) -> Ran {
         answer: Err(SessionEnd::ClosedEarly { at: 0 }),
         written: Vec::new(alloc),
         times: Vec::new(alloc),
+        calls: 0,
     }
 }
 

@@ -6,9 +6,10 @@ ghost use Rattle.sync_hello.specs.Checked.{hello_refusal};
 ghost use Rattle.ns_cell.specs.Passes.{IsPassOf};
 ghost use Rattle.sync_link.specs.Plans.{own_hello};
 
+use crate::fakes::CountingChecker;
 use crate::plans::{nonce, plan};
 use crate::rows::{Rows, namespace, rows_of};
-use auth_entry::{AuthorisedEntry, Checker, PlainChecker, authorise};
+use auth_entry::{AuthorisedEntry, Checker, authorise};
 use cap_codec::RawRow;
 use ns_cell::{NsCell, NsState, Pass};
 use scheme_core::{OpenScheme, Signer};
@@ -31,6 +32,8 @@ pub(crate) struct Ran {
     pub(crate) written: Vec<u8>,
     // The times of the rows that the log has then, in their order.
     pub(crate) times: Vec<u64>,
+    // In how many calls the rows that came were judged, which all have one capability.
+    pub(crate) calls: u64,
 }
 
 // Offers the rows to the cell.
@@ -95,14 +98,14 @@ fn run_over<R: Wait + Threads + Sync, K: Signer>(
     alloc: Global,
     cell: &NsCell<Entry>,
     pass: &mut Pass<Entry>,
-    checker: &mut PlainChecker<OpenScheme>,
+    checker: &mut CountingChecker,
     plan: &SessionPlan<OpenScheme>,
     nonce: [u8; 16],
     signer: &mut K,
     link: &mut MemLink,
 ) -> Option<Ran>
     requires pass { IsPassOf cell.now pass.old }
-    requires namespace { ⟦<PlainChecker<OpenScheme> as Checker<OpenScheme>>⟧.judged_in checker.old ≡ cell.now.namespace }
+    requires namespace { ⟦<CountingChecker as Checker<OpenScheme>>⟧.judged_in checker.old ≡ cell.now.namespace }
     requires hello { hello_refusal open_rules cell.now.namespace (own_hello plan.now nonce) ≡ None }
     requires signs { 1 ≤ K.left signer.old }
 {
@@ -111,6 +114,7 @@ fn run_over<R: Wait + Threads + Sync, K: Signer>(
         answer,
         written: Vec::from_slice(alloc, link.held()).ok()?,
         times: times(rt, alloc, cell, pass)?,
+        calls: checker.handed,
     })
 }
 
@@ -128,7 +132,10 @@ pub(crate) fn run_with<R: Wait + Threads + Sync, K: Signer>(
     let plan = plan(alloc, &namespace, role, nonce)?;
     let (cell, mut passes) = NsCell::new(alloc, NsState::new(alloc, namespace), 1).ok()?;
     let mut pass = passes.pop()?;
-    let mut checker = PlainChecker::new(OpenScheme, namespace);
+    let mut checker = CountingChecker {
+        namespace,
+        handed: 0,
+    };
     fill(
         rt,
         alloc,

@@ -171,16 +171,20 @@ fn report(role: Role) -> SessionReport {
 #[test]
 fn sessions(rt: HostRuntime) -> Result<(), Fail> {
     let alloc = rt.alloc();
-    for role in [Role::Caller, Role::Answerer] {
-        for most in [7, 1_000_000] {
-            let (own, other) = both(&rt, alloc, role).ok_or("a meeting")?;
-            let link = MemLink::new(alloc, other, Vec::new(alloc), most);
-            let signer = signer().ok_or("a signer")?;
-            let ran = run_with(&rt, alloc, role, OWN, signer, link).ok_or("a session")?;
-            assert_eq!(rt; ran.answer, Ok(report(role)));
-            assert_eq!(rt; &*ran.written, &*own);
-            assert_eq!(rt; &*ran.times, &[100, 101, 102, 200][..]);
-        }
+    for (role, most, calls) in [
+        (Role::Caller, 7, 4),
+        (Role::Caller, 1_000_000, 1),
+        (Role::Answerer, 7, 2),
+        (Role::Answerer, 1_000_000, 1),
+    ] {
+        let (own, other) = both(&rt, alloc, role).ok_or("a meeting")?;
+        let link = MemLink::new(alloc, other, Vec::new(alloc), most);
+        let signer = signer().ok_or("a signer")?;
+        let ran = run_with(&rt, alloc, role, OWN, signer, link).ok_or("a session")?;
+        assert_eq!(rt; ran.answer, Ok(report(role)));
+        assert_eq!(rt; &*ran.written, &*own);
+        assert_eq!(rt; &*ran.times, &[100, 101, 102, 200][..]);
+        assert_eq!(rt; ran.calls, calls);
     }
     Ok(())
 }
@@ -245,6 +249,27 @@ fn failing_links(rt: HostRuntime) -> Result<(), Fail> {
         assert_eq!(rt; ran.answer, Err(*end));
         assert_eq!(rt; ran.written.len(), *written);
         assert_eq!(rt; &*ran.times, *times);
+    }
+    Ok(())
+}
+
+// The link ends within the third of the four rows that the answerer tells. By then the two that came of the list are
+// stored, or kept where the log has them.
+#[test]
+fn a_broken_list(rt: HostRuntime) -> Result<(), Fail> {
+    let alloc = rt.alloc();
+    let (_, other) = both(&rt, alloc, Role::Caller).ok_or("a meeting")?;
+    let third = signature_at(alloc, 2).ok_or("a signature")?;
+    let at = place_of(&other, &third).ok_or("a third row")?;
+    for (most, calls) in [(7, 2), (1_000_000, 1)] {
+        let came = Vec::from_slice(alloc, other.get(..at).ok_or("a front")?)?;
+        let link = MemLink::new(alloc, came, Vec::new(alloc), most);
+        let signer = signer().ok_or("a signer")?;
+        let ran = run_with(&rt, alloc, Role::Caller, OWN, signer, link).ok_or("a session")?;
+        assert_eq!(rt; ran.answer, Err(SessionEnd::ClosedEarly { at: at as u64 }));
+        assert_eq!(rt; ran.written.len(), 204);
+        assert_eq!(rt; &*ran.times, &[100, 101, 102, 200][..]);
+        assert_eq!(rt; ran.calls, calls);
     }
     Ok(())
 }

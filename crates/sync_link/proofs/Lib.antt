@@ -29,6 +29,7 @@ pub mod Staying
 pub mod Signed
 pub mod HearingOn
 pub mod TakenRows
+pub mod Judged
 pub mod Reaching
 pub mod Outcomes
 pub mod PieceTaken

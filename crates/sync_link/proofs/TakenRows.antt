@@ -41,7 +41,7 @@ pub later_self : {R : Type 0} (pass : PassValue R) → IsLater pass pass
 later_self pass = record { cell = refl; number = refl; seen = prefix_self pass.seen }
 
 -- what is so of a failed call is so of what it gives on
-pub takes_err : {E : Type 0} (rules : Rules) (n : List ℕ) (start : PassValue AuthorisedValue) (rows : List RawValue) (pass : PassValue AuthorisedValue) (tally : Tally) (P : E → Type 0) (result : Result (Unit {0}) E)
+pub takes_err : {A E : Type 0} (rules : Rules) (n : List ℕ) (start : PassValue AuthorisedValue) (rows : List RawValue) (pass : PassValue AuthorisedValue) (tally : Tally) (P : E → Type 0) (result : Result A E)
     → IsErrAnd result P → HasGrown rules n start rows pass → TakesRows rules n start rows pass tally result
 takes_err rules n start rows pass tally P (Ok u) err grew = absurd err
 takes_err rules n start rows pass tally P (Err e) err grew = grew

@@ -1,7 +1,9 @@
 -- What comes of an item that a side of an exchange reads, as bytes and rows.
-use Rattle.std.specs.Prelude.{◌≡◌, ℕ, List, ◌++◌, Option, None, Some, Ok, Err, option_to_list}
+use Rattle.std.specs.Prelude.{◌≡◌, ℕ, zero, suc, List, [], ◌∷◌, ◌++◌, Option, None, Some, Ok, Err, option_to_list}
 use Rattle.willow_entry.specs.Row.{RowValue}
 use Rattle.sync_msg.specs.Items.{ItemValue}
+use Rattle.sync_msg.specs.declared.item.Item.{Item}
+use Rattle.sync_msg.specs.declared.item.Item.TheVariants.{First, Agree, Split, Entries, Rest, Row, EndTurn, Bye}
 use Rattle.sync_msg.specs.declared.refusal.CoreRefusal.{CoreRefusal}
 use Rattle.sync_core.specs.Flat.{row_in}
 use Rattle.sync_core.specs.Place.{Place}
@@ -24,3 +26,26 @@ pub record RefusesItem (old : Place) (item : ItemValue) (cause : CoreRefusal) (o
 abbrev pub TakesIn : Place → Place → ItemValue → Option CoreRefusal → List ℕ → List ℕ → List RowValue → List RowValue → Type 0
 TakesIn old new item None out_old out_new rows_old rows_new = HearsItem old new item out_old out_new rows_old rows_new
 TakesIn old new item (Some cause) out_old out_new rows_old rows_new = RefusesItem old item cause out_old out_new rows_old rows_new
+
+-- ---- the lists that are announced
+
+-- how many rows follow the item as its list
+abbrev pub rows_announced : {R : Type 0} → Item R → ℕ
+rows_announced (First print) = 0
+rows_announced Agree = 0
+rows_announced (Split at lower upper) = 0
+rows_announced (Entries count) = count
+rows_announced (Rest count) = count
+rows_announced (Row row) = 0
+rows_announced EndTurn = 0
+rows_announced Bye = 0
+
+-- the numbers of rows of the lists, with one list more, unless it has none
+abbrev pub with_list : List ℕ → ℕ → List ℕ
+with_list counts zero = counts
+with_list counts (suc n) = counts ++ suc n ∷ []
+
+-- the same by an item, which counts for nothing where it is refused
+abbrev pub counts_announced : {R : Type 0} → List ℕ → Item R → Option CoreRefusal → List ℕ
+counts_announced counts item None = with_list counts (rows_announced item)
+counts_announced counts item (Some cause) = counts

@@ -53,6 +53,6 @@ pub record IsTally (rules : Rules) (namespace : List ℕ) (start : PassValue Aut
   pub full : 0 < tally.missed → length now.seen ≡ LOG_LIMIT
 
 -- all the rows were offered; or memory was wanting, behind some of them
-abbrev pub TakesRows : {E : Type 0} → Rules → List ℕ → PassValue AuthorisedValue → List RawValue → PassValue AuthorisedValue → Tally → Result (Unit {0}) E → Type 0
-TakesRows rules namespace start rows now tally (Ok u) = IsTally rules namespace start rows now tally
+abbrev pub TakesRows : {A E : Type 0} → Rules → List ℕ → PassValue AuthorisedValue → List RawValue → PassValue AuthorisedValue → Tally → Result A E → Type 0
+TakesRows rules namespace start rows now tally (Ok a) = IsTally rules namespace start rows now tally
 TakesRows rules namespace start rows now tally (Err e) = HasGrown rules namespace start rows now

@@ -12,10 +12,10 @@ ghost use Rattle.sync_link.specs.declared.due.Cause.TheVariants as causes;
 ghost use Rattle.sync_link.specs.declared.due.Due.TheVariants as dues;
 
 use crate::due::{Cause, Due};
+use crate::lists::Lists;
 use crate::standing::Stop;
 use crate::take_all::take_all;
 use crate::talker::Talker;
-use cap_codec::RawRow;
 use scheme_core::{Signer, Verify};
 use spelling::{NoMemory, put_bytes};
 use std::alloc::Global;
@@ -39,11 +39,11 @@ pub(crate) fn hear_on<R: Row, S: Verify, K: Signer>(
     signer: &mut K,
     piece: &[u8],
     out: &mut Vec<u8>,
-    rows: &mut Vec<RawRow>,
+    lists: &mut Lists,
 ) -> Result<(), Stop>
     requires { IsHeld S.rules R.value talker.old ear.old.due ear.old.at ear.old.held.items }
     ensures keeps { Keeps talker.old talker.new }
-    ensures feeds { OnOk result (Feeds (waiting_side S.rules R.value talker.old ear.old.due ear.old.at ear.old.held.items) (waiting_side S.rules R.value talker.new ear.new.due ear.new.at ear.new.held.items) piece.now out.old.items out.new.items (map row_of rows.old.items) (map row_of rows.new.items)) }
+    ensures feeds { OnOk result (Feeds (waiting_side S.rules R.value talker.old ear.old.due ear.old.at ear.old.held.items) (waiting_side S.rules R.value talker.new ear.new.due ear.new.at ear.new.held.items) piece.now out.old.items out.new.items (map row_of lists.old.rows.items) (map row_of lists.new.rows.items)) }
     ensures counts { OnOk result (CountsOn (fed_with S.rules R.value talker.old ear.old.due ear.old.at ear.old.held.items) (fed_with S.rules R.value talker.new ear.new.due ear.new.at ear.new.held.items) piece.now) }
     ensures held { OnOk result (IsHeld S.rules R.value talker.new ear.new.due ear.new.at ear.new.held.items) }
     ensures greets { OnOk result (SignsTo (K.gives signer.old) (waiting_side S.rules R.value talker.old ear.old.due ear.old.at ear.old.held.items) (waiting_side S.rules R.value talker.new ear.new.due ear.new.at ear.new.held.items) piece.now) }
@@ -54,7 +54,7 @@ pub(crate) fn hear_on<R: Row, S: Verify, K: Signer>(
     ensures failed { IsErrOf result Stop.SignFault → FailsSign talker.old.signature (K.left signer.old) (K.faults signer.old) (K.faults signer.new) }
 {
     hold(ear.at, &mut ear.held, piece)?;
-    let taken = take_all(talker, &mut ear.due, signer, &ear.held, out, rows)?;
+    let taken = take_all(talker, &mut ear.due, signer, &ear.held, out, lists)?;
     ear.at += taken as u64;
     ear.held = rest_of(talker.alloc, &ear.held, taken)?;
     Ok(())

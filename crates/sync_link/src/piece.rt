@@ -6,7 +6,9 @@ ghost use Rattle.ns_cell.specs.Passes.{IsPassOf};
 ghost use Rattle.willow_outside.specs.Facts.{LinkFacts};
 ghost use Rattle.sync_link.specs.UnderWay.{Start, IsCounted, IsUnderWay, Gives, GoesOn, now_of};
 
-use crate::intake::{Tally, known_raws, take_rows};
+use crate::intake::{Tally, known_raws};
+use crate::judge::take_lists;
+use crate::lists::Lists;
 use crate::sending::send;
 use crate::speaker::Speaker;
 use crate::standing::Stop;
@@ -19,10 +21,12 @@ use std::sync::Wait;
 use std::thread::Threads;
 use willow_outside::{Fault, Link};
 
-// A session that is under way: its side, what became of the rows that came, and how many bytes it read.
+// A session that is under way: its side, how many rows are due of a list that came in part, what became of the rows that
+// came, and how many bytes it read.
 #[derive(Drop)]
 pub(crate) struct Session<S: Scheme> {
     pub(crate) speaker: Speaker<AuthorisedEntry<S>, S>,
+    pub(crate) due: u32,
     pub(crate) tally: Tally,
     pub(crate) count: u64,
 }
@@ -101,17 +105,21 @@ fn take_piece<R: Wait + Threads + Sync, S: Scheme, C: Checker<S>, K: Signer, L: 
         None => return Err(SessionEnd::NoMemory),
     };
     let mut out = Vec::new(alloc);
-    let mut rows = Vec::new(alloc);
-    match session.speaker.feed(signer, piece, &mut out, &mut rows) {
+    let mut came = Lists::new(alloc);
+    match came.announce(session.due) {
+        Ok(()) => {}
+        Err(_) => return Err(SessionEnd::NoMemory),
+    }
+    match session.speaker.feed(signer, piece, &mut out, &mut came) {
         Ok(()) => {}
         Err(Stop::SignFault) => return Err(SessionEnd::SignFault),
         Err(Stop::NoMemory) => return Err(SessionEnd::NoMemory),
     }
     session.count = count;
-    known_raws(&rows);
+    known_raws(&came.rows);
     session.speaker.known_signature();
-    match take_rows(rt, alloc, cell, pass, checker, &mut session.tally, rows) {
-        Ok(()) => {}
+    match take_lists(rt, alloc, cell, pass, checker, &mut session.tally, came) {
+        Ok(due) => session.due = due,
         Err(_) => return Err(SessionEnd::NoMemory),
     }
     match send(link, &out) {

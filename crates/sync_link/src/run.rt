@@ -35,8 +35,8 @@ const PIECE: usize = 65_536;
 
 /// Runs a session with the side at the other end of the link: the two greet each other, and then they exchange their rows in
 /// the area that both may read. The side takes a snapshot of the cell first and answers from it alone. Rows that it is sent
-/// are checked and offered to the cell as they come, and stay there whatever the end is. No turn of the cell is held while
-/// the link is read or written.
+/// are checked and offered to the cell as they come, those of each list by themselves, and stay there whatever the end is. No
+/// turn of the cell is held while the link is read or written.
 pub fn run_session<R: Wait + Threads + Sync, S: Scheme, C: Checker<S>, K: Signer, L: Link>(
     rt: &R,
     alloc: Global,
@@ -98,6 +98,7 @@ fn open_session<S: Scheme, L: Link>(
     match send(link, &out) {
         Ok(()) => Ok(Session {
             speaker,
+            due: 0,
             tally: Tally::new(),
             count: 0,
         }),

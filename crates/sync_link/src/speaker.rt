@@ -15,11 +15,11 @@ ghost use Rattle.sync_link.specs.Taking.{waiting_side};
 
 use crate::due::{Cause, Due};
 use crate::ear::{Ear, hear_on, shut};
+use crate::lists::Lists;
 use crate::standing::{Standing, Stop};
 use crate::take_all::is_open;
 use crate::talker::Talker;
 use block_store::Snapshot;
-use cap_codec::RawRow;
 use scheme_core::{Signer, Verify};
 use spelling::NoMemory;
 use std::alloc::Global;
@@ -84,18 +84,19 @@ impl<R: Row, S: Verify> Speaker<R, S> {
         })
     }
 
-    // Takes a piece of the other side's bytes: appends what is said to it to `out`, and the rows that come to `rows`.
-    // `SignFault` comes only where the side is not signed yet and the signer failed or had nothing left. After an error
-    // `out` and `rows` are as they were, and the side reads no more: it stands as behind what is no message.
+    // Takes a piece of the other side's bytes: appends what is said to it to `out`, and the rows that come to `lists`,
+    // with the lists that are announced. `SignFault` comes only where the side is not signed yet and the signer failed or
+    // had nothing left. After an error `out` and `lists` are as they were, and the side reads no more: it stands as behind
+    // what is no message.
     #[tactic(auto, using(crate::proofs::HearingOn::closed_feeds_on, crate::proofs::HearingOn::held_shut))]
     pub(crate) fn feed<K: Signer>(
         &mut self,
         signer: &mut K,
         piece: &[u8],
         out: &mut Vec<u8>,
-        rows: &mut Vec<RawRow>,
+        lists: &mut Lists,
     ) -> Result<(), Stop>
-        ensures feeds { OnOk result (Feeds (fed_in S.rules self.old).side (fed_in S.rules self.new).side piece.now out.old.items out.new.items (map row_of rows.old.items) (map row_of rows.new.items)) }
+        ensures feeds { OnOk result (Feeds (fed_in S.rules self.old).side (fed_in S.rules self.new).side piece.now out.old.items out.new.items (map row_of lists.old.rows.items) (map row_of lists.new.rows.items)) }
         ensures counts { OnOk result (CountsOn (fed_in S.rules self.old) (fed_in S.rules self.new) piece.now) }
         ensures signs { OnOk result (SignsBy (K.gives signer.old) self.old.role self.old.hello self.old.signature self.new.signature) }
         ensures greets { OnOk result (SignsTo (K.gives signer.old) (fed_in S.rules self.old).side (fed_in S.rules self.new).side piece.now) }
@@ -104,13 +105,13 @@ impl<R: Row, S: Verify> Speaker<R, S> {
         ensures faults { K.faults signer.old ≤ K.faults signer.new }
         ensures failed { IsErrOf result Stop.SignFault → FailsSign self.old.signature (K.left signer.old) (K.faults signer.old) (K.faults signer.new) }
         ensures err_out { OnErr result (out.new.items ≡ out.old.items) }
-        ensures err_rows { OnErr result (rows.new.items ≡ rows.old.items) }
+        ensures err_rows { OnErr result (lists.new.rows.items ≡ lists.old.rows.items) }
         ensures err_stands { OnErr result (GoesWell self.new.stand → ⊥) }
     {
         if !is_open(&self.ear.due) {
             return Ok(());
         }
-        match hear_whole(&mut self.talker, &mut self.ear, signer, piece, out, rows) {
+        match hear_whole(&mut self.talker, &mut self.ear, signer, piece, out, lists) {
             Ok(()) => Ok(()),
             Err(stop) => {
                 shut(&mut self.ear);
@@ -180,11 +181,11 @@ fn hear_whole<R: Row, S: Verify, K: Signer>(
     signer: &mut K,
     piece: &[u8],
     out: &mut Vec<u8>,
-    rows: &mut Vec<RawRow>,
+    lists: &mut Lists,
 ) -> Result<(), Stop>
     requires { IsHeld S.rules R.value talker.old ear.old.due ear.old.at ear.old.held.items }
     ensures keeps { Keeps talker.old talker.new }
-    ensures feeds { OnOk result (Feeds (waiting_side S.rules R.value talker.old ear.old.due ear.old.at ear.old.held.items) (waiting_side S.rules R.value talker.new ear.new.due ear.new.at ear.new.held.items) piece.now out.old.items out.new.items (map row_of rows.old.items) (map row_of rows.new.items)) }
+    ensures feeds { OnOk result (Feeds (waiting_side S.rules R.value talker.old ear.old.due ear.old.at ear.old.held.items) (waiting_side S.rules R.value talker.new ear.new.due ear.new.at ear.new.held.items) piece.now out.old.items out.new.items (map row_of lists.old.rows.items) (map row_of lists.new.rows.items)) }
     ensures counts { OnOk result (CountsOn (fed_with S.rules R.value talker.old ear.old.due ear.old.at ear.old.held.items) (fed_with S.rules R.value talker.new ear.new.due ear.new.at ear.new.held.items) piece.now) }
     ensures held { OnOk result (IsHeld S.rules R.value talker.new ear.new.due ear.new.at ear.new.held.items) }
     ensures greets { OnOk result (SignsTo (K.gives signer.old) (waiting_side S.rules R.value talker.old ear.old.due ear.old.at ear.old.held.items) (waiting_side S.rules R.value talker.new ear.new.due ear.new.at ear.new.held.items) piece.now) }
@@ -194,29 +195,29 @@ fn hear_whole<R: Row, S: Verify, K: Signer>(
     ensures asks { OnOk result (AsksOnce talker.new.signature (K.left signer.old) (K.left signer.new)) }
     ensures failed { IsErrOf result Stop.SignFault → FailsSign talker.old.signature (K.left signer.old) (K.faults signer.old) (K.faults signer.new) }
     ensures err_out { OnErr result (out.new.items ≡ out.old.items) }
-    ensures err_rows { OnErr result (rows.new.items ≡ rows.old.items) }
+    ensures err_rows { OnErr result (lists.new.rows.items ≡ lists.old.rows.items) }
 {
     let mut said = Vec::new(talker.alloc);
-    let mut came = Vec::new(talker.alloc);
+    let mut came = Lists::new(talker.alloc);
     hear_on(talker, ear, signer, piece, &mut said, &mut came)?;
-    hand_over(said, came, out, rows)?;
+    hand_over(said, came, out, lists)?;
     Ok(())
 }
 
 // Appends both, or without memory neither.
 fn hand_over(
     mut said: Vec<u8>,
-    mut came: Vec<RawRow>,
+    came: Lists,
     out: &mut Vec<u8>,
-    rows: &mut Vec<RawRow>,
+    lists: &mut Lists,
 ) -> Result<(), NoMemory>
     ensures out { OnOk result (out.new.items ≡ out.old.items ++ said.items) }
-    ensures rows { OnOk result (rows.new.items ≡ rows.old.items ++ came.items) }
+    ensures rows { OnOk result (lists.new.rows.items ≡ lists.old.rows.items ++ came.rows.items) }
     ensures err_out { OnErr result (out.new.items ≡ out.old.items) }
-    ensures err_rows { OnErr result (rows.new.items ≡ rows.old.items) }
+    ensures err_rows { OnErr result (lists.new.rows.items ≡ lists.old.rows.items) }
 {
     out.reserve(said.len())?;
-    rows.append(&mut came)?;
+    lists.append(came)?;
     out.append(&mut said)?;
     Ok(())
 }

@@ -15,10 +15,10 @@ use crate::due::{Cause, Due, Exchange};
 use crate::find::{find_hello, find_item};
 use crate::greet::{hear_hello, hear_proof};
 use crate::hear::hear;
+use crate::lists::Lists;
 use crate::proof::{ProofStep, read_proof};
 use crate::standing::Stop;
 use crate::talker::Talker;
-use cap_codec::RawRow;
 use scheme_core::{Signer, Verify};
 use spelling::End;
 use sync_core::{CoreRefusal, Stage};
@@ -114,17 +114,17 @@ fn take_item<R: Row>(
     exchange: &mut Exchange<R>,
     bytes: &[u8],
     out: &mut Vec<u8>,
-    rows: &mut Vec<RawRow>,
+    lists: &mut Lists,
 ) -> Result<ItemCame, Stop>
     requires reads { stage_of exchange.old.core.doing ≡ Stage.Reading }
     requires sound { IsSound exchange.old.core }
     requires few { exchange.old.reader.taken + length bytes.now < 2 ^ 64 }
-    ensures comes { IfOk result (λ came. ComesItem exchange.old exchange.new bytes.now out.old.items out.new.items (map row_of rows.old.items) (map row_of rows.new.items) came) }
+    ensures comes { IfOk result (λ came. ComesItem exchange.old exchange.new bytes.now out.old.items out.new.items (map row_of lists.old.rows.items) (map row_of lists.new.rows.items) came) }
     ensures failed { IsErrOf result Stop.SignFault → ⊥ }
 {
     match find_item(&mut exchange.reader, bytes) {
         Ok(Step::More) => Ok(ItemCame::More),
-        Ok(Step::Got { item, taken }) => match hear(&mut exchange.core, item, out, rows)? {
+        Ok(Step::Got { item, taken }) => match hear(&mut exchange.core, item, out, lists)? {
             None => Ok(ItemCame::Taken(taken)),
             Some(cause) => Ok(ItemCame::Refused(cause, taken)),
         },
@@ -142,7 +142,7 @@ pub(crate) fn take<R: Row, S: Verify, K: Signer>(
     signer: &mut K,
     bytes: &[u8],
     out: &mut Vec<u8>,
-    rows: &mut Vec<RawRow>,
+    lists: &mut Lists,
 ) -> Result<Option<usize>, Stop>
     requires own { HasSpelling talker.old.hello }
     requires rows { AreSound (map R.value talker.old.snapshot) }
@@ -152,7 +152,7 @@ pub(crate) fn take<R: Row, S: Verify, K: Signer>(
     ensures keeps { Keeps talker.old talker.new }
     ensures gives { K.gives signer.new ≡ K.gives signer.old }
     ensures faults { K.faults signer.old ≤ K.faults signer.new }
-    ensures steps { IfOk result (λ taken. (at : ℕ) → Steps (waiting_side S.rules R.value talker.old due.old) (waiting_side S.rules R.value talker.new due.new) at bytes.now taken out.old.items out.new.items (map row_of rows.old.items) (map row_of rows.new.items)) }
+    ensures steps { IfOk result (λ taken. (at : ℕ) → Steps (waiting_side S.rules R.value talker.old due.old) (waiting_side S.rules R.value talker.new due.new) at bytes.now taken out.old.items out.new.items (map row_of lists.old.rows.items) (map row_of lists.new.rows.items)) }
     ensures counts { IfOk result (λ taken. (at : ℕ) → CountsStep (fed_with S.rules R.value talker.old due.old) (fed_with S.rules R.value talker.new due.new) at bytes.now taken) }
     ensures fits { OnOk result (Fits talker.old.role talker.new.signature due.new) }
     ensures read { IfOk result (λ taken. read_by due.new ≤ read_by due.old + taken_of taken) }
@@ -172,7 +172,7 @@ pub(crate) fn take<R: Row, S: Verify, K: Signer>(
             Ok(put(due, came))
         }
         Due::Items(exchange) => {
-            let came = take_item(exchange, bytes, out, rows)?;
+            let came = take_item(exchange, bytes, out, lists)?;
             Ok(put_item(due, came))
         }
         Due::Nothing(_) => unreachable!(),

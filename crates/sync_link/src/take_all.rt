@@ -10,10 +10,10 @@ ghost use Rattle.sync_link.specs.Taking.{Fits, IsOpen, read_by, waiting_side};
 ghost use Rattle.sync_link.specs.TakingAll.{TakesAll};
 
 use crate::due::Due;
+use crate::lists::Lists;
 use crate::standing::Stop;
 use crate::take::take;
 use crate::talker::Talker;
-use cap_codec::RawRow;
 use scheme_core::{Signer, Verify};
 use sync_core::Stage;
 use willow_entry::Row;
@@ -26,14 +26,14 @@ pub(crate) fn take_all<R: Row, S: Verify, K: Signer>(
     signer: &mut K,
     bytes: &[u8],
     out: &mut Vec<u8>,
-    rows: &mut Vec<RawRow>,
+    lists: &mut Lists,
 ) -> Result<usize, Stop>
     requires own { HasSpelling talker.old.hello }
     requires rows { AreSound (map R.value talker.old.snapshot) }
     requires fits { Fits talker.old.role talker.old.signature due.old }
     requires few { read_by due.old + length bytes.now < 2 ^ 64 }
     ensures keeps { Keeps talker.old talker.new }
-    ensures takes { IfOk result (λ taken. TakesAll S.rules R.value talker.old talker.new due.old due.new bytes.now taken out.old.items out.new.items (map row_of rows.old.items) (map row_of rows.new.items)) }
+    ensures takes { IfOk result (λ taken. TakesAll S.rules R.value talker.old talker.new due.old due.new bytes.now taken out.old.items out.new.items (map row_of lists.old.rows.items) (map row_of lists.new.rows.items)) }
     ensures greets { IfOk result (λ taken. (at : ℕ) → SignsTo (K.gives signer.old) (waiting_side S.rules R.value talker.old due.old at []) (waiting_side S.rules R.value talker.new due.new (at + taken) (drop taken bytes.now)) bytes.now) }
     ensures gives { K.gives signer.new ≡ K.gives signer.old }
     ensures faults { K.faults signer.old ≤ K.faults signer.new }
@@ -43,7 +43,7 @@ pub(crate) fn take_all<R: Row, S: Verify, K: Signer>(
 {
     let mut taken = 0;
     while is_open(due) {
-        match take(talker, due, signer, &bytes[taken..], out, rows) {
+        match take(talker, due, signer, &bytes[taken..], out, lists) {
             Ok(Some(more)) => taken += more,
             Ok(None) => return Ok(taken),
             Err(stop) => return Err(stop),

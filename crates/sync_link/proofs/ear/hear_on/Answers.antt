@@ -15,10 +15,10 @@ returns-clause-counts g c =
     let n = c.in_ok-taken.taken in
     let all : bytes ≡ old.held.items ++ c.args.piece.now = search rules in
     let left : rest ≡ drop n bytes = search rules in
-    let takes : TakesAll g.S.Verify.rules g.R.Row.value c.args.talker.now c.take_all.new.talker old.due c.take_all.new.due bytes n c.args.out.now.items c.take_all.new.out.items (map row_of c.args.rows.now.items) (map row_of c.take_all.new.rows.items) = search rules in
+    let takes : TakesAll g.S.Verify.rules g.R.Row.value c.args.talker.now c.take_all.new.talker old.due c.take_all.new.due bytes n c.args.out.now.items c.take_all.new.out.items (map row_of c.args.lists.now.rows.items) (map row_of c.take_all.new.lists.rows.items) = search rules in
     λ well signature may.
     counts_on g.S.Verify.rules g.R.Row.value c.args.talker.now c.take_all.new.talker old.due c.take_all.new.due old.at (old.at + n) old.held.items c.args.piece.now bytes rest n
-    c.args.out.now.items c.take_all.new.out.items (map row_of c.args.rows.now.items) (map row_of c.take_all.new.rows.items) c.requires all refl left takes well signature may
+    c.args.out.now.items c.take_all.new.out.items (map row_of c.args.lists.now.rows.items) (map row_of c.take_all.new.lists.rows.items) c.requires all refl left takes well signature may
 
 pub returns-clause-held : goal.returns-clause-held
 returns-clause-held g c =
@@ -30,9 +30,9 @@ returns-clause-held g c =
     let left : rest ≡ drop n bytes = search rules in
     let keeps : Keeps c.args.talker.now c.take_all.new.talker = search rules in
     let few : old.at + length bytes < 2 ^ 64 = search rules in
-    let takes : TakesAll g.S.Verify.rules g.R.Row.value c.args.talker.now c.take_all.new.talker old.due c.take_all.new.due bytes n c.args.out.now.items c.take_all.new.out.items (map row_of c.args.rows.now.items) (map row_of c.take_all.new.rows.items) = search rules in
+    let takes : TakesAll g.S.Verify.rules g.R.Row.value c.args.talker.now c.take_all.new.talker old.due c.take_all.new.due bytes n c.args.out.now.items c.take_all.new.out.items (map row_of c.args.lists.now.rows.items) (map row_of c.take_all.new.lists.rows.items) = search rules in
     held_on g.S.Verify.rules g.R.Row.value c.args.talker.now c.take_all.new.talker old.due c.take_all.new.due old.at (old.at + n) old.held.items c.args.piece.now bytes rest n
-    c.args.out.now.items c.take_all.new.out.items (map row_of c.args.rows.now.items) (map row_of c.take_all.new.rows.items) c.requires all refl left takes keeps few
+    c.args.out.now.items c.take_all.new.out.items (map row_of c.args.lists.now.rows.items) (map row_of c.take_all.new.lists.rows.items) c.requires all refl left takes keeps few
 
 pub returns-clause-greets : goal.returns-clause-greets
 returns-clause-greets g c =

@@ -1,4 +1,4 @@
-use Rattle.std.proofs.Common.{◌++◌, ◌<◌, take, ℕ, Bool, List, [], map, length, All, Err, sym, ap, subst, arith}
+use Rattle.std.proofs.Common.{◌++◌, ◌<◌, take, ℕ, Bool, List, [], map, length, All, Err, sym, ap, ◌∙◌, subst, arith}
 use Rattle.spelling.proofs.Lists.{are_bytes}
 use Rattle.willow_outside.specs.Told.{Extends}
 use Rattle.cap_codec.specs.Rows.{RawValue, IsRaw, row_of}
@@ -18,6 +18,11 @@ returns-in-None-clause-goes_on g c start before rules namespace gives some u giv
     let now = now_of g.S.Verify.rules c.args.session.now c.args.pass.now before (g.K.Signer.left c.args.signer.now) (g.K.Signer.faults c.args.signer.now) in
     unfed start now u (g.L.Link.facts c.args.link.now) c.args.piece.now given (are_bytes c.args.piece.now c.type_inv.piece) (g.K.Signer.faults c.args.signer.now) (omega arith)
 
+pub returns-in-Err-clause-goes_on : goal.returns-in-Err-clause-goes_on
+returns-in-Err-clause-goes_on g c start before rules namespace gives some u given =
+    let now = now_of g.S.Verify.rules c.args.session.now c.args.pass.now before (g.K.Signer.left c.args.signer.now) (g.K.Signer.faults c.args.signer.now) in
+    unfed start now u (g.L.Link.facts c.args.link.now) c.args.piece.now given (are_bytes c.args.piece.now c.type_inv.piece) (g.K.Signer.faults c.args.signer.now) (omega arith)
+
 pub returns-in-Err-NoMemory-clause-goes_on : goal.returns-in-Err-NoMemory-clause-goes_on
 returns-in-Err-NoMemory-clause-goes_on g c start before rules namespace gives some u given =
     let now = now_of g.S.Verify.rules c.args.session.now c.args.pass.now before (g.K.Signer.left c.args.signer.now) (g.K.Signer.faults c.args.signer.now) in
@@ -28,39 +33,39 @@ returns-in-Err-SignFault-clause-goes_on g c start before rules namespace gives s
     let now = now_of g.S.Verify.rules c.args.session.now c.args.pass.now before (g.K.Signer.left c.args.signer.now) (g.K.Signer.faults c.args.signer.now) in
     unsigned start now u (g.L.Link.facts c.args.link.now) c.args.piece.now given (are_bytes c.args.piece.now c.type_inv.piece) (g.K.Signer.faults c.feed.new.signer) some c.feed.ensures.faults (c.in-Err-SignFault.ensures.failed (ap (λ (x : Stop). Err x) c.in-Err-SignFault.field-0-is))
 
-pub take_rows-requires-clause-few : goal.take_rows-requires-clause-few
-take_rows-requires-clause-few g c κs within =
+pub take_lists-requires-clause-few : goal.take_lists-requires-clause-few
+take_lists-requires-clause-few g c κs within =
     let old = (fed_in g.S.Verify.rules c.args.session.now.speaker).side in
     let new = (fed_in g.S.Verify.rules c.feed.new.self).side in
-    let f = subst (λ (l : List RawValue). Feeds old new c.args.piece.now c.new-out.result.items c.feed.new.out.items (map row_of l) (map row_of c.feed.new.rows.items)) c.new-rows.ensures.items c.in-Ok.ensures.feeds in
-    omega (arith, came_few old new c.args.piece.now c.new-out.result.items c.feed.new.out.items c.feed.new.rows.items f, c.requires.counted.few, c.in-Some.ensures)
+    let f = subst (λ (l : List RawValue). Feeds old new c.args.piece.now c.new-out.result.items c.feed.new.out.items (map row_of l) (map row_of c.feed.new.lists.rows.items)) (c.announce.ensures.rows ∙ c.new-came.ensures.rows) c.in-Ok-feed.ensures.feeds in
+    omega (arith, came_few old new c.args.piece.now c.new-out.result.items c.feed.new.out.items c.feed.new.lists.rows.items f, c.requires.counted.few, c.in-Some.ensures)
 
-pub take_rows-requires-clause-sums : goal.take_rows-requires-clause-sums
-take_rows-requires-clause-sums g c κs within = c.requires.counted.sums
+pub take_lists-requires-clause-sums : goal.take_lists-requires-clause-sums
+take_lists-requires-clause-sums g c κs within = c.requires.counted.sums
 
-pub returns-in-Err-clause-goes_on : goal.returns-in-Err-clause-goes_on
-returns-in-Err-clause-goes_on g c start before rules namespace gives some u given =
+pub returns-in-Err-take_lists-clause-goes_on : goal.returns-in-Err-take_lists-clause-goes_on
+returns-in-Err-take_lists-clause-goes_on g c start before rules namespace gives some u given =
     let rules' = g.S.Verify.rules in
     let n = c.args.cell.now.namespace in
     let now = now_of rules' c.args.session.now c.args.pass.now before (g.K.Signer.left c.args.signer.now) (g.K.Signer.faults c.args.signer.now) in
     let mid = g.L.Link.facts c.args.link.now in
     let new = fed_in rules' c.feed.new.self in
     let said = c.feed.new.out.items in
-    let came = c.feed.new.rows.items in
-    let f = feeds_none now.fed.side new.side c.args.piece.now c.new-out.result.items said c.new-rows.result.items came c.new-out.ensures.items c.new-rows.ensures.items c.in-Ok.ensures.feeds in
-    let signs = subst (λ (x : List ℕ → List ℕ → Bool). SignsTo x now.fed.side new.side c.args.piece.now) (sym gives) c.in-Ok.ensures.greets in
+    let came = c.feed.new.lists.rows.items in
+    let f = feeds_none now.fed.side new.side c.args.piece.now c.new-out.result.items said c.announce.new.self.rows.items came c.new-out.ensures.items (c.announce.ensures.rows ∙ c.new-came.ensures.rows) c.in-Ok-feed.ensures.feeds in
+    let signs = subst (λ (x : List ℕ → List ℕ → Bool). SignsTo x now.fed.side new.side c.args.piece.now) (sym gives) c.in-Ok-feed.ensures.greets in
     let t = tally_as start.rules rules' start.namespace n start.pass u.rows c.args.pass.now c.args.session.now.tally rules namespace u.tally in
-    let grew = grown_as rules' start.rules n start.namespace start.pass (u.rows ++ came) c.take_rows.new.pass (sym rules) (sym namespace) (c.in-Err.ensures.takes start.pass u.rows t) in
-    unkept start now u mid c.args.piece.now given (are_bytes c.args.piece.now c.type_inv.piece) new said came (subst (λ (l : List RawValue). All IsRaw l) c.deref.ensures.value c.known_raws.ensures) f c.in-Ok.ensures.counts signs c.known_signature.ensures c.take_rows.new.pass (g.K.Signer.faults c.feed.new.signer) c.take_rows.ensures.later grew c.feed.ensures.faults
+    let grew = grown_as rules' start.rules n start.namespace start.pass (u.rows ++ came) c.take_lists.new.pass (sym rules) (sym namespace) (c.in-Err-take_lists.ensures.takes start.pass u.rows t) in
+    unkept start now u mid c.args.piece.now given (are_bytes c.args.piece.now c.type_inv.piece) new said came (subst (λ (l : List RawValue). All IsRaw l) c.deref.ensures.value c.known_raws.ensures) f c.in-Ok-feed.ensures.counts signs c.known_signature.ensures c.take_lists.new.pass (g.K.Signer.faults c.feed.new.signer) c.take_lists.ensures.later grew c.feed.ensures.faults
 
 pub returns-in-Ok-send-clause-counted : goal.returns-in-Ok-send-clause-counted
 returns-in-Ok-send-clause-counted g c =
     let old = (fed_in g.S.Verify.rules c.args.session.now.speaker).side in
     let new = (fed_in g.S.Verify.rules c.feed.new.self).side in
-    let f = feeds_none old new c.args.piece.now c.new-out.result.items c.feed.new.out.items c.new-rows.result.items c.feed.new.rows.items c.new-out.ensures.items c.new-rows.ensures.items c.in-Ok.ensures.feeds in
+    let f = feeds_none old new c.args.piece.now c.new-out.result.items c.feed.new.out.items c.announce.new.self.rows.items c.feed.new.lists.rows.items c.new-out.ensures.items (c.announce.ensures.rows ∙ c.new-came.ensures.rows) c.in-Ok-feed.ensures.feeds in
     record {
-      few = omega (arith, came_few old new c.args.piece.now [] c.feed.new.out.items c.feed.new.rows.items f, c.requires.counted.few, c.in-Some.ensures, c.in-Ok-take_rows.ensures.counts.0);
-      sums = c.in-Ok-take_rows.ensures.counts.1;
+      few = omega (arith, came_few old new c.args.piece.now [] c.feed.new.out.items c.feed.new.lists.rows.items f, c.requires.counted.few, c.in-Some.ensures, c.in-Ok-take_lists.ensures.counts);
+      sums = c.in-Ok-take_lists.ensures.sums;
       fits = omega (arith, c.in-Some.ensures);
     }
 
@@ -72,13 +77,13 @@ returns-in-Ok-send-clause-goes_on g c start before rules namespace gives some u 
     let mid = g.L.Link.facts c.args.link.now in
     let new = fed_in rules' c.feed.new.self in
     let said = c.feed.new.out.items in
-    let came = c.feed.new.rows.items in
-    let f = feeds_none now.fed.side new.side c.args.piece.now c.new-out.result.items said c.new-rows.result.items came c.new-out.ensures.items c.new-rows.ensures.items c.in-Ok.ensures.feeds in
-    let signs = subst (λ (x : List ℕ → List ℕ → Bool). SignsTo x now.fed.side new.side c.args.piece.now) (sym gives) c.in-Ok.ensures.greets in
+    let came = c.feed.new.lists.rows.items in
+    let f = feeds_none now.fed.side new.side c.args.piece.now c.new-out.result.items said c.announce.new.self.rows.items came c.new-out.ensures.items (c.announce.ensures.rows ∙ c.new-came.ensures.rows) c.in-Ok-feed.ensures.feeds in
+    let signs = subst (λ (x : List ℕ → List ℕ → Bool). SignsTo x now.fed.side new.side c.args.piece.now) (sym gives) c.in-Ok-feed.ensures.greets in
     let t = tally_as start.rules rules' start.namespace n start.pass u.rows c.args.pass.now c.args.session.now.tally rules namespace u.tally in
-    let t' = tally_as rules' start.rules n start.namespace start.pass (u.rows ++ came) c.take_rows.new.pass c.take_rows.new.tally (sym rules) (sym namespace) (c.in-Ok-take_rows.ensures.takes start.pass u.rows t) in
-    goes_on start now u mid c.args.piece.now given (are_bytes c.args.piece.now c.type_inv.piece) new said came (subst (λ (l : List RawValue). All IsRaw l) c.deref.ensures.value c.known_raws.ensures) f c.in-Ok.ensures.counts signs c.known_signature.ensures c.take_rows.new.pass c.take_rows.ensures.later c.take_rows.new.tally t' (g.L.Link.facts c.send.new.link) c.send.ensures.rest
-    c.in-Some.count (g.K.Signer.left c.feed.new.signer) (g.K.Signer.faults c.feed.new.signer) (omega (arith, c.in-Some.ensures)) c.in-Ok.ensures.asks c.feed.ensures.faults (subst (λ (l : List ℕ). Extends mid.held (g.L.Link.facts c.send.new.link).held l) c.deref-2.ensures.value c.in-Ok-send.ensures.held) c.in-Ok-send.ensures.cause
+    let t' = tally_as rules' start.rules n start.namespace start.pass (u.rows ++ came) c.take_lists.new.pass c.take_lists.new.tally (sym rules) (sym namespace) (c.in-Ok-take_lists.ensures.takes start.pass u.rows t) in
+    goes_on start now u mid c.args.piece.now given (are_bytes c.args.piece.now c.type_inv.piece) new said came (subst (λ (l : List RawValue). All IsRaw l) c.deref.ensures.value c.known_raws.ensures) f c.in-Ok-feed.ensures.counts signs c.known_signature.ensures c.take_lists.new.pass c.take_lists.ensures.later c.take_lists.new.tally t' (g.L.Link.facts c.send.new.link) c.send.ensures.rest
+    c.in-Some.count (g.K.Signer.left c.feed.new.signer) (g.K.Signer.faults c.feed.new.signer) (omega (arith, c.in-Some.ensures)) c.in-Ok-feed.ensures.asks c.feed.ensures.faults (subst (λ (l : List ℕ). Extends mid.held (g.L.Link.facts c.send.new.link).held l) c.deref-2.ensures.value c.in-Ok-send.ensures.held) c.in-Ok-send.ensures.cause
 
 pub returns-in-Err-Failed-clause-goes_on : goal.returns-in-Err-Failed-clause-goes_on
 returns-in-Err-Failed-clause-goes_on g c start before rules namespace gives some u given =
@@ -88,13 +93,13 @@ returns-in-Err-Failed-clause-goes_on g c start before rules namespace gives some
     let mid = g.L.Link.facts c.args.link.now in
     let new = fed_in rules' c.feed.new.self in
     let said = c.feed.new.out.items in
-    let came = c.feed.new.rows.items in
-    let f = feeds_none now.fed.side new.side c.args.piece.now c.new-out.result.items said c.new-rows.result.items came c.new-out.ensures.items c.new-rows.ensures.items c.in-Ok.ensures.feeds in
-    let signs = subst (λ (x : List ℕ → List ℕ → Bool). SignsTo x now.fed.side new.side c.args.piece.now) (sym gives) c.in-Ok.ensures.greets in
+    let came = c.feed.new.lists.rows.items in
+    let f = feeds_none now.fed.side new.side c.args.piece.now c.new-out.result.items said c.announce.new.self.rows.items came c.new-out.ensures.items (c.announce.ensures.rows ∙ c.new-came.ensures.rows) c.in-Ok-feed.ensures.feeds in
+    let signs = subst (λ (x : List ℕ → List ℕ → Bool). SignsTo x now.fed.side new.side c.args.piece.now) (sym gives) c.in-Ok-feed.ensures.greets in
     let t = tally_as start.rules rules' start.namespace n start.pass u.rows c.args.pass.now c.args.session.now.tally rules namespace u.tally in
-    let t' = tally_as rules' start.rules n start.namespace start.pass (u.rows ++ came) c.take_rows.new.pass c.take_rows.new.tally (sym rules) (sym namespace) (c.in-Ok-take_rows.ensures.takes start.pass u.rows t) in
+    let t' = tally_as rules' start.rules n start.namespace start.pass (u.rows ++ came) c.take_lists.new.pass c.take_lists.new.tally (sym rules) (sym namespace) (c.in-Ok-take_lists.ensures.takes start.pass u.rows t) in
     let rose = subst (λ (x : Fault). CountsCause mid.write_faults (g.L.Link.facts c.send.new.link).write_faults x) c.in-Err-Failed.field-0-is c.in-Err-Failed.ensures.cause in
-    unsent_failed start now u mid c.args.piece.now given (are_bytes c.args.piece.now c.type_inv.piece) new said came (subst (λ (l : List RawValue). All IsRaw l) c.deref.ensures.value c.known_raws.ensures) f c.in-Ok.ensures.counts signs c.known_signature.ensures c.take_rows.new.pass c.take_rows.ensures.later c.take_rows.new.tally t' (g.L.Link.facts c.send.new.link) c.send.ensures.rest
+    unsent_failed start now u mid c.args.piece.now given (are_bytes c.args.piece.now c.type_inv.piece) new said came (subst (λ (l : List RawValue). All IsRaw l) c.deref.ensures.value c.known_raws.ensures) f c.in-Ok-feed.ensures.counts signs c.known_signature.ensures c.take_lists.new.pass c.take_lists.ensures.later c.take_lists.new.tally t' (g.L.Link.facts c.send.new.link) c.send.ensures.rest
     (g.K.Signer.faults c.feed.new.signer) c.feed.ensures.faults (subst (λ (l : List ℕ). (k : ℕ) × (k < length l) × Extends mid.held (g.L.Link.facts c.send.new.link).held (take k l)) c.deref-2.ensures.value c.in-Err-Failed.ensures.held) rose
 
 pub returns-clause-goes_on : goal.returns-clause-goes_on
@@ -105,11 +110,11 @@ returns-clause-goes_on g c start before rules namespace gives some u given =
     let mid = g.L.Link.facts c.args.link.now in
     let new = fed_in rules' c.feed.new.self in
     let said = c.feed.new.out.items in
-    let came = c.feed.new.rows.items in
-    let f = feeds_none now.fed.side new.side c.args.piece.now c.new-out.result.items said c.new-rows.result.items came c.new-out.ensures.items c.new-rows.ensures.items c.in-Ok.ensures.feeds in
-    let signs = subst (λ (x : List ℕ → List ℕ → Bool). SignsTo x now.fed.side new.side c.args.piece.now) (sym gives) c.in-Ok.ensures.greets in
+    let came = c.feed.new.lists.rows.items in
+    let f = feeds_none now.fed.side new.side c.args.piece.now c.new-out.result.items said c.announce.new.self.rows.items came c.new-out.ensures.items (c.announce.ensures.rows ∙ c.new-came.ensures.rows) c.in-Ok-feed.ensures.feeds in
+    let signs = subst (λ (x : List ℕ → List ℕ → Bool). SignsTo x now.fed.side new.side c.args.piece.now) (sym gives) c.in-Ok-feed.ensures.greets in
     let t = tally_as start.rules rules' start.namespace n start.pass u.rows c.args.pass.now c.args.session.now.tally rules namespace u.tally in
-    let t' = tally_as rules' start.rules n start.namespace start.pass (u.rows ++ came) c.take_rows.new.pass c.take_rows.new.tally (sym rules) (sym namespace) (c.in-Ok-take_rows.ensures.takes start.pass u.rows t) in
+    let t' = tally_as rules' start.rules n start.namespace start.pass (u.rows ++ came) c.take_lists.new.pass c.take_lists.new.tally (sym rules) (sym namespace) (c.in-Ok-take_lists.ensures.takes start.pass u.rows t) in
     let more = subst (λ (x : Fault). CountsCause mid.write_faults (g.L.Link.facts c.send.new.link).write_faults x) c.in-Err-NoMemory-send.field-0-is c.in-Err-NoMemory-send.ensures.cause in
-    unsent_unkept start now u mid c.args.piece.now given (are_bytes c.args.piece.now c.type_inv.piece) new said came (subst (λ (l : List RawValue). All IsRaw l) c.deref.ensures.value c.known_raws.ensures) f c.in-Ok.ensures.counts signs c.known_signature.ensures c.take_rows.new.pass c.take_rows.ensures.later c.take_rows.new.tally t' (g.L.Link.facts c.send.new.link) c.send.ensures.rest
+    unsent_unkept start now u mid c.args.piece.now given (are_bytes c.args.piece.now c.type_inv.piece) new said came (subst (λ (l : List RawValue). All IsRaw l) c.deref.ensures.value c.known_raws.ensures) f c.in-Ok-feed.ensures.counts signs c.known_signature.ensures c.take_lists.new.pass c.take_lists.ensures.later c.take_lists.new.tally t' (g.L.Link.facts c.send.new.link) c.send.ensures.rest
     (g.K.Signer.faults c.feed.new.signer) c.feed.ensures.faults (subst (λ (l : List ℕ). (k : ℕ) × (k < length l) × Extends mid.held (g.L.Link.facts c.send.new.link).held (take k l)) c.deref-2.ensures.value c.in-Err-NoMemory-send.ensures.held) more

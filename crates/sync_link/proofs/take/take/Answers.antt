@@ -114,7 +114,7 @@ returns-in_ok-came-in-Items-clause-counts g c = λ at.
     subst (λ d. CountsStep (fed_with accepts value talker d) (fed_with accepts value talker c.put_item.new.due) at bytes c.put_item.result) (sym c.in-Items.is)
     (subst (λ d. CountsStep (fed_with accepts value talker due) (fed_with accepts value talker d) at bytes c.put_item.result) (sym next)
     (subst (λ n. CountsStep (fed_with accepts value talker due) (fed_with accepts value talker (due_behind (dues.Items c.take_item.new.exchange) came)) at bytes n) (sym taken)
-    (item_counts accepts value talker talker at bytes exchange fits waits c.take_item.new.exchange c.args.out.now.items c.take_item.new.out.items (map row_of c.args.rows.now.items) (map row_of c.take_item.new.rows.items) came c.in_ok-came-in-Items.ensures.comes)))
+    (item_counts accepts value talker talker at bytes exchange fits waits c.take_item.new.exchange c.args.out.now.items c.take_item.new.out.items (map row_of c.args.lists.now.rows.items) (map row_of c.take_item.new.lists.rows.items) came c.in_ok-came-in-Items.ensures.comes)))
 
 pub returns-in_ok-came-in-Items-clause-fits : goal.returns-in_ok-came-in-Items-clause-fits
 returns-in_ok-came-in-Items-clause-fits g c =
@@ -124,7 +124,7 @@ returns-in_ok-came-in-Items-clause-fits g c =
     let waits : stage_of exchange.core.doing ≡ stage.Reading = search rules in
     let next : c.put_item.new.due ≡ due_behind (dues.Items c.take_item.new.exchange) came = search rules in
     subst (λ d. Fits c.args.talker.now.role c.args.talker.now.signature d) (sym next)
-    (item_fits g.S.Verify.rules g.R.Row.value c.args.talker.now exchange c.take_item.new.exchange fits waits c.args.bytes.now c.args.out.now.items c.take_item.new.out.items (map row_of c.args.rows.now.items) (map row_of c.take_item.new.rows.items)
+    (item_fits g.S.Verify.rules g.R.Row.value c.args.talker.now exchange c.take_item.new.exchange fits waits c.args.bytes.now c.args.out.now.items c.take_item.new.out.items (map row_of c.args.lists.now.rows.items) (map row_of c.take_item.new.lists.rows.items)
     c.args.talker.now.role came c.in_ok-came-in-Items.ensures.comes)
 
 pub returns-in_ok-came-in-Items-clause-holds : goal.returns-in_ok-came-in-Items-clause-holds
@@ -136,5 +136,5 @@ returns-in_ok-came-in-Items-clause-holds g c = λ none.
     let next : c.put_item.new.due ≡ due_behind (dues.Items c.take_item.new.exchange) came = search rules in
     let taken : c.put_item.result ≡ taken_behind came = search rules in
     subst (λ d. Holds g.S.Verify.rules g.R.Row.value c.args.talker.now d c.args.bytes.now) (sym next)
-    (item_holds g.S.Verify.rules g.R.Row.value c.args.talker.now exchange c.take_item.new.exchange fits waits c.args.bytes.now c.args.out.now.items c.take_item.new.out.items (map row_of c.args.rows.now.items) (map row_of c.take_item.new.rows.items)
+    (item_holds g.S.Verify.rules g.R.Row.value c.args.talker.now exchange c.take_item.new.exchange fits waits c.args.bytes.now c.args.out.now.items c.take_item.new.out.items (map row_of c.args.lists.now.rows.items) (map row_of c.take_item.new.lists.rows.items)
     came c.in_ok-came-in-Items.ensures.comes (sym taken ∙ none))

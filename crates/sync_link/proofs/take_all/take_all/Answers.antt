@@ -7,7 +7,7 @@ use Rattle.sync_link.proofs.take_all.take_all.Goals as goal
 
 pub loop-talker-init : goal.loop-talker-init
 loop-talker-init g c = record {
-  front = front_none g.S.Verify.rules g.R.Row.value c.args.talker.now c.args.due.now c.args.bytes.now c.args.out.now.items (map row_of c.args.rows.now.items) c.requires.fits;
+  front = front_none g.S.Verify.rules g.R.Row.value c.args.talker.now c.args.due.now c.args.bytes.now c.args.out.now.items (map row_of c.args.lists.now.rows.items) c.requires.fits;
   gives = refl;
   faults = omega arith;
   signs = λ signature made. inl made;
@@ -24,11 +24,11 @@ loop-talker-preserved g c =
     let e = c.in-Ok-Some.ensures in
     let first = c.args.talker.now in
     let new = c.take.new.talker in
-    let once = once_by g.S.Verify.rules g.R.Row.value first now.talker new c.args.due.now now.due c.take.new.due c.args.bytes.now now.taken c.args.out.now.items now.out.items c.take.new.out.items (map row_of c.args.rows.now.items) (map row_of now.rows.items) (map row_of c.take.new.rows.items)
+    let once = once_by g.S.Verify.rules g.R.Row.value first now.talker new c.args.due.now now.due c.take.new.due c.args.bytes.now now.taken c.args.out.now.items now.out.items c.take.new.out.items (map row_of c.args.lists.now.rows.items) (map row_of now.lists.rows.items) (map row_of c.take.new.lists.rows.items)
     is.front _ c.in-Ok-Some.field-0 (all_behind now.taken c.args.bytes.now) e.keeps e.steps e.counts e.fits e.read in
     record {
       front =
-          front_by g.S.Verify.rules g.R.Row.value first now.talker new c.args.due.now now.due c.take.new.due c.args.bytes.now now.taken c.args.out.now.items now.out.items c.take.new.out.items (map row_of c.args.rows.now.items) (map row_of now.rows.items) (map row_of c.take.new.rows.items)
+          front_by g.S.Verify.rules g.R.Row.value first now.talker new c.args.due.now now.due c.take.new.due c.args.bytes.now now.taken c.args.out.now.items now.out.items c.take.new.out.items (map row_of c.args.lists.now.rows.items) (map row_of now.lists.rows.items) (map row_of c.take.new.lists.rows.items)
           is.front _ c.in-Ok-Some.field-0 (all_behind now.taken c.args.bytes.now) e.keeps e.steps e.counts e.fits e.read c.in-Ok-Some.more c.in-Ok-Some.field-0-is;
       gives = e.gives ∙ is.gives;
       faults = omega (arith, is.faults, e.faults);
@@ -36,7 +36,7 @@ loop-talker-preserved g c =
           signs_on (g.K.Signer.gives c.args.signer.now) (g.K.Signer.gives now.signer) first.role now.talker.role first.hello now.talker.hello first.signature now.talker.signature new.signature is.gives
           (ap (λ t. t.role) is.front.keeps) (ap (λ t. t.hello) is.front.keeps) is.signs e.signs;
       greets =
-          signs_more (g.K.Signer.gives c.args.signer.now) (g.K.Signer.gives now.signer) g.S.Verify.rules g.R.Row.value first now.talker new c.args.due.now now.due c.take.new.due c.args.bytes.now now.taken c.args.out.now.items now.out.items (map row_of c.args.rows.now.items) (map row_of now.rows.items)
+          signs_more (g.K.Signer.gives c.args.signer.now) (g.K.Signer.gives now.signer) g.S.Verify.rules g.R.Row.value first now.talker new c.args.due.now now.due c.take.new.due c.args.bytes.now now.taken c.args.out.now.items now.out.items (map row_of c.args.lists.now.rows.items) (map row_of now.lists.rows.items)
           is.front is.greets is.gives _ (all_behind now.taken c.args.bytes.now) once c.in-Ok-Some.field-0 e.greets c.in-Ok-Some.more c.in-Ok-Some.field-0-is;
       asks = asks_on now.talker.signature new.signature (g.K.Signer.left c.args.signer.now) (g.K.Signer.left now.signer) (g.K.Signer.left c.take.new.signer) once is.asks e.asks;
     }
@@ -45,7 +45,7 @@ pub overflow_add-taken : goal.overflow_add-taken
 overflow_add-taken g c =
     let now = c.loop-talker in
     let e = c.in-Ok-Some.ensures in
-    let some = more_taken g.S.Verify.rules g.R.Row.value c.args.talker.now now.talker c.take.new.talker c.args.due.now now.due c.take.new.due c.args.bytes.now now.taken c.args.out.now.items now.out.items c.take.new.out.items (map row_of c.args.rows.now.items) (map row_of now.rows.items) (map row_of c.take.new.rows.items)
+    let some = more_taken g.S.Verify.rules g.R.Row.value c.args.talker.now now.talker c.take.new.talker c.args.due.now now.due c.take.new.due c.args.bytes.now now.taken c.args.out.now.items now.out.items c.take.new.out.items (map row_of c.args.lists.now.rows.items) (map row_of now.lists.rows.items) (map row_of c.take.new.lists.rows.items)
     now.invariant.front _ c.in-Ok-Some.field-0 (all_behind now.taken c.args.bytes.now) e.keeps e.steps e.counts e.fits e.read c.in-Ok-Some.more c.in-Ok-Some.field-0-is in
     omega (arith, c.requires.few, some.1)
 
@@ -53,7 +53,7 @@ pub loop-talker-smaller : goal.loop-talker-smaller
 loop-talker-smaller g c =
     let now = c.loop-talker in
     let e = c.in-Ok-Some.ensures in
-    let some = more_taken g.S.Verify.rules g.R.Row.value c.args.talker.now now.talker c.take.new.talker c.args.due.now now.due c.take.new.due c.args.bytes.now now.taken c.args.out.now.items now.out.items c.take.new.out.items (map row_of c.args.rows.now.items) (map row_of now.rows.items) (map row_of c.take.new.rows.items)
+    let some = more_taken g.S.Verify.rules g.R.Row.value c.args.talker.now now.talker c.take.new.talker c.args.due.now now.due c.take.new.due c.args.bytes.now now.taken c.args.out.now.items now.out.items c.take.new.out.items (map row_of c.args.lists.now.rows.items) (map row_of now.lists.rows.items) (map row_of c.take.new.lists.rows.items)
     now.invariant.front _ c.in-Ok-Some.field-0 (all_behind now.taken c.args.bytes.now) e.keeps e.steps e.counts e.fits e.read c.in-Ok-Some.more c.in-Ok-Some.field-0-is in
     omega (arith, some.0, some.1)
 
@@ -64,7 +64,7 @@ returns-in-Ok-None-clause-takes g c =
     let now = c.loop-talker in
     let e = c.in-Ok-None.ensures in
     let none : c.in-Ok-None.field-0 ≡ None = search rules in
-    front_end g.S.Verify.rules g.R.Row.value c.args.talker.now now.talker c.take.new.talker c.args.due.now now.due c.take.new.due c.args.bytes.now now.taken c.args.out.now.items now.out.items c.take.new.out.items (map row_of c.args.rows.now.items) (map row_of now.rows.items) (map row_of c.take.new.rows.items)
+    front_end g.S.Verify.rules g.R.Row.value c.args.talker.now now.talker c.take.new.talker c.args.due.now now.due c.take.new.due c.args.bytes.now now.taken c.args.out.now.items now.out.items c.take.new.out.items (map row_of c.args.lists.now.rows.items) (map row_of now.lists.rows.items) (map row_of c.take.new.lists.rows.items)
     now.invariant.front _ c.in-Ok-None.field-0 (all_behind now.taken c.args.bytes.now) e.keeps e.steps e.counts e.fits e.read none (e.holds none)
 
 pub returns-in-Ok-None-clause-signs : goal.returns-in-Ok-None-clause-signs
@@ -81,16 +81,16 @@ returns-in-Ok-None-clause-greets g c =
     let is = now.invariant in
     let e = c.in-Ok-None.ensures in
     let none : c.in-Ok-None.field-0 ≡ None = search rules in
-    let once = once_by g.S.Verify.rules g.R.Row.value c.args.talker.now now.talker c.take.new.talker c.args.due.now now.due c.take.new.due c.args.bytes.now now.taken c.args.out.now.items now.out.items c.take.new.out.items (map row_of c.args.rows.now.items) (map row_of now.rows.items) (map row_of c.take.new.rows.items)
+    let once = once_by g.S.Verify.rules g.R.Row.value c.args.talker.now now.talker c.take.new.talker c.args.due.now now.due c.take.new.due c.args.bytes.now now.taken c.args.out.now.items now.out.items c.take.new.out.items (map row_of c.args.lists.now.rows.items) (map row_of now.lists.rows.items) (map row_of c.take.new.lists.rows.items)
     is.front _ c.in-Ok-None.field-0 (all_behind now.taken c.args.bytes.now) e.keeps e.steps e.counts e.fits e.read in
-    signs_end (g.K.Signer.gives c.args.signer.now) (g.K.Signer.gives now.signer) g.S.Verify.rules g.R.Row.value c.args.talker.now now.talker c.take.new.talker c.args.due.now now.due c.take.new.due c.args.bytes.now now.taken c.args.out.now.items now.out.items (map row_of c.args.rows.now.items) (map row_of now.rows.items)
+    signs_end (g.K.Signer.gives c.args.signer.now) (g.K.Signer.gives now.signer) g.S.Verify.rules g.R.Row.value c.args.talker.now now.talker c.take.new.talker c.args.due.now now.due c.take.new.due c.args.bytes.now now.taken c.args.out.now.items now.out.items (map row_of c.args.lists.now.rows.items) (map row_of now.lists.rows.items)
     is.front is.greets is.gives _ (all_behind now.taken c.args.bytes.now) once c.in-Ok-None.field-0 e.greets none
 
 pub returns-in-Ok-None-clause-asks : goal.returns-in-Ok-None-clause-asks
 returns-in-Ok-None-clause-asks g c =
     let now = c.loop-talker in
     let e = c.in-Ok-None.ensures in
-    let once = once_by g.S.Verify.rules g.R.Row.value c.args.talker.now now.talker c.take.new.talker c.args.due.now now.due c.take.new.due c.args.bytes.now now.taken c.args.out.now.items now.out.items c.take.new.out.items (map row_of c.args.rows.now.items) (map row_of now.rows.items) (map row_of c.take.new.rows.items)
+    let once = once_by g.S.Verify.rules g.R.Row.value c.args.talker.now now.talker c.take.new.talker c.args.due.now now.due c.take.new.due c.args.bytes.now now.taken c.args.out.now.items now.out.items c.take.new.out.items (map row_of c.args.lists.now.rows.items) (map row_of now.lists.rows.items) (map row_of c.take.new.lists.rows.items)
     now.invariant.front _ c.in-Ok-None.field-0 (all_behind now.taken c.args.bytes.now) e.keeps e.steps e.counts e.fits e.read in
     asks_on now.talker.signature c.take.new.talker.signature (g.K.Signer.left c.args.signer.now) (g.K.Signer.left now.signer) (g.K.Signer.left c.take.new.signer) once now.invariant.asks e.asks
 
@@ -106,11 +106,11 @@ returns-in-Err-clause-failed g c = λ fault.
 pub returns-clause-takes : goal.returns-clause-takes
 returns-clause-takes g c =
     let now = c.loop-talker in
-    front_closed g.S.Verify.rules g.R.Row.value c.args.talker.now now.talker c.args.due.now now.due c.args.bytes.now now.taken c.args.out.now.items now.out.items (map row_of c.args.rows.now.items) (map row_of now.rows.items)
+    front_closed g.S.Verify.rules g.R.Row.value c.args.talker.now now.talker c.args.due.now now.due c.args.bytes.now now.taken c.args.out.now.items now.out.items (map row_of c.args.lists.now.rows.items) (map row_of now.lists.rows.items)
     now.invariant.front (c.is_open.ensures.closed (search rules))
 
 pub returns-clause-greets : goal.returns-clause-greets
 returns-clause-greets g c =
     let now = c.loop-talker in
-    signs_closed (g.K.Signer.gives c.args.signer.now) (g.K.Signer.gives c.args.signer.now) g.S.Verify.rules g.R.Row.value c.args.talker.now now.talker now.talker c.args.due.now now.due now.due c.args.bytes.now now.taken c.args.out.now.items now.out.items (map row_of c.args.rows.now.items) (map row_of now.rows.items)
+    signs_closed (g.K.Signer.gives c.args.signer.now) (g.K.Signer.gives c.args.signer.now) g.S.Verify.rules g.R.Row.value c.args.talker.now now.talker now.talker c.args.due.now now.due now.due c.args.bytes.now now.taken c.args.out.now.items now.out.items (map row_of c.args.lists.now.rows.items) (map row_of now.lists.rows.items)
     now.invariant.front now.invariant.greets

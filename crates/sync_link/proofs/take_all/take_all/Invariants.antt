@@ -8,7 +8,7 @@ use Rattle.sync_link.proofs.take_all.take_all.Given as goal
 
 abbrev pub invariant-loop-talker : goal.invariant-loop-talker
 invariant-loop-talker g l = record {
-  front : TakesFront g.S.Verify.rules g.R.Row.value l.fn.talker l.talker l.fn.due l.due l.bytes l.taken l.fn.out.items l.out.items (map row_of l.fn.rows.items) (map row_of l.rows.items);
+  front : TakesFront g.S.Verify.rules g.R.Row.value l.fn.talker l.talker l.fn.due l.due l.bytes l.taken l.fn.out.items l.out.items (map row_of l.fn.lists.rows.items) (map row_of l.lists.rows.items);
   gives : g.K.Signer.gives l.signer ≡ g.K.Signer.gives l.fn.signer;
   faults : g.K.Signer.faults l.fn.signer ≤ g.K.Signer.faults l.signer;
   signs : SignsBy (g.K.Signer.gives l.fn.signer) l.fn.talker.role l.fn.talker.hello l.fn.talker.signature l.talker.signature;
