@@ -50,3 +50,4 @@ pub mod CountedTalk
 pub mod CountedRuns
 pub mod EndedRuns
 pub mod MeetingRuns
+pub mod Promised

@@ -26,7 +26,7 @@ use Rattle.sync_link.specs.Fed.{Fed, CountsOn}
 use Rattle.sync_link.specs.Signing.{SignsTo}
 use Rattle.sync_link.specs.Tallies.{HasGrown, IsTally}
 use Rattle.sync_link.specs.Run.{Counts}
-use Rattle.sync_link.specs.UnderWay.{Start, Now, Reached, IsUnderWay, Gives, ReadsNothing, EndsSo}
+use Rattle.sync_link.specs.UnderWay.{Start, Now, Reached, IsUnderWay, GaveBytes, ReadsNothing, EndsSo}
 use Rattle.sync_link.specs.declared.intake.Tally.{Tally}
 use Rattle.sync_link.proofs.Reaching.{reached_on}
 use Rattle.sync_link.proofs.Outcomes.{cut_off}
@@ -51,7 +51,7 @@ was_unsigned : (o : Option (List ℕ)) → ((signature : List ℕ) → MayBe o s
 was_unsigned None h = refl
 was_unsigned (Some made) h = absurd (two_made made (h []) (h (1 ∷ [])))
 
-module _ (start : Start) (now : Now) (u : IsUnderWay start now) (mid : LinkFacts) (piece : List ℕ) (gives : Gives now.link mid piece) (are_bytes : AreBytes piece) where
+module _ (start : Start) (now : Now) (u : IsUnderWay start now) (mid : LinkFacts) (piece : List ℕ) (gives : GaveBytes now.link mid piece) (are_bytes : AreBytes piece) where
   taken_on : Consumes start.link.left mid.left (u.bytes ++ piece) × Extends start.link.taken mid.taken (u.bytes ++ piece)
   taken_on =
       (Consumes-trans start.link.left now.link.left mid.left u.bytes piece u.taken.0 gives.left, extends-trans start.link.taken now.link.taken mid.taken u.bytes piece u.taken.1 gives.taken)

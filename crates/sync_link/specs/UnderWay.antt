@@ -37,7 +37,7 @@ pub record ReadsNothing (before now : LinkFacts) : Type 0 where
   pub ends : now.ends ≡ before.ends
 
 -- The link gave just these bytes, and all else of it is as it was.
-pub record Gives (before now : LinkFacts) (bytes : List ℕ) : Type 0 where
+pub record GaveBytes (before now : LinkFacts) (bytes : List ℕ) : Type 0 where
   pub left : Consumes before.left now.left bytes
   pub taken : Extends before.taken now.taken bytes
   pub held : now.held ≡ before.held

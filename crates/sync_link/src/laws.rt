@@ -18,6 +18,13 @@ ghost use Rattle.sync_link.specs.Sessions.{Party, AreSameInCommon, box_with, ses
 ghost use Rattle.sync_link.specs.Granting.{IsGranted, GrantsRow};
 ghost use Rattle.sync_link.specs.Settling.{AreApartIn, AreDone, CanMeet, IsOpening};
 
+use crate::plan::VERSION;
+
+/// The version that a session speaks.
+pub fn version()
+    ensures { VERSION ≡ 1 }
+{}
+
 /// In whatever pieces bytes come, the same comes of them.
 #[tactic(auto, using(session_rules::proofs::Runs::run_append))]
 pub fn pieces()

@@ -9,6 +9,7 @@ ghost use Rattle.session_rules.specs.Rounds.{IsOver};
 ghost use Rattle.sync_hello.specs.Checked.{hello_refusal};
 ghost use Rattle.sync_link.specs.Kept.{entry_row};
 ghost use Rattle.sync_link.specs.Plans.{own_hello, planned};
+ghost use Rattle.sync_link.specs.Promises.{KeepsPromises};
 ghost use Rattle.sync_link.specs.Run.{Runs};
 ghost use Rattle.sync_link.specs.Settling.{IsOpening};
 ghost use Rattle.sync_link.specs.UnderWay.{Start, IsCounted, IsReady, IsUnderWay, GoesOn, Opens, brought, now_of};
@@ -37,6 +38,7 @@ const PIECE: usize = 65_536;
 /// the area that both may read. The side takes a snapshot of the cell first and answers from it alone. Rows that it is sent
 /// are checked and offered to the cell as they come, those of each list by themselves, and stay there whatever the end is. No
 /// turn of the cell is held while the link is read or written.
+#[tactic(auto, using(crate::proofs::Promised::keeps_promises))]
 pub fn run_session<R: Wait + Threads + Sync, S: Scheme, C: Checker<S>, K: Signer, L: Link>(
     rt: &R,
     alloc: Global,
@@ -53,6 +55,7 @@ pub fn run_session<R: Wait + Threads + Sync, S: Scheme, C: Checker<S>, K: Signer
     requires hello { hello_refusal S.rules cell.now.namespace (own_hello plan.now nonce) ≡ None }
     requires signs { 1 ≤ K.left signer.old }
     ensures runs { Runs (planned S.rules cell.now.namespace plan.now nonce) (K.gives signer.old) pass.old pass.new (L.facts link.old) (L.facts link.new) (K.faults signer.old) (K.faults signer.new) result }
+    ensures promises { KeepsPromises (planned S.rules cell.now.namespace plan.now nonce) (K.gives signer.old) pass.old pass.new (L.facts link.old) (L.facts link.new) (K.faults signer.old) (K.faults signer.new) result }
     ensures pass { IsPassOf cell.now pass.new }
     ensures namespace { C.judged_in checker.new ≡ C.judged_in checker.old }
     ensures gives { K.gives signer.new ≡ K.gives signer.old }
