@@ -1,11 +1,14 @@
 -- The laws of each command.
+use Rattle.std.proofs.Common.{◌++◌}
 use Rattle.peer_stage.specs.Deed.{IsLawful}
-use Rattle.peer_stage.proofs.Owing.{not_built_is_lawful}
+use Rattle.peer_stage.specs.declared.outcome.Done.TheVariants as done
+use Rattle.peer_stage.proofs.Owing.{StaysLocal, then_local, writes_local, not_built_is_lawful}
 use Rattle.peer_rows.proofs.Deeds.{join_is_lawful, show_is_lawful, gen_is_lawful}
 use Rattle.peer_make.proofs.Deeds.{key_is_lawful, grant_is_lawful, delegate_is_lawful, write_is_lawful}
 use Rattle.peer_words.specs.declared.command.Command.{Command}
 use Rattle.peer_words.specs.declared.command.Command.TheVariants as cmd
 use Rattle.peer_run.specs.Deeds.{deed_of}
+use Rattle.peer_run.specs.Locals as locals
 use Rattle.peer_run.proofs.PairDeeds.{drill_is_lawful, meet_is_lawful}
 use Rattle.peer_run.proofs.CallEnds.{sync_is_lawful}
 use Rattle.peer_run.proofs.ServeEnds.{serve_is_lawful}
@@ -25,3 +28,19 @@ laws_of (cmd.Meet left right left_cap right_cap left_out right_out area) =
 laws_of (cmd.Sync image cap key to area) = sync_is_lawful (record { image = image; cap = cap; key = key; to = to; area = area })
 laws_of (cmd.Serve image cap key at links area) = serve_is_lawful (record { image = image; cap = cap; key = key; at = at; links = links; area = area })
 laws_of command = not_built_is_lawful
+
+-- One line a command: any but those that call others stays without sessions.
+pub stays_local : (c : Command) → locals.IsLocal c → StaysLocal (deed_of c).meets
+stays_local (cmd.Join namespace) is = then_local _ _ (λ x. writes_local x.0 (done.Joined x.1) tt)
+stays_local (cmd.Show newest) is = then_local _ _ (λ x. writes_local (x.0.items ++ x.1.items) (done.Shown x.2) tt)
+stays_local (cmd.Key name height) is = then_local _ _ (λ free. then_local _ _ (λ k. then_local _ _ (λ put. writes_local _ done.Made tt)))
+stays_local (cmd.Grant namespace mode user key) is = then_local _ _ (λ initial. then_local _ _ (λ valid. writes_local _ done.Made tt))
+stays_local (cmd.Delegate key to area) is = then_local _ _ (λ c. then_local _ _ (λ asked. then_local _ _ (λ signature. then_local _ _ (λ valid. writes_local _ done.Made tt))))
+stays_local (cmd.Write key path time payload_length digest subspace) is = then_local _ _ (λ c. then_local _ _ (λ signature. then_local _ _ (λ fine. writes_local _ done.Made tt)))
+stays_local (cmd.Gen rows) is = writes_local _ done.Made tt
+stays_local (cmd.Drill rows) is = writes_local _ done.Made tt
+stays_local (cmd.Meet left right left_cap right_cap left_out right_out area) is =
+    then_local _ _ (λ s. then_local _ _ (λ agreed. then_local _ _ (λ met. then_local _ _ (λ one. then_local _ _ (λ other. writes_local met.transcript.items (done.Met met.counts) tt)))))
+stays_local (cmd.Sync image grant key to area) is = absurd is
+stays_local (cmd.Serve image grant key at links area) is = absurd is
+stays_local c is = λ old new d m. absurd m

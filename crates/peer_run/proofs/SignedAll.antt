@@ -1,5 +1,5 @@
 -- No session of a command failed to sign: a signer of the program counts no faults.
-use Rattle.std.proofs.Common.{◌≡◌, ◌∙◌, ℕ, Bool, List, ◌++◌, Contains, map, Option, sym, subst, ap, arith}
+use Rattle.std.proofs.Common.{◌≡◌, ◌∙◌, ℕ, Bool, List, Contains, map, Option, sym, subst, ap, arith}
 use Rattle.std.specs.Prelude.{Result, Ok, Err}
 use Rattle.std.specs.String.{string_bytes}
 use Rattle.willow_outside.specs.Counts.{HasRisen}
@@ -17,12 +17,10 @@ use Rattle.peer_stage.specs.declared.outcome.SessionCounts.{SessionCounts}
 use Rattle.peer_stage.specs.declared.outcome.Stop.{Stop}
 use Rattle.peer_stage.specs.declared.outcome.Synced.{Synced}
 use Rattle.peer_stage.proofs.Ends.{IsLocal}
-use Rattle.peer_stage.proofs.Owing.{StaysLocal, then_local, writes_local}
 use Rattle.peer_words.specs.declared.command.Command.{Command}
 use Rattle.peer_words.specs.declared.command.Command.TheVariants as cmd
 use Rattle.peer_run.specs.Deeds.{deed_of}
 use Rattle.peer_run.specs.Hosting.{Visit}
-use Rattle.peer_run.specs.Locals as locals
 use Rattle.peer_run.specs.Preparing.{nonce_of}
 use Rattle.peer_run.specs.Serve.{ClosesHouse, Serves, told_of}
 use Rattle.peer_run.specs.Sync.{Finishes, Syncs, synced_of}
@@ -30,6 +28,7 @@ use Rattle.peer_run.specs.declared.calling.Called.{Called}
 use Rattle.peer_run.specs.declared.hosting.Attended.{Attended}
 use Rattle.peer_run.specs.declared.serving.ServeWords.{ServeWords}
 use Rattle.peer_run.specs.declared.syncing.SyncWords.{SyncWords}
+use Rattle.peer_run.proofs.Laws.{stays_local}
 use Rattle.peer_run.proofs.VisitedLinks.{some_visit, told_visit, told_end}
 
 -- a session did not fail to sign
@@ -98,22 +97,6 @@ serve_signs words old new d p =
     by d rows first x behind visits ends signed f = absurd f
 
 -- ---- all commands
-
--- any but a call and a server stay without sessions
-stays_local : (c : Command) → locals.IsLocal c → StaysLocal (deed_of c).meets
-stays_local (cmd.Join namespace) is = then_local _ _ (λ x. writes_local x.0 (done.Joined x.1) tt)
-stays_local (cmd.Show newest) is = then_local _ _ (λ x. writes_local (x.0.items ++ x.1.items) (done.Shown x.2) tt)
-stays_local (cmd.Key name height) is = then_local _ _ (λ free. then_local _ _ (λ k. then_local _ _ (λ put. writes_local _ done.Made tt)))
-stays_local (cmd.Grant namespace mode user key) is = then_local _ _ (λ initial. then_local _ _ (λ valid. writes_local _ done.Made tt))
-stays_local (cmd.Delegate key to area) is = then_local _ _ (λ c. then_local _ _ (λ asked. then_local _ _ (λ signature. then_local _ _ (λ valid. writes_local _ done.Made tt))))
-stays_local (cmd.Write key path time payload_length digest subspace) is = then_local _ _ (λ c. then_local _ _ (λ signature. then_local _ _ (λ fine. writes_local _ done.Made tt)))
-stays_local (cmd.Gen rows) is = writes_local _ done.Made tt
-stays_local (cmd.Drill rows) is = writes_local _ done.Made tt
-stays_local (cmd.Meet left right left_cap right_cap left_out right_out area) is =
-    then_local _ _ (λ s. then_local _ _ (λ agreed. then_local _ _ (λ met. then_local _ _ (λ one. then_local _ _ (λ other. writes_local met.transcript.items (done.Met met.counts) tt)))))
-stays_local (cmd.Sync image grant key to area) is = absurd is
-stays_local (cmd.Serve image grant key at links area) is = absurd is
-stays_local c is = λ old new d m. absurd m
 
 done_signs : (c : Command) (old new : World) (d : Done) → (deed_of c).meets old new (Ok d) → SignsAll d
 done_signs (cmd.Sync image grant key to area) old new d m = sync_signs (record { image = image; cap = grant; key = key; to = to; area = area }) old new d m
