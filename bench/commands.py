@@ -1,0 +1,98 @@
+"""Times commands over rows of the generator, and prints a table in Markdown.
+
+usage: python3 bench/commands.py PROGRAM [OTHER]
+
+PROGRAM and OTHER are executables `willow_peer`. Told are medians of RUNS runs by the clock and of the processors, and the
+most memory that a run took. The runs of all of them take turns, so that what else the machine does falls on all alike. Both
+programs get the same input, and have to write the same output. Of each command stands beside it how many blocks of SHA-256
+it hashes (`measure.py` tells what a row has): a row's signature takes three, its leaf five, and the capability of each of
+the eight writers two.
+"""
+import os
+import statistics
+import subprocess
+import sys
+import tempfile
+import time
+
+RUNS = 7
+NAMESPACE = "00" + "4f" * 32
+COPIES = 20
+WRITERS, CAPABILITY, SIGNED, LEAF = 8, 2, 3, 5
+
+
+def timed(command, given, made):
+    """The seconds by the clock and of the processors, the peak in MiB, and what was written."""
+    with open(given, "rb") as source, open(made, "wb") as sink:
+        begun = time.perf_counter()
+        child = subprocess.Popen(command, stdin=source, stdout=sink, stderr=subprocess.DEVNULL)
+        _, status, used = os.wait4(child.pid, 0)
+        took = time.perf_counter() - begun
+    child.returncode = os.waitstatus_to_exitcode(status)
+    if child.returncode != 0:
+        raise SystemExit(f"{' '.join(command)} ended with {child.returncode}")
+    with open(made, "rb") as file:
+        return took, used.ru_utime + used.ru_stime, used.ru_maxrss / 1024, file.read()
+
+
+def checked(rows):
+    """The blocks of so many rows that are signed or whose signatures are checked."""
+    return rows * SIGNED + WRITERS * CAPABILITY
+
+
+def make_files(program, folder):
+    """The input of each command, by its name, with the command's words and how many blocks it hashes."""
+    tasks, nothing = {}, os.devnull
+    join = ["join", "--namespace", NAMESPACE]
+    for rows in (20_000, 65_536):
+        frames, image = (os.path.join(folder, f"{name}{rows}") for name in ("rows", "image"))
+        timed([program, "gen", "--rows", str(rows)], nothing, frames)
+        timed([program, *join], frames, image)
+        *_, told = timed([program, "drill", "--rows", str(rows)], nothing, os.path.join(folder, "made"))
+        numbers = dict(line.rsplit(" ", 1) for line in told.decode().splitlines())
+        live, half_live = int(numbers["left"]), int(numbers["right"])
+        tasks[f"`gen` of {rows:,}"] = ["gen", "--rows", str(rows)], nothing, checked(rows)
+        tasks[f"`join` of {rows:,}"] = join, frames, checked(rows)
+        tasks[f"`show` of {live:,}"] = ["show"], image, checked(live)
+        blocks = checked(rows) + checked(rows // 2) + (live + half_live) * LEAF
+        tasks[f"`drill` of {rows:,}"] = ["drill", "--rows", str(rows)], nothing, blocks
+    covered = os.path.join(folder, "covered")
+    with open(os.path.join(folder, "rows20000"), "rb") as source, open(covered, "wb") as sink:
+        sink.write(source.read() * (COPIES + 1))
+    tasks[f"`join` of 20,000 rows, {COPIES} times again"] = join, covered, checked(20_000 * (COPIES + 1))
+    return tasks
+
+
+def take_turns(programs, tasks, folder):
+    taken = {(name, program): [] for name in tasks for program in programs}
+    for name, (words, given, _) in tasks.items():
+        wrote = None
+        for _ in range(RUNS):
+            for program in programs:
+                *figures, output = timed([program, *words], given, os.path.join(folder, "made"))
+                if wrote not in (None, output):
+                    raise SystemExit(f"{program}: {name} wrote something else than before")
+                wrote = output
+                taken[name, program].append(figures)
+    return taken
+
+
+def main():
+    programs = [os.path.abspath(word) for word in sys.argv[1:]]
+    if not 1 <= len(programs) <= 2:
+        raise SystemExit("usage: python3 bench/commands.py PROGRAM [OTHER]")
+    with tempfile.TemporaryDirectory() as folder:
+        tasks = make_files(programs[0], folder)
+        taken = take_turns(programs, tasks, folder)
+    print("| | hashes | " + " | ".join(f"{program} by the clock | of the processors | MiB" for program in programs) + " |")
+    print("|---|---|" + "---|---|---|" * len(programs))
+    for name, (_, _, hashes) in tasks.items():
+        told = []
+        for program in programs:
+            clock, processors, peak = (statistics.median(figures) for figures in zip(*taken[name, program]))
+            told.append(f"{clock:.3f} s | {processors:.3f} s | {peak:.1f}")
+        print(f"| {name} | {hashes:,} | " + " | ".join(told) + " |")
+
+
+if __name__ == "__main__":
+    main()
