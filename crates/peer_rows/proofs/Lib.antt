@@ -4,6 +4,7 @@ pub mod AuthorisedRows
 pub mod Taken
 pub mod Logged
 pub mod Offered
+pub mod Waiting
 pub mod RawStreams
 pub mod Pieces
 pub mod ReadLog

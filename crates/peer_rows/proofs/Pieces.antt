@@ -9,33 +9,31 @@ use Rattle.cap_codec.proofs.Frames.{frame_long}
 use Rattle.row_stream.specs.declared.refusal.StreamRefusal.{StreamRefusal}
 use Rattle.row_stream.specs.Streams.{frames_of, IsStream, GoesWrong}
 use Rattle.row_stream.specs.Feeding.{StreamState, nothing_fed, Feeds, HandsOut, Breaks}
-use Rattle.std.specs.Prelude.{Err}
+use Rattle.std.specs.Prelude.{Ok, Err, Result}
 use Rattle.spelling.specs.declared.ending.End.{End}
 use Rattle.spelling.specs.declared.ending.End.TheVariants.{Refused}
 use Rattle.peer_stage.specs.declared.outcome.Origin.TheVariants as origin
 use Rattle.peer_stage.specs.declared.outcome.Stop.{Stop}
 use Rattle.peer_stage.specs.declared.outcome.Stop.TheVariants as stop
 use Rattle.row_stream.proofs.Longer.{stream_on, wrong_on}
-use Rattle.peer_stage.specs.declared.outcome.JoinCounts.{JoinCounts}
-use Rattle.peer_rows.specs.Logged.{IsLogOf, PassesLog}
-use Rattle.ns_state.specs.declared.live_log.LogFull.{LogFull}
-use Rattle.ns_state.specs.declared.live_log.TheConstants.{LOG_LIMIT}
-use Rattle.peer_rows.specs.Stored.{offset_of, OffersAll, HasSeen, IsPastLog, TakesPiece}
-use Rattle.peer_rows.specs.declared.log.Log.{Log}
-use Rattle.peer_rows.proofs.Offered.{no_counts, IsLogOf-start}
+use Rattle.peer_rows.specs.Logged.{PassesLog}
+use Rattle.peer_rows.specs.Stored.{offset_of, HasTakenIn, JudgesAll, HasSeen, IsPastLog, FeedsPiece, TakesPiece}
+use Rattle.peer_rows.specs.declared.intake.Intake.{Intake}
+use Rattle.peer_rows.proofs.Offered.{no_counts}
+use Rattle.peer_rows.proofs.Waiting.{none_taken_in, none_waits, judged_may_wait}
 use Rattle.peer_rows.proofs.RawStreams.{framed_rows, more_rows, frames_same, right_so_far, wrong_there}
 
 -- ---- nothing is read yet
 
-pub nothing_seen : (namespace : List ℕ) (state : StreamState) (log : Log) → state ≡ nothing_fed → log.kept ≡ record { namespace = namespace; log = [] } → log.counts ≡ no_counts → HasSeen namespace [] state log
-nothing_seen namespace state log start empty none = record {
+pub nothing_seen : (namespace : List ℕ) (state : StreamState) (intake : Intake) → state ≡ nothing_fed → intake.log.kept ≡ record { namespace = namespace; log = [] } → intake.log.counts ≡ no_counts → intake.waiting.items ≡ []
+    → HasSeen namespace [] state intake
+nothing_seen namespace state intake start empty none nobody = record {
   seen = [];
   fit = tt;
   unrefused = ap (λ (s : StreamState). s.refusal) start;
   stream = subst (λ (s : StreamState). IsStream IsRawRow 0 [] [] s.begun None) (sym start) (record { fit = tt; parts = refl; judged = λ there. absurd (omega (arith, there)) });
   all_fed = omega (arith, ap (λ (s : StreamState). s.at) start, ap (λ (s : StreamState). length s.begun) start);
-  is_log = IsLogOf-start namespace log empty none;
-  fits = omega (arith, ap (λ (c : JoinCounts). c.stored) none);
+  taken_in = none_taken_in namespace intake empty none nobody;
 }
 
 -- ---- how many rows there are
@@ -44,10 +42,49 @@ frames_many : (rows : List RawValue) → 4 * length rows ≤ length (flat_map fr
 frames_many [] = omega arith
 frames_many (r ∷ rows) = omega (arith, frames_many rows, length-append (frame r) (flat_map frame rows), frame_long r)
 
-module _ (namespace bytes : List ℕ) (state : StreamState) (log : Log) (h : HasSeen namespace bytes state log) where
+module _ (namespace bytes : List ℕ) (state : StreamState) (intake : Intake) (h : HasSeen namespace bytes state intake) where
   -- the offset of the frame that has begun
   at_is : state.at ≡ 0 + length (frames_of (map row_of h.seen))
   at_is = omega (arith, h.all_fed, ap length h.stream.parts, length-append (frames_of (map row_of h.seen)) state.begun)
+
+  -- each row has four bytes at least
+  pub few_seen : 4 * length h.seen ≤ length bytes
+  few_seen =
+      omega (
+        arith,
+        frames_many h.seen,
+        ap length (frames_same h.seen),
+        ap length h.stream.parts,
+        length-append (frames_of (map row_of h.seen)) state.begun,
+      )
+
+  -- nothing in the bytes is wrong, so a row that is too many is told
+  pub past_log : PassesLog namespace h.seen → IsPastLog namespace bytes
+  past_log passes = record {
+    rows = h.seen;
+    not_wrong = right_so_far 0 bytes h.seen state.begun h.fit h.stream;
+    passes = passes;
+  }
+
+  -- the rows that wait are judged
+  pub seen_judged : (intake' : Intake) → JudgesAll namespace h.seen intake' (Ok tt) → TakesPiece namespace bytes state intake' (Ok tt)
+  seen_judged intake' judged = (
+    record {
+      seen = h.seen;
+      fit = h.fit;
+      unrefused = h.unrefused;
+      stream = h.stream;
+      all_fed = h.all_fed;
+      taken_in = none_waits namespace h.seen intake' judged;
+    },
+    judged_may_wait namespace h.seen intake' judged,
+  )
+
+  pub judged_so : (intake' : Intake) (result : Result (Unit {0}) Stop) → JudgesAll namespace h.seen intake' result → TakesPiece namespace bytes state intake' result
+  judged_so intake' (Ok tt) judged = seen_judged intake' judged
+  judged_so intake' (Err stop.LogFull) judged = past_log judged
+  judged_so intake' (Err stop.NoMemory) judged = tt
+  judged_so intake' (Err e) judged = absurd judged
 
   module _ (state' : StreamState) (piece : List ℕ) where
     pub goes_wrong : (refusal : StreamRefusal) → Breaks IsRawRow state piece refusal → GoesWrong IsRawRow 0 (bytes ++ piece) refusal
@@ -60,40 +97,18 @@ module _ (namespace bytes : List ℕ) (state : StreamState) (log : Log) (h : Has
           (stream_on IsRawRow 0 bytes (map row_of h.seen) state.begun h.stream piece (map row_of rows) state'.begun None
           (subst (λ (n : ℕ). IsStream IsRawRow n (state.begun ++ piece) (map row_of rows) state'.begun None) at_is out.stream))
 
-      -- each row has four bytes at least
-      pub few_rows : 4 * (log.counts.rows + length rows) ≤ length bytes + length piece
-      few_rows =
-          omega (
-            arith,
-            h.is_log.counted.all,
-            length-append h.seen rows,
-            frames_many (h.seen ++ rows),
-            ap length (frames_same (h.seen ++ rows)),
-            ap length stream_goes.parts,
-            length-append (frames_of (map row_of (h.seen ++ rows))) state'.begun,
-            length-append bytes piece,
-          )
-
       module _ (are : AllByRecursion IsRaw rows) where
         fit_goes : AllByRecursion FitsFrame (h.seen ++ rows)
         fit_goes = All-append FitsFrame h.seen rows h.fit (framed_rows rows are out.stream.fit)
 
-        pub seen_on : (log' : Log) → IsLogOf namespace (h.seen ++ rows) log'.kept log'.counts → log'.counts.stored ≤ LOG_LIMIT → HasSeen namespace (bytes ++ piece) state' log'
-        seen_on log' next fits = record {
+        pub seen_on : (intake' : Intake) → HasTakenIn namespace (h.seen ++ rows) intake' → HasSeen namespace (bytes ++ piece) state' intake'
+        seen_on intake' taken = record {
           seen = h.seen ++ rows;
           fit = fit_goes;
           unrefused = out.goes_on;
           stream = stream_goes;
           all_fed = omega (arith, out.none_lost, h.all_fed, length-append bytes piece);
-          is_log = next;
-          fits = fits;
-        }
-
-        pub past_log : PassesLog namespace (h.seen ++ rows) → IsPastLog namespace (bytes ++ piece)
-        past_log passes = record {
-          rows = h.seen ++ rows;
-          not_wrong = right_so_far 0 (bytes ++ piece) (h.seen ++ rows) state'.begun fit_goes stream_goes;
-          passes = passes;
+          taken_in = taken;
         }
 
 -- ---- a piece that goes wrong
@@ -106,12 +121,14 @@ pub breaks : (IsRow : RowValue → Type 0) (state state' : StreamState) (piece :
 breaks IsRow state state' piece e refusal none is fed =
     elim ((subst (λ (d : End StreamRefusal). Feeds IsRow state state' piece (Err d)) is fed).1) [ inl was ↦ absurd (none_is_some state.refusal refusal none was) | inr now ↦ now ]
 
-pub piece_wrong : (namespace bytes piece : List ℕ) (state state' : StreamState) (log log' : Log) (refusal : StreamRefusal) (s : Stop) → HasSeen namespace bytes state log → Breaks IsRawRow state piece refusal
-    → s ≡ stop.BadInput origin.Input (offset_of refusal) → TakesPiece namespace (bytes ++ piece) state' log' (Err s)
-piece_wrong namespace bytes piece state state' log log' refusal s h b is =
-    let wrong = goes_wrong namespace bytes state log h state' piece refusal b in
-    subst (λ (e : Stop). TakesPiece namespace (bytes ++ piece) state' log' (Err e)) (sym is) (wrong_there (bytes ++ piece) refusal wrong, tt)
+pub piece_wrong : (namespace bytes piece : List ℕ) (state state' : StreamState) (intake intake' : Intake) (refusal : StreamRefusal) (s : Stop) → HasSeen namespace bytes state intake → Breaks IsRawRow state piece refusal
+    → s ≡ stop.BadInput origin.Input (offset_of refusal) → FeedsPiece namespace (bytes ++ piece) state' intake' (Err s)
+piece_wrong namespace bytes piece state state' intake intake' refusal s h b is =
+    let wrong = goes_wrong namespace bytes state intake h state' piece refusal b in
+    subst (λ (e : Stop). FeedsPiece namespace (bytes ++ piece) state' intake' (Err e)) (sym is) (wrong_there (bytes ++ piece) refusal wrong, tt)
 
--- where a row met a full log, one of all was one too many
-pub offer_passes : (namespace : List ℕ) (seen rows : List RawValue) (log : Log) (e : End LogFull) (full : LogFull) → e ≡ Refused full → OffersAll namespace seen rows log (Err e) → PassesLog namespace (seen ++ rows)
-offer_passes namespace seen rows log e full is h = subst (λ (d : End LogFull). OffersAll namespace seen rows log (Err d)) is h
+-- what is wrong is told so
+pub feeding_stops : (namespace bytes : List ℕ) (state : StreamState) (intake : Intake) (e : Stop) → FeedsPiece namespace bytes state intake (Err e) → TakesPiece namespace bytes state intake (Err e)
+feeding_stops namespace bytes state intake (stop.BadInput from at) t = t
+feeding_stops namespace bytes state intake stop.NoMemory t = tt
+feeding_stops namespace bytes state intake e t = absurd t

@@ -16,8 +16,9 @@ use Rattle.peer_stage.specs.declared.outcome.Stop.TheVariants as stop
 use Rattle.peer_stage.specs.declared.stage.TheConstants.{INPUT_LIMIT}
 use Rattle.peer_rows.specs.Logged.{FitsLog}
 use Rattle.peer_rows.specs.Join.{AreRightSoFar, IsLongStream, IsWrongStream, JoinsInput}
-use Rattle.peer_rows.specs.Stored.{offset_of, HasSeen, AreWrong, TakesPiece, EndsStream, IsLogRead}
-use Rattle.peer_rows.specs.declared.log.Log.{Log}
+use Rattle.peer_rows.specs.Stored.{offset_of, HasJudged, JudgesAll, MayWait, HasSeen, AreWrong, TakesPiece, EndsStream, IsLogRead}
+use Rattle.peer_rows.specs.declared.intake.Intake.{Intake}
+use Rattle.peer_rows.proofs.Waiting.{waiting_fit}
 use Rattle.peer_rows.proofs.RawStreams.{whole_frames, cut_stops, right_so_far}
 
 -- a buffer that was filled whole holds what was given
@@ -25,27 +26,29 @@ pub buffer_given : (size : ℕ) (given rest buffer : List ℕ) → buffer ≡ ta
 buffer_given size given rest buffer is whole = is ∙ ap (λ (n : ℕ). take n (given ++ rest)) (sym whole) ∙ take-append_seam given rest
 
 -- bytes were read, without a fault or the end, and taken in; so many may follow
-pub record HasRead (namespace : List ℕ) (old now : SourceFacts) (left : ℕ) (stream : StreamState) (log : Log) : Type 0 where
+pub record HasRead (namespace : List ℕ) (old now : SourceFacts) (left : ℕ) (stream : StreamState) (intake : Intake) : Type 0 where
   pub bytes : List ℕ
   pub consumed : Consumes old.left now.left bytes
-  pub seen : HasSeen namespace bytes stream log
+  pub seen : HasSeen namespace bytes stream intake
+  pub waits : MayWait intake
   pub count : length bytes + left ≡ INPUT_LIMIT
   pub not_ended : now.ends ≡ old.ends
   pub no_fault : now.faults ≡ old.faults
 
-pub nothing_read : (namespace : List ℕ) (input : SourceFacts) (stream : StreamState) (log : Log) → HasSeen namespace [] stream log → HasRead namespace input input INPUT_LIMIT stream log
-nothing_read namespace input stream log seen = record {
+pub nothing_read : (namespace : List ℕ) (input : SourceFacts) (stream : StreamState) (intake : Intake) → HasSeen namespace [] stream intake → MayWait intake → HasRead namespace input input INPUT_LIMIT stream intake
+nothing_read namespace input stream intake seen waits = record {
   bytes = [];
   consumed = Consumes-nil input.left;
   seen = seen;
+  waits = waits;
   count = refl;
   not_ended = refl;
   no_fault = refl;
 }
 
-module _ (namespace : List ℕ) (old now new : SourceFacts) (left : ℕ) (stream : StreamState) (log : Log) (h : HasRead namespace old now left stream log) where
+module _ (namespace : List ℕ) (old now new : SourceFacts) (left : ℕ) (stream : StreamState) (intake : Intake) (h : HasRead namespace old now left stream intake) where
   fits_all : FitsLog namespace h.seen.seen
-  fits_all = omega (arith, h.seen.fits, h.seen.is_log.counted.stored)
+  fits_all = waiting_fit namespace h.seen.seen intake h.seen.taken_in h.waits
 
   -- ---- a piece
 
@@ -60,11 +63,12 @@ module _ (namespace : List ℕ) (old now new : SourceFacts) (left : ℕ) (stream
     within few = omega (arith, many few)
 
     module _ (few : length piece ≤ left) (ends : new.ends ≡ now.ends) where
-      pub has_read_on : (n : ℕ) (stream' : StreamState) (log' : Log) → n ≡ left - length piece → HasSeen namespace (h.bytes ++ piece) stream' log' → new.faults ≡ now.faults → HasRead namespace old new n stream' log'
-      has_read_on n stream' log' is seen faults = record {
+      pub has_read_on : (n : ℕ) (stream' : StreamState) (intake' : Intake) → n ≡ left - length piece → TakesPiece namespace (h.bytes ++ piece) stream' intake' (Ok tt) → new.faults ≡ now.faults → HasRead namespace old new n stream' intake'
+      has_read_on n stream' intake' is took faults = record {
         bytes = h.bytes ++ piece;
         consumed = taken_on;
-        seen = seen;
+        seen = took.0;
+        waits = took.1;
         count = ap (λ (k : ℕ). length (h.bytes ++ piece) + k) is ∙ many few;
         not_ended = ends ∙ h.not_ended;
         no_fault = faults ∙ h.no_fault;
@@ -80,9 +84,9 @@ module _ (namespace : List ℕ) (old now new : SourceFacts) (left : ℕ) (stream
         not_early = λ rows right. absurd (w.judged rows right);
       }
 
-      pub piece_stops : (e : Stop) (stream' : StreamState) (log' : Log) → TakesPiece namespace (h.bytes ++ piece) stream' log' (Err e) → JoinsInput namespace old new (Err e)
-      piece_stops (stop.BadInput from at) stream' log' t = (inr (wrong_bytes at t.0), t.1)
-      piece_stops stop.LogFull stream' log' t = record {
+      pub piece_stops : (e : Stop) (stream' : StreamState) (intake' : Intake) → TakesPiece namespace (h.bytes ++ piece) stream' intake' (Err e) → JoinsInput namespace old new (Err e)
+      piece_stops (stop.BadInput from at) stream' intake' t = (inr (wrong_bytes at t.0), t.1)
+      piece_stops stop.LogFull stream' intake' t = record {
         bytes = h.bytes ++ piece;
         taken = taken_on;
         within = within few;
@@ -91,8 +95,8 @@ module _ (namespace : List ℕ) (old now new : SourceFacts) (left : ℕ) (stream
         not_wrong = t.not_wrong;
         passes = t.passes;
       }
-      piece_stops stop.NoMemory stream' log' t = (h.bytes ++ piece, taken_on)
-      piece_stops e stream' log' t = absurd t
+      piece_stops stop.NoMemory stream' intake' t = (h.bytes ++ piece, taken_on)
+      piece_stops e stream' intake' t = absurd t
 
     -- a byte came behind the last that may be taken
     pub read_too_far : left ≡ 0 → 0 < length piece → IsLongStream namespace old new
@@ -134,13 +138,13 @@ module _ (namespace : List ℕ) (old now new : SourceFacts) (left : ℕ) (stream
       within = omega (arith, h.count);
     }
 
-    pub log_read : Finishes stream (Ok tt) → IsLogRead namespace old new log
-    log_read finishes = record {
+    pub log_read : (intake' : Intake) → Finishes stream (Ok tt) → HasJudged namespace h.seen.seen intake' → IsLogRead namespace old new intake'.log
+    log_read intake' finishes judged = record {
       bytes = h.bytes;
       read = read_whole;
       rows = h.seen.seen;
       frames = whole_frames h.bytes h.seen.seen stream.begun finishes.1 h.seen.fit h.seen.stream;
-      whole = record { is_log = h.seen.is_log; fits_log = fits_all };
+      whole = record { is_log = judged.is_log; fits_log = fits_all };
     }
 
     cut : (at : ℕ) (refusal : StreamRefusal) → Finishes stream (Err refusal) → at ≡ offset_of refusal → FramesStopAt h.bytes at
@@ -163,3 +167,9 @@ module _ (namespace : List ℕ) (old now new : SourceFacts) (left : ℕ) (stream
       t.1,
     )
     end_stops e t = absurd t
+
+    -- none of the rows that wait meets a full log
+    pub judging_stops : (intake' : Intake) (e : Stop) → JudgesAll namespace h.seen.seen intake' (Err e) → JoinsInput namespace old new (Err e)
+    judging_stops intake' stop.LogFull passes = absurd (omega (arith, passes, fits_all))
+    judging_stops intake' stop.NoMemory t = (h.bytes, read_whole.taken)
+    judging_stops intake' e t = absurd t

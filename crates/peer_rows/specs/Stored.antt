@@ -1,5 +1,5 @@
--- The log of the rows of a stream that is read in pieces.
-use Rattle.std.specs.Prelude.{◌≡◌, ℕ, ◌+◌, ◌≤◌, List, ◌++◌, length, map, None, Result, Ok, Err}
+-- The log of the rows of a stream that is read in pieces, and the rows that wait to be judged for it.
+use Rattle.std.specs.Prelude.{◌≡◌, ℕ, ◌+◌, ◌<◌, ◌≤◌, List, [], ◌++◌, length, map, None, Result, Ok, Err}
 use Rattle.std.specs.List.{AllByRecursion}
 use Rattle.spelling.specs.declared.ending.End.{End}
 use Rattle.spelling.specs.declared.ending.End.TheVariants as ends
@@ -17,6 +17,8 @@ use Rattle.peer_stage.specs.declared.outcome.Stop.TheVariants as stop
 use Rattle.peer_rows.specs.Logged.{IsLogOf, FitsLog, PassesLog}
 use Rattle.peer_rows.specs.Join.{JoinsInput, BeginNoFrames, AreRightSoFar}
 use Rattle.peer_rows.specs.declared.log.Log.{Log}
+use Rattle.peer_rows.specs.declared.intake.Intake.{Intake}
+use Rattle.peer_rows.specs.declared.intake.TheConstants.{TOGETHER}
 use Rattle.ns_state.specs.declared.live_log.LogFull.{LogFull}
 use Rattle.ns_state.specs.declared.live_log.TheConstants.{LOG_LIMIT}
 
@@ -27,16 +29,44 @@ OffersAll namespace seen rows log (Ok u) = IsLogOf namespace (seen ++ rows) log.
 OffersAll namespace seen rows log (Err (ends.Refused full)) = PassesLog namespace (seen ++ rows)
 OffersAll namespace seen rows log (Err ends.NoMemory) = Unit {0}
 
--- these bytes were fed to the stream, and the rows that became whole are those of the log, each that would be stored
--- with room
-pub record HasSeen (namespace bytes : List ℕ) (state : StreamState) (log : Log) : Type 0 where
+-- ---- rows that wait
+
+-- these rows were taken in, in order: the log is that of the first of them, each that would be stored with room, and the
+-- others wait
+pub record HasTakenIn (namespace : List ℕ) (rows : List RawValue) (intake : Intake) : Type 0 where
+  pub judged : List RawValue
+  pub parts : rows ≡ judged ++ intake.waiting.items
+  pub is_log : IsLogOf namespace judged intake.log.kept intake.log.counts
+  pub fits : intake.log.counts.stored ≤ LOG_LIMIT
+
+-- few rows wait, and the log has room for all of them
+pub record MayWait (intake : Intake) : Type 0 where
+  pub few : length intake.waiting.items < TOGETHER
+  pub room : intake.log.counts.stored + length intake.waiting.items ≤ LOG_LIMIT
+
+-- the log is that of all these rows, each that would be stored with room, and none waits
+pub record HasJudged (namespace : List ℕ) (rows : List RawValue) (intake : Intake) : Type 0 where
+  pub is_log : IsLogOf namespace rows intake.log.kept intake.log.counts
+  pub fits : intake.log.counts.stored ≤ LOG_LIMIT
+  pub none_wait : intake.waiting.items ≡ []
+
+-- how the judging of the rows that wait ends, where these are all that were taken in
+abbrev pub JudgesAll : List ℕ → List RawValue → Intake → Result (Unit {0}) Stop → Type 0
+JudgesAll namespace rows intake (Ok u) = HasJudged namespace rows intake
+JudgesAll namespace rows intake (Err stop.LogFull) = PassesLog namespace rows
+JudgesAll namespace rows intake (Err stop.NoMemory) = Unit {0}
+JudgesAll namespace rows intake (Err e) = ⊥
+
+-- ---- pieces
+
+-- these bytes were fed to the stream, and the rows that became whole were taken in
+pub record HasSeen (namespace bytes : List ℕ) (state : StreamState) (intake : Intake) : Type 0 where
   pub seen : List RawValue
   pub fit : AllByRecursion FitsFrame seen
   pub unrefused : state.refusal ≡ None
   pub stream : IsStream IsRawRow 0 bytes (map row_of seen) state.begun None
   pub all_fed : state.at + length state.begun ≡ length bytes
-  pub is_log : IsLogOf namespace seen log.kept log.counts
-  pub fits : log.counts.stored ≤ LOG_LIMIT
+  pub taken_in : HasTakenIn namespace seen intake
 
 -- the bytes stop at this place to be frames of rows, and what stands there is wrong whatever comes behind
 pub record AreWrong (bytes : List ℕ) (at : ℕ) : Type 0 where
@@ -50,13 +80,20 @@ pub record IsPastLog (namespace bytes : List ℕ) : Type 0 where
   pub not_wrong : AreRightSoFar bytes rows
   pub passes : PassesLog namespace rows
 
+-- how the feeding of a piece ends, where the bytes are all with this piece
+abbrev pub FeedsPiece : List ℕ → List ℕ → StreamState → Intake → Result (Unit {0}) Stop → Type 0
+FeedsPiece namespace bytes state intake (Ok u) = HasSeen namespace bytes state intake
+FeedsPiece namespace bytes state intake (Err (stop.BadInput origin at)) = AreWrong bytes at × IsInput origin
+FeedsPiece namespace bytes state intake (Err stop.NoMemory) = Unit {0}
+FeedsPiece namespace bytes state intake (Err e) = ⊥
+
 -- how the taking of a piece ends, where the bytes are all with this piece
-abbrev pub TakesPiece : List ℕ → List ℕ → StreamState → Log → Result (Unit {0}) Stop → Type 0
-TakesPiece namespace bytes state log (Ok u) = HasSeen namespace bytes state log
-TakesPiece namespace bytes state log (Err (stop.BadInput origin at)) = AreWrong bytes at × IsInput origin
-TakesPiece namespace bytes state log (Err stop.LogFull) = IsPastLog namespace bytes
-TakesPiece namespace bytes state log (Err stop.NoMemory) = Unit {0}
-TakesPiece namespace bytes state log (Err e) = ⊥
+abbrev pub TakesPiece : List ℕ → List ℕ → StreamState → Intake → Result (Unit {0}) Stop → Type 0
+TakesPiece namespace bytes state intake (Ok u) = HasSeen namespace bytes state intake × MayWait intake
+TakesPiece namespace bytes state intake (Err (stop.BadInput origin at)) = AreWrong bytes at × IsInput origin
+TakesPiece namespace bytes state intake (Err stop.LogFull) = IsPastLog namespace bytes
+TakesPiece namespace bytes state intake (Err stop.NoMemory) = Unit {0}
+TakesPiece namespace bytes state intake (Err e) = ⊥
 
 -- the offset that a refusal tells
 abbrev pub offset_of : StreamRefusal → ℕ

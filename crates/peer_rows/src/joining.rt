@@ -8,15 +8,14 @@ ghost use Rattle.peer_stage.specs.Faults.{CountsStep};
 ghost use Rattle.peer_stage.specs.declared.outcome.Origin.TheVariants as origin;
 ghost use Rattle.peer_stage.specs.declared.outcome.Stop.TheVariants as stop;
 ghost use Rattle.peer_rows.specs.Join.{Joins};
-ghost use Rattle.peer_rows.specs.Stored.{EndsStream, HasSeen, LogsInput, TakesPiece, offset_of};
+ghost use Rattle.peer_rows.specs.Stored.{EndsStream, FeedsPiece, HasSeen, LogsInput, TakesPiece, offset_of};
 
 use crate::imaging::write_image_of;
+use crate::intake::Intake;
 use crate::log::Log;
-use crate::offering::offer_all;
 use auth_entry::{Checker, NewChecker};
 use cap_codec::{RawRow, RawRows};
 use lms_core::PeerScheme;
-use ns_state::LogFull;
 use peer_stage::{Done, INPUT_LIMIT, Stop};
 use row_stream::{RowStream, StreamRefusal};
 use spelling::{End, NoMemory};
@@ -25,12 +24,13 @@ use std::thread::Threads;
 use willow_outside::{Fault, Sink, Source};
 use willow_path::NamespaceKey;
 
-/// How many bytes are asked for in one read: so many that the rows of a piece are worth being judged side by side.
+/// How many bytes are asked for in one read.
 const PIECE: usize = 65_536;
 
 /// Reads row frames from the input, keeps the live rows of those that are authorised in the namespace, and
-/// writes their image. The rows that become whole with a piece of the input are judged together, by a checker of the given
-/// kind. Neither all of the input nor all of the image stands in memory.
+/// writes their image. Rows of several pieces of the input wait to be judged together, by a checker of the given kind; still
+/// what is wrong, and a row that meets a full log, are told at the piece that brings them. Neither all of the input nor all
+/// of the image stands in memory.
 pub fn join<C: NewChecker<PeerScheme>, R: Threads + Sync, I: Source, O: Sink>(
     rt: &R,
     alloc: Global,
@@ -59,7 +59,7 @@ fn read_log<C: NewChecker<PeerScheme>, R: Threads + Sync, I: Source>(
     ensures ends { (I.facts input.old).ends ≤ (I.facts input.new).ends }
 {
     let mut checker = C::begin(alloc, PeerScheme, *namespace)?;
-    let mut log = Log::new(alloc, *namespace);
+    let mut intake = Intake::new(alloc, *namespace);
     let mut stream = RowStream::<RawRows>::new(alloc);
     let mut piece = room(alloc)?;
     let mut left = INPUT_LIMIT;
@@ -69,14 +69,16 @@ fn read_log<C: NewChecker<PeerScheme>, R: Threads + Sync, I: Source>(
         match input.read(&mut piece) {
             Ok(0) => {
                 end_stream(&stream)?;
-                return Ok(log);
+                intake.judge(rt, alloc, &mut checker)?;
+                return Ok(intake.log);
             }
             Ok(n) => {
                 if left == 0 {
                     return Err(Stop::bad_input(INPUT_LIMIT));
                 }
                 left -= n as u64;
-                take_piece(rt, alloc, &mut checker, &mut stream, &mut log, &piece[..n])?;
+                let given = &piece[..n];
+                take_piece(rt, alloc, &mut checker, &mut stream, &mut intake, given)?;
             }
             Err(Fault::Failed) => return Err(Stop::ReadFault),
             Err(Fault::NoMemory) => return Err(Stop::NoMemory),
@@ -91,21 +93,39 @@ fn room(alloc: Global) -> Result<Vec<u8>, NoMemory>
     Ok(vec![in alloc; 0u8; PIECE]?)
 }
 
-// Takes a piece in: the rows that become whole with it are offered to the log. Bytes that are wrong go before a row that
-// meets a full log.
+// Takes a piece in. The rows that became whole wait for more, unless those that wait are many or one could meet a full log:
+// so a full log is told at the piece that brings the row that is too many. Bytes that are wrong go before it.
 fn take_piece<C: Checker<PeerScheme>, R: Threads + Sync>(
     rt: &R,
     alloc: Global,
     checker: &mut C,
     stream: &mut RowStream<RawRows>,
-    log: &mut Log,
+    intake: &mut Intake,
     piece: &[u8],
 ) -> Result<(), Stop>
-    requires namespace { C.judged_in checker.old ≡ log.old.kept.namespace }
-    requires seen { (namespace : List ℕ) × (bytes : List ℕ) × HasSeen namespace bytes stream.old log.old × (length bytes + length piece.now ≤ INPUT_LIMIT) }
+    requires namespace { C.judged_in checker.old ≡ intake.old.log.kept.namespace }
+    requires seen { (namespace : List ℕ) × (bytes : List ℕ) × HasSeen namespace bytes stream.old intake.old × (length bytes + length piece.now ≤ INPUT_LIMIT) }
     ensures namespace { C.judged_in checker.new ≡ C.judged_in checker.old }
-    ensures takes { (namespace bytes : List ℕ) → HasSeen namespace bytes stream.old log.old
-        → TakesPiece namespace (bytes ++ piece.now) stream.new log.new result }
+    ensures takes { (namespace bytes : List ℕ) → HasSeen namespace bytes stream.old intake.old
+        → TakesPiece namespace (bytes ++ piece.now) stream.new intake.new result }
+{
+    feed_piece(stream, intake, piece)?;
+    if intake.may_wait() {
+        return Ok(());
+    }
+    intake.judge(rt, alloc, checker)
+}
+
+// Feeds a piece to the stream: the rows that become whole with it wait.
+fn feed_piece(
+    stream: &mut RowStream<RawRows>,
+    intake: &mut Intake,
+    piece: &[u8],
+) -> Result<(), Stop>
+    requires { (namespace : List ℕ) × (bytes : List ℕ) × HasSeen namespace bytes stream.old intake.old × (length bytes + length piece.now ≤ INPUT_LIMIT) }
+    ensures log { intake.new.log ≡ intake.old.log }
+    ensures feeds { (namespace bytes : List ℕ) → HasSeen namespace bytes stream.old intake.old
+        → FeedsPiece namespace (bytes ++ piece.now) stream.new intake.new result }
 {
     let rows = match stream.feed(piece) {
         Ok(rows) => rows,
@@ -113,11 +133,8 @@ fn take_piece<C: Checker<PeerScheme>, R: Threads + Sync>(
         Err(End::NoMemory) => return Err(Stop::NoMemory),
     };
     known_rows(&rows);
-    match offer_all(rt, alloc, checker, log, rows) {
-        Ok(()) => Ok(()),
-        Err(End::Refused(LogFull { front: _ })) => Err(Stop::LogFull),
-        Err(End::NoMemory) => Err(Stop::NoMemory),
-    }
+    intake.wait(rows)?;
+    Ok(())
 }
 
 // Ends the stream where the input ended.

@@ -7,6 +7,7 @@ mod drilled;
 mod generating;
 mod images;
 mod imaging;
+mod intake;
 mod joining;
 mod listing;
 mod log;

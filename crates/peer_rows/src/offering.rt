@@ -1,4 +1,4 @@
-//! The rows of a piece, judged and kept.
+//! Rows that are judged together, and kept.
 
 ghost use Rattle.std.specs.Prelude.{◌≡◌, ℕ, ◌+◌, ◌^◌, ◌<◌, ◌≤◌, List, length, OnOk};
 ghost use Rattle.cap_codec.specs.Rows.{RawValue};

@@ -4,7 +4,7 @@ use Rattle.peer_rows.proofs.joining.read_log.Given as goal
 
 abbrev pub invariant-pieces : goal.invariant-pieces
 invariant-pieces g l = record {
-  read : HasRead l.namespace (g.I.Source.facts l.fn.input) (g.I.Source.facts l.input) l.left l.stream l.log;
+  read : HasRead l.namespace (g.I.Source.facts l.fn.input) (g.I.Source.facts l.input) l.left l.stream l.intake;
   checks : g.C.Checker.judged_in l.checker ≡ l.namespace;
   room : 0 < length l.piece.items;
 }

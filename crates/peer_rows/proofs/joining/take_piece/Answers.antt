@@ -1,28 +1,21 @@
-use Rattle.std.proofs.Common.{arith}
-use Rattle.cap_codec.specs.Rows.{IsRawRow}
-use Rattle.peer_rows.proofs.Pieces.{breaks, piece_wrong, few_rows, seen_on, past_log, offer_passes}
+use Rattle.std.proofs.Common.{◌++◌, arith, length-append}
+use Rattle.std.proofs.lemmas.Result.{err_from_is_err_and}
+use Rattle.peer_rows.proofs.Pieces.{few_seen, judged_so, feeding_stops}
 use Rattle.peer_rows.proofs.joining.take_piece.Goals as goal
 
-pub returns-in-Err-Refused-clause-takes : goal.returns-in-Err-Refused-clause-takes
-returns-in-Err-Refused-clause-takes g c = λ n bytes h.
-    piece_wrong n bytes c.args.piece.now c.args.stream.now c.feed.new.self c.args.log.now c.args.log.now c.in-Err-Refused.refusal c.stop_of.result h
-    (breaks IsRawRow c.args.stream.now c.feed.new.self c.args.piece.now c.in-Err-Refused.field-0 c.in-Err-Refused.refusal h.unrefused c.in-Err-Refused.field-0-is c.in-Err-Refused.ensures) (cc)
+pub returns-in_err-feed_piece-clause-takes : goal.returns-in_err-feed_piece-clause-takes
+returns-in_err-feed_piece-clause-takes g c = λ n bytes h.
+    let p = err_from_is_err_and c.from_residual.result c.from_residual.ensures.1 in
+    rw (p.1, p.2) (feeding_stops n (bytes ++ c.args.piece.now) c.feed_piece.new.stream c.feed_piece.new.intake c.in_err-feed_piece.field-0.0 (c.in_err-feed_piece.ensures.feeds n bytes h))
 
-pub offer_all-requires-clause-few : goal.offer_all-requires-clause-few
-offer_all-requires-clause-few g c κs within =
-    let seen = c.requires.seen in
-    let h = seen.2 in
-    (seen.0, h.seen, h.is_log, omega (arith, seen.3, h.is_log.counted.all, few_rows seen.0 seen.1 c.args.stream.now c.args.log.now h c.feed.new.self c.args.piece.now c.in-Ok.rows.items c.in-Ok.ensures))
+pub judge-requires-clause-few : goal.judge-requires-clause-few
+judge-requires-clause-few g c κs within =
+    let was = c.requires.seen in
+    let bytes = was.1 ++ c.args.piece.now in
+    let h = c.in_ok-feed_piece.ensures.feeds was.0 was.1 was.2 in
+    (was.0, h.seen, h.taken_in, omega (arith, was.3, few_seen was.0 bytes c.feed_piece.new.stream c.feed_piece.new.intake h, length-append was.1 c.args.piece.now))
 
-pub offer_all-requires-clause-fits : goal.offer_all-requires-clause-fits
-offer_all-requires-clause-fits g c κs within = c.requires.seen.2.fits
-
-pub returns-in-Ok-offer_all-clause-takes : goal.returns-in-Ok-offer_all-clause-takes
-returns-in-Ok-offer_all-clause-takes g c = λ n bytes h.
-    seen_on n bytes c.args.stream.now c.args.log.now h c.feed.new.self c.args.piece.now c.in-Ok.rows.items c.in-Ok.ensures (rw c.deref.ensures.value at c.known_rows.ensures) c.offer_all.new.log
-    (c.in-Ok-offer_all.ensures.offers n h.seen h.is_log) c.in-Ok-offer_all.ensures.fits
-
-pub returns-in-Err-Refused-offer_all-clause-takes : goal.returns-in-Err-Refused-offer_all-clause-takes
-returns-in-Err-Refused-offer_all-clause-takes g c = λ n bytes h.
-    past_log n bytes c.args.stream.now c.args.log.now h c.feed.new.self c.args.piece.now c.in-Ok.rows.items c.in-Ok.ensures (rw c.deref.ensures.value at c.known_rows.ensures)
-    (offer_passes n h.seen c.in-Ok.rows.items c.offer_all.new.log c.in-Err-Refused-offer_all.field-0 c.in-Err-Refused-offer_all.field-0-0 c.in-Err-Refused-offer_all.field-0-is (c.in-Err-Refused-offer_all.ensures.offers n h.seen h.is_log))
+pub returns-clause-takes : goal.returns-clause-takes
+returns-clause-takes g c = λ n bytes was.
+    let h = c.in_ok-feed_piece.ensures.feeds n bytes was in
+    judged_so n (bytes ++ c.args.piece.now) c.feed_piece.new.stream c.feed_piece.new.intake h c.judge.new.self c.judge.result (c.judge.ensures.judges n h.seen h.taken_in)

@@ -1,0 +1,80 @@
+//! What a join took in of its input: the log of the rows that were judged, and the rows that wait.
+
+ghost use Rattle.std.specs.Prelude.{◌≡◌, ℕ, ◌^◌, ◌<◌, ◌≤◌, ◌++◌, ◌↔◌, [], List, length, IsTrue, None, OnOk};
+ghost use Rattle.cap_codec.specs.Rows.{RawValue};
+ghost use Rattle.peer_rows.specs.Stored.{HasTakenIn, JudgesAll, MayWait};
+
+use crate::images::log_stop;
+use crate::log::Log;
+use crate::offering::offer_all;
+use auth_entry::Checker;
+use cap_codec::RawRow;
+use lms_core::PeerScheme;
+use ns_state::LOG_LIMIT;
+use peer_stage::Stop;
+use spelling::NoMemory;
+use std::alloc::Global;
+use std::mem;
+use std::thread::Threads;
+use willow_path::NamespaceKey;
+
+/// So many rows are worth the threads that judge them: to start those may take milliseconds, and a read brings only some
+/// forty rows that are signed by LMS keys.
+const TOGETHER: usize = 512;
+
+/// Rows of a stream, in order: those that were judged, of which this is the log, and behind them those that wait.
+#[derive(Drop)]
+pub(crate) struct Intake {
+    pub(crate) log: Log,
+    waiting: Vec<RawRow>,
+}
+
+impl Intake {
+    pub(crate) fn new(alloc: Global, namespace: NamespaceKey) -> Intake
+        ensures kept { result.log.kept ≡ record { namespace = namespace; log = [] } }
+        ensures counts { result.log.counts ≡ record { rows = 0; stored = 0; kept = 0; refused = 0; first = None } }
+        ensures none_wait { result.waiting.items ≡ [] }
+    {
+        Intake {
+            log: Log::new(alloc, namespace),
+            waiting: Vec::new(alloc),
+        }
+    }
+
+    /// Lets rows wait, behind those that do.
+    pub(crate) fn wait(&mut self, mut rows: Vec<RawRow>) -> Result<(), NoMemory>
+        ensures log { self.new.log ≡ self.old.log }
+        ensures waits { OnOk result (self.new.waiting.items ≡ self.old.waiting.items ++ rows.items) }
+    {
+        self.waiting.append(&mut rows)?;
+        Ok(())
+    }
+
+    /// Whether the rows that wait may wait for more: they are few, and none of them can meet a full log.
+    pub(crate) fn may_wait(&self) -> bool
+        requires { self.now.log.counts.stored ≤ LOG_LIMIT }
+        ensures { IsTrue result ↔ MayWait self.now }
+    {
+        let room = LOG_LIMIT - self.log.counts.stored as usize;
+        self.waiting.len() < TOGETHER && self.waiting.len() <= room
+    }
+
+    /// Judges the rows that wait together, and offers them to the log in order, up to the first that meets a full one.
+    pub(crate) fn judge<C: Checker<PeerScheme>, R: Threads + Sync>(
+        &mut self,
+        rt: &R,
+        alloc: Global,
+        checker: &mut C,
+    ) -> Result<(), Stop>
+        requires namespace { C.judged_in checker.old ≡ self.old.log.kept.namespace }
+        requires few { (namespace : List ℕ) × (rows : List RawValue) × HasTakenIn namespace rows self.old × (length rows < 2 ^ 64) }
+        ensures namespace { C.judged_in checker.new ≡ C.judged_in checker.old }
+        ensures judges { (namespace : List ℕ) (rows : List RawValue) → HasTakenIn namespace rows self.old → JudgesAll namespace rows self.new result }
+    {
+        let rows = mem::replace(&mut self.waiting, Vec::new(alloc));
+        match offer_all(rt, alloc, checker, &mut self.log, rows) {
+            Ok(()) => Ok(()),
+            Err(end) => Err(log_stop(end)),
+        }
+    }
+}
