@@ -8,7 +8,7 @@ use Rattle.cap_codec.specs.Rows.{RawValue, IsRaw, IsRawRow, row_of, frame, FitsF
 use Rattle.cap_codec.proofs.Frames.{frame_long}
 use Rattle.row_stream.specs.declared.refusal.StreamRefusal.{StreamRefusal}
 use Rattle.row_stream.specs.Streams.{frames_of, IsStream, GoesWrong}
-use Rattle.row_stream.specs.Feeding.{StreamState, nothing_fed, Feeds, HandsOut, Breaks}
+use Rattle.row_stream.specs.Feeding.{StreamState, nothing_fed, Feeds, HandsOutRows, Breaks}
 use Rattle.std.specs.Prelude.{Ok, Err, Result}
 use Rattle.spelling.specs.declared.ending.End.{End}
 use Rattle.spelling.specs.declared.ending.End.TheVariants.{Refused}
@@ -90,7 +90,7 @@ module _ (namespace bytes : List ℕ) (state : StreamState) (intake : Intake) (h
     pub goes_wrong : (refusal : StreamRefusal) → Breaks IsRawRow state piece refusal → GoesWrong IsRawRow 0 (bytes ++ piece) refusal
     goes_wrong refusal b = wrong_on IsRawRow 0 bytes (map row_of h.seen) state.begun h.stream piece refusal (subst (λ (n : ℕ). GoesWrong IsRawRow n (state.begun ++ piece) refusal) at_is b.wrong)
 
-    module _ (rows : List RawValue) (out : HandsOut IsRawRow state state' piece (map row_of rows)) where
+    module _ (rows : List RawValue) (out : HandsOutRows IsRawRow state state' piece (map row_of rows)) where
       stream_goes : IsStream IsRawRow 0 (bytes ++ piece) (map row_of (h.seen ++ rows)) state'.begun None
       stream_goes =
           subst (λ (xs : List RowValue). IsStream IsRawRow 0 (bytes ++ piece) xs state'.begun None) (sym (more_rows h.seen rows))

@@ -38,7 +38,6 @@ const PIECE: usize = 65_536;
 /// the area that both may read. The side takes a snapshot of the cell first and answers from it alone. Rows that it is sent
 /// are checked and offered to the cell as they come, those of each list by themselves, and stay there whatever the end is. No
 /// turn of the cell is held while the link is read or written.
-#[tactic(auto, using(crate::proofs::Promised::keeps_promises))]
 pub fn run_session<R: Wait + Threads + Sync, S: Scheme, C: Checker<S>, K: Signer, L: Link>(
     rt: &R,
     alloc: Global,

@@ -7,6 +7,7 @@ use Rattle.sync_hello.proofs.Meaning.{passes_means}
 use Rattle.sync_link.proofs.LinkEnds.{stored_few}
 use Rattle.sync_link.proofs.Begun.{no_snapshot}
 use Rattle.sync_link.proofs.Openings.{opening_of}
+use Rattle.sync_link.proofs.Promised.{keeps_promises}
 use Rattle.sync_link.proofs.run.run_session.Goals as goal
 
 pub returns-in-Err-clause-runs : goal.returns-in-Err-clause-runs
@@ -75,3 +76,15 @@ returns-clause-runs g c =
     let party : brought start ≡ planned g.S.Verify.rules c.namespace.result c.args.plan.now c.args.nonce = ap (λ (n : List ℕ). planned g.S.Verify.rules n c.args.plan.now c.args.nonce) (sym same) in
     let u = c.in-Ok-open_session.ensures.opens start pass party refl ready in
     c.in-Err-talk.ensures.goes_on start refl refl refl c.requires.signs u
+
+pub returns-in-Err-clause-promises : goal.returns-in-Err-clause-promises
+returns-in-Err-clause-promises g c = keeps_promises _ _ _ _ _ _ _ _ _
+
+pub returns-in-Err-open_session-clause-promises : goal.returns-in-Err-open_session-clause-promises
+returns-in-Err-open_session-clause-promises g c = keeps_promises _ _ _ _ _ _ _ _ _
+
+pub returns-in-Ok-talk-clause-promises : goal.returns-in-Ok-talk-clause-promises
+returns-in-Ok-talk-clause-promises g c = keeps_promises _ _ _ _ _ _ _ _ _
+
+pub returns-clause-promises : goal.returns-clause-promises
+returns-clause-promises g c = keeps_promises _ _ _ _ _ _ _ _ _
