@@ -1,20 +1,18 @@
 -- A side with another signature.
-use Rattle.std.proofs.Common.{◌≡◌, ◌⊎◌, inl, inr, ℕ, ◌<◌, ◌≤◌, List, [], ◌++◌, length, take, drop, map, flat_map, Ok, Err, sym, ap, ◌∙◌, subst, arith}
-use Rattle.std.proofs.lemmas.List.{take_all, take-append-le, take-append-drop, length-append}
+use Rattle.std.proofs.Common.{◌≡◌, ◌⊎◌, inl, inr, ℕ, ◌<◌, ◌≤◌, List, ◌++◌, length, take, drop, map, flat_map, Ok, Err, sym, ap, ◌∙◌, subst, arith}
+use Rattle.std.proofs.lemmas.List.{take-append-le, take-append-drop, length-append}
 use Rattle.std.proofs.Math.Seq.{take-append_seam}
 use Rattle.willow_entry.specs.Row.{RowValue}
 use Rattle.mc_cap.specs.Signature.{signature_spelling}
 use Rattle.session_end.specs.declared.end.SessionEnd.TheVariants.{LinkRead, LinkWrite, ClosedEarly, BadMessage, Hello, Core, SignFault, LogFull, NoMemory}
 use Rattle.sync_hello.specs.HelloForm.{hello_spelling}
-use Rattle.session_rules.specs.Machine.{Machine}
-use Rattle.session_rules.specs.Reading as reading
 use Rattle.session_rules.specs.Rounds.{IsFront}
 use Rattle.session_rules.specs.Session.{retold}
 use Rattle.session_rules.proofs.Growing.{front_by}
 use Rattle.session_rules.proofs.Retelling.{said_retold, same_got, same_ending}
 use Rattle.sync_link.specs.Greetings.{greeting}
 use Rattle.sync_link.specs.Places.{places}
-use Rattle.sync_link.specs.Sessions.{Party, SessionStage, SessionMessage, SessionCause, own_part, session_of, said, out, got, ending}
+use Rattle.sync_link.specs.Sessions.{Party, SessionMessage, own_part, session_of, said, out, got, ending}
 use Rattle.sync_link.specs.Run.{Answer, IsAllOf}
 use Rattle.sync_link.proofs.Greeted.{Quiet, Proved, told}
 use Rattle.sync_link.proofs.Reaching.{front_trans}
