@@ -7,7 +7,7 @@ mod asked;
 #[cfg(test)]
 mod authorised;
 #[cfg(test)]
-mod chunks;
+mod heavy;
 #[cfg(test)]
 mod rows;
 #[cfg(test)]

@@ -44,7 +44,7 @@ fn a_refused_row_and_three_others(rt: HostRuntime) {
     assert_eq!(rt; judged, Some([true; 4]));
 }
 
-// The rows of open keys are so many that they are checked in several chunks where there are 2,100.
+// Where there are 2,100 rows of open keys they are judged in several parts.
 #[test]
 fn rows_of_all_kinds(rt: HostRuntime) {
     let spoilt = RowRefusal::Chain(ChainRefusal::BadSignature { at: 1 });

@@ -1,4 +1,4 @@
-//! Rows that are so heavy that they are checked in several chunks.
+//! Rows that are so heavy that threads take turns at them.
 
 use crate::rows::{namespace, row};
 use crate::schemes::{OPEN_LENGTH, Padded};
@@ -12,7 +12,7 @@ use std::alloc::Global;
 use std::thread::Threads;
 use willow_entry::Row;
 
-// More rows than two chunks of such signatures have.
+// More rows than there are threads.
 const ROWS: usize = 38;
 
 // The row, with bytes behind its signature: as many as there may be. In a wrong one the signature's last byte differs.
