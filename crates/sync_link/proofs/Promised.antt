@@ -6,12 +6,12 @@ use Rattle.ns_cell.specs.Passes.{PassValue}
 use Rattle.sync_link.specs.Sessions.{Party}
 use Rattle.sync_link.specs.Run.{Answer}
 use Rattle.sync_link.specs.Ran.{Ran}
-use Rattle.sync_link.specs.Promises.{Promises, KeepsPromises}
+use Rattle.sync_link.specs.SessionPromises.{SessionPromises, KeepsSessionPromises}
 use Rattle.sync_link.proofs.AlikeRuns.{runs_alike}
 use Rattle.sync_link.proofs.GrantedRuns.{runs_granted}
 use Rattle.sync_link.proofs.CoveringRuns.{runs_keep, runs_join}
 
-promised : {p : List ℕ → Party} (ran : Ran p) → Promises ran
+promised : {p : List ℕ → Party} (ran : Ran p) → SessionPromises ran
 promised {p} ran = record {
   keeps = runs_keep p ran;
   above = λ report q others ok other leave apart. runs_join p ran report q others ok other leave apart;
@@ -20,5 +20,5 @@ promised {p} ran = record {
 }
 
 pub keeps_promises : (p : List ℕ → Party) (gives : List ℕ → List ℕ → Bool) (before after : PassValue AuthorisedValue) (link link' : LinkFacts) (faults faults' : ℕ) (answer : Answer)
-    → KeepsPromises p gives before after link link' faults faults' answer
+    → KeepsSessionPromises p gives before after link link' faults faults' answer
 keeps_promises p gives before after link link' faults faults' answer = λ did. promised _

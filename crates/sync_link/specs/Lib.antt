@@ -22,4 +22,4 @@ pub mod Run
 pub mod Tallies
 pub mod UnderWay
 pub mod Ran
-pub mod Promises
+pub mod SessionPromises

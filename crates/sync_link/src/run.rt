@@ -9,7 +9,7 @@ ghost use Rattle.session_rules.specs.Rounds.{IsOver};
 ghost use Rattle.sync_hello.specs.Checked.{hello_refusal};
 ghost use Rattle.sync_link.specs.Kept.{entry_row};
 ghost use Rattle.sync_link.specs.Plans.{own_hello, planned};
-ghost use Rattle.sync_link.specs.Promises.{KeepsPromises};
+ghost use Rattle.sync_link.specs.SessionPromises.{KeepsSessionPromises};
 ghost use Rattle.sync_link.specs.Run.{Runs};
 ghost use Rattle.sync_link.specs.Settling.{IsOpening};
 ghost use Rattle.sync_link.specs.UnderWay.{Start, IsCounted, IsReady, IsUnderWay, GoesOn, Opens, brought, now_of};
@@ -54,7 +54,7 @@ pub fn run_session<R: Wait + Threads + Sync, S: Scheme, C: Checker<S>, K: Signer
     requires hello { hello_refusal S.rules cell.now.namespace (own_hello plan.now nonce) ≡ None }
     requires signs { 1 ≤ K.left signer.old }
     ensures runs { Runs (planned S.rules cell.now.namespace plan.now nonce) (K.gives signer.old) pass.old pass.new (L.facts link.old) (L.facts link.new) (K.faults signer.old) (K.faults signer.new) result }
-    ensures promises { KeepsPromises (planned S.rules cell.now.namespace plan.now nonce) (K.gives signer.old) pass.old pass.new (L.facts link.old) (L.facts link.new) (K.faults signer.old) (K.faults signer.new) result }
+    ensures promises { KeepsSessionPromises (planned S.rules cell.now.namespace plan.now nonce) (K.gives signer.old) pass.old pass.new (L.facts link.old) (L.facts link.new) (K.faults signer.old) (K.faults signer.new) result }
     ensures pass { IsPassOf cell.now pass.new }
     ensures namespace { C.judged_in checker.new ≡ C.judged_in checker.old }
     ensures gives { K.gives signer.new ≡ K.gives signer.old }

@@ -14,7 +14,7 @@ use Rattle.sync_link.specs.declared.plan.SessionReport.{SessionReport}
 -- fingerprints tell rows apart. `alike`: what is written, what comes and how it ends is as in any other session that brings the
 -- same, has the same rows in that area and reads the same bytes. `granted`: rows and fingerprints are told only to one that may
 -- read them.
-pub record Promises {p : List ℕ → Party} (ran : Ran p) : Type 0 where
+pub record SessionPromises {p : List ℕ → Party} (ran : Ran p) : Type 0 where
   pub keeps : LiesAbove (store_of ran) (opening_of ran)
   pub above : (report : SessionReport) (q : Party) (others : List RowValue) → ran.answer ≡ Ok report → IsOther ran q others → AreAuthorised ran others
       → AreApartAs (side ran).role (box_with (side ran) q.hello) (opening_of ran) others → LiesAbove (store_of ran) (join (opening_of ran) (other_common ran q others))
@@ -23,7 +23,7 @@ pub record Promises {p : List ℕ → Party} (ran : Ran p) : Type 0 where
   pub granted : TellsGranted ran
 
 -- so it is of this session, whatever it did
-abbrev pub KeepsPromises : (List ℕ → Party) → (List ℕ → List ℕ → Bool) → PassValue AuthorisedValue → PassValue AuthorisedValue → LinkFacts → LinkFacts → ℕ → ℕ → Answer → Type 0
-KeepsPromises p gives before after link link' faults faults' answer =
+abbrev pub KeepsSessionPromises : (List ℕ → Party) → (List ℕ → List ℕ → Bool) → PassValue AuthorisedValue → PassValue AuthorisedValue → LinkFacts → LinkFacts → ℕ → ℕ → Answer → Type 0
+KeepsSessionPromises p gives before after link link' faults faults' answer =
     (did : Runs p gives before after link link' faults faults' answer)
-    → Promises {p = p} (record { gives = gives; before = before; after = after; link = link; link' = link'; faults = faults; faults' = faults'; answer = answer; did = did })
+    → SessionPromises {p = p} (record { gives = gives; before = before; after = after; link = link; link' = link'; faults = faults; faults' = faults'; answer = answer; did = did })
