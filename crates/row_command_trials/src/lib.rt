@@ -9,6 +9,8 @@ mod endings;
 #[cfg(test)]
 mod frames;
 #[cfg(test)]
+mod halves;
+#[cfg(test)]
 mod images;
 #[cfg(test)]
 mod pieces;

@@ -4,6 +4,7 @@ ghost use Rattle.std.specs.Prelude.{◌≤◌};
 
 use crate::bytes::{BELOW, HEAD, NEW, OLD, ONE_ROW, SPOILT, TWO_ROWS, joined};
 use crate::endings::{Ended, ending_of};
+use crate::halves::Halves;
 use auth_entry::PlainChecker;
 use lms_core::PeerScheme;
 use mc_cap::{RefusedRow, RowRefusal};
@@ -11,7 +12,7 @@ use peer_rows::join;
 use peer_stage::JoinCounts;
 use std::alloc::Global;
 use std::thread::Threads;
-use willow_outside::{MemSink, MemSource};
+use willow_outside::{MemSink, MemSource, Source};
 use willow_path::NamespaceKey;
 
 // The namespace of the rows.
@@ -21,24 +22,19 @@ fn namespace() -> Option<NamespaceKey> {
     NamespaceKey::from_bytes(bytes)
 }
 
-// How the join of the frames ends, of which a read gives so many bytes at most, where it writes this image.
-fn joins(
+// How the join of the input ends, where it writes this image.
+fn joins<I: Source>(
     rt: &(impl Threads + Sync),
     alloc: Global,
-    frames: &[u8],
-    most: usize,
+    input: &mut I,
     image: &[u8],
-) -> Option<Ended>
-    requires { 1 ≤ most }
-{
-    let given = Vec::from_slice(alloc, frames).ok()?;
-    let mut input = MemSource::new(alloc, given, Vec::new(alloc), most);
+) -> Option<Ended> {
     let mut output = MemSink::new(alloc, Vec::new(alloc), Vec::new(alloc), 100);
     let end = join::<PlainChecker<PeerScheme>, _, _, _>(
         rt,
         alloc,
         &namespace()?,
-        &mut input,
+        input,
         &mut output,
     );
     if output.held() != image {
@@ -47,24 +43,38 @@ fn joins(
     Some(ending_of(end))
 }
 
-// How many of the lengths of a piece, from one byte to all of the frames, end so and write this image; and how many there
-// are.
+// The frames, of which a read gives so many bytes at most.
+fn in_pieces(alloc: Global, frames: &[u8], most: usize) -> Option<MemSource>
+    requires { 1 ≤ most }
+{
+    let given = Vec::from_slice(alloc, frames).ok()?;
+    Some(MemSource::new(alloc, given, Vec::new(alloc), most))
+}
+
+// At how many places the frames are cut, into pieces of so many bytes from one to all and into two pieces, and still end so
+// and write this image; and how many places there are.
 fn ends_so(
     rt: &(impl Threads + Sync),
     alloc: Global,
     frames: &[&str],
     image: &[&str],
     due: Ended,
-) -> Option<(usize, usize)> {
+) -> Option<(usize, usize, usize)> {
     let frames = joined(alloc, frames)?;
     let image = joined(alloc, image)?;
-    let mut count: usize = 0;
+    let mut equal: usize = 0;
+    let mut two: usize = 0;
     for before in 0..frames.len() {
-        if joins(rt, alloc, &frames, before + 1, &image) == Some(due) {
-            count = count.saturating_add(1);
+        let mut pieces = in_pieces(alloc, &frames, before + 1)?;
+        if joins(rt, alloc, &mut pieces, &image) == Some(due) {
+            equal = equal.saturating_add(1);
+        }
+        let mut halves = Halves::new(alloc, &frames, before)?;
+        if joins(rt, alloc, &mut halves, &image) == Some(due) {
+            two = two.saturating_add(1);
         }
     }
-    Some((count, frames.len()))
+    Some((equal, two, frames.len()))
 }
 
 // The numbers of a join of two rows.
@@ -107,7 +117,7 @@ fn rows_joined_from_pieces(rt: HostRuntime) {
     ] {
         assert_eq!(rt;
             ends_so(&rt, alloc, &frames, &image, due),
-            Some((length, length))
+            Some((length, length, length))
         );
     }
 }
