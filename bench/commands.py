@@ -1,8 +1,8 @@
 """Times commands over rows of the generator, and prints a table in Markdown.
 
-usage: python3 bench/commands.py PROGRAM [OTHER]
+usage: python3 bench/commands.py PROGRAM [OTHER [COMMAND ..]]
 
-PROGRAM and OTHER are executables `willow_peer`. Told are medians of RUNS runs by the clock and of the processors, and the
+PROGRAM and OTHER are executables `willow_peer`; words behind them choose among the commands. Told are medians of RUNS runs by the clock and of the processors, and the
 most memory that a run took. The runs of all of them take turns, so that what else the machine does falls on all alike. Both
 programs get the same input, and have to write the same output. Of each command stands beside it how many blocks of SHA-256
 it hashes (`measure.py` tells what a row has): a row's signature takes three, its leaf five, and the capability of each of
@@ -78,11 +78,12 @@ def take_turns(programs, tasks, folder):
 
 
 def main():
-    programs = [os.path.abspath(word) for word in sys.argv[1:]]
-    if not 1 <= len(programs) <= 2:
-        raise SystemExit("usage: python3 bench/commands.py PROGRAM [OTHER]")
+    programs = [os.path.abspath(word) for word in sys.argv[1:3]]
+    if not programs:
+        raise SystemExit("usage: python3 bench/commands.py PROGRAM [OTHER [COMMAND ..]]")
+    chosen = sys.argv[3:] or ["gen", "join", "show", "drill"]
     with tempfile.TemporaryDirectory() as folder:
-        tasks = make_files(programs[0], folder)
+        tasks = {name: task for name, task in make_files(programs[0], folder).items() if task[0][0] in chosen}
         taken = take_turns(programs, tasks, folder)
     print("| | hashes | " + " | ".join(f"{program} by the clock | of the processors | MiB" for program in programs) + " |")
     print("|---|---|" + "---|---|---|" * len(programs))
