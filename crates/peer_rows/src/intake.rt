@@ -19,8 +19,8 @@ use std::thread::Threads;
 use willow_path::NamespaceKey;
 
 /// So many rows are worth the threads that judge them: to start those may take milliseconds, and a read brings only some
-/// forty rows that are signed by LMS keys.
-const TOGETHER: usize = 512;
+/// forty rows that are signed by LMS keys. Of rows of open keys, which take no threads, a read brings more, so none waits.
+const TOGETHER: usize = 128;
 
 /// Rows of a stream, in order: those that were judged, of which this is the log, and behind them those that wait.
 #[derive(Drop)]
