@@ -2,9 +2,9 @@
 
 usage: python3 bench/commands.py PROGRAM [OTHER [COMMAND ..]]
 
-PROGRAM and OTHER are executables `willow_peer`; words behind them choose among the commands. Told are medians of RUNS runs by the clock and of the processors, and the
-most memory that a run took. The runs of all of them take turns, so that what else the machine does falls on all alike. Both
-programs get the same input, and have to write the same output. Of each command stands beside it how many blocks of SHA-256
+PROGRAM and OTHER are executables `willow_peer`; words behind them choose among the commands. Told are medians of RUNS runs by the clock and of the processors. The runs of
+all of them take turns, so that what else the machine does falls on all alike. Both programs get the same input, and have to
+write the same output. Of each command stands beside it how many blocks of SHA-256
 it hashes (`measure.py` tells what a row has): a row's signature takes three, its leaf five, and the capability of each of
 the eight writers two.
 """
@@ -22,7 +22,7 @@ WRITERS, CAPABILITY, SIGNED, LEAF = 8, 2, 3, 5
 
 
 def timed(command, given, made):
-    """The seconds by the clock and of the processors, the peak in MiB, and what was written."""
+    """The seconds by the clock and of the processors, and what was written."""
     with open(given, "rb") as source, open(made, "wb") as sink:
         begun = time.perf_counter()
         child = subprocess.Popen(command, stdin=source, stdout=sink, stderr=subprocess.DEVNULL)
@@ -32,7 +32,7 @@ def timed(command, given, made):
     if child.returncode != 0:
         raise SystemExit(f"{' '.join(command)} ended with {child.returncode}")
     with open(made, "rb") as file:
-        return took, used.ru_utime + used.ru_stime, used.ru_maxrss / 1024, file.read()
+        return took, used.ru_utime + used.ru_stime, file.read()
 
 
 def checked(rows):
@@ -85,13 +85,13 @@ def main():
     with tempfile.TemporaryDirectory() as folder:
         tasks = {name: task for name, task in make_files(programs[0], folder).items() if task[0][0] in chosen}
         taken = take_turns(programs, tasks, folder)
-    print("| | hashes | " + " | ".join(f"{program} by the clock | of the processors | MiB" for program in programs) + " |")
-    print("|---|---|" + "---|---|---|" * len(programs))
+    print("| | hashes | " + " | ".join(f"{program} by the clock | of the processors" for program in programs) + " |")
+    print("|---|---|" + "---|---|" * len(programs))
     for name, (_, _, hashes) in tasks.items():
         told = []
         for program in programs:
-            clock, processors, peak = (statistics.median(figures) for figures in zip(*taken[name, program]))
-            told.append(f"{clock:.3f} s | {processors:.3f} s | {peak:.1f}")
+            clock, processors = (statistics.median(figures) for figures in zip(*taken[name, program]))
+            told.append(f"{clock:.3f} s | {processors:.3f} s")
         print(f"| {name} | {hashes:,} | " + " | ".join(told) + " |")
 
 
