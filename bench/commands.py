@@ -2,11 +2,11 @@
 
 usage: python3 bench/commands.py PROGRAM [OTHER [COMMAND ..]]
 
-PROGRAM and OTHER are executables `willow_peer`; words behind them choose among the commands. Told are medians of RUNS runs by the clock and of the processors. The runs of
-all of them take turns, so that what else the machine does falls on all alike. Both programs get the same input, and have to
-write the same output. Of each command stands beside it how many blocks of SHA-256
-it hashes (`measure.py` tells what a row has): a row's signature takes three, its leaf five, and the capability of each of
-the eight writers two.
+PROGRAM and OTHER are executables `willow_peer`; words behind them choose among the commands. Told are medians of RUNS runs
+by the clock and of the processors. The runs of all of them take turns, so that what else the machine does falls on all
+alike. Both programs get the same input, and have to write the same output. Of each command stands beside it how many blocks
+of SHA-256 it hashes (`measure.py` tells what a row has): a row's signature takes three, its leaf five, and the capability
+of each of the eight writers two.
 """
 import os
 import statistics
