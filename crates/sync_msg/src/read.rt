@@ -1,7 +1,7 @@
 //! Items, read from the front of an input.
 
 ghost use Rattle.std.specs.Prelude.{◌≡◌};
-ghost use Rattle.spelling.specs.Reading.{Gives};
+ghost use Rattle.spelling.specs.Reading.{Gives, NeedsNoMemory};
 ghost use Rattle.sync_msg.specs.Items.{item_value};
 ghost use Rattle.sync_msg.specs.ItemReading.{cut_at, split_at, head_at, body_at, GivesRow};
 
@@ -69,7 +69,8 @@ pub(crate) fn read_row<F: RowForm>(alloc: Global, input: &mut Input) -> Result<F
 // Reads the length of a frame's body, and the body.
 #[tactic(auto, unfolding(crate::specs::ItemReading::body_at, spelling::specs::Reading::text_at))]
 fn read_body<'a>(input: &mut Input<'a>) -> Result<&'a [u8], Unread>
-    ensures { Gives (λ body. body.now) result input.new (body_at input.old) }
+    ensures read { Gives (λ body. body.now) result input.new (body_at input.old) }
+    ensures sure { NeedsNoMemory result }
 {
     let len = input.number_u32_up_to(MAX_FRAME as u32)? as usize;
     input.slice(len)

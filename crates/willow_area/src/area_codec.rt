@@ -3,7 +3,7 @@
 ghost use Rattle.std.specs.Prelude.{◌≡◌, ℕ, ◌++◌, List, OnOk, OnErr, IfOk};
 ghost use Rattle.std.specs.Int.{w64, to_be_bytes};
 ghost use Rattle.spelling.specs.Form.{Decodes};
-ghost use Rattle.spelling.specs.Reading.{Gives, option_at};
+ghost use Rattle.spelling.specs.Reading.{Gives, NeedsNoMemory, option_at};
 ghost use Rattle.spelling.specs.Spelling.{option_spelling};
 ghost use Rattle.willow_path.specs.Key.{key_at};
 ghost use Rattle.willow_area.specs.Area.{IsArea};
@@ -57,7 +57,8 @@ pub fn read_area(alloc: Global, input: &mut Input) -> Result<Area, Unread>
 // Reads any subspace, or one.
 #[tactic(auto, unfolding(spelling::specs::Reading::option_at, spelling::specs::Reading::behind_flag))]
 fn read_subspace(input: &mut Input) -> Result<Option<UserKey>, Unread>
-    ensures { Gives (λ subspace. subspace) result input.new (option_at key_at input.old) }
+    ensures read { Gives (λ subspace. subspace) result input.new (option_at key_at input.old) }
+    ensures sure { NeedsNoMemory result }
 {
     match input.byte()? {
         0 => Ok(None),

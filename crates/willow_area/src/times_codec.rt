@@ -2,7 +2,7 @@
 
 ghost use Rattle.std.specs.Prelude.{◌≡◌, ℕ, ◌<◌, ◌++◌, List, OnOk, OnErr, IfOk, IfSome};
 ghost use Rattle.spelling.specs.Form.{AreBytes};
-ghost use Rattle.spelling.specs.Reading.{Gives, option_at};
+ghost use Rattle.spelling.specs.Reading.{Gives, NeedsNoMemory, option_at};
 ghost use Rattle.willow_area.specs.TimesSpelling.{above_at, byte_or_ff, highest, times_at, times_spelling};
 
 use crate::times::TimeRange;
@@ -12,7 +12,8 @@ use spelling::{Input, Unread, guard};
 // above the start begins with the bytes read.
 #[tactic(auto, unfolding(crate::specs::TimesSpelling::times_at))]
 pub(crate) fn read_times(input: &mut Input) -> Result<TimeRange, Unread>
-    ensures { Gives (λ times. times) result input.new (times_at input.old) }
+    ensures read { Gives (λ times. times) result input.new (times_at input.old) }
+    ensures sure { NeedsNoMemory result }
 {
     let start = input.number_u64()?;
     let end = read_end(input, start)?;
@@ -24,6 +25,7 @@ pub(crate) fn read_times(input: &mut Input) -> Result<TimeRange, Unread>
 fn read_end(input: &mut Input, start: u64) -> Result<Option<u64>, Unread>
     ensures read { Gives (λ end. end) result input.new (option_at (above_at start) input.old) }
     ensures above { IfOk result (λ end. IfSome end (λ e. start < e)) }
+    ensures sure { NeedsNoMemory result }
 {
     match input.byte()? {
         0 => Ok(None),
@@ -37,6 +39,7 @@ fn read_end(input: &mut Input, start: u64) -> Result<Option<u64>, Unread>
 fn read_above(input: &mut Input, start: u64) -> Result<u64, Unread>
     ensures read { Gives (λ n. n) result input.new (above_at start input.old) }
     ensures above { IfOk result (λ n. start < n) }
+    ensures sure { NeedsNoMemory result }
 {
     guard(start < highest(input.front()))?;
     input.number_u64()
