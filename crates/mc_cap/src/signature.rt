@@ -35,8 +35,8 @@ impl Signature {
         Some(Signature { bytes })
     }
 
-    // The signature of these bytes, which are few enough.
-    pub(crate) fn short(bytes: Vec<u8>) -> Signature
+    /// The signature of these bytes, which are at most `MAX_SIGNATURE`.
+    pub fn short(bytes: Vec<u8>) -> Signature
         requires { length bytes.items ≤ MAX_SIGNATURE }
         ensures { result ≡ bytes.items }
     {

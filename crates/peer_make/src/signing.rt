@@ -42,7 +42,7 @@ fn sign_open(alloc: Global, key: UserKey, message: &[u8]) -> Result<Signature, S
     ensures { SignsOpen key message.now result }
 {
     match OpenSigner::new(key).sign(alloc, message) {
-        Ok(bytes) => Ok(short(bytes)),
+        Ok(bytes) => Ok(Signature::short(bytes)),
         Err(End::Refused(_)) => unreachable!(),
         Err(End::NoMemory) => Err(Stop::NoMemory),
     }
@@ -125,19 +125,8 @@ fn sign_once(alloc: Global, signer: OneUse, message: &[u8]) -> Result<Signature,
 {
     let mut signer = signer;
     match signer.sign(alloc, message) {
-        Ok(bytes) => Ok(short(bytes)),
+        Ok(bytes) => Ok(Signature::short(bytes)),
         Err(End::Refused(_)) => unreachable!(),
         Err(End::NoMemory) => Err(Stop::NoMemory),
-    }
-}
-
-// The signature of these bytes, which are few enough.
-fn short(bytes: Vec<u8>) -> Signature
-    requires { length bytes.items ≤ MAX_SIGNATURE }
-    ensures { result ≡ bytes.items }
-{
-    match Signature::new(bytes) {
-        Some(signature) => signature,
-        None => unreachable!(),
     }
 }
