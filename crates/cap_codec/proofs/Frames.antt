@@ -20,6 +20,7 @@ use Rattle.spelling.proofs.Lists.{All-append, take_front}
 use Rattle.spelling.proofs.Joining.{Reads, one_spelling, whole_value, whole_rest, whole_not_part, whole_not_wrong}
 use Rattle.spelling.proofs.Fields.{u32_up_to-reads}
 use Rattle.spelling.proofs.Repeated.{text-reads}
+use Rattle.willow_entry.specs.RowBody.{row_body}
 use Rattle.willow_entry.specs.declared.frame.TheConstants.{MAX_FRAME}
 use Rattle.cap_codec.specs.Rows.{RawValue, raw_spelling, ReadsWhole, FitsFrame, frame, HaveOneReading}
 use Rattle.cap_codec.specs.Streams.{HasNoFrame, FramesNeverStop, HaveOneStop}
@@ -48,6 +49,7 @@ text_again x rest short =
 
 -- in front of anything, a frame gives its row's body
 pub frame_again : (r : RawValue) (rest : List ℕ) → FitsFrame r → body_at (frame r ++ rest) ≡ Whole (raw_spelling r) rest
+unfolding row_body
 frame_again r rest fits = text_again (raw_spelling r) rest fits.short
 
 pub frame_form : IsForm frame FitsFrame
@@ -81,6 +83,7 @@ frame_not bytes body left (Refused e) h none =
 -- the body that was read is a row's
 pub frame_whole : (bytes input body left : List ℕ) (r : RawValue) (taken : ℕ) → AreBytes bytes → input ≡ bytes → body_at input ≡ Whole body left → ReadsWhole body (Ok r) → taken ≡ length bytes - length left
     → Decodes frame FitsFrame bytes (Ok (r, taken))
+unfolding row_body
 frame_whole bytes input body left r taken are same h is n =
     let t = (text-reads MAX_FRAME (omega arith) length-reads).takes bytes body left are (ap body_at (sym same) ∙ h) in
     let parts : bytes ≡ frame r ++ left = t.parts ∙ ap (λ (l : List ℕ). text_spelling (to_be_bytes w32) l ++ left) is.1 in
@@ -90,6 +93,7 @@ frame_whole bytes input body left r taken are same h is n =
 -- ---- a stream of frames
 
 pub frame_long : (r : RawValue) → 4 ≤ length (frame r)
+unfolding row_body
 frame_long r = omega (arith, length-append (to_be_bytes w32 (length (raw_spelling r))) (raw_spelling r))
 
 nothing_left : HasNoFrame []

@@ -1,12 +1,11 @@
 -- Rows with their tokens read out, their bodies and their frames.
 use Rattle.std.specs.Prelude.{◌≡◌, ℕ, ◌≤◌, List, ◌++◌, length, Result, Ok, Err}
 use Rattle.std.specs.List.{AllByRecursion, flat_map}
-use Rattle.std.specs.Int.{w32, to_be_bytes}
-use Rattle.spelling.specs.Spelling.{text_spelling}
 use Rattle.spelling.specs.declared.ending.End.{End}
 use Rattle.spelling.specs.declared.ending.End.TheVariants.{Refused, NoMemory}
 use Rattle.spelling.specs.declared.ending.NotHere.{NotHere}
 use Rattle.willow_entry.specs.EntryForm.{entry_spelling, IsEntry}
+use Rattle.willow_entry.specs.Frame.{row_frame}
 use Rattle.willow_entry.specs.Row.{RowValue}
 use Rattle.willow_entry.specs.declared.entry.Entry.{Entry}
 use Rattle.willow_entry.specs.declared.frame.TheConstants.{MAX_FRAME}
@@ -57,9 +56,9 @@ pub record FitsFrame (r : RawValue) : Type 0 where
   pub raw : IsRaw r
   pub short : length (raw_spelling r) ≤ MAX_FRAME
 
--- the length of the body in four bytes, and the body
+-- its frame is that of the row as a store sees it
 abbrev pub frame : RawValue → List ℕ
-frame r = text_spelling (to_be_bytes w32) (raw_spelling r)
+frame r = row_frame (row_of r)
 
 -- the bytes are the frames of these rows, one after the other, and nothing else
 pub record AreFrames (bytes : List ℕ) (rows : List RawValue) : Type 0 where

@@ -4,6 +4,7 @@ use Rattle.std.specs.Int.{w32, to_be_bytes}
 use Rattle.spelling.specs.Spelling.{text_spelling}
 use Rattle.scheme_core.specs.Open.{open_signature}
 use Rattle.willow_entry.specs.Message.{entry_message}
+use Rattle.willow_entry.specs.RowBody.{row_body}
 use Rattle.mc_cap.specs.Signature.{signature_spelling}
 use Rattle.peer_listing.specs.Generator.{generator_writer}
 use Rattle.peer_listing.proofs.Framed.{message_begun, body_is, body_fits}
@@ -20,6 +21,7 @@ put_frame-requires c =
     (c.in_ok-signature.ensures ∙ ap (λ (key : List ℕ). open_signature key c.deref.result.now) c.generator_writer.ensures.key ∙ ap (open_signature writer) c.deref.ensures.value))
 
 pub returns : goal.returns
+unfolding row_body
 returns c =
     let writer : List ℕ = generator_writer (c.args.i % 8) in
     subst (λ (body : List ℕ). OnOk c.put_frame.result (c.put_frame.new.out.items ≡ c.args.out.now.items ++ text_spelling (to_be_bytes w32) body))
