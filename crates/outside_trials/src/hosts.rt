@@ -70,47 +70,49 @@ fn came(case: &Case<'_>, partings: &[Result<u8, Fault>], back: &[MemLink]) -> bo
             == [*byte, *job].as_slice())
 }
 
+/// What comes of one and of two links.
+const CASES: [Case<'static>; 5] = [
+    Case {
+        fails: 9,
+        jobs: &[1, 2],
+        read: &[5, 6],
+        unused: &[],
+        stopped: None,
+    },
+    Case {
+        fails: 9,
+        jobs: &[1, 2, 3],
+        read: &[5, 6],
+        unused: &[3],
+        stopped: Some(Fault::Failed),
+    },
+    Case {
+        fails: 2,
+        jobs: &[1, 2],
+        read: &[5],
+        unused: &[2],
+        stopped: Some(Fault::Failed),
+    },
+    Case {
+        fails: 1,
+        jobs: &[1, 2],
+        read: &[],
+        unused: &[1, 2],
+        stopped: Some(Fault::Failed),
+    },
+    Case {
+        fails: 9,
+        jobs: &[],
+        read: &[],
+        unused: &[],
+        stopped: None,
+    },
+];
+
 #[test]
 fn links_come_back_in_order(rt: HostRuntime) -> Result<(), Fail> {
     let alloc = rt.alloc();
-    let failed = Some(Fault::Failed);
-    for case in [
-        Case {
-            fails: 9,
-            jobs: &[1, 2],
-            read: &[5, 6],
-            unused: &[],
-            stopped: None,
-        },
-        Case {
-            fails: 9,
-            jobs: &[1, 2, 3],
-            read: &[5, 6],
-            unused: &[3],
-            stopped: failed,
-        },
-        Case {
-            fails: 2,
-            jobs: &[1, 2],
-            read: &[5],
-            unused: &[2],
-            stopped: failed,
-        },
-        Case {
-            fails: 1,
-            jobs: &[1, 2],
-            read: &[],
-            unused: &[1, 2],
-            stopped: failed,
-        },
-        Case {
-            fails: 9,
-            jobs: &[],
-            read: &[],
-            unused: &[],
-            stopped: None,
-        },
-    ] {
+    for case in CASES {
         let mut door = door_of_two(alloc, case.fails)?;
         let jobs: Vec<u8> = case.jobs.iter().copied().collect(alloc)?;
         let hosted = host_links(&rt, alloc, &Echo, jobs, &mut door)?;

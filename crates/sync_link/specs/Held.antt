@@ -5,10 +5,12 @@ use Rattle.willow_entry.specs.Row.{RowValue}
 use Rattle.sync_hello.specs.HelloForm.{HasSpelling}
 use Rattle.sync_link.specs.Sound.{AreSound}
 use Rattle.sync_link.specs.Fed.{Fed, State, CountsOn}
+use Rattle.sync_link.specs.Standing.{Side}
 use Rattle.sync_link.specs.Due.{stand_of}
 use Rattle.sync_link.specs.Taking.{Fits, Holds, read_by, waiting_side}
 use Rattle.sync_link.specs.declared.due.Due.{Due}
 use Rattle.sync_link.specs.declared.due.Due.TheVariants as dues
+use Rattle.sync_link.specs.declared.ear.Ear.{Ear}
 use Rattle.sync_link.specs.declared.talker.Talker.{Talker}
 
 -- how many counted items it said and read; they are forgotten once something is refused
@@ -27,6 +29,13 @@ read_of (dues.Nothing cause) = 0
 -- what contracts see of a side in memory
 abbrev pub fed_with : {R S : Type 0} → Rules → (R → RowValue) → Talker R S → Due R → ℕ → List ℕ → Fed
 fed_with rules value talker due at held = record { side = waiting_side rules value talker due at held; sent = sent_of due; read = read_of due }
+
+-- the same of a side by its ear, which has what is due and is there of it
+abbrev pub heard_side : {R S : Type 0} → Rules → (R → RowValue) → Talker R S → Ear R → Side
+heard_side rules value talker ear = waiting_side rules value talker ear.due ear.at ear.held.items
+
+abbrev pub heard_fed : {R S : Type 0} → Rules → (R → RowValue) → Talker R S → Ear R → Fed
+heard_fed rules value talker ear = fed_with rules value talker ear.due ear.at ear.held.items
 
 abbrev pub state_of : {R S : Type 0} → (R → RowValue) → Talker R S → Due R → ℕ → List ℕ → State
 state_of value talker due at held = record {

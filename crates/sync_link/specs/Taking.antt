@@ -2,6 +2,7 @@
 use Rattle.std.specs.Prelude.{◌≡◌, ℕ, ◌+◌, ◌<◌, ◌≤◌, List, [], length, map, take, Option, None, Some}
 use Rattle.scheme_core.specs.Rules.{Rules}
 use Rattle.willow_entry.specs.Row.{RowValue}
+use Rattle.cap_codec.specs.Rows.{row_of}
 use Rattle.sync_msg.specs.Items.{ItemValue}
 use Rattle.sync_msg.specs.Reader.{moved_on}
 use Rattle.sync_msg.specs.declared.role.Role.{Role}
@@ -25,6 +26,7 @@ use Rattle.sync_link.specs.declared.due.Cause.TheVariants as causes
 use Rattle.sync_link.specs.declared.due.Due.{Due}
 use Rattle.sync_link.specs.declared.due.Due.TheVariants as dues
 use Rattle.sync_link.specs.declared.due.Exchange.{Exchange}
+use Rattle.sync_link.specs.declared.lists.Lists.{Lists}
 use Rattle.sync_link.specs.declared.take.Came.{Came}
 use Rattle.sync_link.specs.declared.take.Came.TheVariants as came
 use Rattle.sync_link.specs.declared.take.ItemCame.{ItemCame}
@@ -119,6 +121,15 @@ Steps old new at bytes (Some taken) out_old out_new rows_old rows_new =
 -- a side that waits for what is due
 abbrev pub waiting_side : {R S : Type 0} → Rules → (R → RowValue) → Talker R S → Due R → ℕ → List ℕ → Side
 waiting_side rules value talker due at held = side_with rules value talker (stand_of due at held)
+
+-- the rows of lists, as a store sees them
+abbrev pub listed : Lists → List RowValue
+listed lists = map row_of lists.rows.items
+
+-- the step of a side that waits for what is due: what it says then, and the rows that come, stand behind those before
+abbrev pub TakesOne : {R S : Type 0} → Rules → (R → RowValue) → Talker R S → Due R → Talker R S → Due R → ℕ → List ℕ → Option ℕ → List ℕ → List ℕ → Lists → Lists → Type 0
+TakesOne rules value old due new next at bytes taken out_old out_new lists_old lists_new =
+    Steps (waiting_side rules value old due) (waiting_side rules value new next) at bytes taken out_old out_new (listed lists_old) (listed lists_new)
 
 -- so many bytes were taken
 abbrev pub taken_of : Option ℕ → ℕ

@@ -2,16 +2,15 @@
 
 ghost use Rattle.std.specs.Prelude.{◌≡◌, ◌++◌, ◌≤◌, map, IfOk, IfSome, IsErrOf, OnErr, OnOk};
 ghost use Rattle.mc_cap.specs.Signature.{IsSignature};
-ghost use Rattle.cap_codec.specs.Rows.{row_of};
 ghost use Rattle.sync_hello.specs.HelloForm.{HasSpelling};
 ghost use Rattle.session_rules.specs.Reading.{ending_of};
 ghost use Rattle.sync_link.specs.Fed.{CountsOn, GoesWell, begun, fed_in, first_bytes, standing_as};
 ghost use Rattle.sync_link.specs.Signing.{SignsTo};
 ghost use Rattle.sync_link.specs.Sound.{AreSound};
 ghost use Rattle.sync_link.specs.Standing.{Feeds};
-ghost use Rattle.sync_link.specs.Held.{IsHeld, fed_with};
+ghost use Rattle.sync_link.specs.Held.{IsHeld, heard_fed, heard_side};
 ghost use Rattle.sync_link.specs.Talking.{AsksOnce, FailsSign, Keeps, SignsBy};
-ghost use Rattle.sync_link.specs.Taking.{waiting_side};
+ghost use Rattle.sync_link.specs.Taking.{listed};
 
 use crate::due::{Cause, Due};
 use crate::ear::{Ear, hear_on, shut};
@@ -96,7 +95,7 @@ impl<R: Row, S: Verify> Speaker<R, S> {
         out: &mut Vec<u8>,
         lists: &mut Lists,
     ) -> Result<(), Stop>
-        ensures feeds { OnOk result (Feeds (fed_in S.rules self.old).side (fed_in S.rules self.new).side piece.now out.old.items out.new.items (map row_of lists.old.rows.items) (map row_of lists.new.rows.items)) }
+        ensures feeds { OnOk result (Feeds (fed_in S.rules self.old).side (fed_in S.rules self.new).side piece.now out.old.items out.new.items (listed lists.old) (listed lists.new)) }
         ensures counts { OnOk result (CountsOn (fed_in S.rules self.old) (fed_in S.rules self.new) piece.now) }
         ensures signs { OnOk result (SignsBy (K.gives signer.old) self.old.role self.old.hello self.old.signature self.new.signature) }
         ensures greets { OnOk result (SignsTo (K.gives signer.old) (fed_in S.rules self.old).side (fed_in S.rules self.new).side piece.now) }
@@ -185,10 +184,10 @@ fn hear_whole<R: Row, S: Verify, K: Signer>(
 ) -> Result<(), Stop>
     requires { IsHeld S.rules R.value talker.old ear.old.due ear.old.at ear.old.held.items }
     ensures keeps { Keeps talker.old talker.new }
-    ensures feeds { OnOk result (Feeds (waiting_side S.rules R.value talker.old ear.old.due ear.old.at ear.old.held.items) (waiting_side S.rules R.value talker.new ear.new.due ear.new.at ear.new.held.items) piece.now out.old.items out.new.items (map row_of lists.old.rows.items) (map row_of lists.new.rows.items)) }
-    ensures counts { OnOk result (CountsOn (fed_with S.rules R.value talker.old ear.old.due ear.old.at ear.old.held.items) (fed_with S.rules R.value talker.new ear.new.due ear.new.at ear.new.held.items) piece.now) }
+    ensures feeds { OnOk result (Feeds (heard_side S.rules R.value talker.old ear.old) (heard_side S.rules R.value talker.new ear.new) piece.now out.old.items out.new.items (listed lists.old) (listed lists.new)) }
+    ensures counts { OnOk result (CountsOn (heard_fed S.rules R.value talker.old ear.old) (heard_fed S.rules R.value talker.new ear.new) piece.now) }
     ensures held { OnOk result (IsHeld S.rules R.value talker.new ear.new.due ear.new.at ear.new.held.items) }
-    ensures greets { OnOk result (SignsTo (K.gives signer.old) (waiting_side S.rules R.value talker.old ear.old.due ear.old.at ear.old.held.items) (waiting_side S.rules R.value talker.new ear.new.due ear.new.at ear.new.held.items) piece.now) }
+    ensures greets { OnOk result (SignsTo (K.gives signer.old) (heard_side S.rules R.value talker.old ear.old) (heard_side S.rules R.value talker.new ear.new) piece.now) }
     ensures gives { K.gives signer.new ≡ K.gives signer.old }
     ensures faults { K.faults signer.old ≤ K.faults signer.new }
     ensures signs { OnOk result (SignsBy (K.gives signer.old) talker.old.role talker.old.hello talker.old.signature talker.new.signature) }

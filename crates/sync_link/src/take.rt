@@ -8,7 +8,7 @@ ghost use Rattle.sync_link.specs.Held.{CountsStep, fed_with};
 ghost use Rattle.sync_link.specs.Sound.{AreSound, IsSound};
 ghost use Rattle.sync_link.specs.Signing.{SignsNext, SignsStep};
 ghost use Rattle.sync_link.specs.Talking.{AsksOnce, FailsSign, IsSigned, Keeps, SignsBy, UnsignedIf};
-ghost use Rattle.sync_link.specs.Taking.{ComesHello, ComesItem, ComesProof, Fits, Holds, IsOpen, Steps, due_after, due_behind, read_by, taken_after, taken_behind, taken_of, waiting_side};
+ghost use Rattle.sync_link.specs.Taking.{ComesHello, ComesItem, ComesProof, Fits, Holds, IsOpen, TakesOne, due_after, due_behind, read_by, taken_after, taken_behind, taken_of, waiting_side};
 ghost use Rattle.sync_link.specs.declared.due.Due.TheVariants as dues;
 
 use crate::due::{Cause, Due, Exchange};
@@ -152,7 +152,7 @@ pub(crate) fn take<R: Row, S: Verify, K: Signer>(
     ensures keeps { Keeps talker.old talker.new }
     ensures gives { K.gives signer.new ≡ K.gives signer.old }
     ensures faults { K.faults signer.old ≤ K.faults signer.new }
-    ensures steps { IfOk result (λ taken. (at : ℕ) → Steps (waiting_side S.rules R.value talker.old due.old) (waiting_side S.rules R.value talker.new due.new) at bytes.now taken out.old.items out.new.items (map row_of lists.old.rows.items) (map row_of lists.new.rows.items)) }
+    ensures steps { IfOk result (λ taken. (at : ℕ) → TakesOne S.rules R.value talker.old due.old talker.new due.new at bytes.now taken out.old.items out.new.items lists.old lists.new) }
     ensures counts { IfOk result (λ taken. (at : ℕ) → CountsStep (fed_with S.rules R.value talker.old due.old) (fed_with S.rules R.value talker.new due.new) at bytes.now taken) }
     ensures fits { OnOk result (Fits talker.old.role talker.new.signature due.new) }
     ensures read { IfOk result (λ taken. read_by due.new ≤ read_by due.old + taken_of taken) }

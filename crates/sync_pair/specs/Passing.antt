@@ -5,8 +5,13 @@ use Rattle.willow_entry.specs.Row.{RowValue}
 use Rattle.sync_msg.specs.Items.{HasSpelling, item_spelling}
 use Rattle.sync_msg.specs.declared.refusal.CoreRefusal.{CoreRefusal}
 use Rattle.sync_core.specs.Flat.{row_in}
-use Rattle.sync_core.specs.Place.{Place}
+use Rattle.sync_core.specs.Place.{Place, stage_of}
 use Rattle.sync_core.specs.Runs.{hears, says_all}
+use Rattle.sync_core.specs.declared.stage.Stage.TheVariants as stage
+
+-- the turn is the side's
+abbrev pub IsWriting : Place → Type 0
+IsWriting place = stage_of place.doing ≡ stage.Writing
 
 -- how two sides stand behind a turn: the one that says it and the one that hears it, the bytes of the turn, and the rows
 -- that the second has

@@ -1,13 +1,11 @@
 //! A turn that one side says and the other hears.
 
 ghost use Rattle.std.specs.Prelude.{◌≡◌, ◌<◌, map, IfOk, OnOk};
-ghost use Rattle.sync_core.specs.Place.{stage_of};
 ghost use Rattle.sync_core.specs.Runs.{left_to_say};
-ghost use Rattle.sync_pair.specs.Passing.{CanPass, PassesTurn, turn_end};
+ghost use Rattle.sync_pair.specs.Passing.{CanPass, IsWriting, PassesTurn, turn_end};
 
 use crate::peer::Peer;
 use std::alloc::Global;
-use sync_core::Stage;
 use sync_msg::encode_item;
 use willow_entry::Row;
 use willow_path::NoMemory;
@@ -18,12 +16,12 @@ pub(crate) fn next_turn<R: Row>(
     left: &mut Peer<R>,
     right: &mut Peer<R>,
 ) -> Result<Vec<u8>, NoMemory>
-    requires left { stage_of left.old.side.doing ≡ Stage.Writing → CanPass left.old.side right.old.side }
-    requires right { (stage_of left.old.side.doing ≡ Stage.Writing → ⊥) → CanPass right.old.side left.old.side }
-    ensures left { stage_of left.old.side.doing ≡ Stage.Writing → IfOk result (λ bytes. PassesTurn left.old.side right.old.side (map R.value right.old.got.items) left.new.side right.new.side bytes.items (map R.value right.new.got.items)) }
-    ensures left_got { stage_of left.old.side.doing ≡ Stage.Writing → left.new.got ≡ left.old.got }
-    ensures right { (stage_of left.old.side.doing ≡ Stage.Writing → ⊥) → IfOk result (λ bytes. PassesTurn right.old.side left.old.side (map R.value left.old.got.items) right.new.side left.new.side bytes.items (map R.value left.new.got.items)) }
-    ensures right_got { (stage_of left.old.side.doing ≡ Stage.Writing → ⊥) → right.new.got ≡ right.old.got }
+    requires left { IsWriting left.old.side → CanPass left.old.side right.old.side }
+    requires right { (IsWriting left.old.side → ⊥) → CanPass right.old.side left.old.side }
+    ensures left { IsWriting left.old.side → IfOk result (λ bytes. PassesTurn left.old.side right.old.side (map R.value right.old.got.items) left.new.side right.new.side bytes.items (map R.value right.new.got.items)) }
+    ensures left_got { IsWriting left.old.side → left.new.got ≡ left.old.got }
+    ensures right { (IsWriting left.old.side → ⊥) → IfOk result (λ bytes. PassesTurn right.old.side left.old.side (map R.value left.old.got.items) right.new.side left.new.side bytes.items (map R.value left.new.got.items)) }
+    ensures right_got { (IsWriting left.old.side → ⊥) → right.new.got ≡ right.old.got }
 {
     if left.is_writing() {
         pass_turn(alloc, left, right)
@@ -55,7 +53,7 @@ fn pass_item<R: Row>(
     to: &mut Peer<R>,
     bytes: &mut Vec<u8>,
 ) -> Result<(), NoMemory>
-    requires writes { stage_of from.old.side.doing ≡ Stage.Writing }
+    requires writes { IsWriting from.old.side }
     requires passes { CanPass from.old.side to.old.side }
     ensures end { OnOk result (turn_end from.new.side to.new.side bytes.new.items (map R.value to.new.got.items) ≡ turn_end from.old.side to.old.side bytes.old.items (map R.value to.old.got.items)) }
     ensures rest { OnOk result (CanPass from.new.side to.new.side) }
