@@ -1,4 +1,4 @@
--- Commands that call nobody and wait for nobody.
+-- Commands that call nobody and wait for nobody, and those of them that make something.
 use Rattle.peer_words.specs.declared.command.Command.{Command}
 use Rattle.peer_words.specs.declared.command.Command.TheVariants as cmd
 
@@ -7,3 +7,11 @@ abbrev pub IsLocal : Command → Type 0
 IsLocal (cmd.Sync image cap key to area) = ⊥
 IsLocal (cmd.Serve image cap key at links area) = ⊥
 IsLocal command = Unit {0}
+
+-- those that make a key, a capability or a row
+abbrev pub IsMaker : Command → Type 0
+IsMaker (cmd.Key name height) = Unit {0}
+IsMaker (cmd.Grant namespace mode user key) = Unit {0}
+IsMaker (cmd.Delegate key to area) = Unit {0}
+IsMaker (cmd.Write key path time length digest subspace) = Unit {0}
+IsMaker command = ⊥

@@ -1,7 +1,7 @@
 //! The one call that `main` makes.
 
 ghost use Rattle.std.specs.Prelude.{ℕ, List, ◌≤◌, ◌↔◌, IsTrue};
-ghost use Rattle.peer_run.specs.Locals.{IsLocal};
+ghost use Rattle.peer_run.specs.Locals.{IsLocal, IsMaker};
 ghost use Rattle.peer_stage.specs.World.{World};
 ghost use Rattle.peer_words.specs.Words.{texts};
 ghost use Rattle.peer_words.specs.Commands.{IsWords};
@@ -48,26 +48,6 @@ fn run_command<R: Threads + Sync, H: Shelf, I: Source, O: Sink, N: Noise>(
         Command::Show { newest } => {
             show::<RowChecker, R, I, O>(rt, alloc, newest, input, output)
         }
-        Command::Key { name, height } => make_key(rt, alloc, name, height, shelf, noise, output),
-        Command::Grant {
-            namespace,
-            mode,
-            user,
-            key,
-        } => grant(rt, alloc, namespace, mode, user, key, shelf, output),
-        Command::Delegate { key, to, area } => delegate(
-            rt, alloc, key, to, area, shelf, input, output,
-        ),
-        Command::Write {
-            key,
-            path,
-            time,
-            length,
-            digest,
-            subspace,
-        } => write(
-            rt, alloc, key, path, time, length, digest, subspace, shelf, input, output,
-        ),
         Command::Gen { rows } => generate(alloc, rows, output),
         Command::Drill { rows } => drill(rt, alloc, rows, output),
         Command::Meet {
@@ -92,6 +72,48 @@ fn run_command<R: Threads + Sync, H: Shelf, I: Source, O: Sink, N: Noise>(
         }
         Command::Sync { .. } | Command::Serve { .. } => unreachable!(),
         Command::Watch { .. } => Err(Stop::Usage),
+        made => run_maker(rt, alloc, made, shelf, input, output, noise),
+    }
+}
+
+/// Runs a command that makes a key, a capability or a row.
+fn run_maker<R: Threads + Sync, H: Shelf, I: Source, O: Sink, N: Noise>(
+    rt: &R,
+    alloc: Global,
+    command: Command,
+    shelf: &mut H,
+    input: &mut I,
+    output: &mut O,
+    noise: &mut N,
+) -> Result<Done, Stop>
+    requires words { (words : List (List ℕ)) × IsWords words command }
+    requires maker { IsMaker command }
+    ensures { (others : World) → (deed_of command).meets
+        (record others { shelf = H.facts shelf.old; input = I.facts input.old; output = O.facts output.old; noise = N.facts noise.old })
+        (record others { shelf = H.facts shelf.new; input = I.facts input.new; output = O.facts output.new; noise = N.facts noise.new }) result }
+{
+    match command {
+        Command::Key { name, height } => make_key(rt, alloc, name, height, shelf, noise, output),
+        Command::Grant {
+            namespace,
+            mode,
+            user,
+            key,
+        } => grant(rt, alloc, namespace, mode, user, key, shelf, output),
+        Command::Delegate { key, to, area } => delegate(
+            rt, alloc, key, to, area, shelf, input, output,
+        ),
+        Command::Write {
+            key,
+            path,
+            time,
+            length,
+            digest,
+            subspace,
+        } => write(
+            rt, alloc, key, path, time, length, digest, subspace, shelf, input, output,
+        ),
+        _ => unreachable!(),
     }
 }
 

@@ -6,18 +6,6 @@ returns-in-Join g c = rw c.in-Join.is (λ others. c.join.ensures (record others 
 pub returns-in-Show : goal.returns-in-Show
 returns-in-Show g c = rw c.in-Show.is (λ others. c.show.ensures (record others { shelf = g.H.Shelf.facts c.args.shelf.now; noise = g.N.Noise.facts c.args.noise.now }))
 
-pub returns-in-Key : goal.returns-in-Key
-returns-in-Key g c = rw c.in-Key.is (λ others. c.make_key.ensures (record others { input = g.I.Source.facts c.args.input.now }))
-
-pub returns-in-Grant : goal.returns-in-Grant
-returns-in-Grant g c = rw c.in-Grant.is (λ others. c.grant.ensures (record others { input = g.I.Source.facts c.args.input.now; noise = g.N.Noise.facts c.args.noise.now }))
-
-pub returns-in-Delegate : goal.returns-in-Delegate
-returns-in-Delegate g c = rw c.in-Delegate.is (λ others. c.delegate.ensures (record others { noise = g.N.Noise.facts c.args.noise.now }))
-
-pub returns-in-Write : goal.returns-in-Write
-returns-in-Write g c = rw c.in-Write.is (λ others. c.write.ensures (record others { noise = g.N.Noise.facts c.args.noise.now }))
-
 pub returns-in-Gen : goal.returns-in-Gen
 returns-in-Gen g c = rw c.in-Gen.is (λ others. c.generate.ensures (record others { shelf = g.H.Shelf.facts c.args.shelf.now; input = g.I.Source.facts c.args.input.now; noise = g.N.Noise.facts c.args.noise.now }))
 
