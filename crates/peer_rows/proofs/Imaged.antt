@@ -1,15 +1,43 @@
--- The log of the rows of an image, which were all offered to one that was empty.
-use Rattle.std.proofs.Common.{ℕ, List, []}
-use Rattle.std.specs.Prelude.{Err}
-use Rattle.spelling.specs.declared.ending.End.{End}
-use Rattle.spelling.specs.declared.ending.End.TheVariants.{Refused, NoMemory}
+-- The log of the rows of an image, which were taken in one after the other.
+use Rattle.std.proofs.Common.{◌≡◌, ℕ, List, [], ◌∷◌, ◌++◌, sym, ap, subst, ◌∙◌, append_assoc, append-nil}
+use Rattle.std.specs.Prelude.{Result, Ok, Err}
 use Rattle.cap_codec.specs.Rows.{RawValue}
-use Rattle.ns_state.specs.declared.live_log.LogFull.{LogFull}
-use Rattle.peer_rows.specs.Images.{LogsImage, log_stop}
-use Rattle.peer_rows.specs.Stored.{OffersAll}
-use Rattle.peer_rows.specs.declared.log.Log.{Log}
+use Rattle.peer_stage.specs.declared.outcome.Stop.{Stop}
+use Rattle.peer_stage.specs.declared.outcome.Stop.TheVariants as stop
+use Rattle.peer_rows.specs.Images.{LogsImage}
+use Rattle.peer_rows.specs.Logged.{PassesLog}
+use Rattle.peer_rows.specs.Stored.{AdmitsRow, HasTakenIn, JudgesAll}
+use Rattle.peer_rows.specs.declared.intake.Intake.{Intake}
+use Rattle.peer_rows.proofs.Offered.{PassesLog-longer}
+use Rattle.peer_rows.proofs.Waiting.{none_waits}
 
--- where one of the rows is refused they are too many
-pub image_stops : (namespace : List ℕ) (rows : List RawValue) (log : Log) (e : End LogFull) → OffersAll namespace [] rows log (Err e) → LogsImage namespace rows (Err (log_stop e))
-image_stops namespace rows log (Refused full) past = past
-image_stops namespace rows log NoMemory past = tt
+-- judging the rows that wait is a way to take in the last of them
+pub judged_admits : (namespace : List ℕ) (rows : List RawValue) (intake : Intake) (result : Result (Unit {0}) Stop) → JudgesAll namespace rows intake result → AdmitsRow namespace rows intake result
+judged_admits namespace rows intake (Ok tt) judged = none_waits namespace rows intake judged
+judged_admits namespace rows intake (Err stop.LogFull) judged = judged
+judged_admits namespace rows intake (Err stop.NoMemory) judged = tt
+judged_admits namespace rows intake (Err e) judged = absurd judged
+
+-- of all these rows the first were taken in, and these are left, for a checker that judges in the namespace
+pub record HasTakenSome (namespace : List ℕ) (all taken left : List RawValue) (judged_in : List ℕ) (intake : Intake) : Type 0 where
+  pub whole : all ≡ taken ++ left
+  pub taken_in : HasTakenIn namespace taken intake
+  pub checks : judged_in ≡ namespace
+
+-- where none is left, all were taken in
+pub all_taken : (namespace : List ℕ) (all taken left : List RawValue) (judged_in : List ℕ) (intake : Intake) → HasTakenSome namespace all taken left judged_in intake → left ≡ [] → HasTakenIn namespace all intake
+all_taken namespace all taken left judged_in intake h none =
+    subst (λ (rows : List RawValue). HasTakenIn namespace rows intake) (sym (h.whole ∙ ap (λ (l : List RawValue). taken ++ l) none ∙ append-nil taken)) h.taken_in
+
+-- a log that is full before all rows came is full behind them
+pub admitting_stops : (namespace : List ℕ) (all taken left : List RawValue) (row : RawValue) (intake : Intake) (e : Stop) → all ≡ taken ++ row ∷ left → AdmitsRow namespace (taken ++ row ∷ []) intake (Err e) → LogsImage namespace all (Err e)
+admitting_stops namespace all taken left row intake stop.LogFull is past =
+    subst (PassesLog namespace) (append_assoc taken (row ∷ []) left ∙ sym is) (PassesLog-longer namespace (taken ++ row ∷ []) left past)
+admitting_stops namespace all taken left row intake stop.NoMemory is past = tt
+admitting_stops namespace all taken left row intake e is past = absurd past
+
+-- how the judging of the last rows ends
+pub judging_ends : (namespace : List ℕ) (rows : List RawValue) (intake : Intake) (e : Stop) → JudgesAll namespace rows intake (Err e) → LogsImage namespace rows (Err e)
+judging_ends namespace rows intake stop.LogFull past = past
+judging_ends namespace rows intake stop.NoMemory past = tt
+judging_ends namespace rows intake e past = absurd past

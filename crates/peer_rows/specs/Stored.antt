@@ -57,6 +57,13 @@ JudgesAll namespace rows intake (Err stop.LogFull) = PassesLog namespace rows
 JudgesAll namespace rows intake (Err stop.NoMemory) = Unit {0}
 JudgesAll namespace rows intake (Err e) = ⊥
 
+-- how the taking of one more row ends, where these are all with this one
+abbrev pub AdmitsRow : List ℕ → List RawValue → Intake → Result (Unit {0}) Stop → Type 0
+AdmitsRow namespace rows intake (Ok u) = HasTakenIn namespace rows intake
+AdmitsRow namespace rows intake (Err stop.LogFull) = PassesLog namespace rows
+AdmitsRow namespace rows intake (Err stop.NoMemory) = Unit {0}
+AdmitsRow namespace rows intake (Err e) = ⊥
+
 -- ---- pieces
 
 -- these bytes were fed to the stream, and the rows that became whole were taken in

@@ -4,8 +4,7 @@ ghost use Rattle.std.specs.Prelude.{◌≡◌, ◌^◌, ◌<◌, length, IfOk};
 ghost use Rattle.spelling.specs.declared.ending.End.TheVariants as ends;
 ghost use Rattle.peer_rows.specs.Images.{ReadsImageFrom, LogsImage, log_stop};
 
-use crate::log::Log;
-use crate::offering::offer_all;
+use crate::intake::Intake;
 use auth_entry::{AuthorisedEntry, NewChecker};
 use lms_core::PeerScheme;
 use ns_state::{LiveLog, LogFull};
@@ -38,7 +37,7 @@ pub fn image_from(alloc: Global, bytes: &[u8], origin: Origin) -> Result<Image, 
 }
 
 /// The log of the authorised rows of an image, offered in order, and the numbers of all its rows. A checker of the given
-/// kind judges them together.
+/// kind judges them, some at a time, so that what was judged of all of them never stands beside the log.
 pub fn log_image<C: NewChecker<PeerScheme>, R: Threads + Sync>(
     rt: &R,
     alloc: Global,
@@ -50,11 +49,12 @@ pub fn log_image<C: NewChecker<PeerScheme>, R: Threads + Sync>(
 {
     let Image { namespace, rows } = image;
     let mut checker = C::begin(alloc, PeerScheme, namespace)?;
-    let mut log = Log::new(alloc, namespace);
-    match offer_all(rt, alloc, &mut checker, &mut log, rows) {
-        Ok(()) => Ok((log.kept, log.counts)),
-        Err(end) => Err(log_stop(end)),
+    let mut intake = Intake::new(alloc, namespace);
+    for row in rows {
+        intake.admit(rt, alloc, &mut checker, row)?;
     }
+    intake.judge(rt, alloc, &mut checker)?;
+    Ok((intake.log.kept, intake.log.counts))
 }
 
 /// How a command stops where a row met a full log, or memory was wanting.

@@ -1,8 +1,8 @@
 //! What a join took in of its input: the log of the rows that were judged, and the rows that wait.
 
-ghost use Rattle.std.specs.Prelude.{◌≡◌, ℕ, ◌^◌, ◌<◌, ◌≤◌, ◌++◌, ◌↔◌, [], List, length, IsTrue, None, OnOk};
+ghost use Rattle.std.specs.Prelude.{◌≡◌, ℕ, ◌+◌, ◌^◌, ◌<◌, ◌≤◌, ◌∷◌, ◌++◌, ◌↔◌, [], List, length, IsTrue, None, OnOk};
 ghost use Rattle.cap_codec.specs.Rows.{RawValue};
-ghost use Rattle.peer_rows.specs.Stored.{HasTakenIn, JudgesAll, MayWait};
+ghost use Rattle.peer_rows.specs.Stored.{AdmitsRow, HasTakenIn, JudgesAll, MayWait};
 
 use crate::images::log_stop;
 use crate::log::Log;
@@ -19,8 +19,12 @@ use std::thread::Threads;
 use willow_path::NamespaceKey;
 
 /// So many rows are worth the threads that judge them: to start those may take milliseconds, and a read brings only some
-/// forty rows that are signed by LMS keys. Of rows of open keys, which take no threads, a read brings more, so none waits.
-const TOGETHER: usize = 128;
+/// forty rows that are signed by LMS keys.
+const TOGETHER: usize = 512;
+
+/// Where a read brings fewer rows than this, each of them is long to judge. Of rows of open keys, which take no threads, a
+/// read brings more, and none waits.
+const LIGHT: usize = 64;
 
 /// Rows of a stream, in order: those that were judged, of which this is the log, and behind them those that wait.
 #[derive(Drop)]
@@ -50,6 +54,20 @@ impl Intake {
         Ok(())
     }
 
+    /// How many rows wait.
+    pub(crate) fn count(&self) -> usize
+        ensures { result ≡ length self.now.waiting.items }
+    {
+        self.waiting.len()
+    }
+
+    /// Whether rows of which a read brought so many are long to judge, each of them.
+    pub(crate) fn are_heavy(brought: usize) -> bool
+        ensures { IsTrue result ↔ (brought < LIGHT) }
+    {
+        brought < LIGHT
+    }
+
     /// Whether the rows that wait may wait for more: they are few, and none of them can meet a full log.
     pub(crate) fn may_wait(&self) -> bool
         requires { self.now.log.counts.stored ≤ LOG_LIMIT }
@@ -57,6 +75,35 @@ impl Intake {
     {
         let room = LOG_LIMIT - self.log.counts.stored as usize;
         self.waiting.len() < TOGETHER && self.waiting.len() <= room
+    }
+
+    /// Takes a row in behind the others. As soon as those that wait are enough, they are judged together.
+    pub(crate) fn admit<C: Checker<PeerScheme>, R: Threads + Sync>(
+        &mut self,
+        rt: &R,
+        alloc: Global,
+        checker: &mut C,
+        row: RawRow,
+    ) -> Result<(), Stop>
+        requires namespace { C.judged_in checker.old ≡ self.old.log.kept.namespace }
+        requires few { (namespace : List ℕ) × (rows : List RawValue) × HasTakenIn namespace rows self.old × (length rows + 1 < 2 ^ 64) }
+        ensures namespace { C.judged_in checker.new ≡ C.judged_in checker.old }
+        ensures admits { (namespace : List ℕ) (rows : List RawValue) → HasTakenIn namespace rows self.old → AdmitsRow namespace (rows ++ row ∷ []) self.new result }
+    {
+        self.hold(row)?;
+        if self.waiting.len() < TOGETHER {
+            return Ok(());
+        }
+        self.judge(rt, alloc, checker)
+    }
+
+    // Lets a row wait, behind those that do.
+    fn hold(&mut self, row: RawRow) -> Result<(), NoMemory>
+        ensures log { self.new.log ≡ self.old.log }
+        ensures waits { OnOk result (self.new.waiting.items ≡ self.old.waiting.items ++ row ∷ []) }
+    {
+        self.waiting.push(row)?;
+        Ok(())
     }
 
     /// Judges the rows that wait together, and offers them to the log in order, up to the first that meets a full one.

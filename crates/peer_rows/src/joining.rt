@@ -93,8 +93,9 @@ fn room(alloc: Global) -> Result<Vec<u8>, NoMemory>
     Ok(vec![in alloc; 0u8; PIECE]?)
 }
 
-// Takes a piece in. The rows that became whole wait for more, unless those that wait are many or one could meet a full log:
-// so a full log is told at the piece that brings the row that is too many. Bytes that are wrong go before it.
+// Takes a piece in. The rows that became whole wait for more where each is long to judge, unless those that wait are many or
+// one could meet a full log: so a full log is told at the piece that brings the row that is too many. Bytes that are wrong go
+// before it.
 fn take_piece<C: Checker<PeerScheme>, R: Threads + Sync>(
     rt: &R,
     alloc: Global,
@@ -109,8 +110,10 @@ fn take_piece<C: Checker<PeerScheme>, R: Threads + Sync>(
     ensures takes { (namespace bytes : List ℕ) → HasSeen namespace bytes stream.old intake.old
         → TakesPiece namespace (bytes ++ piece.now) stream.new intake.new result }
 {
+    let before = intake.count();
     feed_piece(stream, intake, piece)?;
-    if intake.may_wait() {
+    let brought = intake.count().saturating_sub(before);
+    if Intake::are_heavy(brought) && intake.may_wait() {
         return Ok(());
     }
     intake.judge(rt, alloc, checker)

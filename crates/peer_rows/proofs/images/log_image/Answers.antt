@@ -1,25 +1,53 @@
-use Rattle.std.proofs.Common.{[], arith}
-use Rattle.peer_rows.proofs.Imaged.{image_stops}
-use Rattle.peer_rows.proofs.Offered.{IsLogOf-start}
+use Rattle.std.proofs.Common.{◌≡◌, [], ◌∷◌, ◌++◌, List, sym, ap, ◌∙◌, append_assoc, arith}
+use Rattle.std.specs.Vec.Iter.{into_iter_items}
+use Rattle.std.proofs.lemmas.List.{nil_from_length}
+use Rattle.std.proofs.lemmas.Result.{err_from_is_err_and}
+use Rattle.cap_codec.specs.Rows.{RawValue}
+use Rattle.peer_rows.proofs.Imaged.{admitting_stops, all_taken, judging_ends}
+use Rattle.peer_rows.proofs.Waiting.{none_taken_in}
 use Rattle.peer_rows.proofs.images.log_image.Goals as goal
 
-pub offer_all-requires-clause-few : goal.offer_all-requires-clause-few
-offer_all-requires-clause-few g c κs within =
-    let start = IsLogOf-start c.args.image.namespace c.new-log.result c.new-log.ensures.kept c.new-log.ensures.counts in
-    (c.args.image.namespace, [], start, omega (arith, c.requires))
+pub loop-row-init : goal.loop-row-init
+loop-row-init g c = record {
+  whole = sym c.into_iter-row-iterator.ensures.into_iter_gives.0;
+  taken_in = none_taken_in c.args.image.namespace c.new-intake.result c.new-intake.ensures.kept c.new-intake.ensures.counts c.new-intake.ensures.none_wait;
+  checks = c.in_ok-checker.ensures;
+}
 
-pub returns-in-Ok-clause-logs : goal.returns-in-Ok-clause-logs
-returns-in-Ok-clause-logs g c =
-    let start = IsLogOf-start c.args.image.namespace c.new-log.result c.new-log.ensures.kept c.new-log.ensures.counts in
-    let is = c.in-Ok.ensures.offers c.args.image.namespace [] start in
-    (is.taken, is.counted)
+pub loop-row-preserved : goal.loop-row-preserved
+loop-row-preserved g c =
+    let so_far = c.loop-row.invariant in
+    let next : into_iter_items c.loop-row.row-iterator ≡ c.in-Some.row ∷ into_iter_items c.next.new.self = c.in-Some.ensures.steps.0 in
+    record {
+      whole = so_far.whole ∙ ap (λ (l : List RawValue). c.loop-row.yielded ++ l) next ∙ sym (append_assoc c.loop-row.yielded (c.in-Some.row ∷ []) (into_iter_items c.next.new.self));
+      taken_in = c.in_ok-admit.ensures.admits c.args.image.namespace c.loop-row.yielded so_far.taken_in;
+      checks = c.admit.ensures.namespace ∙ so_far.checks;
+    }
 
-pub returns-in-Ok-clause-namespace : goal.returns-in-Ok-clause-namespace
-returns-in-Ok-clause-namespace g c =
-    let start = IsLogOf-start c.args.image.namespace c.new-log.result c.new-log.ensures.kept c.new-log.ensures.counts in
-    (c.in-Ok.ensures.offers c.args.image.namespace [] start).of_namespace
+pub returns-in_err-admit-clause-logs : goal.returns-in_err-admit-clause-logs
+returns-in_err-admit-clause-logs g c =
+    let so_far = c.loop-row.invariant in
+    let next : into_iter_items c.loop-row.row-iterator ≡ c.in-Some.row ∷ into_iter_items c.next.new.self = c.in-Some.ensures.steps.0 in
+    let p = err_from_is_err_and c.from_residual-in_err-admit.result c.from_residual-in_err-admit.ensures.1 in
+    rw (p.1, p.2) (admitting_stops c.args.image.namespace c.args.image.rows.items c.loop-row.yielded (into_iter_items c.next.new.self) c.in-Some.row c.admit.new.self c.in_err-admit.field-0.0
+    (so_far.whole ∙ ap (λ (l : List RawValue). c.loop-row.yielded ++ l) next) (c.in_err-admit.ensures.admits c.args.image.namespace c.loop-row.yielded so_far.taken_in))
+
+pub returns-in_err-judge-clause-logs : goal.returns-in_err-judge-clause-logs
+returns-in_err-judge-clause-logs g c =
+    let none : into_iter_items c.loop-row.row-iterator ≡ [] = nil_from_length (into_iter_items c.loop-row.row-iterator) (omega (arith, c.in-None.ensures.steps.0)) in
+    let taken = all_taken c.args.image.namespace c.args.image.rows.items c.loop-row.yielded (into_iter_items c.loop-row.row-iterator) (g.C.Checker.judged_in c.loop-row.checker) c.loop-row.intake c.loop-row.invariant none in
+    let p = err_from_is_err_and c.from_residual-in_err-judge.result c.from_residual-in_err-judge.ensures.1 in
+    rw (p.1, p.2) (judging_ends c.args.image.namespace c.args.image.rows.items c.judge.new.self c.in_err-judge.field-0.0 (c.in_err-judge.ensures.judges c.args.image.namespace c.args.image.rows.items taken))
 
 pub returns-clause-logs : goal.returns-clause-logs
 returns-clause-logs g c =
-    let start = IsLogOf-start c.args.image.namespace c.new-log.result c.new-log.ensures.kept c.new-log.ensures.counts in
-    rw c.log_stop.ensures (image_stops c.args.image.namespace c.args.image.rows.items c.offer_all.new.log c.in-Err.end (c.in-Err.ensures.offers c.args.image.namespace [] start))
+    let none : into_iter_items c.loop-row.row-iterator ≡ [] = nil_from_length (into_iter_items c.loop-row.row-iterator) (omega (arith, c.in-None.ensures.steps.0)) in
+    let taken = all_taken c.args.image.namespace c.args.image.rows.items c.loop-row.yielded (into_iter_items c.loop-row.row-iterator) (g.C.Checker.judged_in c.loop-row.checker) c.loop-row.intake c.loop-row.invariant none in
+    let judged = c.in_ok-judge.ensures.judges c.args.image.namespace c.args.image.rows.items taken in
+    (judged.is_log.taken, judged.is_log.counted)
+
+pub returns-clause-namespace : goal.returns-clause-namespace
+returns-clause-namespace g c =
+    let none : into_iter_items c.loop-row.row-iterator ≡ [] = nil_from_length (into_iter_items c.loop-row.row-iterator) (omega (arith, c.in-None.ensures.steps.0)) in
+    let taken = all_taken c.args.image.namespace c.args.image.rows.items c.loop-row.yielded (into_iter_items c.loop-row.row-iterator) (g.C.Checker.judged_in c.loop-row.checker) c.loop-row.intake c.loop-row.invariant none in
+    (c.in_ok-judge.ensures.judges c.args.image.namespace c.args.image.rows.items taken).is_log.of_namespace
