@@ -2,7 +2,7 @@
 use Rattle.std.proofs.Common.{◌≡◌, ◌⊎◌, inl, inr, ℕ, zero, suc, ◌+◌, ◌-◌, ◌≤◌, ◌<◌, Bool, true, false, List, [], ◌∷◌, length, take, flat_map, get_or, map, sym, refl, ap, ◌∙◌, subst, arith}
 use Rattle.std.specs.List.Sorted.{IsPartitionedBy, IsPartitionPoint}
 use Rattle.std.proofs.lemmas.Bool.{both_ways, false_from_ne_true, cases_eq}
-use Rattle.std.proofs.lemmas.List.{length-append, length-map, take_all, get_or-map}
+use Rattle.std.proofs.lemmas.List.{length-append, length-map, take_all, get_or-map, get_or_default}
 use Rattle.std.proofs.lemmas.List.Concat.{get_or-flat_map}
 use Rattle.block_store.specs.Blocks.{last_passes}
 
@@ -18,6 +18,21 @@ last_decides test (x ∷ y ∷ ys) d h =
 pub item_of : {X : Type 0} (xs : List X) → 0 < length xs → X
 item_of [] h = absurd (omega arith)
 item_of (x ∷ xs) h = x
+
+-- where the last item passes, all do
+pub all_pass : {X : Type 0} (test : X → Bool) (xs : List X) (e : X) → IsPartitionedBy test xs → 0 < length xs → test (get_or xs (length xs - 1) e) ≡ true → IsPartitionPoint (λ x. test x ≡ true) (λ x. test x ≡ false) xs (length xs)
+all_pass test xs e split some passes = (
+  (λ k d le lt. split k (length xs - 1) d (omega arith) (omega arith) (ap test (get_or_default xs (length xs - 1) d e (omega arith)) ∙ passes)),
+  (λ k d le lt. absurd (omega arith)),
+)
+
+-- where the first item fails, none passes
+pub none_passes : {X : Type 0} (test : X → Bool) (xs : List X) (e : X) → IsPartitionedBy test xs → test (get_or xs 0 e) ≡ false → IsPartitionPoint (λ x. test x ≡ true) (λ x. test x ≡ false) xs 0
+none_passes test xs e split fails = (
+  (λ k d le lt. absurd (omega arith)),
+  (λ k d le lt. false_from_ne_true (test (get_or xs k d)) (λ passes.
+      both_ways (test (get_or xs 0 e)) fails (ap test (get_or_default xs 0 e d (omega arith)) ∙ split 0 k d (omega arith) lt passes))),
+)
 
 -- below, or not
 pub either : (m n : ℕ) → (m < n) ⊎ (n ≤ m)

@@ -27,21 +27,29 @@ fn ends_passing<R: Row, T: Test<R>>(block: &Block<R>, test: &T) -> bool
     test.passes(&**last)
 }
 
-// The number of blocks whose last row passes.
+// The number of blocks whose last row passes. Rows often come in rising order: then all pass, which the last one tells.
 fn passing_blocks<R: Row, T: Test<R>>(pieces: &[Piece<R>], test: &T) -> usize
     requires { IsPartitionedBy (λ p. last_passes (T.test test.now) (values_of R.value p.block.value.rows.items)) pieces.now }
     ensures point { IsPartitionPoint (λ p. last_passes (T.test test.now) (values_of R.value p.block.value.rows.items) ≡ true) (λ p. last_passes (T.test test.now) (values_of R.value p.block.value.rows.items) ≡ false) pieces.now result }
     ensures bound { result ≤ length pieces.now }
 {
+    let count = pieces.len();
+    if count > 0 && ends_passing(&*pieces[count - 1].block, test) {
+        return count;
+    }
     pieces.partition_point(|piece| ends_passing(&*piece.block, test))
 }
 
-// The number of rows that pass.
+// The number of rows that pass. A row often comes behind all of its subspace, and so where a block begins: then none
+// passes, which the first one tells.
 fn passing_rows<R: Row, T: Test<R>>(rows: &[Arc<R>], test: &T) -> usize
     requires { IsPartitionedBy (T.test test.now) (values_of R.value rows.now) }
     ensures point { IsPartitionPoint (λ r. T.test test.now r ≡ true) (λ r. T.test test.now r ≡ false) (values_of R.value rows.now) result }
     ensures bound { result ≤ length rows.now }
 {
+    if rows.len() > 0 && !test.passes(&*rows[0]) {
+        return 0;
+    }
     rows.partition_point(|held| test.passes(&**held))
 }
 
@@ -94,10 +102,6 @@ fn partition_point_in<R: Row, T: Test<R>>(
         return None;
     }
     let rows = &pieces[block].block.rows;
-    // Most often the first row tells that the rows end before.
-    if !test.passes(&*rows[0]) {
-        return None;
-    }
     let row = passing_rows(rows, test);
     if row == 0 || row >= rows.len() {
         return None;
