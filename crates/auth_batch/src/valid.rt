@@ -2,6 +2,8 @@
 
 ghost use Rattle.std.specs.Prelude.{◌≡◌, ◌≤◌, ℕ, Contains, None, IsTrue};
 ghost use Rattle.std.specs.Global.{Vec};
+ghost use Rattle.mc_cap.specs.Forms.{capability_spelling, IsCapability};
+ghost use Rattle.mc_cap.specs.declared.capability.Capability.{Capability};
 ghost use Rattle.auth_entry.specs.Authorised.{capability_refusal};
 ghost use Rattle.auth_entry.specs.Known.{IsKnown};
 
@@ -10,17 +12,19 @@ use lru::LruCache;
 use scheme_core::Verify;
 use spelling::NoMemory;
 use std::alloc::Global;
+use std::hash::{FoldHasher, Hasher};
 use std::marker::PhantomData;
 use std::num::NonZeroUsize;
 
 /// Capabilities that are valid by the rules of S, told by their bytes: a capability has one spelling, and no other
-/// capability has it. Where as many are kept as may be, the one that was asked for longest ago goes. Whether one is
-/// valid does not depend on a namespace but its own, so none is kept beside it.
+/// capability has it. They are found by a hash of the bytes; of two with one hash only the later is kept. Where as many
+/// are kept as may be, the one that was asked for longest ago goes. Whether one is valid does not depend on a namespace
+/// but its own, so none is kept beside it.
 #[derive(Drop)]
 pub(crate) struct ValidCapabilities<S: Verify> {
-    spellings: LruCache<Vec<u8>, ()>,
+    spellings: LruCache<u64, Vec<u8>>,
     scheme: PhantomData<S>,
-    ghost valid: { (p : Vec ℕ × Unit {0}) → Contains spellings.entries p → IsKnown S.rules p.0 },
+    ghost valid: { (p : ℕ × Vec ℕ) → Contains spellings.entries p → IsKnown S.rules p.1 },
 }
 
 impl<S: Verify> ValidCapabilities<S> {
@@ -42,7 +46,18 @@ impl<S: Verify> ValidCapabilities<S> {
         ensures { IsTrue result → capability_refusal S.rules row.now.token.capability ≡ None }
     {
         row.known();
-        self.spellings.promote(row.capability_bytes())
+        let hash = hash_of(row.capability_bytes());
+        self.holds(hash, row.capability_bytes()) && self.spellings.promote(&hash)
+    }
+
+    // Whether just these bytes are kept by the hash.
+    fn holds(&self, hash: u64, spelling: &[u8]) -> bool
+        ensures { (c : Capability) → IsTrue result → IsCapability c → spelling.now ≡ capability_spelling c → capability_refusal S.rules c ≡ None }
+    {
+        match self.spellings.peek(&hash) {
+            Some(kept) => kept.as_slice() == spelling,
+            None => false,
+        }
     }
 
     /// Keeps the row's capability, which is valid.
@@ -51,7 +66,15 @@ impl<S: Verify> ValidCapabilities<S> {
     {
         row.known();
         let spelling = Vec::from_slice(alloc, row.capability_bytes())?;
-        self.spellings.put(spelling, ())?;
+        self.spellings
+            .put(hash_of(row.capability_bytes()), spelling)?;
         Ok(())
     }
+}
+
+// A hash of the bytes, many at a time.
+fn hash_of(bytes: &[u8]) -> u64 {
+    let mut hasher = FoldHasher::default();
+    hasher.write(bytes);
+    hasher.finish()
 }
