@@ -1,6 +1,7 @@
 //! The log of one namespace, with what is live of it by place.
 
-ghost use Rattle.std.specs.Prelude.{◌≡◌, ◌↔◌, ℕ, ◌<◌, ◌≤◌, [], ◌∷◌, ◌++◌, length, map, take, drop, slice_get, IfOk, IfSome, IfNone, IsTrue, OnOk, OnErr, Some, MatchOption};
+ghost use Rattle.std.specs.Prelude.{◌≡◌, ◌↔◌, ℕ, ◌<◌, ◌≤◌, [], ◌∷◌, ◌++◌, length, map, take, drop, slice_get, IfOk, IfSome, IfNone, IsErrOf, IsTrue, OnOk, OnErr, Some, MatchOption};
+ghost use Rattle.spelling.specs.declared.ending.End.TheVariants as ends;
 ghost use Rattle.willow_entry.specs.Row.{live, new, HasCovering, IsCoveringAt};
 ghost use Rattle.ns_state.specs.Log.{IsLog, values, plain_row};
 ghost use Rattle.ns_state.specs.Answer.{IsGrown, IsPlaced};
@@ -164,6 +165,7 @@ impl<R: Row> LiveLog<R> {
         ensures log { IsLog R.value self.new.namespace self.new.log }
         ensures new { OnOk result (values R.value self.new.log ≡ new (values R.value self.old.log ++ R.value row ∷ [])) }
         ensures err { OnErr result (self.new ≡ self.old) }
+        ensures memory { IsErrOf result ends.NoMemory → length self.old.log < LOG_LIMIT }
     {
         if self.log.len() >= LOG_LIMIT {
             return self.offer_full(&row);
@@ -174,7 +176,8 @@ impl<R: Row> LiveLog<R> {
     // Refuses a row that is offered to a full log, where none covers it.
     fn offer_full(&self, row: &R) -> Result<Option<u32>, End<LogFull>>
         requires { LOG_LIMIT ≤ length self.now.log }
-        ensures { (pass : ℕ) → IsGrown R.value self.now.log (record { pass = pass; row = row.now }) self.now.log result }
+        ensures answer { (pass : ℕ) → IsGrown R.value self.now.log (record { pass = pass; row = row.now }) self.now.log result }
+        ensures sure { IsErrOf result ends.NoMemory → ⊥ }
     {
         if self.covers(row) {
             return Ok(None);

@@ -1,6 +1,6 @@
 //! A side of an exchange, item by item.
 
-ghost use Rattle.std.specs.Prelude.{◌≡◌, ◌≤◌, length, map, slice_get, option_map, Some, IfOk, IfErr, MatchOption};
+ghost use Rattle.std.specs.Prelude.{◌≡◌, ◌≤◌, length, map, slice_get, option_map, Some, IsOk, IfOk, IfErr, MatchOption};
 ghost use Rattle.willow_area.specs.AreaBox.{area_box};
 ghost use Rattle.sync_msg.specs.Items.{item_value};
 ghost use Rattle.sync_core.specs.Flat.{row_in};
@@ -124,6 +124,7 @@ impl<R: Row> SyncCore<R> {
         ensures item { IfOk result (λ item. item_at self.old.rows item ≡ option_map (λ step. step.0) (said self.old)) }
         ensures place { IfOk result (λ item. option_map (λ step. step.1) (said self.old) ≡ Some self.new) }
         ensures no_memory { IfErr result (λ _. self.new ≡ self.old) }
+        ensures sure { IsOk result }
     {
         let item = say(&mut self.work);
         self.sent += u32::from(item.is_counted());
