@@ -1,150 +1,127 @@
 //! Capabilities under open keys: what is signed, spelled, refused and handed on.
 
-ghost use Rattle.std.specs.Prelude.{◌≤◌, length, IfOk};
+ghost use Rattle.std.specs.Prelude.{◌≤◌, length, IfSome};
 
 use crate::keys::key;
+use crate::tables::{joined, shows, spells};
 use mc_cap::laws::validity;
 use mc_cap::{
-    Capability, Chain, ChainRefusal, Delegation, MAX_CHAIN, MAX_DELEGATIONS, Mode, Signature,
-    initial_message,
+    Capability, Chain, ChainRefusal, Delegation, MAX_CHAIN, Mode, Signature, initial_message,
 };
 use scheme_core::{MAX_SIGNATURE, OpenScheme, OpenSigner, Signer};
 use std::alloc::Global;
-use std::test::Fail;
 use willow_area::{Area, TimeRange};
 use willow_path::{End, NamespaceKey, Path, UserKey};
 
-// What O signs for the first user to write, made elsewhere.
-const INITIAL: [u8; 32] = [
-    0xbe, 0x3c, 0x28, 0xb9, 0x0c, 0xdd, 0x00, 0x82, 0xf1, 0xf9, 0x33, 0x1d, 0x10, 0xad, 0x6f, 0xa6,
-    0x06, 0xb7, 0x7d, 0x37, 0x99, 0x92, 0xa4, 0xd7, 0x98, 0xff, 0xda, 0xc2, 0x1a, 0x38, 0x0a, 0x29,
-];
-
-// What the first user signs to hand the communal capability on to 56 for the whole subspace, made elsewhere.
-const HANDED_COMMUNAL: [u8; 32] = [
-    0x74, 0x22, 0x51, 0x05, 0x01, 0x9b, 0xee, 0xfe, 0xfa, 0x64, 0xb5, 0x37, 0x31, 0xf5, 0xa7, 0x86,
-    0xee, 0xe8, 0x3f, 0x36, 0x27, 0xaf, 0xed, 0x6d, 0xba, 0x14, 0xb0, 0x7d, 0xa7, 0x6a, 0xab, 0xc5,
-];
-
-// What the first user signs to hand the owned capability on to 56 for times below 20, made elsewhere.
-const HANDED_OWNED: [u8; 32] = [
-    0x82, 0x4d, 0x79, 0x60, 0xa6, 0x21, 0x5f, 0x6a, 0x70, 0x8e, 0x08, 0xb8, 0xf1, 0xe7, 0x24, 0x22,
-    0x43, 0xcb, 0xf2, 0x27, 0x84, 0x68, 0xd1, 0x80, 0x6c, 0xd7, 0x98, 0x8e, 0x3c, 0xd3, 0x16, 0x0f,
-];
-
-// An open user key: 00 and 32 times the byte.
-fn user(byte: u8) -> Result<UserKey, Fail> {
-    let mut bytes = [byte; 33];
-    bytes[0] = 0;
-    Ok(UserKey::from_bytes(bytes).ok_or("a user's key")?)
-}
-
-// An open namespace key: 00 and 32 times the byte.
-fn namespace(byte: u8) -> Result<NamespaceKey, Fail> {
-    let mut bytes = [byte; 33];
-    bytes[0] = 0;
-    Ok(NamespaceKey::from_bytes(bytes).ok_or("a namespace's key")?)
-}
-
-// The open signature of a message under the key of 00 and 32 times the byte.
-fn signed(alloc: Global, byte: u8, message: &[u8]) -> Result<Vec<u8>, Fail>
-    ensures { IfOk result (λ signature. length signature.items ≤ MAX_SIGNATURE) }
+// The open signature of a message by the key of this byte.
+fn signed(alloc: Global, byte: u8, message: &[u8]) -> Option<Vec<u8>>
+    ensures { IfSome result (λ signature. length signature.items ≤ MAX_SIGNATURE) }
 {
-    let mut bytes = [byte; 33];
-    bytes[0] = 0;
-    let key = UserKey::from_bytes(bytes).ok_or("an open key")?;
-    Ok(OpenSigner::new(key).sign(alloc, message)?)
+    let mut signer = OpenSigner::new(UserKey::from_bytes(key(byte))?);
+    signer.sign(alloc, message).ok()
+}
+
+// The initial signature of the first user by the key of this byte.
+fn initial_signature(alloc: Global, byte: u8) -> Option<Signature> {
+    let message = initial_message(Mode::Write, &UserKey::from_bytes(key(0x55))?);
+    Signature::new(signed(alloc, byte, &message)?)
+}
+
+// The initial signature by the key of this byte, if there is to be one.
+fn initial(alloc: Global, signer: Option<u8>) -> Option<Option<Signature>> {
+    match signer {
+        Some(byte) => Some(Some(initial_signature(alloc, byte)?)),
+        None => Some(None),
+    }
 }
 
 // A capability to write of the first user, without delegations, with an initial signature by this key.
-fn first(alloc: Global, namespace_byte: u8, signer: Option<u8>) -> Result<Capability, Fail> {
-    let initial = match signer {
-        Some(byte) => Some(initial_signature(alloc, byte)?),
-        None => None,
-    };
-    Ok(Capability {
+fn first(alloc: Global, namespace: u8, signer: Option<u8>) -> Option<Capability> {
+    let namespace = NamespaceKey::from_bytes(key(namespace))?;
+    let user = UserKey::from_bytes(key(0x55))?;
+    Some(Capability {
         mode: Mode::Write,
-        namespace: namespace(namespace_byte)?,
-        user: user(0x55)?,
-        initial,
+        namespace,
+        user,
+        initial: initial(alloc, signer)?,
         chain: Chain::empty(alloc),
     })
 }
 
-// The initial signature of the first user by the key of this byte.
-fn initial_signature(alloc: Global, byte: u8) -> Result<Signature, Fail> {
-    let message = initial_message(Mode::Write, &user(0x55)?);
-    let bytes = signed(alloc, byte, &message)?;
-    Ok(Signature::new(bytes).ok_or("a short signature")?)
+// The first user's subspace, at times below the end.
+fn until(alloc: Global, end: Option<u64>) -> Option<Area> {
+    let user = UserKey::from_bytes(key(0x55))?;
+    let times = TimeRange::new(0, end)?;
+    Some(Area {
+        subspace: Some(user),
+        path: Path::empty(alloc),
+        times,
+    })
 }
 
-// The first user's subspace, at times below the end.
-fn until(alloc: Global, end: u64) -> Result<Area, Fail> {
-    Ok(Area {
-        subspace: Some(user(0x55)?),
-        path: Path::empty(alloc),
-        times: TimeRange::new(0, Some(end)).ok_or("a range of times")?,
+// A delegation of the area to the key of this byte.
+fn delegation(area: Area, receiver: u8, signature: Vec<u8>) -> Option<Delegation> {
+    Some(Delegation {
+        area,
+        user: UserKey::from_bytes(key(receiver))?,
+        signature: Signature::new(signature)?,
     })
 }
 
 // Appends a delegation without a check.
-fn append(
-    capability: &mut Capability,
-    area: Area,
-    receiver: u8,
-    signature: Vec<u8>,
-) -> Result<(), Fail> {
+fn append(capability: &mut Capability, delegation: Delegation) -> Option<()> {
     if capability.chain.len() >= MAX_CHAIN {
-        return Err("room in the chain")?;
+        return None;
     }
-    let signature = Signature::new(signature).ok_or("a short signature")?;
-    Ok(
-        capability.chain.push(Delegation {
-            area,
-            user: user(receiver)?,
-            signature,
-        })?,
+    capability.chain.push(delegation).ok()
+}
+
+// What the key of this byte signs to hand the capability on to the next.
+fn handover(alloc: Global, capability: &Capability, area: &Area, giver: u8) -> Option<Vec<u8>>
+    ensures { IfSome result (λ signature. length signature.items ≤ MAX_SIGNATURE) }
+{
+    let receiver = UserKey::from_bytes(key(giver.wrapping_add(1)))?;
+    let message = capability.handover(area, &receiver).ok()?;
+    signed(alloc, giver, &message)
+}
+
+// Hands the capability on, without a check, from this user to the next, for times below the end.
+fn hand_on(alloc: Global, capability: &mut Capability, giver: u8, end: u64) -> Option<()> {
+    let area = until(alloc, Some(end))?;
+    let signature = handover(alloc, capability, &area, giver)?;
+    append(
+        capability,
+        delegation(area, giver.wrapping_add(1), signature)?,
     )
 }
 
 // The communal capability of the first user, handed on from each user to the next for times below an end.
-fn handed_on(alloc: Global, ends: &[u64]) -> Result<Capability, Fail> {
+fn handed_on(alloc: Global, ends: &str) -> Option<Capability> {
     let mut capability = first(alloc, 0x4e, None)?;
     let mut giver = 0x55u8;
-    for end in ends {
-        let receiver = giver.wrapping_add(1);
-        let area = until(alloc, *end)?;
-        let message = capability.handover(&area, &user(receiver)?)?;
-        append(
-            &mut capability,
-            area,
-            receiver,
-            signed(alloc, giver, &message)?,
-        )?;
-        giver = receiver;
+    for end in ends.split_whitespace() {
+        hand_on(alloc, &mut capability, giver, end.parse::<u64>().ok()?)?;
+        giver = giver.wrapping_add(1);
     }
-    Ok(capability)
+    Some(capability)
 }
 
 // Why the check refuses the capability.
-fn refused(capability: &Capability) -> Result<Option<ChainRefusal>, Fail> {
+fn refused(capability: &Capability) -> Option<Option<ChainRefusal>> {
     match capability.check(&OpenScheme) {
-        Ok(()) => Ok(None),
-        Err(End::Refused(refusal)) => Ok(Some(refusal)),
-        Err(End::NoMemory) => Err("memory")?,
+        Ok(()) => Some(None),
+        Err(End::Refused(refusal)) => Some(Some(refusal)),
+        Err(End::NoMemory) => None,
     }
 }
 
-// The capability handed on for times below these ends, and once more with an empty signature.
-fn forged(alloc: Global, ends: &[u64]) -> Result<Capability, Fail> {
-    let mut capability = handed_on(alloc, ends)?;
-    append(&mut capability, until(alloc, 5)?, 0x60, Vec::new(alloc))?;
-    Ok(capability)
+// Why the check refuses the first user's capability.
+fn refused_first(alloc: Global, namespace: u8, signer: Option<u8>) -> Option<Option<ChainRefusal>> {
+    refused(&first(alloc, namespace, signer)?)
 }
 
 #[test]
-fn beginnings(rt: HostRuntime) -> Result<(), Fail> {
-    validity();
+fn beginnings(rt: HostRuntime) {
     let (communal, owned) = (0x4e, 0x4f);
     for (namespace, signer, refusal) in [
         (communal, None, None),
@@ -153,165 +130,184 @@ fn beginnings(rt: HostRuntime) -> Result<(), Fail> {
         (communal, Some(communal), Some(ChainRefusal::NotOwned)),
         (owned, Some(communal), Some(ChainRefusal::BadInitial)),
     ] {
-        let capability = first(rt.alloc(), namespace, signer)?;
-        assert_eq!(rt; refused(&capability)?, refusal);
+        assert_eq!(rt; refused_first(rt.alloc(), namespace, signer), Some(refusal));
     }
-    Ok(())
+}
+
+// Whether the line, ends of times and what is told of the capability handed on for times below them, is right.
+fn is_chain(alloc: Global, line: &str) -> Option<bool> {
+    let (ends, due) = line.split_once(": ")?;
+    shows(alloc, &refused(&handed_on(alloc, ends)?)?, due)
+}
+
+// The third has as many delegations as there may be, and the fourth one more.
+const CHAINS: &str = "20 10: None
+20 10 11: Some(AreaGrows { at: 3 })
+20 20 20 20 20 20 20 20: None
+20 20 20 20 20 20 20 20 20: Some(TooManyDelegations)";
+
+#[test]
+fn chains(rt: HostRuntime) {
+    for line in CHAINS.lines() {
+        assert_eq!(rt; is_chain(rt.alloc(), line), Some(true), "{line}");
+    }
+}
+
+// Why a capability is refused that is handed on, and once more with an empty signature.
+fn refused_forged(alloc: Global) -> Option<Option<ChainRefusal>> {
+    let mut capability = handed_on(alloc, "20")?;
+    let area = until(alloc, Some(5))?;
+    append(&mut capability, delegation(area, 0x60, Vec::new(alloc))?)?;
+    refused(&capability)
 }
 
 #[test]
-fn chains(rt: HostRuntime) -> Result<(), Fail> {
-    let chains: [(&[u64], Option<ChainRefusal>); 4] = [
-        (&[20, 10], None),
-        (&[20, 10, 11], Some(ChainRefusal::AreaGrows { at: 3 })),
-        (&[20; MAX_DELEGATIONS], None),
-        (
-            &[20; MAX_DELEGATIONS + 1],
-            Some(ChainRefusal::TooManyDelegations),
-        ),
-    ];
-    for (ends, refusal) in chains {
-        assert_eq!(rt; refused(&handed_on(rt.alloc(), ends)?)?, refusal);
-    }
-    assert_eq!(rt;
-        refused(&forged(rt.alloc(), &[20])?)?,
-        Some(ChainRefusal::BadSignature { at: 2 })
-    );
-    Ok(())
+fn an_empty_signature(rt: HostRuntime) {
+    let refusal = ChainRefusal::BadSignature { at: 2 };
+    assert_eq!(rt; refused_forged(rt.alloc()), Some(Some(refusal)));
 }
 
-// The parts one behind the other.
-fn joined(alloc: Global, parts: &[&[u8]]) -> Result<Vec<u8>, Fail> {
-    let mut bytes = Vec::new(alloc);
-    for part in parts {
-        bytes.extend_from_slice(part)?;
-    }
-    Ok(bytes)
-}
-
-// The spelling of a copy.
-fn copy_spelled(alloc: Global, capability: &Capability) -> Result<Vec<u8>, Fail> {
+// Whether the words spell a copy of the capability.
+fn copy_is(alloc: Global, capability: &Capability, words: &str) -> Option<bool> {
     let mut text = Vec::new(alloc);
-    capability.copy()?.encode(&mut text)?;
-    Ok(text)
+    capability.copy().ok()?.encode(&mut text).ok()?;
+    spells(alloc, words, &text)
 }
 
-// The spelling of the granted area.
-fn grant_spelled(alloc: Global, capability: &Capability) -> Result<Vec<u8>, Fail> {
+// Whether the words spell the granted area.
+fn grant_is(alloc: Global, capability: &Capability, words: &str) -> Option<bool> {
     let mut text = Vec::new(alloc);
-    capability.granted_area()?.encode(&mut text)?;
-    Ok(text)
+    capability.granted_area().ok()?.encode(&mut text).ok()?;
+    spells(alloc, words, &text)
 }
 
-// Whether a capability without delegations has these bytes before their number, and this grant.
-fn begins(alloc: Global, capability: &Capability, head: &[u8], grant: &[u8]) -> Result<bool, Fail> {
-    let due = joined(alloc, &[head, &[0]])?;
-    Ok(
-        copy_spelled(alloc, capability)? == due
-            && grant_spelled(alloc, capability)?.as_slice() == grant,
-    )
+// Whether the words spell what is signed to hand the capability on to 56.
+fn message_is(alloc: Global, capability: &Capability, area: &Area, words: &str) -> Option<bool> {
+    let receiver = UserKey::from_bytes(key(0x56))?;
+    let message = capability.handover(area, &receiver).ok()?;
+    spells(alloc, words, &message)
 }
 
-// Whether these are the bytes of what is signed to hand a capability without delegations on.
-fn is_handed(
+// Appends a delegation to 56 with a signature that the words spell.
+fn append_signed(
     alloc: Global,
-    capability: &Capability,
-    area: &Area,
-    head: &[u8],
-    grant: &[u8],
-) -> Result<bool, Fail> {
-    let parts: [&[u8]; 5] = [b"H", head, &[0], grant, &key(0x56)];
-    let due = joined(alloc, &parts)?;
-    Ok(capability.handover(area, &user(0x56)?)? == due)
+    capability: &mut Capability,
+    area: Area,
+    words: &str,
+) -> Option<()> {
+    let signature = joined(alloc, words)?;
+    append(capability, delegation(area, 0x56, signature)?)
 }
 
-// Whether a capability with one delegation, signed so, has these bytes and this grant.
-fn goes_on(
-    alloc: Global,
-    capability: &Capability,
-    head: &[u8],
-    grant: &[u8],
-    signed: &[u8],
-) -> Result<bool, Fail> {
-    let parts: [&[u8]; 5] = [head, &[1], grant, &key(0x56), &[0, 32]];
-    let mut due = joined(alloc, &parts)?;
-    due.extend_from_slice(signed)?;
-    Ok(
-        copy_spelled(alloc, capability)? == due
-            && grant_spelled(alloc, capability)?.as_slice() == grant,
-    )
+// The words for a capability: its copy and its grant before it is handed on, the message, the signature, and its copy and
+// its grant behind.
+struct Words {
+    before: &'static str,
+    granted: &'static str,
+    message: &'static str,
+    signature: &'static str,
+    after: &'static str,
+    handed: &'static str,
 }
 
-// Whether the capability, handed on for the area with this signature, is spelled so before and after.
+const COMMUNAL: Words = Words {
+    before: "01 KEY_4E KEY_55 00",
+    granted: "01 KEY_55 00000000000000000000",
+    message: "48 01 KEY_4E KEY_55 00 01 KEY_55 00000000000000000000 KEY_56",
+    signature: "HANDED_COMMUNAL",
+    after: "01 KEY_4E KEY_55 01 01 KEY_55 00000000000000000000 KEY_56 0020 HANDED_COMMUNAL",
+    handed: "01 KEY_55 00000000000000000000",
+};
+
+const OWNED: Words = Words {
+    before: "03 KEY_4F KEY_55 0020 INITIAL 00",
+    granted: "0000000000000000000000",
+    message: "48 03 KEY_4F KEY_55 0020 INITIAL 00 01 KEY_55 000000000000000000 010000000000000014 KEY_56",
+    signature: "HANDED_OWNED",
+    after: "03 KEY_4F KEY_55 0020 INITIAL 01 01 KEY_55 000000000000000000 010000000000000014 KEY_56 0020 HANDED_OWNED",
+    handed: "01 KEY_55 000000000000000000 010000000000000014",
+};
+
+// Whether the words are those of the capability, handed on for the area.
 fn is_spelled(
     alloc: Global,
-    mut capability: Capability,
+    capability: &mut Capability,
     area: Area,
-    head: &[u8],
-    grants: [&[u8]; 2],
-    signed: &[u8],
-) -> Result<bool, Fail> {
-    let before = begins(alloc, &capability, head, grants[0])?;
-    let handed = is_handed(alloc, &capability, &area, head, grants[1])?;
-    let signature = Vec::from_slice(alloc, signed)?;
-    append(&mut capability, area, 0x56, signature)?;
-    let after = goes_on(alloc, &capability, head, grants[1], signed)?;
-    Ok(before && handed && after && refused(&capability)?.is_none())
+    words: &Words,
+) -> Option<bool> {
+    let before = copy_is(alloc, capability, words.before)?
+        && grant_is(alloc, capability, words.granted)?
+        && message_is(alloc, capability, &area, words.message)?;
+    append_signed(alloc, capability, area, words.signature)?;
+    Some(before && is_handed(alloc, capability, words)?)
 }
 
-#[test]
-fn communal_spellings(rt: HostRuntime) -> Result<(), Fail> {
-    let alloc = rt.alloc();
-    let capability = first(alloc, 0x4e, None)?;
-    let area = capability.granted_area()?;
-    let head = joined(alloc, &[&[1], &key(0x4e), &key(0x55)])?;
-    let subspace = joined(alloc, &[&[1], &key(0x55), &[0; 10]])?;
-    let grants: [&[u8]; 2] = [&subspace, &subspace];
-    assert!(rt; is_spelled(alloc, capability, area, &head, grants, &HANDED_COMMUNAL)?);
-    Ok(())
+// Whether the words are those of the capability behind.
+fn is_handed(alloc: Global, capability: &Capability, words: &Words) -> Option<bool> {
+    Some(
+        copy_is(alloc, capability, words.after)?
+            && grant_is(alloc, capability, words.handed)?
+            && refused(capability)?.is_none(),
+    )
 }
 
-#[test]
-fn owned_spellings(rt: HostRuntime) -> Result<(), Fail> {
-    let alloc = rt.alloc();
-    let capability = first(alloc, 0x4f, Some(0x4f))?;
-    let head = joined(alloc, &[&[3], &key(0x4f), &key(0x55), &[0, 32], &INITIAL])?;
-    let area = joined(
-        alloc,
-        &[&[1], &key(0x55), &[0; 9], &[1, 0, 0, 0, 0, 0, 0, 0, 20]],
-    )?;
-    let grants: [&[u8]; 2] = [&[0; 11], &area];
-    assert!(rt;
-        is_spelled(
-            alloc,
-            capability,
-            until(alloc, 20)?,
-            &head,
-            grants,
-            &HANDED_OWNED
-        )?
-    );
-    assert_eq!(rt;
-        initial_signature(alloc, 0x4f)?.into_vec().as_slice(),
-        INITIAL.as_slice()
-    );
-    Ok(())
-}
-
-#[test]
-fn handing_on(rt: HostRuntime) -> Result<(), Fail> {
-    let alloc = rt.alloc();
+// Whether the communal capability, handed on for all that it grants, is spelled so.
+fn communal_is_spelled(alloc: Global) -> Option<bool> {
     let mut capability = first(alloc, 0x4e, None)?;
-    capability.check(&OpenScheme)?;
-    let area = until(alloc, 20)?;
-    let message = capability.handover(&area, &user(0x56)?)?;
-    capability.delegate(
-        &OpenScheme,
-        area,
-        user(0x56)?,
-        signed(alloc, 0x55, &message)?,
-    )?;
-    assert_eq!(rt; capability.receiver(), user(0x56)?);
-    assert_eq!(rt; Chain::new(capability.chain.into_vec()).is_some(), true);
-    Ok(())
+    let area = capability.granted_area().ok()?;
+    is_spelled(alloc, &mut capability, area, &COMMUNAL)
+}
+
+// Whether the owned capability, handed on for times below 20, is spelled so.
+fn owned_is_spelled(alloc: Global) -> Option<bool> {
+    let mut capability = first(alloc, 0x4f, Some(0x4f))?;
+    let area = until(alloc, Some(20))?;
+    is_spelled(alloc, &mut capability, area, &OWNED)
+}
+
+#[test]
+fn spellings(rt: HostRuntime) {
+    assert_eq!(rt; communal_is_spelled(rt.alloc()), Some(true));
+    assert_eq!(rt; owned_is_spelled(rt.alloc()), Some(true));
+}
+
+// Whether the first user's signature is the one made elsewhere.
+fn initial_is_spelled(alloc: Global) -> Option<bool> {
+    let signature = initial_signature(alloc, 0x4f)?.into_vec();
+    spells(alloc, "INITIAL", &signature)
+}
+
+#[test]
+fn initial_signatures(rt: HostRuntime) {
+    assert_eq!(rt; initial_is_spelled(rt.alloc()), Some(true));
+}
+
+// The communal capability of the first user, handed on to 56 with its check.
+fn delegated(alloc: Global) -> Option<Capability> {
+    let receiver = UserKey::from_bytes(key(0x56))?;
+    let mut capability = first(alloc, 0x4e, None)?;
+    capability.check(&OpenScheme).ok()?;
+    let area = until(alloc, Some(20))?;
+    let signature = handover(alloc, &capability, &area, 0x55)?;
+    capability
+        .delegate(&OpenScheme, area, receiver, signature)
+        .ok()?;
+    Some(capability)
+}
+
+// Whether the capability is then that of 56, and its delegations are a chain.
+fn is_delegated(alloc: Global) -> Option<bool> {
+    let capability = delegated(alloc)?;
+    let is_receiver = capability.receiver() == UserKey::from_bytes(key(0x56))?;
+    Some(is_receiver && Chain::new(capability.chain.into_vec()).is_some())
+}
+
+#[test]
+fn handing_on(rt: HostRuntime) {
+    assert_eq!(rt; is_delegated(rt.alloc()), Some(true));
+}
+
+#[test]
+fn the_laws_can_be_called() {
+    validity();
 }

@@ -5,11 +5,11 @@ ghost use Rattle.mc_cap.specs.Forms.{capability_spelling};
 ghost use Rattle.sync_hello.specs.HelloForm.{HasSpelling};
 
 use crate::keys::{key, user};
+use crate::tables::shows;
 use mc_cap::{Capability, Chain, Mode};
 use scheme_core::{OpenScheme, OpenSigner, Signer};
 use spelling::End;
 use std::alloc::Global;
-use std::test::*;
 use sync_hello::{
     Hello, HelloRefusal, HelloStep, check_hello, check_proof, common_area, laws, proof_message,
     read_hello,
@@ -31,10 +31,14 @@ fn told(alloc: Global, bytes: &[u8]) -> Option<usize> {
 
 #[test]
 fn answers(rt: HostRuntime) {
-    assert_eq!(rt; told(rt.alloc(), b""), None);
-    assert_eq!(rt; told(rt.alloc(), b"WS"), None);
-    assert_eq!(rt; told(rt.alloc(), b"WT"), Some(0));
-    assert_eq!(rt; told(rt.alloc(), b"WSY\x00"), None);
+    for (bytes, due) in [
+        (b"".as_slice(), None),
+        (b"WS".as_slice(), None),
+        (b"WT".as_slice(), Some(0)),
+        (b"WSY\x00".as_slice(), None),
+    ] {
+        assert_eq!(rt; told(rt.alloc(), bytes), due);
+    }
 }
 
 // A communal capability of the user in the namespace 4e.
@@ -98,63 +102,57 @@ fn text(alloc: Global) -> Option<Vec<u8>> {
     Some(out)
 }
 
-#[test]
-fn spellings(rt: HostRuntime) -> Result<(), Fail> {
-    let mut text = text(rt.alloc()).ok_or("a hello")?;
-    assert_eq!(rt; text.len(), 136);
-    assert!(rt; text.starts_with(b"WSY\x01\x07\x07"));
-    assert_eq!(rt; told(rt.alloc(), &text), Some(136));
+// Whether a hello that passes has 136 bytes, begins so, and is read again, but not without its last byte.
+fn is_spelled(alloc: Global) -> Option<bool> {
+    let mut text = text(alloc)?;
+    let begins = text.len() == 136 && text.starts_with(b"WSY\x01\x07\x07");
+    let whole = told(alloc, &text) == Some(136);
     text.truncate(135);
-    assert_eq!(rt; told(rt.alloc(), &text), None);
-    Ok(())
+    Some(begins && whole && told(alloc, &text).is_none())
 }
 
-// What is answered to a hello of these fields, in the namespace.
-fn refusal(
+#[test]
+fn spellings(rt: HostRuntime) {
+    assert_eq!(rt; is_spelled(rt.alloc()), Some(true));
+}
+
+// What is asked for: all, or the user's subspace.
+fn asked(alloc: Global, all: bool) -> Option<Area> {
+    if all {
+        Some(Area::full(alloc))
+    } else {
+        from_time(alloc, 0)
+    }
+}
+
+// Whether this is answered to a hello of these fields, in the namespace.
+fn is_answered(
     alloc: Global,
     version: u8,
     namespace: u8,
     mode: Mode,
-    ask: Option<Area>,
-) -> Option<Result<(), End<HelloRefusal>>> {
+    all: bool,
+    due: &str,
+) -> Option<bool> {
     let namespace = NamespaceKey::from_bytes(key(namespace))?;
-    let hello = hello(version, ask?, capability(alloc, mode)?);
-    Some(check_hello(&OpenScheme, &namespace, &hello))
+    let capability = capability(alloc, mode)?;
+    let hello = hello(version, asked(alloc, all)?, capability);
+    shows(alloc, &check_hello(&OpenScheme, &namespace, &hello), due)
 }
 
 #[test]
 fn refusals(rt: HostRuntime) {
-    let own = from_time(rt.alloc(), 0);
-    assert_eq!(rt; refusal(rt.alloc(), 1, 0x4e, Mode::Read, own), Some(Ok(())));
-    let own = from_time(rt.alloc(), 0);
-    let unknown = Err(End::Refused(HelloRefusal::VersionUnknown));
-    assert_eq!(rt;
-        refusal(rt.alloc(), 0, 0x4f, Mode::Write, own),
-        Some(unknown)
-    );
-    let own = from_time(rt.alloc(), 0);
-    let other = Err(End::Refused(HelloRefusal::WrongNamespace));
-    assert_eq!(rt; refusal(rt.alloc(), 1, 0x50, Mode::Write, own), Some(other));
-    let own = from_time(rt.alloc(), 0);
-    let written = Err(End::Refused(HelloRefusal::NotRead));
-    assert_eq!(rt;
-        refusal(rt.alloc(), 1, 0x4e, Mode::Write, own),
-        Some(written)
-    );
-    let all = Some(Area::full(rt.alloc()));
-    let outside = Err(End::Refused(HelloRefusal::AskOutsideGrant));
-    assert_eq!(rt;
-        refusal(rt.alloc(), 1, 0x4e, Mode::Read, all),
-        Some(outside)
-    );
-}
-
-// What is answered to the caller's proof, signed by the open key of this byte, as that of a side.
-fn proof(alloc: Global, side: Role, signer: u8) -> Option<Result<(), End<HelloRefusal>>> {
-    let (caller, answerer) = (good(alloc, 5)?, good(alloc, 7)?);
-    let message = proof_message(alloc, Role::Caller, &caller, &answerer).ok()?;
-    let signature = sign(alloc, signer, &message)?;
-    Some(check_proof(alloc, &OpenScheme, side, &caller, &answerer, &signature))
+    let (read, write) = (Mode::Read, Mode::Write);
+    for (version, namespace, mode, all, due) in [
+        (1, 0x4e, read, false, "Ok(())"),
+        (0, 0x4f, write, false, "Err(Refused(VersionUnknown))"),
+        (1, 0x50, write, false, "Err(Refused(WrongNamespace))"),
+        (1, 0x4e, write, false, "Err(Refused(NotRead))"),
+        (1, 0x4e, read, true, "Err(Refused(AskOutsideGrant))"),
+    ] {
+        let answered = is_answered(rt.alloc(), version, namespace, mode, all, due);
+        assert_eq!(rt; answered, Some(true), "{due}");
+    }
 }
 
 // The signature of the open key of this byte.
@@ -163,26 +161,65 @@ fn sign(alloc: Global, byte: u8, message: &[u8]) -> Option<Vec<u8>> {
     signer.sign(alloc, message).ok()
 }
 
+// What is answered to the caller's proof, signed by the open key of this byte, as that of a side.
+fn judged(
+    alloc: Global,
+    side: Role,
+    signer: u8,
+    caller: &Hello,
+    answerer: &Hello,
+) -> Option<Result<(), End<HelloRefusal>>>
+    requires caller { HasSpelling caller.now }
+    requires answerer { HasSpelling answerer.now }
+{
+    let message = proof_message(alloc, Role::Caller, caller, answerer).ok()?;
+    let signature = sign(alloc, signer, &message)?;
+    Some(check_proof(alloc, &OpenScheme, side, caller, answerer, &signature))
+}
+
+// Whether this is answered to such a proof of two hellos that pass.
+fn is_judged(alloc: Global, side: Role, signer: u8, due: &str) -> Option<bool> {
+    let caller = good(alloc, 5)?;
+    let answerer = good(alloc, 7)?;
+    shows(
+        alloc,
+        &judged(alloc, side, signer, &caller, &answerer)?,
+        due,
+    )
+}
+
 #[test]
 fn proofs(rt: HostRuntime) {
-    let bad = Err(End::Refused(HelloRefusal::BadProof));
-    assert_eq!(rt; proof(rt.alloc(), Role::Caller, 0x55), Some(Ok(())));
-    assert_eq!(rt; proof(rt.alloc(), Role::Answerer, 0x55), Some(bad));
-    let bad = Err(End::Refused(HelloRefusal::BadProof));
-    assert_eq!(rt; proof(rt.alloc(), Role::Caller, 0x56), Some(bad));
+    let bad = "Err(Refused(BadProof))";
+    for (side, signer, due) in [
+        (Role::Caller, 0x55, "Ok(())"),
+        (Role::Answerer, 0x55, bad),
+        (Role::Caller, 0x56, bad),
+    ] {
+        assert_eq!(rt; is_judged(rt.alloc(), side, signer, due), Some(true));
+    }
+}
+
+// The first time of what two hellos have in common.
+fn start_of(one: &Hello, other: &Hello) -> Option<u64> {
+    match common_area(one, other) {
+        Ok(Some(area)) => Some(area.times.start()),
+        _ => None,
+    }
 }
 
 // The first time of what two hellos have in common that ask from these times on.
 fn common_start(alloc: Global, one: u64, other: u64) -> Option<u64> {
-    let (one, other) = (good(alloc, one)?, good(alloc, other)?);
-    let both = common_area(&one, &other).ok()??;
-    Some(both.times.start())
+    let one = good(alloc, one)?;
+    let other = good(alloc, other)?;
+    start_of(&one, &other)
 }
 
 #[test]
 fn common_areas(rt: HostRuntime) {
-    assert_eq!(rt; common_start(rt.alloc(), 5, 7), Some(7));
-    assert_eq!(rt; common_start(rt.alloc(), 7, 5), Some(7));
+    for (one, other) in [(5, 7), (7, 5)] {
+        assert_eq!(rt; common_start(rt.alloc(), one, other), Some(7));
+    }
 }
 
 #[test]

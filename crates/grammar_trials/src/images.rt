@@ -1,121 +1,92 @@
 //! Images against bytes made elsewhere.
 
-use crate::bytes::joined;
+use crate::tables::{joined, shows};
 use block_store::BlockStore;
 use cap_codec::RawRow;
-use peer_image::{ImageRefusal, read_image, write_image, write_rows};
+use peer_image::{Image, ImageRefusal, read_image, write_image, write_rows};
 use spelling::End;
 use std::alloc::Global;
 
-// The text WIM1 and a namespace key.
-const HEAD: &str = "57494d31004e4e4e4e4e4e4e4e4e4e4e4e4e4e4e4e4e4e4e4e4e4e4e4e4e4e4e4e4e4e4e4e";
-
-// The frame of a row with a path of one component, at time 5.
-const FIRST: &str =
-    "000000db004e4e4e4e4e4e4e4e4e4e4e4e4e4e4e4e4e4e4e4e4e4e4e4e4e4e4e4e4e4e4e4e00555555555555555555555555555555555555555555555555555555555555555501016100000000000000050000000000000001111111111111111111111111111111111111111111111111111111111111111101004e4e4e4e4e4e4e4e4e4e4e4e4e4e4e4e4e4e4e4e4e4e4e4e4e4e4e4e4e4e4e4e005555555555555555555555555555555555555555555555555555555555555555000020c829d729f7a6d6c9e53b25700abe4e6c8e3c37cf8c4cf612ceafd4d405183ce5";
-
-// The frame of a row one component below it, at time 5.
-const BELOW: &str =
-    "000000dd004e4e4e4e4e4e4e4e4e4e4e4e4e4e4e4e4e4e4e4e4e4e4e4e4e4e4e4e4e4e4e4e005555555555555555555555555555555555555555555555555555555555555555020161016200000000000000050000000000000001111111111111111111111111111111111111111111111111111111111111111101004e4e4e4e4e4e4e4e4e4e4e4e4e4e4e4e4e4e4e4e4e4e4e4e4e4e4e4e4e4e4e4e005555555555555555555555555555555555555555555555555555555555555555000020921011dfbcf8667c90cf80dbed1db4d1eee1fda9a08fbd2d9d240d6664fabcc9";
-
-// The frame of the first row at time 6.
-const NEWER: &str =
-    "000000db004e4e4e4e4e4e4e4e4e4e4e4e4e4e4e4e4e4e4e4e4e4e4e4e4e4e4e4e4e4e4e4e00555555555555555555555555555555555555555555555555555555555555555501016100000000000000060000000000000001111111111111111111111111111111111111111111111111111111111111111101004e4e4e4e4e4e4e4e4e4e4e4e4e4e4e4e4e4e4e4e4e4e4e4e4e4e4e4e4e4e4e4e0055555555555555555555555555555555555555555555555555555555555555550000202985863e2d3dc61a91c549b2d10ec20dc6e16f4c1a1d0dde18b2775722dfe996";
-
-// The frame of the first row in another namespace, which is above.
-const ELSEWHERE: &str =
-    "000000db004f4f4f4f4f4f4f4f4f4f4f4f4f4f4f4f4f4f4f4f4f4f4f4f4f4f4f4f4f4f4f4f00555555555555555555555555555555555555555555555555555555555555555501016100000000000000050000000000000001111111111111111111111111111111111111111111111111111111111111111101004e4e4e4e4e4e4e4e4e4e4e4e4e4e4e4e4e4e4e4e4e4e4e4e4e4e4e4e4e4e4e4e005555555555555555555555555555555555555555555555555555555555555555000020c829d729f7a6d6c9e53b25700abe4e6c8e3c37cf8c4cf612ceafd4d405183ce5";
-
-// The frame of a row in the other namespace, between the first row and the one below it.
-const BETWEEN: &str =
-    "000000dd004f4f4f4f4f4f4f4f4f4f4f4f4f4f4f4f4f4f4f4f4f4f4f4f4f4f4f4f4f4f4f4f005555555555555555555555555555555555555555555555555555555555555555020161016100000000000000050000000000000001111111111111111111111111111111111111111111111111111111111111111101004e4e4e4e4e4e4e4e4e4e4e4e4e4e4e4e4e4e4e4e4e4e4e4e4e4e4e4e4e4e4e4e005555555555555555555555555555555555555555555555555555555555555555000020921011dfbcf8667c90cf80dbed1db4d1eee1fda9a08fbd2d9d240d6664fabcc9";
-
-// The image that the texts are, written again.
+// Whether the image that the words spell, written again, has the same bytes.
 #[tactic(auto, using(peer_image::proofs::ReadBack::framed_rows))]
-fn again(alloc: Global, texts: &[&str]) -> Option<Vec<u8>> {
-    let bytes = joined(alloc, texts)?;
+fn is_written(alloc: Global, words: &str) -> Option<bool> {
+    let bytes = joined(alloc, words)?;
     let image = read_image(alloc, &bytes).ok()?;
-    write_rows(alloc, &image.namespace, &image.rows).ok()
+    let again = write_rows(alloc, &image.namespace, &image.rows).ok()?;
+    Some(again.as_slice() == bytes.as_slice())
 }
 
-// The image of an empty store of the namespace that the image of the texts is of.
-fn of_none(alloc: Global, texts: &[&str]) -> Option<Vec<u8>> {
-    let bytes = joined(alloc, texts)?;
-    let image = read_image(alloc, &bytes).ok()?;
+// The image of an empty store of the namespace that another is of.
+fn of_none(alloc: Global, image: &Image) -> Option<Vec<u8>> {
     let store = BlockStore::<RawRow>::new(alloc);
     let snapshot = store.snapshot().ok()?;
     write_image(alloc, &image.namespace, &snapshot).ok()
 }
 
-#[test]
-fn images_are_read_and_written(rt: HostRuntime) {
-    let none = [HEAD, "", "", "0000000000000000"];
-    let images = [
-        none,
-        [HEAD, FIRST, BELOW, "0000000000000002"],
-        [HEAD, ELSEWHERE, BELOW, "0000000000000002"],
-    ];
-    for texts in images {
-        let bytes = joined(rt.alloc(), &texts);
-        assert!(rt; bytes.is_some());
-        assert_eq!(rt; again(rt.alloc(), &texts), bytes);
-    }
-    assert_eq!(rt; of_none(rt.alloc(), &none), joined(rt.alloc(), &none));
+// Whether the image of an empty store has the bytes that the words spell.
+fn is_of_none(alloc: Global, words: &str) -> Option<bool> {
+    let bytes = joined(alloc, words)?;
+    let image = read_image(alloc, &bytes).ok()?;
+    Some(of_none(alloc, &image)?.as_slice() == bytes.as_slice())
 }
 
-// Why so many bytes of the texts are no image.
-fn refusal_of(alloc: Global, texts: &[&str], len: usize) -> Option<ImageRefusal> {
-    let mut bytes = joined(alloc, texts)?;
-    bytes.truncate(len);
-    match read_image(alloc, &bytes) {
+const NONE: &str = "HEAD 0000000000000000";
+
+#[test]
+fn images_are_read_and_written(rt: HostRuntime) {
+    for words in [
+        NONE,
+        "HEAD FIRST BELOW 0000000000000002",
+        "HEAD ELSEWHERE BELOW 0000000000000002",
+    ] {
+        assert_eq!(rt; is_written(rt.alloc(), words), Some(true));
+    }
+}
+
+#[test]
+fn stores_without_rows(rt: HostRuntime) {
+    assert_eq!(rt; is_of_none(rt.alloc(), NONE), Some(true));
+}
+
+// Why the bytes are no image.
+fn refusal_of(alloc: Global, bytes: &[u8]) -> Option<ImageRefusal> {
+    match read_image(alloc, bytes) {
         Err(End::Refused(refusal)) => Some(refusal),
         _ => None,
     }
 }
 
-#[test]
-fn rows_out_of_order(rt: HostRuntime) {
-    let refused = [
-        (
-            [HEAD, BELOW, FIRST, "", "0000000000000002"],
-            ImageRefusal::NotRising { at: 2 },
-        ),
-        (
-            [HEAD, FIRST, FIRST, "", "0000000000000002"],
-            ImageRefusal::NotRising { at: 2 },
-        ),
-        (
-            [HEAD, FIRST, ELSEWHERE, "", "0000000000000002"],
-            ImageRefusal::NotRising { at: 2 },
-        ),
-        (
-            [HEAD, NEWER, BELOW, "", "0000000000000002"],
-            ImageRefusal::Pruned { at: 2, by: 1 },
-        ),
-        (
-            [HEAD, NEWER, BETWEEN, BELOW, "0000000000000003"],
-            ImageRefusal::Pruned { at: 3, by: 1 },
-        ),
-    ];
-    for (texts, due) in refused {
-        assert_eq!(rt; refusal_of(rt.alloc(), &texts, 1000), Some(due));
-    }
+// Whether so many of the bytes that the words spell are refused so.
+fn is_refused(alloc: Global, words: &str, len: usize, due: &str) -> Option<bool> {
+    let mut bytes = joined(alloc, words)?;
+    bytes.truncate(len);
+    shows(alloc, &refusal_of(alloc, &bytes)?, due)
 }
+
+// Whether the line, a number of bytes, words and a refusal, is right.
+fn refuses(alloc: Global, line: &str) -> Option<bool> {
+    let (len, line) = line.split_once(' ')?;
+    let (words, due) = line.split_once(": ")?;
+    is_refused(alloc, words, len.parse::<usize>().ok()?, due)
+}
+
+const REFUSED: &str = "1000 HEAD BELOW FIRST 0000000000000002: NotRising { at: 2 }
+1000 HEAD FIRST FIRST 0000000000000002: NotRising { at: 2 }
+1000 HEAD FIRST ELSEWHERE 0000000000000002: NotRising { at: 2 }
+1000 HEAD NEWER BELOW 0000000000000002: Pruned { at: 2, by: 1 }
+1000 HEAD NEWER BETWEEN BELOW 0000000000000003: Pruned { at: 3, by: 1 }
+493 HEAD NEWER BELOW 0000000000000003: BadImage { at: 485 }
+494 HEAD FIRST BELOW 000000000000000200: BadImage { at: 485 }
+492 HEAD FIRST BELOW 0000000000000002: BadImage { at: 485 }
+485 HEAD FIRST BELOW 0000000000000002: BadImage { at: 485 }
+484 HEAD FIRST BELOW 0000000000000002: BadImage { at: 260 }
+37 HEAD FIRST BELOW 0000000000000002: BadImage { at: 37 }
+36 HEAD FIRST BELOW 0000000000000002: BadImage { at: 0 }
+460 57494d32 FIRST BELOW 0000000000000002: BadImage { at: 0 }";
 
 #[test]
 fn bytes_that_are_no_image(rt: HostRuntime) {
-    let refused = [
-        ([HEAD, NEWER, BELOW, "0000000000000003"], 493, 485),
-        ([HEAD, FIRST, BELOW, "000000000000000200"], 494, 485),
-        ([HEAD, FIRST, BELOW, "0000000000000002"], 492, 485),
-        ([HEAD, FIRST, BELOW, "0000000000000002"], 485, 485),
-        ([HEAD, FIRST, BELOW, "0000000000000002"], 484, 260),
-        ([HEAD, FIRST, BELOW, "0000000000000002"], 37, 37),
-        ([HEAD, FIRST, BELOW, "0000000000000002"], 36, 0),
-        (["57494d32", FIRST, BELOW, "0000000000000002"], 460, 0),
-    ];
-    for (texts, len, at) in refused {
-        let due = ImageRefusal::BadImage { at };
-        assert_eq!(rt; refusal_of(rt.alloc(), &texts, len), Some(due));
+    for line in REFUSED.lines() {
+        assert_eq!(rt; refuses(rt.alloc(), line), Some(true), "{line}");
     }
 }

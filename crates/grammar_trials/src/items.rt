@@ -1,13 +1,12 @@
 //! Items that are spelled, read, and not read.
 
-use crate::keys::key;
+use crate::keys::{key, user};
 use spelling::{End, NoMemory};
 use std::alloc::Global;
-use std::test::*;
 use sync_msg::{BadItem, CoreRefusal, Item, ItemReader, Role, Step, encode_item, laws};
 use willow_area::CutAt;
 use willow_entry::{BareRow, BareRows, Entry, Row};
-use willow_path::{Digest, NamespaceKey, Path, UserKey};
+use willow_path::{Digest, NamespaceKey, Path};
 
 // The first byte of the spelling of a head, and how many bytes were taken; or 00 where more is asked for, ff where the
 // bytes are bad, with the place told.
@@ -41,12 +40,16 @@ fn answer(alloc: Global, bytes: &[u8]) -> (u8, u64) {
 
 #[test]
 fn answers(rt: HostRuntime) {
-    assert_eq!(rt; answer(rt.alloc(), &[2]), (2, 1));
-    assert_eq!(rt; answer(rt.alloc(), &[3]), (0, 0));
-    assert_eq!(rt; answer(rt.alloc(), &[8]), (255, 0));
-    assert_eq!(rt; answer(rt.alloc(), &[4, 17]), (255, 0));
-    assert_eq!(rt; answer(rt.alloc(), &[5, 0, 1, 0, 0]), (5, 5));
-    assert_eq!(rt; answer(rt.alloc(), &[5, 0, 1, 0, 1]), (255, 0));
+    for (bytes, due) in [
+        ([2].as_slice(), (2, 1)),
+        ([3].as_slice(), (0, 0)),
+        ([8].as_slice(), (255, 0)),
+        ([4, 17].as_slice(), (255, 0)),
+        ([5, 0, 1, 0, 0].as_slice(), (5, 5)),
+        ([5, 0, 1, 0, 1].as_slice(), (255, 0)),
+    ] {
+        assert_eq!(rt; answer(rt.alloc(), bytes), due);
+    }
 }
 
 // What a reader answers behind an `Entries` of one row, which was read.
@@ -65,50 +68,52 @@ fn answer_behind(alloc: Global, bytes: &[u8]) -> (u8, u64) {
 
 #[test]
 fn rows_that_are_due(rt: HostRuntime) {
-    assert_eq!(rt; answer_behind(rt.alloc(), &[0, 2, 0]), (0, 0));
-    assert_eq!(rt; answer_behind(rt.alloc(), &[0, 2, 0, 1]), (255, 2));
-    assert_eq!(rt; answer_behind(rt.alloc(), &[0, 0, 0, 0]), (255, 2));
-    assert_eq!(rt; answer_behind(rt.alloc(), &[2]), (255, 2));
+    for (bytes, due) in [
+        ([0, 2, 0].as_slice(), (0, 0)),
+        ([0, 2, 0, 1].as_slice(), (255, 2)),
+        ([0, 0, 0, 0].as_slice(), (255, 2)),
+        ([2].as_slice(), (255, 2)),
+    ] {
+        assert_eq!(rt; answer_behind(rt.alloc(), bytes), due);
+    }
 }
 
-// A row at the empty path.
-fn row(alloc: Global) -> Result<BareRow, Fail> {
-    let entry = Entry {
-        namespace: NamespaceKey::from_bytes(key(0x4e)).ok_or("a namespace key")?,
-        subspace: UserKey::from_bytes(key(0x55)).ok_or("a user key")?,
+// An entry at the empty path.
+fn entry(alloc: Global) -> Option<Entry> {
+    Some(Entry {
+        namespace: NamespaceKey::from_bytes(key(0x4e))?,
+        subspace: user()?,
         path: Path::empty(alloc),
         timestamp: 5,
         length: 1,
         digest: Digest([0x11; 32]),
-    };
-    Ok(
-        BareRow::new(alloc, entry, Vec::new(alloc))
-            .ok()
-            .ok_or("memory")?,
-    )
+    })
 }
 
 // The frame of a short row.
 #[tactic(auto, unfolding(willow_entry::specs::RowBody::row_body))]
-fn frame_of(alloc: Global, row: BareRow) -> Result<Vec<u8>, Fail> {
-    let mut frame = Vec::new(alloc);
-    if row.entry_bytes().len() < 1000 && row.token_bytes().len() < 1000 {
-        encode_item(&Item::Row(row), &mut frame)
-            .ok()
-            .ok_or("memory")?;
+fn frame_of(alloc: Global, row: BareRow) -> Option<Vec<u8>> {
+    if row.entry_bytes().len() >= 1000 || row.token_bytes().len() >= 1000 {
+        return None;
     }
-    Ok(frame)
+    let mut frame = Vec::new(alloc);
+    encode_item(&Item::Row(row), &mut frame).ok()?;
+    Some(frame)
+}
+
+// Whether the frame of a row has 119 bytes, begins so, and is read again, but not without its last byte.
+fn is_framed(alloc: Global) -> Option<bool> {
+    let row = BareRow::new(alloc, entry(alloc)?, Vec::new(alloc)).ok()?;
+    let mut frame = frame_of(alloc, row)?;
+    let begins = frame.len() == 119 && frame.starts_with(&[0, 0, 0, 115, 0, 0x4e]);
+    let whole = answer_behind(alloc, &frame) == (8, 119);
+    frame.truncate(118);
+    Some(begins && whole && answer_behind(alloc, &frame) == (0, 0))
 }
 
 #[test]
-fn rows(rt: HostRuntime) -> Result<(), Fail> {
-    let mut frame = frame_of(rt.alloc(), row(rt.alloc())?)?;
-    assert_eq!(rt; frame.len(), 119);
-    assert!(rt; frame.starts_with(&[0, 0, 0, 115, 0, 0x4e]));
-    assert_eq!(rt; answer_behind(rt.alloc(), &frame), (8, 119));
-    frame.truncate(118);
-    assert_eq!(rt; answer_behind(rt.alloc(), &frame), (0, 0));
-    Ok(())
+fn rows(rt: HostRuntime) {
+    assert_eq!(rt; is_framed(rt.alloc()), Some(true));
 }
 
 // The spellings of a split and of the longest counts, one after the other.
@@ -125,14 +130,17 @@ fn three_items(alloc: Global) -> Result<Vec<u8>, NoMemory> {
     Ok(out)
 }
 
+// Whether the three items have 74 bytes, begin and end so, and the first is read again.
+fn are_spelled(alloc: Global) -> Option<bool> {
+    let text = three_items(alloc).ok()?;
+    let begins = text.len() == 74 && text.starts_with(&[3, 1, 0, 0x22]);
+    let ends = text.ends_with(&[0x33, 4, 16, 5, 0, 1, 0, 0]);
+    Some(begins && ends && answer(alloc, &text) == (3, 67))
+}
+
 #[test]
-fn spellings(rt: HostRuntime) -> Result<(), Fail> {
-    let text = three_items(rt.alloc()).ok().ok_or("memory")?;
-    assert_eq!(rt; text.len(), 74);
-    assert!(rt; text.starts_with(&[3, 1, 0, 0x22]));
-    assert!(rt; text.ends_with(&[0x33, 4, 16, 5, 0, 1, 0, 0]));
-    assert_eq!(rt; answer(rt.alloc(), &text), (3, 67));
-    Ok(())
+fn spellings(rt: HostRuntime) {
+    assert_eq!(rt; are_spelled(rt.alloc()), Some(true));
 }
 
 #[test]

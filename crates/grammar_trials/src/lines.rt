@@ -3,6 +3,7 @@
 ghost use Rattle.std.specs.Prelude.{◌<◌};
 
 use crate::keys::user;
+use crate::tables::spells;
 use cap_codec::encode_frame;
 use peer_listing::{
     DrillCounts, GENERATED_ROWS, GeneratedFrames, drill_summary, generated_row, key_line,
@@ -27,16 +28,6 @@ const KEY_LINE: &str = "00555555555555555555555555555555555555555555555555555555
 
 const HEAD: &str =
     "namespace 004e4e4e4e4e4e4e4e4e4e4e4e4e4e4e4e4e4e4e4e4e4e4e4e4e4e4e4e4e4e4e4e rows 18446744073709551615\n";
-
-// The frames of generated row 0, which has two components,
-const ROW_0: &str =
-    "00000100004f4f4f4f4f4f4f4f4f4f4f4f4f4f4f4f4f4f4f4f4f4f4f4f4f4f4f4f4f4f4f4f00555555555555555555555555555555555555555555555555555555555555550002020000010000060a24181e40000000000000000000000000000000000000000000000000000000000000000000000000000000000003004f4f4f4f4f4f4f4f4f4f4f4f4f4f4f4f4f4f4f4f4f4f4f4f4f4f4f4f4f4f4f4f005555555555555555555555555555555555555555555555555555555555555500002071b013ba21ec638043deb3b7427ff06bb4b48b8ce54a4bb51f2bd4e34ee5f8f90000209eee932985fae2dfed27a1001bd0a59e9c554e377ee81d191b4b7b6ed710a3fb";
-// of the row numbered 49, which has one,
-const ROW_49: &str =
-    "000000fe004f4f4f4f4f4f4f4f4f4f4f4f4f4f4f4f4f4f4f4f4f4f4f4f4f4f4f4f4f4f4f4f0055555555555555555555555555555555555555555555555555555555555555010102000000060a24181e40310000000000000031000000000000003100000000000000310000000000000031000000000000003103004f4f4f4f4f4f4f4f4f4f4f4f4f4f4f4f4f4f4f4f4f4f4f4f4f4f4f4f4f4f4f4f0055555555555555555555555555555555555555555555555555555555555555010020974b34f08ffabaa55c0fd468632a24f902a1d2423ceb065a7b9b08904d1e546d0000206b736d9caf625d811213b6124b77e0ba4ed1794c74dad89b406af7875c73d473";
-// and of row 12345, whose number is above the greatest length.
-const ROW_12345: &str =
-    "00000100004f4f4f4f4f4f4f4f4f4f4f4f4f4f4f4f4f4f4f4f4f4f4f4f4f4f4f4f4f4f4f4f00555555555555555555555555555555555555555555555555555555555555550102020030010700060a24181e70390000000000000039000000000000303900000000000030390000000000003039000000000000303903004f4f4f4f4f4f4f4f4f4f4f4f4f4f4f4f4f4f4f4f4f4f4f4f4f4f4f4f4f4f4f4f0055555555555555555555555555555555555555555555555555555555555555010020974b34f08ffabaa55c0fd468632a24f902a1d2423ceb065a7b9b08904d1e546d000020a71c08ebb9c4d86f7a1e2f92978c2556d4be3828ab1065c3da7908ef1807b99f";
 
 fn namespace() -> Option<NamespaceKey> {
     let mut bytes = [0x4e; 33];
@@ -93,26 +84,40 @@ fn lines(rt: HostRuntime) {
     assert_eq!(rt; lists_head(alloc), Some(true));
 }
 
-// Whether the frame of the generated row is these bytes, made of the row and made without it.
-fn generates(alloc: Global, i: u32, wanted: &str) -> Option<bool>
+// The frame of the generated row.
+fn frame_of_row(alloc: Global, i: u32) -> Option<Vec<u8>>
     requires { i < GENERATED_ROWS }
 {
     let row = generated_row(alloc, i).ok()?;
-    let mut of_row = Vec::new(alloc);
-    encode_frame(&row, &mut of_row).ok()?;
-    let mut alone = Vec::new(alloc);
+    let mut frame = Vec::new(alloc);
+    encode_frame(&row, &mut frame).ok()?;
+    Some(frame)
+}
+
+// The frame of the generated row, made without it.
+fn frame_alone(alloc: Global, i: u32) -> Option<Vec<u8>>
+    requires { i < GENERATED_ROWS }
+{
     let frames = GeneratedFrames::new(alloc).ok()?;
-    frames.put(alloc, i, &mut alone).ok()?;
-    let wanted = hex::decode(alloc, wanted).ok()?;
-    Some(of_row.as_slice() == wanted.as_slice() && alone.as_slice() == wanted.as_slice())
+    let mut frame = Vec::new(alloc);
+    frames.put(alloc, i, &mut frame).ok()?;
+    Some(frame)
+}
+
+// Whether the words spell the frame of the generated row, made of the row and made without it.
+fn generates(alloc: Global, i: u32, words: &str) -> Option<bool>
+    requires { i < GENERATED_ROWS }
+{
+    let of_row = spells(alloc, words, &frame_of_row(alloc, i)?)?;
+    let alone = spells(alloc, words, &frame_alone(alloc, i)?)?;
+    Some(of_row && alone)
 }
 
 #[test]
 fn generated_rows(rt: HostRuntime) {
-    let alloc = rt.alloc();
-    assert_eq!(rt; generates(alloc, 0, ROW_0), Some(true));
-    assert_eq!(rt; generates(alloc, 49, ROW_49), Some(true));
-    assert_eq!(rt; generates(alloc, 12345, ROW_12345), Some(true));
+    assert_eq!(rt; generates(rt.alloc(), 0, "ROW_0"), Some(true));
+    assert_eq!(rt; generates(rt.alloc(), 49, "ROW_49"), Some(true));
+    assert_eq!(rt; generates(rt.alloc(), 12345, "ROW_12345"), Some(true));
 }
 
 // Whether the numbers have this summary.

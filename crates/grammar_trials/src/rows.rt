@@ -1,65 +1,47 @@
 //! Capabilities and rows against bytes made elsewhere.
 
-use crate::bytes::joined;
-use cap_codec::{RawRow, RawRows, decode_capability, read_capability, read_frames};
+use crate::tables::{joined, shows, spells};
+use cap_codec::{RawRow, RawRows, SpelledRow, decode_capability, read_capability, read_frames};
+use mc_cap::Capability;
 use spelling::{End, Input, Unread};
 use std::alloc::Global;
 use willow_entry::{Row, RowForm, SharedRow};
 
-// A communal write capability, handed on once: the number of delegations stands at 67, the area at 68, the
-// signature's length at 145.
-const DELEGATED: &str =
-    "01004e4e4e4e4e4e4e4e4e4e4e4e4e4e4e4e4e4e4e4e4e4e4e4e4e4e4e4e4e4e4e4e005555555555555555555555555555555555555555555555555555555555555555010100555555555555555555555555555555555555555555555555555555555555555500000000000000000000005555555555555555555555555555555555555555555555555555555555555555002076ebc1e082b688463d42c4f84e32363cb8f8d6d1785638fab5d793d00994a1d3";
-
-// A row of 219 bytes, of which the entry has 117.
-const ROW: &str =
-    "004e4e4e4e4e4e4e4e4e4e4e4e4e4e4e4e4e4e4e4e4e4e4e4e4e4e4e4e4e4e4e4e00555555555555555555555555555555555555555555555555555555555555555501016100000000000000050000000000000001111111111111111111111111111111111111111111111111111111111111111101004e4e4e4e4e4e4e4e4e4e4e4e4e4e4e4e4e4e4e4e4e4e4e4e4e4e4e4e4e4e4e4e005555555555555555555555555555555555555555555555555555555555555555000020c829d729f7a6d6c9e53b25700abe4e6c8e3c37cf8c4cf612ceafd4d405183ce5";
-
-// A row of 374 bytes, of which the entry has 117, under an owned capability that was handed on once.
-const OWNED_ON: &str =
-    "004f4f4f4f4f4f4f4f4f4f4f4f4f4f4f4f4f4f4f4f4f4f4f4f4f4f4f4f4f4f4f4f00555555555555555555555555555555555555555555555555555555555555555501016100000000000000050000000000000001111111111111111111111111111111111111111111111111111111111111111103004f4f4f4f4f4f4f4f4f4f4f4f4f4f4f4f4f4f4f4f4f4f4f4f4f4f4f4f4f4f4f4f0055555555555555555555555555555555555555555555555555555555555555550020be3c28b90cdd0082f1f9331d10ad6fa606b77d379992a4d798ffdac21a380a29010100555555555555555555555555555555555555555555555555555555555555555501016100000000000000030100000000000000090056565656565656565656565656565656565656565656565656565656565656560020277cb457dc79afc36782e8fa493471fa69c84ebbd2b962ce30c2b41ebf9d4af000206b600e40d0769dfb59b25bd477ecce18944a6f1679c324781fec0aa672073c41";
-
-// How many bytes a capability in front has.
-fn taken_by(alloc: Global, bytes: &[u8]) -> Option<usize> {
-    match decode_capability(alloc, bytes) {
-        Ok((_, taken)) => Some(taken),
-        Err(_) => None,
-    }
+// The capability in front of the bytes.
+fn capability_in(alloc: Global, bytes: &[u8]) -> Option<Capability> {
+    let (capability, _taken) = decode_capability(alloc, bytes).ok()?;
+    Some(capability)
 }
 
-// The capability with another byte at this place.
-fn with(alloc: Global, at: usize, byte: u8) -> Option<Vec<u8>> {
-    let whole = hex::decode(alloc, DELEGATED).ok()?;
-    let mut changed = Vec::new(alloc);
-    changed.extend_from_slice(whole.get(..at)?).ok()?;
-    changed.push(byte).ok()?;
-    changed
-        .extend_from_slice(whole.get(at.saturating_add(1)..)?)
-        .ok()?;
-    Some(changed)
-}
-
-// Whether a capability is in front of the bytes with another byte at this place.
-fn is_here_with(alloc: Global, at: usize, byte: u8) -> Option<bool> {
-    let bytes = with(alloc, at, byte)?;
-    Some(taken_by(alloc, &bytes).is_some())
-}
-
-// The capability of these bytes, spelled again.
-fn capability_again(alloc: Global, text: &str) -> Option<Vec<u8>> {
-    let bytes = hex::decode(alloc, text).ok()?;
-    let (capability, _) = decode_capability(alloc, &bytes).ok()?;
+// Whether the capability that the words spell is spelled so again.
+fn capability_again(alloc: Global, words: &str) -> Option<bool> {
+    let bytes = joined(alloc, words)?;
     let mut spelled = Vec::new(alloc);
-    capability.encode(&mut spelled).ok()?;
-    Some(spelled)
+    capability_in(alloc, &bytes)?.encode(&mut spelled).ok()?;
+    Some(spelled.as_slice() == bytes.as_slice())
+}
+
+// The bytes of a capability with another byte at this place.
+fn with(alloc: Global, at: usize, byte: u8) -> Option<Vec<u8>> {
+    let mut bytes = joined(alloc, "DELEGATED")?;
+    *bytes.get_mut(at)? = byte;
+    Some(bytes)
+}
+
+// Whether no capability is in front of the bytes with another byte at this place.
+fn is_loose(alloc: Global, at: usize, byte: u8) -> Option<bool> {
+    let bytes = with(alloc, at, byte)?;
+    Some(capability_in(alloc, &bytes).is_none())
 }
 
 #[test]
 fn capabilities_are_read_and_spelled(rt: HostRuntime) {
-    let alloc = rt.alloc();
-    let bytes = hex::decode(alloc, DELEGATED).ok();
-    assert_eq!(rt; capability_again(alloc, DELEGATED), bytes);
-    let loose = [
+    assert_eq!(rt; capability_again(rt.alloc(), "DELEGATED"), Some(true));
+}
+
+#[test]
+fn bytes_that_are_no_capability(rt: HostRuntime) {
+    for (at, byte) in [
         (0, 4),
         (1, 2),
         (67, 2),
@@ -67,9 +49,8 @@ fn capabilities_are_read_and_spelled(rt: HostRuntime) {
         (102, 17),
         (111, 2),
         (145, 6),
-    ];
-    for (at, byte) in loose {
-        assert_eq!(rt; is_here_with(alloc, at, byte), Some(false));
+    ] {
+        assert_eq!(rt; is_loose(rt.alloc(), at, byte), Some(true));
     }
 }
 
@@ -81,26 +62,14 @@ fn unread_with(alloc: Global, byte: u8) -> Option<Unread> {
 
 #[test]
 fn a_length_is_judged_by_its_first_byte(rt: HostRuntime) {
-    let alloc = rt.alloc();
-    assert_eq!(rt; unread_with(alloc, 5), Some(Unread::Part));
-    assert_eq!(rt; unread_with(alloc, 6), Some(Unread::Wrong));
+    for (byte, unread) in [(5, Unread::Part), (6, Unread::Wrong)] {
+        assert_eq!(rt; unread_with(rt.alloc(), byte), Some(unread));
+    }
 }
 
-// The entry and the token of the row of these bytes, one behind the other.
-fn row_again(alloc: Global, text: &str) -> Option<Vec<u8>> {
-    let bytes = hex::decode(alloc, text).ok()?;
-    let row = RawRows::read(alloc, &bytes).ok()??;
-    let mut spelled = Vec::new(alloc);
-    spelled.extend_from_slice(row.entry_bytes()).ok()?;
-    spelled.extend_from_slice(row.token_bytes()).ok()?;
-    Some(spelled)
-}
-
-#[test]
-fn rows_are_read_and_spelled(rt: HostRuntime) {
-    let alloc = rt.alloc();
-    let bytes = hex::decode(alloc, ROW).ok();
-    assert_eq!(rt; row_again(alloc, ROW), bytes);
+// The row of the bytes.
+fn row_of(alloc: Global, bytes: &[u8]) -> Option<RawRow> {
+    RawRow::decode(alloc, bytes).ok()
 }
 
 // Whether the row is spelled so, and its entry has 117 of the bytes.
@@ -108,83 +77,97 @@ fn has_bytes<R: SharedRow>(row: &R, bytes: &[u8]) -> bool {
     bytes.get(..117) == Some(row.entry_bytes()) && bytes.get(117..) == Some(row.token_bytes())
 }
 
-// Whether both copies of the row of these bytes are spelled so, and those of the row that keeps its token as bytes.
-fn copies_have_bytes(alloc: Global, text: &str) -> Option<bool> {
-    let bytes = hex::decode(alloc, text).ok()?;
-    let row = RawRow::decode(alloc, &bytes).ok()?;
+// Whether a copy of the row, made as of any row, is spelled so.
+fn copy_has_bytes<R: SharedRow>(row: &R, bytes: &[u8]) -> Option<bool> {
     let copy = row.copy().ok()?;
-    let as_row = Row::copy(&row).ok()?;
-    let spelled = spelled_has_bytes(row, &bytes)?;
-    Some(has_bytes(&copy, &bytes) && has_bytes(&as_row, &bytes) && spelled)
+    Some(has_bytes(&copy, bytes))
 }
 
-// Whether the row that keeps its token as bytes, and its copies, are spelled so and have the entry.
-fn spelled_has_bytes(row: RawRow, bytes: &[u8]) -> Option<bool> {
+// Whether the row that is read as one of its form has the bytes that the words spell.
+fn reads(alloc: Global, words: &str) -> Option<bool> {
+    let bytes = joined(alloc, words)?;
+    match RawRows::read(alloc, &bytes) {
+        Ok(Some(row)) => Some(has_bytes(&row, &bytes)),
+        _ => None,
+    }
+}
+
+// Whether both copies of the row have the bytes.
+fn copies(row: &RawRow, bytes: &[u8]) -> Option<bool> {
+    let copy = RawRow::copy(row).ok()?;
+    Some(has_bytes(&copy, bytes) && copy_has_bytes(row, bytes)?)
+}
+
+// Whether the row that keeps its token as bytes, and both its copies, have the bytes, and the entry its time.
+fn is_kept(row: &SpelledRow, time: u64, bytes: &[u8]) -> Option<bool> {
+    row.known();
+    let copy = SpelledRow::copy(row).ok()?;
+    Some(has_bytes(&copy, bytes) && copy.entry().timestamp == time)
+}
+
+// Whether the row, made to keep its token as bytes, has the bytes.
+fn keeps(row: RawRow, bytes: &[u8]) -> Option<bool> {
     let time = row.entry().timestamp;
-    let spelled = row.into_spelled();
-    spelled.known();
-    let copy = spelled.copy().ok()?;
-    let as_row = Row::copy(&spelled).ok()?;
-    Some(
-        has_bytes(&spelled, bytes)
-            && has_bytes(&copy, bytes)
-            && has_bytes(&as_row, bytes)
-            && copy.entry().timestamp == time,
-    )
+    let row = row.into_spelled();
+    Some(has_bytes(&row, bytes) && copy_has_bytes(&row, bytes)? && is_kept(&row, time, bytes)?)
 }
 
-// The spelling of a copy of the token in the row of these bytes.
-fn token_again(alloc: Global, text: &str) -> Option<Vec<u8>> {
-    let bytes = hex::decode(alloc, text).ok()?;
-    let row = RawRow::decode(alloc, &bytes).ok()?;
-    let token = row.token().copy().ok()?;
+// Whether a copy of the row's token is spelled as it stands behind the entry.
+fn copies_token(alloc: Global, row: &RawRow, bytes: &[u8]) -> Option<bool> {
     let mut spelled = Vec::new(alloc);
-    token.encode(&mut spelled).ok()?;
-    Some(spelled)
+    row.token().copy().ok()?.encode(&mut spelled).ok()?;
+    Some(bytes.get(117..) == Some(spelled.as_slice()))
 }
 
-// The token in the row of these bytes.
-fn token_of(alloc: Global, text: &str) -> Option<Vec<u8>> {
-    hex::decode(alloc, text.get(2 * 117..)?).ok()
+// Whether the row that the words spell, its copies and those of its token have these bytes.
+fn is_copied(alloc: Global, words: &str) -> Option<bool> {
+    let bytes = joined(alloc, words)?;
+    let row = row_of(alloc, &bytes)?;
+    Some(copies(&row, &bytes)? && copies_token(alloc, &row, &bytes)? && keeps(row, &bytes)?)
+}
+
+#[test]
+fn rows_are_read_and_spelled(rt: HostRuntime) {
+    assert_eq!(rt; reads(rt.alloc(), "ROW"), Some(true));
 }
 
 #[test]
 fn rows_and_tokens_are_copied(rt: HostRuntime) {
-    let alloc = rt.alloc();
-    for text in [ROW, OWNED_ON] {
-        let token = token_of(alloc, text);
-        assert!(rt; token.is_some());
-        assert_eq!(rt; copies_have_bytes(alloc, text), Some(true));
-        assert_eq!(rt; token_again(alloc, text), token);
+    for words in ["ROW", "OWNED_ON"] {
+        assert_eq!(rt; is_copied(rt.alloc(), words), Some(true));
     }
 }
 
 // How many frames the bytes are, or where the first stands that is none.
-fn frames_of(alloc: Global, texts: &[&str]) -> Option<Result<usize, usize>> {
-    let stream = joined(alloc, texts)?;
-    match read_frames(alloc, &stream) {
+fn frames_in(alloc: Global, bytes: &[u8]) -> Option<Result<usize, usize>> {
+    match read_frames(alloc, bytes) {
         Ok(rows) => Some(Ok(rows.len())),
         Err(End::Refused(bad)) => Some(Err(bad.at)),
         Err(End::NoMemory) => None,
     }
 }
 
+// Whether the line, words of bytes and what they are, is right.
+fn has_frames(alloc: Global, line: &str) -> Option<bool> {
+    let (words, due) = line.split_once(": ")?;
+    let bytes = joined(alloc, words)?;
+    shows(alloc, &frames_in(alloc, &bytes)?, due)
+}
+
+const FRAMES: &str = ": Ok(0)
+000000db ROW: Ok(1)
+000000db ROW 000000db ROW: Ok(2)
+000000db ROW 00000003aabbcc: Err(223)
+000000db ROW 00000000 ROW: Err(223)
+000000db ROW 000000da ROW: Err(223)
+000000db ROW 00020001 ROW: Err(223)
+000000db ROW 000000: Err(223)
+000000db 00112233445566778899: Err(0)
+00020001: Err(0)";
+
 #[test]
 fn frames_one_after_the_other(rt: HostRuntime) {
-    let alloc = rt.alloc();
-    let streams = [
-        (["", "", "", ""], Ok(0)),
-        (["000000db", ROW, "", ""], Ok(1)),
-        (["000000db", ROW, "000000db", ROW], Ok(2)),
-        (["000000db", ROW, "00000003aabbcc", ""], Err(223)),
-        (["000000db", ROW, "00000000", ROW], Err(223)),
-        (["000000db", ROW, "000000da", ROW], Err(223)),
-        (["000000db", ROW, "00020001", ROW], Err(223)),
-        (["000000db", ROW, "000000", ""], Err(223)),
-        (["000000db", "00112233445566778899", "", ""], Err(0)),
-        (["00020001", "", "", ""], Err(0)),
-    ];
-    for (texts, due) in streams {
-        assert_eq!(rt; frames_of(alloc, &texts), Some(due));
+    for line in FRAMES.lines() {
+        assert_eq!(rt; has_frames(rt.alloc(), line), Some(true), "{line}");
     }
 }

@@ -5,7 +5,6 @@ ghost use Rattle.std.specs.Prelude.{◌≡◌, ◌≤◌, Some, length};
 use row_stream::{RowStream, StreamRefusal, laws};
 use spelling::End;
 use std::alloc::{AllocError, Global};
-use std::test::Fail;
 use willow_entry::{BareRow, BareRows, Row};
 
 // Appends the frame of a row at the empty path with this time and no token: 119 bytes.
@@ -75,32 +74,43 @@ fn cut_at(
     }
 }
 
-#[test]
-fn two_frames_in_two_pieces(rt: HostRuntime) -> Result<(), Fail> {
-    let bytes = two_and(rt.alloc(), &[])?;
-    assert_eq!(rt; bytes.len(), 238);
+// Whether the two frames, cut at the place, are both read, and the stream ends well behind them.
+fn is_whole(alloc: Global, bytes: &[u8], place: usize) -> Option<bool>
+    requires { place ≤ length bytes.now }
+{
+    Some(cut_at(alloc, bytes, place).ok()? == (56, None))
+}
+
+// Whether the two frames are read wherever their bytes are cut in two.
+fn are_whole(alloc: Global) -> Option<bool> {
+    let bytes = two_and(alloc, &[]).ok()?;
     for place in 0..bytes.len() {
-        let (digits, end) = cut_at(rt.alloc(), &bytes, place).ok().ok_or("memory")?;
-        // A stream that ends behind a whole frame ends well.
-        assert_eq!(rt; (digits, end), (56, None));
+        if !is_whole(alloc, &bytes, place)? {
+            return Some(false);
+        }
     }
-    Ok(())
+    Some(bytes.len() == 238)
+}
+
+#[test]
+fn two_frames_in_two_pieces(rt: HostRuntime) {
+    assert_eq!(rt; are_whole(rt.alloc()), Some(true));
 }
 
 // Whether the stream ends so wherever its bytes are cut in two.
-fn ends_so(alloc: Global, behind: &[u8], due: Option<StreamRefusal>) -> Result<bool, Fail> {
-    let bytes = two_and(alloc, behind)?;
+fn ends_so(alloc: Global, behind: &[u8], due: Option<StreamRefusal>) -> Option<bool> {
+    let bytes = two_and(alloc, behind).ok()?;
     for place in 0..bytes.len() {
-        let (_, end) = cut_at(alloc, &bytes, place).ok().ok_or("memory")?;
+        let (_, end) = cut_at(alloc, &bytes, place).ok()?;
         if end != due {
-            return Ok(false);
+            return Some(false);
         }
     }
-    Ok(true)
+    Some(true)
 }
 
 #[test]
-fn ends_behind_two_frames(rt: HostRuntime) -> Result<(), Fail> {
+fn ends_behind_two_frames(rt: HostRuntime) {
     let bad = Some(StreamRefusal::BadFrame { at: 238 });
     let long = Some(StreamRefusal::FrameTooLong { at: 238 });
     let cut = Some(StreamRefusal::CutShort { at: 238 });
@@ -121,23 +131,26 @@ fn ends_behind_two_frames(rt: HostRuntime) -> Result<(), Fail> {
         ([0, 2, 0, 1, 0, 0, 0, 0].as_slice(), long),
         ([].as_slice(), None),
     ] {
-        assert!(rt; ends_so(rt.alloc(), behind, due)?);
+        assert_eq!(rt; ends_so(rt.alloc(), behind, due), Some(true));
     }
-    Ok(())
+}
+
+// The times of the rows handed out where a body of no byte stands behind two frames, and the stream is cut at the place.
+fn before_wrong(alloc: Global, place: usize) -> Option<(u64, Option<StreamRefusal>)> {
+    let bytes = two_and(alloc, &[0, 0, 0, 0]).ok()?;
+    if place > bytes.len() {
+        return None;
+    }
+    cut_at(alloc, &bytes, place).ok()
 }
 
 // The rows of a piece that goes wrong are not handed out, those of the pieces before are.
 #[test]
-fn rows_before_a_wrong_frame(rt: HostRuntime) -> Result<(), Fail> {
-    let bytes = two_and(rt.alloc(), &[0, 0, 0, 0])?;
+fn rows_before_a_wrong_frame(rt: HostRuntime) {
     let bad = Some(StreamRefusal::BadFrame { at: 238 });
     for (place, digits) in [(0, 0), (118, 0), (119, 5), (237, 5), (238, 56), (241, 56)] {
-        if place <= bytes.len() {
-            let told = cut_at(rt.alloc(), &bytes, place).ok().ok_or("memory")?;
-            assert_eq!(rt; told, (digits, bad));
-        }
+        assert_eq!(rt; before_wrong(rt.alloc(), place), Some((digits, bad)));
     }
-    Ok(())
 }
 
 #[test]

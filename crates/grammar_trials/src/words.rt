@@ -1,9 +1,8 @@
 //! Words that are commands, words that are none, and what commands say.
 
-use peer_words::{Command, SignerWord, Usage, read_words};
-use std::alloc::Global;
-use std::test::*;
-use willow_path::End;
+use peer_words::{AreaWords, Command, SignerWord, Usage, read_words};
+use std::alloc::{AllocError, Global};
+use willow_path::{Digest, End, Path};
 
 // A front, a piece so many times, and an end.
 fn long_word(alloc: Global, front: &str, piece: &str, count: usize, end: &str) -> Option<String> {
@@ -40,22 +39,23 @@ fn word_of(alloc: Global, name: &str) -> Option<String> {
     }
 }
 
-// The command that the words of a line spell, if there is one.
-fn command_in(alloc: Global, line: &str) -> Option<Option<Command>> {
+// The words of a line.
+fn words_in(alloc: Global, line: &str) -> Option<Vec<String>> {
     let mut words = Vec::new(alloc);
     for name in line.split_whitespace() {
         words.push(word_of(alloc, name)?).ok()?;
     }
-    match read_words(alloc, &words) {
-        Ok(command) => Some(Some(command)),
-        Err(End::Refused(Usage)) => Some(None),
-        Err(End::NoMemory) => None,
-    }
+    Some(words)
 }
 
 // Whether the words of a line spell a command.
 fn is_command(alloc: Global, line: &str) -> Option<bool> {
-    Some(command_in(alloc, line)?.is_some())
+    let words = words_in(alloc, line)?;
+    match read_words(alloc, &words) {
+        Ok(_) => Some(true),
+        Err(End::Refused(Usage)) => Some(false),
+        Err(End::NoMemory) => None,
+    }
 }
 
 const REFUSED: &str = "
@@ -156,122 +156,105 @@ watch --image a
 watch --image a --from 5";
 
 #[test]
-fn which_words_are_commands(rt: HostRuntime) -> Result<(), Fail> {
+fn words_that_are_no_command(rt: HostRuntime) {
     for line in REFUSED.lines() {
         assert_eq!(rt; is_command(rt.alloc(), line), Some(false), "{line}");
     }
+}
+
+#[test]
+fn words_that_are_commands(rt: HostRuntime) {
     for line in ACCEPTED.lines() {
         assert_eq!(rt; is_command(rt.alloc(), line), Some(true), "{line}");
     }
-    Ok(())
 }
 
-// The rows of a command that counts some.
-fn rows_in(alloc: Global, line: &str) -> Option<u32> {
-    match command_in(alloc, line)?? {
-        Command::Gen { rows } => Some(rows),
-        Command::Drill { rows } => Some(rows),
-        Command::Show { newest } => newest,
-        _ => None,
-    }
+// The key's kind, and the first and the last byte of its body.
+fn key_told(alloc: Global, key: [u8; 33]) -> Result<String, AllocError> {
+    let (kind, first, last) = (key[0], key[1], key[32]);
+    format!(in alloc; "{kind} {first} {last}")
 }
 
-// The first and the last byte of the namespace to join, and of the digest to write.
-fn ends_in(alloc: Global, line: &str) -> Option<(u8, u8)> {
-    match command_in(alloc, line)?? {
-        Command::Join { namespace } => Some((namespace.to_bytes()[0], namespace.to_bytes()[32])),
-        Command::Write { digest, .. } => Some((digest.0[0], digest.0[31])),
-        _ => None,
-    }
+// The numbers of a row to write: its time, its length, how many components and bytes its path has, and the first and the
+// last byte of the digest.
+fn row_told(
+    alloc: Global,
+    path: &Path,
+    numbers: (u64, u64),
+    digest: &Digest,
+) -> Result<String, AllocError> {
+    let (count, total) = (path.count(), path.total());
+    let (first, last) = (digest.0[0], digest.0[31]);
+    let (time, len) = numbers;
+    format!(in alloc; "{time} {len} {count} {total} {first} {last}")
 }
 
-// The time, the length and the number of components and bytes of the path to write.
-fn numbers_in(alloc: Global, line: &str) -> Option<(u64, u64, usize, usize)> {
-    match command_in(alloc, line)?? {
+// The times of an area.
+fn times_told(alloc: Global, area: &AreaWords) -> Result<String, AllocError> {
+    let (from, until) = (area.from, area.until);
+    format!(in alloc; "{from:?} {until:?}")
+}
+
+// Two names, one behind the other.
+fn names_told(alloc: Global, one: &str, two: &str) -> Result<String, AllocError> {
+    format!(in alloc; "{one} {two}")
+}
+
+// What a command says, where one of the table's is told.
+fn told(alloc: Global, command: &Command) -> Result<String, AllocError> {
+    match command {
+        Command::Gen { rows } | Command::Drill { rows } => format!(in alloc; "{rows}"),
+        Command::Show { newest } => format!(in alloc; "{newest:?}"),
+        Command::Join { namespace } => key_told(alloc, namespace.to_bytes()),
+        Command::Grant {
+            key: Some(SignerWord::OpenKey(key)),
+            ..
+        } => key_told(alloc, key.to_bytes()),
         Command::Write {
             path,
             time,
             length,
+            digest,
             ..
-        } => Some((time, length, path.count(), path.total())),
-        _ => None,
-    }
-}
-
-// The times of the area to watch.
-fn times_in(alloc: Global, line: &str) -> Option<(Option<u64>, Option<Option<u64>>)> {
-    match command_in(alloc, line)?? {
-        Command::Watch { area, .. } => Some((area.from, area.until)),
-        _ => None,
-    }
-}
-
-// The kind and the body's first byte of the open key that signs, where one does.
-fn signer_in(alloc: Global, line: &str) -> Option<(u8, u8)> {
-    match command_in(alloc, line)?? {
-        Command::Grant { key, .. } => match key? {
-            SignerWord::OpenKey(key) => Some((key.to_bytes()[0], key.to_bytes()[1])),
-            SignerWord::LmsFile(_) => None,
-        },
-        _ => None,
-    }
-}
-
-// Whether two files that a line names are these.
-fn names_files(alloc: Global, line: &str, one: &str, two: &str) -> Option<bool> {
-    match command_in(alloc, line)?? {
+        } => row_told(alloc, path, (*time, *length), digest),
+        Command::Watch { area, .. } => times_told(alloc, area),
         Command::Meet {
             left_cap,
             right_out,
             ..
-        } => Some(left_cap.as_str() == one && right_out.as_str() == two),
-        Command::Serve { cap, at, .. } => Some(cap.as_str() == one && at.as_str() == two),
-        _ => None,
+        } => names_told(alloc, left_cap.as_str(), right_out.as_str()),
+        Command::Serve { cap, at, .. } => names_told(alloc, cap.as_str(), at.as_str()),
+        _ => Ok(String::new(alloc)),
     }
 }
 
-#[test]
-fn what_commands_say(rt: HostRuntime) -> Result<(), Fail> {
-    assert_eq!(rt; rows_in(rt.alloc(), "gen --rows 20000"), Some(20000));
-    assert_eq!(rt; rows_in(rt.alloc(), "drill --rows 65536"), Some(65536));
-    assert_eq!(rt; rows_in(rt.alloc(), "show --newest 7"), Some(7));
-    assert_eq!(rt; rows_in(rt.alloc(), "show"), None);
-    assert_eq!(rt;
-        ends_in(rt.alloc(), "join --namespace UPPER"),
-        Some((0, 0x4e))
-    );
-    let write = "write --digest DIGEST --length 18446744073709551615 --time 0 --key OPEN --path";
-    let deep = text_of(rt.alloc(), write, " /61/6A6b//").ok_or("there is memory")?;
-    assert_eq!(rt; ends_in(rt.alloc(), &deep), Some((0x1f, 0x1f)));
-    assert_eq!(rt; numbers_in(rt.alloc(), &deep), Some((0, u64::MAX, 4, 3)));
-    let flat = text_of(rt.alloc(), write, " .").ok_or("there is memory")?;
-    assert_eq!(rt; numbers_in(rt.alloc(), &flat), Some((0, u64::MAX, 0, 0)));
-    Ok(())
+// Whether the line, the words of a command and what it says, is right.
+fn says(alloc: Global, line: &str) -> Option<bool> {
+    let (words, due) = line.split_once(" = ")?;
+    let words = words_in(alloc, words)?;
+    match read_words(alloc, &words) {
+        Ok(command) => Some(told(alloc, &command).ok()?.as_str() == due),
+        Err(_) => None,
+    }
 }
 
-// Two texts, one after the other.
-fn text_of(alloc: Global, front: &str, back: &str) -> Option<String> {
-    let mut text = String::from_str(alloc, front).ok()?;
-    text.push_str(back).ok()?;
-    Some(text)
-}
+const SAID: &str = "gen --rows 20000 = 20000
+drill --rows 65536 = 65536
+show --newest 7 = Some(7)
+show = None
+join --namespace UPPER = 0 78 78
+write --digest DIGEST --length 18446744073709551615 --time 0 --key OPEN --path /61/6A6b// = 0 18446744073709551615 4 3 31 31
+write --digest DIGEST --length 18446744073709551615 --time 0 --key OPEN --path . = 0 18446744073709551615 0 0 31 31
+watch --image a = None None
+watch --until none --image a --from 5 = Some(5) Some(None)
+watch --until 6 --image a --from 5 = Some(5) Some(Some(6))
+grant --namespace OWNED --mode write --user USER --key OPEN = 0 90 90
+meet --right-out f --left a --right b --left-cap c --right-cap d --left-out e = c f
+serve --image a --cap b --key lms:k --at host:80 --links 2 = b host:80";
 
 #[test]
-fn who_and_when(rt: HostRuntime) -> Result<(), Fail> {
-    assert_eq!(rt; times_in(rt.alloc(), "watch --image a"), Some((None, None)));
-    assert_eq!(rt;
-        times_in(rt.alloc(), "watch --until none --image a --from 5"),
-        Some((Some(5), Some(None)))
-    );
-    assert_eq!(rt;
-        times_in(rt.alloc(), "watch --until 6 --image a --from 5"),
-        Some((Some(5), Some(Some(6))))
-    );
-    let grant = "grant --namespace OWNED --mode write --user USER --key OPEN";
-    assert_eq!(rt; signer_in(rt.alloc(), grant), Some((0, 0x5a)));
-    let meet = "meet --right-out f --left a --right b --left-cap c --right-cap d --left-out e";
-    assert_eq!(rt; names_files(rt.alloc(), meet, "c", "f"), Some(true));
-    let serve = "serve --image a --cap b --key lms:k --at host:80 --links 2";
-    assert_eq!(rt; names_files(rt.alloc(), serve, "b", "host:80"), Some(true));
-    Ok(())
+fn what_commands_say(rt: HostRuntime) {
+    for line in SAID.lines() {
+        assert_eq!(rt; says(rt.alloc(), line), Some(true), "{line}");
+    }
 }
