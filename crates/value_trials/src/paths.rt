@@ -1,6 +1,6 @@
 //! Keys and paths: their limits, orders, successors and spellings.
 
-use crate::names::path_of;
+use crate::names::{self, Parts, path_of};
 use spelling::{Input, Unread};
 use std::alloc::Global;
 use std::cmp::Ordering;
@@ -16,13 +16,13 @@ const HIGH: &[u8] = &[0xff; 255];
 const LONG: &[u8] = &[0x61; 255];
 
 // As many components as a path may have.
-const MANY: &[&[u8]] = &[
+const MANY: Parts = &[
     b"a", b"", b"ccc", b"d", b"e", b"f", b"g", b"h", b"i", b"j", b"k", b"l", b"m", b"n", b"o",
     b"pp",
 ];
 
 // Components of as many bytes as a path may have.
-const WIDE: &[&[u8]] = &[LONG, HIGH, LONG, HIGH, b"abcd"];
+const WIDE: Parts = &[LONG, HIGH, LONG, HIGH, b"abcd"];
 
 // Whether the least path above all extensions of a path is this one, or there is none.
 fn comes_after(alloc: Global, parts: &[&[u8]], due: Option<&[&[u8]]>) -> Option<bool> {
@@ -33,21 +33,22 @@ fn comes_after(alloc: Global, parts: &[&[u8]], due: Option<&[&[u8]]>) -> Option<
     }
 }
 
+const SUCCESSORS: &[(Parts, Option<Parts>)] = &[
+    (&[], None),
+    (&[b"a"], Some(&[b"a\0"])),
+    (&[HIGH], None),
+    (&[b"a", HIGH], Some(&[b"a\0"])),
+    (
+        &[LONG, LONG, LONG, LONG, b"b\xff\xff\xff"],
+        Some(&[LONG, LONG, LONG, LONG, b"c"]),
+    ),
+];
+
 #[test]
 fn successors_of_paths(rt: HostRuntime) {
     let alloc = rt.alloc();
-    let rows: [(&[&[u8]], Option<&[&[u8]]>); 5] = [
-        (&[], None),
-        (&[b"a"], Some(&[b"a\0"])),
-        (&[HIGH], None),
-        (&[b"a", HIGH], Some(&[b"a\0"])),
-        (
-            &[LONG, LONG, LONG, LONG, b"b\xff\xff\xff"],
-            Some(&[LONG, LONG, LONG, LONG, b"c"]),
-        ),
-    ];
-    for (parts, due) in rows {
-        assert_eq!(rt; comes_after(alloc, parts, due), Some(true));
+    for (parts, due) in SUCCESSORS {
+        assert!(rt; comes_after(alloc, parts, *due) == Some(true));
     }
 }
 
@@ -75,26 +76,47 @@ fn numbers_of(alloc: Global, parts: &[&[u8]]) -> Option<(usize, usize)> {
     Some((path.count(), path.total()))
 }
 
+const PUSHED: &[(usize, usize, Result<(), End<PathRefusal>>)] = &[
+    (
+        0,
+        256,
+        Err(End::Refused(PathRefusal::ComponentTooLong { len: 256 })),
+    ),
+    (0, 255, Ok(())),
+    (
+        4,
+        5,
+        Err(End::Refused(PathRefusal::PathTooLong { total: 1025 })),
+    ),
+    (4, 4, Ok(())),
+];
+
+#[test]
+fn limits_of_components(rt: HostRuntime) {
+    let alloc = rt.alloc();
+    for (count, len, due) in PUSHED {
+        assert!(rt; pushed(alloc, *count, *len).as_ref() == Some(due));
+    }
+}
+
 #[test]
 fn limits_of_paths(rt: HostRuntime) {
-    let alloc = rt.alloc();
-    let rows = [
-        (0, 256, Err(PathRefusal::ComponentTooLong { len: 256 })),
-        (0, 255, Ok(())),
-        (4, 5, Err(PathRefusal::PathTooLong { total: 1025 })),
-        (4, 4, Ok(())),
-    ];
-    for (count, len, due) in rows {
-        assert_eq!(rt;
-            pushed(alloc, count, len),
-            Some(due.map_err(|e| End::Refused(e)))
-        );
-    }
     let full = Err(End::Refused(PathRefusal::TooManyComponents));
-    assert_eq!(rt; pushed_onto_most(alloc), Some((16, full)));
-    assert_eq!(rt; numbers_of(alloc, &[LONG, b"", b"bc"]), Some((3, 257)));
-    assert_eq!(rt; numbers_of(alloc, MANY), Some((16, 18)));
-    assert_eq!(rt; numbers_of(alloc, WIDE), Some((5, 1024)));
+    assert!(rt; pushed_onto_most(rt.alloc()) == Some((16, full)));
+}
+
+const NUMBERS: &[(Parts, usize, usize)] = &[
+    (&[LONG, b"", b"bc"], 3, 257),
+    (MANY, 16, 18),
+    (WIDE, 5, 1024),
+];
+
+#[test]
+fn numbers_of_paths(rt: HostRuntime) {
+    let alloc = rt.alloc();
+    for (parts, count, total) in NUMBERS {
+        assert!(rt; numbers_of(alloc, parts) == Some((*count, *total)));
+    }
 }
 
 // How many bytes the path in front of the bytes takes, and its spelling behind a byte 09.
@@ -114,7 +136,7 @@ fn is_read(alloc: Global, bytes: &[u8], due: usize) -> bool {
     }
 }
 
-// The components of the path of these bytes, joined by a byte `/`.
+// The components of the path of these bytes, each behind a byte `/`.
 fn joined_parts(alloc: Global, bytes: &[u8]) -> Option<Vec<u8>> {
     let (path, _) = Path::decode(alloc, bytes).ok()?;
     let mut text = Vec::new(alloc);
@@ -123,6 +145,11 @@ fn joined_parts(alloc: Global, bytes: &[u8]) -> Option<Vec<u8>> {
         text.extend_from_slice(path.part(i)).ok()?;
     }
     Some(text)
+}
+
+// Whether they are these.
+fn are_parts(alloc: Global, bytes: &[u8], due: &[u8]) -> Option<bool> {
+    Some(joined_parts(alloc, bytes)?.as_slice() == due)
 }
 
 // Whether the path of these components is read back from its spelling, which is as long as the path tells.
@@ -134,28 +161,29 @@ fn is_read_back(alloc: Global, parts: &[&[u8]]) -> Option<bool> {
     Some(again == path && taken == text.len() && taken == path.spelled_len())
 }
 
+const READ_BACK: &[Parts] = &[
+    MANY,
+    WIDE,
+    &[b""],
+    &[b"fifteen letters"],
+    &[b"sixteen letters!"],
+];
+
 #[test]
 fn spellings_of_paths(rt: HostRuntime) {
     let alloc = rt.alloc();
-    let bytes = [2, 1, 0x61, 1, 0x62, 0xff];
-    assert!(rt; is_read(alloc, &bytes, 5));
-    assert_eq!(rt;
-        joined_parts(alloc, &bytes),
-        Vec::from_slice(alloc, b"/a/b").ok()
-    );
-    assert_eq!(rt;
-        read_again(alloc, &[1, 2, 0x61]),
-        Err(End::Refused(NotHere))
-    );
-    for parts in [
-        MANY,
-        WIDE,
-        &[b""],
-        &[b"fifteen letters"],
-        &[b"sixteen letters!"],
-    ] {
-        assert_eq!(rt; is_read_back(alloc, parts), Some(true));
+    for parts in READ_BACK {
+        assert!(rt; is_read_back(alloc, parts) == Some(true));
     }
+}
+
+#[test]
+fn paths_are_read(rt: HostRuntime) {
+    let alloc = rt.alloc();
+    let bytes = [2, 1, 0x61, 1, 0x62, 0xff];
+    let found = (is_read(alloc, &bytes, 5), are_parts(alloc, &bytes, b"/a/b"));
+    let cut = read_again(alloc, &[1, 2, 0x61]).err();
+    assert!(rt; (found, cut) == ((true, Some(true)), Some(End::Refused(NotHere))));
 }
 
 // Whether the first path is a prefix of the second, and how they are ordered.
@@ -170,33 +198,41 @@ fn is_copied(alloc: Global, parts: &[&[u8]]) -> Option<bool> {
     Some(path.copy().ok()? == path)
 }
 
+const ORDERS: &[(Parts, Parts, bool, Ordering)] = &[
+    (&[b"a"], &[b"a", b"b"], true, Ordering::Less),
+    (&[b"a", b"b"], &[b"a"], false, Ordering::Greater),
+    (&[b"a"], &[b"ab"], false, Ordering::Less),
+    (&[b"a", b"b"], &[b"ab"], false, Ordering::Less),
+    (&[b"b"], &[b"aa"], false, Ordering::Greater),
+    (&[b"b"], &[b"aa", b"c"], false, Ordering::Greater),
+    (&[b"x", b"aa"], &[b"x", b"b", b""], false, Ordering::Less),
+    (&[b"x"], &[b"x", b"aa"], true, Ordering::Less),
+    (&[], &[b""], true, Ordering::Less),
+    (&[b""], &[b"", b"a"], true, Ordering::Less),
+    (&[b""], &[b"a"], false, Ordering::Less),
+    (MANY, MANY, true, Ordering::Equal),
+    (WIDE, MANY, false, Ordering::Greater),
+];
+
 #[test]
 fn order_of_some_paths(rt: HostRuntime) {
     let alloc = rt.alloc();
-    let rows: [(&[&[u8]], &[&[u8]], bool, Ordering); 13] = [
-        (&[b"a"], &[b"a", b"b"], true, Ordering::Less),
-        (&[b"a", b"b"], &[b"a"], false, Ordering::Greater),
-        (&[b"a"], &[b"ab"], false, Ordering::Less),
-        (&[b"a", b"b"], &[b"ab"], false, Ordering::Less),
-        (&[b"b"], &[b"aa"], false, Ordering::Greater),
-        (&[b"b"], &[b"aa", b"c"], false, Ordering::Greater),
-        (&[b"x", b"aa"], &[b"x", b"b", b""], false, Ordering::Less),
-        (&[b"x"], &[b"x", b"aa"], true, Ordering::Less),
-        (&[], &[b""], true, Ordering::Less),
-        (&[b""], &[b"", b"a"], true, Ordering::Less),
-        (&[b""], &[b"a"], false, Ordering::Less),
-        (MANY, MANY, true, Ordering::Equal),
-        (WIDE, MANY, false, Ordering::Greater),
-    ];
-    for (one, other, prefix, order) in rows {
-        assert_eq!(rt; compared(alloc, one, other), Some((prefix, order)));
+    for (one, other, prefix, order) in ORDERS {
+        assert!(rt; compared(alloc, one, other) == Some((*prefix, *order)));
     }
-    for parts in [
-        MANY,
-        WIDE,
-        &[b"a", b"a component of more than a few bytes", b""],
-    ] {
-        assert_eq!(rt; is_copied(alloc, parts), Some(true));
+}
+
+const COPIED: &[Parts] = &[
+    MANY,
+    WIDE,
+    &[b"a", b"a component of more than a few bytes", b""],
+];
+
+#[test]
+fn copies_of_paths(rt: HostRuntime) {
+    let alloc = rt.alloc();
+    for parts in COPIED {
+        assert!(rt; is_copied(alloc, parts) == Some(true));
     }
 }
 
@@ -205,19 +241,20 @@ fn front_compared(alloc: Global, one: &[&[u8]], other: &[&[u8]], count: usize) -
     Some(path_of(alloc, one)?.cmp_front(&path_of(alloc, other)?, count))
 }
 
+const FRONTS: &[(Parts, Parts, usize, Ordering)] = &[
+    (&[], &[b"a"], 0, Ordering::Equal),
+    (&[b"a", b"b"], &[b"a", b"b", b"c"], 2, Ordering::Equal),
+    (&[b"a", b"b"], &[b"a", b"b", b"c"], 3, Ordering::Less),
+    (&[b"a", b"b"], &[b"a", b"b"], 1, Ordering::Greater),
+    (&[b"b"], &[b"aa"], 5, Ordering::Greater),
+    (MANY, MANY, 99, Ordering::Equal),
+];
+
 #[test]
 fn order_against_fronts(rt: HostRuntime) {
     let alloc = rt.alloc();
-    let rows: [(&[&[u8]], &[&[u8]], usize, Ordering); 6] = [
-        (&[], &[b"a"], 0, Ordering::Equal),
-        (&[b"a", b"b"], &[b"a", b"b", b"c"], 2, Ordering::Equal),
-        (&[b"a", b"b"], &[b"a", b"b", b"c"], 3, Ordering::Less),
-        (&[b"a", b"b"], &[b"a", b"b"], 1, Ordering::Greater),
-        (&[b"b"], &[b"aa"], 5, Ordering::Greater),
-        (MANY, MANY, 99, Ordering::Equal),
-    ];
-    for (one, other, count, order) in rows {
-        assert_eq!(rt; front_compared(alloc, one, other, count), Some(order));
+    for (one, other, count, order) in FRONTS {
+        assert!(rt; front_compared(alloc, one, other, *count) == Some(*order));
     }
 }
 
@@ -229,52 +266,89 @@ fn key_of(place: usize, byte: u8, behind: u8) -> Option<UserKey> {
     UserKey::from_bytes(bytes)
 }
 
-// How two keys are ordered that differ first at this place, and whether the first is less, and equal.
+// How two keys are ordered, and whether the first is less, and equal.
+fn told(one: UserKey, other: UserKey) -> (Ordering, bool, bool) {
+    (one.cmp(&other), one < other, one == other)
+}
+
+// What is told of two keys that differ first at this place.
 fn keys_compared(place: usize) -> Option<(Ordering, bool, bool)> {
-    let (low, high) = (key_of(place, 0, 0xff)?, key_of(place, 1, 0)?);
-    Some((low.cmp(&high), low < high, low == high))
+    Some(told(key_of(place, 0, 0xff)?, key_of(place, 1, 0)?))
 }
 
 #[test]
 fn order_of_keys(rt: HostRuntime) {
     for place in 0..33 {
-        assert_eq!(rt; keys_compared(place), Some((Ordering::Less, true, false)));
+        assert!(rt; keys_compared(place) == Some((Ordering::Less, true, false)));
     }
-    let (one, same) = (key_of(7, 1, 9), key_of(7, 1, 9));
-    assert!(rt; one == same && one.cmp(&same) == Ordering::Equal && !(one < same));
+}
+
+// What is told of two keys that are made alike.
+fn alike_compared() -> Option<(Ordering, bool, bool)> {
+    Some(told(key_of(7, 1, 9)?, key_of(7, 1, 9)?))
+}
+
+// Whether the greatest key of kind 0 is followed by the least of kind 1, and the greatest of kind 1 by none.
+fn are_followed() -> Option<(bool, bool)> {
+    let mut want = [0; 33];
+    want[0] = 1;
+    let next = names::key_of(0, 0xff)?.after()?;
+    let last = names::key_of(1, 0xff)?;
+    Some((
+        next.to_bytes().as_slice() == want.as_slice(),
+        last.after().is_none(),
+    ))
+}
+
+// Whether each of these keys is below the next.
+fn rise() -> Option<(bool, bool, bool)> {
+    let (open, last) = (names::key_of(0, 0xff)?, names::key_of(1, 0xff)?);
+    let next = open.after()?;
+    Some((UserKey::least() < open, open < next, next < last))
+}
+
+// Whether the bytes are those of the namespace that they make, and are read as it and as a user.
+fn keys_are_read(bytes: [u8; 33]) -> Option<(bool, bool, bool)> {
+    let space = NamespaceKey::from_bytes(bytes)?;
+    let user = UserKey::from_bytes(bytes)?;
+    Some((
+        space.to_bytes().as_slice() == bytes.as_slice(),
+        read_namespace_key(&mut Input::new(&bytes)) == Ok(space),
+        read_user_key(&mut Input::new(&bytes)) == Ok(user),
+    ))
 }
 
 #[test]
-fn keys(rt: HostRuntime) -> Result<(), Fail> {
-    let mut bytes = [0xff; 33];
-    assert!(rt; UserKey::from_bytes(bytes).is_none() && NamespaceKey::from_bytes(bytes).is_none());
-    bytes[0] = 1;
-    let last = UserKey::from_bytes(bytes).ok_or("a key")?;
-    assert_eq!(rt; last.after(), None);
-    bytes[0] = 0;
-    let open = UserKey::from_bytes(bytes).ok_or("a key")?;
-    let next = open.after().ok_or("there is a greater key")?;
-    let mut want = [0; 33];
-    want[0] = 1;
-    assert_eq!(rt; next.to_bytes().as_slice(), want.as_slice());
-    assert!(rt; UserKey::least() < open && open < next && next < last);
-    let space = NamespaceKey::from_bytes(bytes).ok_or("a key")?;
-    assert_eq!(rt; space.to_bytes().as_slice(), bytes.as_slice());
-    let mut input = Input::new(&bytes);
-    assert_eq!(rt; read_user_key(&mut input), Ok(open));
-    assert_eq!(rt; read_namespace_key(&mut Input::new(&bytes)), Ok(space));
-    assert_eq!(rt;
-        read_namespace_key(&mut Input::new(&[2])),
-        Err(Unread::Wrong)
+fn keys(rt: HostRuntime) {
+    let orders = (alike_compared(), rise());
+    let wrong = [0xff; 33];
+    let known = (
+        UserKey::from_bytes(wrong).is_some(),
+        NamespaceKey::from_bytes(wrong).is_some(),
     );
-    assert_eq!(rt; read_digest(&mut Input::new(&[7; 40])), Ok(Digest([7; 32])));
-    assert!(rt;
-        matches!(
-            read_path(rt.alloc(), &mut Input::new(&[17])),
-            Err(Unread::Wrong)
-        )
+    let mut open = wrong;
+    open[0] = 0;
+    let found = (orders, known, are_followed(), keys_are_read(open));
+    let orders = (
+        Some((Ordering::Equal, false, true)),
+        Some((true, true, true)),
     );
-    Ok(())
+    let due = (
+        orders,
+        (false, false),
+        Some((true, true)),
+        Some((true, true, true)),
+    );
+    assert!(rt; found == due);
+}
+
+#[test]
+fn reading(rt: HostRuntime) {
+    let digest = read_digest(&mut Input::new(&[7; 40]));
+    let key = read_namespace_key(&mut Input::new(&[2]));
+    let path = read_path(rt.alloc(), &mut Input::new(&[17])).err();
+    let due = (Ok(Digest([7; 32])), Err(Unread::Wrong), Some(Unread::Wrong));
+    assert!(rt; (digest, key, path) == due);
 }
 
 #[test]
