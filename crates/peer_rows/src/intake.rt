@@ -50,6 +50,10 @@ impl Intake {
         ensures log { self.new.log ≡ self.old.log }
         ensures waits { OnOk result (self.new.waiting.items ≡ self.old.waiting.items ++ rows.items) }
     {
+        if self.waiting.is_empty() {
+            self.waiting = rows;
+            return Ok(());
+        }
         self.waiting.append(&mut rows)?;
         Ok(())
     }

@@ -12,7 +12,7 @@ ghost use Rattle.peer_rows.specs.Stored.{EndsStream, FeedsPiece, HasSeen, LogsIn
 
 use crate::imaging::write_image_of;
 use crate::intake::Intake;
-use crate::log::Log;
+use crate::log::{Log, leave_to_exit};
 use auth_entry::{Checker, NewChecker};
 use cap_codec::{RawRow, RawRows};
 use lms_core::PeerScheme;
@@ -44,7 +44,9 @@ pub fn join<C: NewChecker<PeerScheme>, R: Threads + Sync, I: Source, O: Sink>(
 {
     let log = read_log::<C, R, I>(rt, alloc, namespace, input)?;
     write_image_of(alloc, namespace, log.kept.store(), output)?;
-    Ok(Done::Joined(log.counts))
+    let counts = log.counts;
+    leave_to_exit(log);
+    Ok(Done::Joined(counts))
 }
 
 // The log of the rows of the input, read a piece at a time. What goes wrong in a piece stops the reading.

@@ -7,6 +7,7 @@ ghost use Rattle.peer_rows.specs.Listed.{AreText, log_listing, rows_listing};
 ghost use Rattle.peer_rows.specs.Logged.{entry_row, live_rows};
 
 use crate::images::EntryLog;
+use crate::log::leave_to_exit;
 use auth_entry::AuthorisedEntry;
 use lms_core::PeerScheme;
 use peer_listing::{listing_head, listing_line};
@@ -23,10 +24,12 @@ pub(crate) fn list_log(
 ) -> Result<(Vec<u8>, Vec<u8>), NoMemory>
     ensures { IfOk result (λ made. AreText made (log_listing newest log.namespace (live_rows log))) }
 {
-    match newest {
+    let made = match newest {
         None => list_all(alloc, &log),
         Some(most) => list_newest(alloc, most, &log),
-    }
+    };
+    leave_to_exit(log);
+    made
 }
 
 // Those of all live rows, in order.

@@ -15,6 +15,7 @@ use ns_state::{LOG_LIMIT, LiveLog, LogFull};
 use peer_stage::JoinCounts;
 use spelling::End;
 use std::alloc::Global;
+use std::mem;
 use willow_path::NamespaceKey;
 
 /// A log of the authorised ones of the rows that were judged for it, and the numbers of all of them.
@@ -126,4 +127,10 @@ fn offered(counts: &JoinCounts, stored: bool) -> JoinCounts
             ..*counts
         }
     }
+}
+
+// Leaves what a command kept as it stands. A run ends behind its command, and its memory goes with it at once; to free a log
+// row by row before that takes a tenth of the time of a join.
+pub(crate) fn leave_to_exit<T: Drop>(kept: T) {
+    mem::forget(kept);
 }
