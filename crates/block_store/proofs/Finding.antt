@@ -34,6 +34,16 @@ none_passes test xs e split fails = (
       both_ways (test (get_or xs 0 e)) fails (ap test (get_or_default xs 0 e d (omega arith)) ∙ split 0 k d (omega arith) lt passes))),
 )
 
+-- where the item before a place passes and the item at it fails, all that pass stand before it
+pub point_between : {X : Type 0} (test : X → Bool) (xs : List X) (n : ℕ) → IsPartitionedBy test xs
+    → ((d : X) → 0 < n → n ≤ length xs → test (get_or xs (n - 1) d) ≡ true) → ((d : X) → n < length xs → test (get_or xs n d) ≡ false) → n ≤ length xs
+    → IsPartitionPoint (λ x. test x ≡ true) (λ x. test x ≡ false) xs n
+point_between test xs n split passes fails h = (
+  (λ k d le lt. split k (n - 1) d (omega arith) (omega arith) (passes d (omega arith) h)),
+  (λ k d le lt. false_from_ne_true (test (get_or xs k d)) (λ later.
+      both_ways (test (get_or xs n d)) (fails d (omega arith)) (split n k d le lt later))),
+)
+
 -- below, or not
 pub either : (m n : ℕ) → (m < n) ⊎ (n ≤ m)
 either m zero = inr (omega arith)

@@ -1,6 +1,6 @@
 //! Positions in the list of all rows, and the rows that stand there.
 
-ghost use Rattle.std.specs.Prelude.{◌≡◌, ℕ, ◌+◌, ◌^◌, ◌<◌, ◌≤◌, length, min, slice_get, Some, MatchOption};
+ghost use Rattle.std.specs.Prelude.{◌≡◌, ℕ, ◌+◌, ◌^◌, ◌<◌, ◌≤◌, length, min, slice_get, Some, IsTrue, IfSome, MatchOption};
 ghost use Rattle.block_store.specs.Blocks.{block_rows, index_of, IsSpot};
 
 use crate::block::Piece;
@@ -69,4 +69,35 @@ pub(crate) fn spot_of<R: Row>(pieces: &[Piece<R>], at: usize) -> Spot
         block: pieces.len(),
         row: 0,
     }
+}
+
+// Whether it is a spot at a row, or behind all rows.
+pub(crate) fn is_spot<R: Row>(pieces: &[Piece<R>], spot: Spot) -> bool
+    ensures { IsTrue result → IsSpot pieces.now spot }
+{
+    if spot.block < pieces.len() {
+        spot.row < pieces[spot.block].len as usize
+    } else {
+        spot.block == pieces.len() && spot.row == 0
+    }
+}
+
+// The spot of the row before a spot; None exactly where there is none.
+pub(crate) fn before<R: Row>(pieces: &[Piece<R>], spot: Spot) -> Option<Spot>
+    requires { IsSpot pieces.now spot }
+    ensures spot { IfSome result (λ last. IsSpot pieces.now last) }
+    ensures index { MatchOption result (index_of pieces.now spot ≡ 0) (λ last. index_of pieces.now last + 1 ≡ index_of pieces.now spot) }
+{
+    if spot.row > 0 {
+        return Some(Spot {
+            block: spot.block,
+            row: spot.row - 1,
+        });
+    }
+    let _length = pieces.len();
+    let block = spot.block.checked_sub(1)?;
+    Some(Spot {
+        block,
+        row: pieces[block].len as usize - 1,
+    })
 }

@@ -11,6 +11,7 @@ ghost use Rattle.block_store.specs.Front.{HaveComponents};
 ghost use Rattle.block_store.specs.Positions.{positions};
 
 use crate::block::Piece;
+use crate::guess::Guess;
 use crate::index::{index_of, next, row_at};
 use crate::place::{own_place, place_or_cover, run_end};
 use crate::put::put;
@@ -58,6 +59,7 @@ pub(crate) fn offer<R: Row>(
     pieces: &mut Vec<Piece<R>>,
     row: R,
     fewest: usize,
+    guess: &mut Guess,
 ) -> Result<Placed, NoMemory>
     requires is_live { AreLive (block_values R.value pieces.old.items) }
     requires fewest { HaveComponents (block_values R.value pieces.old.items) fewest }
@@ -69,7 +71,7 @@ pub(crate) fn offer<R: Row>(
     ensures packed { IsPacked pieces.old.items → IsPacked pieces.new.items }
     ensures err { OnErr result (block_rows pieces.new.items ≡ block_rows pieces.old.items) }
 {
-    match place_or_cover(pieces, &row, fewest) {
+    match place_or_cover(pieces, &row, fewest, guess) {
         Err(by) => Ok(Placed::Kept { by }),
         Ok(at) => {
             let held = Arc::new(*pieces.allocator(), row)?;
@@ -83,6 +85,7 @@ pub(crate) fn offer_shared<R: Row>(
     pieces: &mut Vec<Piece<R>>,
     held: Arc<R>,
     fewest: usize,
+    guess: &mut Guess,
 ) -> Result<Placed, NoMemory>
     requires is_live { AreLive (block_values R.value pieces.old.items) }
     requires fewest { HaveComponents (block_values R.value pieces.old.items) fewest }
@@ -94,7 +97,7 @@ pub(crate) fn offer_shared<R: Row>(
     ensures packed { IsPacked pieces.old.items → IsPacked pieces.new.items }
     ensures err { OnErr result (block_rows pieces.new.items ≡ block_rows pieces.old.items) }
 {
-    match place_or_cover(pieces, &*held, fewest) {
+    match place_or_cover(pieces, &*held, fewest, guess) {
         Err(by) => Ok(Placed::Kept { by }),
         Ok(at) => store(pieces, held, at),
     }
@@ -126,12 +129,13 @@ pub(crate) fn dominated<R: Row>(
     alloc: Global,
     pieces: &[Piece<R>],
     row: &R,
+    guess: Guess,
 ) -> Result<Vec<u32>, NoMemory>
     requires rising { IsRising (block_values R.value pieces.now) }
     requires few { length (block_rows pieces.now) < 2 ^ 32 }
     ensures { IfOk result (λ found. found.items ≡ positions (is_dominating (R.value row.now)) (block_values R.value pieces.now)) }
 {
-    let mut spot = own_place(pieces, row);
+    let mut spot = own_place(pieces, row, guess.own);
     let end = run_end(pieces, row, spot);
     let mut found = Vec::new(alloc);
     for at in index_of(pieces, spot)..index_of(pieces, end) {

@@ -9,8 +9,10 @@ ghost use Rattle.block_store.specs.Blocks.{block_rows, block_values, index_of, I
 ghost use Rattle.block_store.specs.Front.{front, covers_at, HaveComponents, ReachFrom};
 
 use crate::block::Piece;
+use crate::guess::Guess;
 use crate::index::{index_of, row_at};
-use crate::search::{Test, partition_point, partition_point_near};
+use crate::near::{partition_point_behind, partition_point_near};
+use crate::search::{Test, partition_point};
 use crate::spot::Spot;
 use std::cmp::Ordering;
 use willow_entry::{Row, covers};
@@ -67,31 +69,31 @@ impl<'a, R: Row> Test<R> for UpToExtensions<'a, R> {
     }
 }
 
-// Where the row's front of so many components stands.
-fn place<R: Row>(pieces: &[Piece<R>], row: &R, count: usize) -> Spot
+// Where the row's front of so many components stands, looked for first right behind a guess.
+fn place<R: Row>(pieces: &[Piece<R>], row: &R, count: usize, guess: Spot) -> Spot
     requires { IsRising (block_values R.value pieces.now) }
     ensures spot { IsSpot pieces.now result }
     ensures place { IsPlace place_cmp (front (R.value row.now) count) (block_values R.value pieces.now) (index_of pieces.now result) }
 {
-    partition_point(pieces, &BelowFront { row, count })
+    partition_point_behind(pieces, &BelowFront { row, count }, guess)
 }
 
-// The same, looked for first in one block.
-fn place_near<R: Row>(pieces: &[Piece<R>], row: &R, count: usize, near: usize) -> Spot
+// The same, looked for first at a guess, at another spot, and in the blocks there.
+fn place_near<R: Row>(pieces: &[Piece<R>], row: &R, count: usize, guess: Spot, near: Spot) -> Spot
     requires { IsRising (block_values R.value pieces.now) }
     ensures spot { IsSpot pieces.now result }
     ensures place { IsPlace place_cmp (front (R.value row.now) count) (block_values R.value pieces.now) (index_of pieces.now result) }
 {
-    partition_point_near(pieces, &BelowFront { row, count }, near)
+    partition_point_near(pieces, &BelowFront { row, count }, guess, near)
 }
 
-// Where the row stands.
-pub(crate) fn own_place<R: Row>(pieces: &[Piece<R>], row: &R) -> Spot
+// Where the row stands, looked for first right behind a guess.
+pub(crate) fn own_place<R: Row>(pieces: &[Piece<R>], row: &R, guess: Spot) -> Spot
     requires { IsRising (block_values R.value pieces.now) }
     ensures spot { IsSpot pieces.now result }
     ensures place { IsPlace place_cmp (R.value row.now) (block_values R.value pieces.now) (index_of pieces.now result) }
 {
-    place(pieces, row, row.entry().path.count())
+    place(pieces, row, row.entry().path.count(), guess)
 }
 
 // Whether the held row stands in the row's namespace and subspace, at an extension of its path or at the path itself.
@@ -141,15 +143,26 @@ fn is_covered_at<R: Row>(pieces: &[Piece<R>], row: &R, at: Spot) -> bool
 // The first position whose row is the row or dominates it, at a front of its path that is not the path itself: no row
 // has fewer components than `fewest`, and most fronts stand in the row's own block. Where there is no such position,
 // such a row has all components of the path.
-fn covered_in_front<R: Row>(pieces: &[Piece<R>], row: &R, fewest: usize, own: usize) -> Option<u32>
+fn covered_in_front<R: Row>(
+    pieces: &[Piece<R>],
+    row: &R,
+    fewest: usize,
+    guess: &mut Guess,
+) -> Option<u32>
     requires rising { IsRising (block_values R.value pieces.now) }
     requires few { length (block_rows pieces.now) < 2 ^ 32 }
     requires fewest { HaveComponents (block_values R.value pieces.now) fewest }
     ensures found { IfSome result (λ i. position (λ s. is_covering s (R.value row.now)) (block_values R.value pieces.now) ≡ Some i) }
     ensures none { IfNone result (ReachFrom (block_values R.value pieces.now) (R.value row.now) (length (R.value row.now).entry.path)) }
 {
+    let own = guess.own;
+    let mut near = guess.front;
     for count in fewest..row.entry().path.count() {
-        let at = place_near(pieces, row, count, own);
+        let at = place_near(pieces, row, count, near, own);
+        if count == fewest {
+            guess.front = at;
+        }
+        near = at;
         if is_covered_at(pieces, row, at) {
             return Some(index_of(pieces, at) as u32);
         }
@@ -163,6 +176,7 @@ pub(crate) fn place_or_cover<R: Row>(
     pieces: &[Piece<R>],
     row: &R,
     fewest: usize,
+    guess: &mut Guess,
 ) -> Result<Spot, u32>
     requires few { length (block_rows pieces.now) < 2 ^ 32 }
     requires is_live { AreLive (block_values R.value pieces.now) }
@@ -172,8 +186,9 @@ pub(crate) fn place_or_cover<R: Row>(
     ensures free { IfOk result (λ at. position (λ s. is_covering s (R.value row.now)) (block_values R.value pieces.now) ≡ None) }
     ensures covered { IfErr result (λ by. position (λ s. is_covering s (R.value row.now)) (block_values R.value pieces.now) ≡ Some by) }
 {
-    let at = own_place(pieces, row);
-    if let Some(by) = covered_in_front(pieces, row, fewest, at.block) {
+    let at = own_place(pieces, row, guess.own);
+    guess.own = at;
+    if let Some(by) = covered_in_front(pieces, row, fewest, guess) {
         return Err(by);
     }
     if is_covered_at(pieces, row, at) {
@@ -183,7 +198,12 @@ pub(crate) fn place_or_cover<R: Row>(
 }
 
 // The first position whose row is the row or dominates it, among live rows, with what it means.
-pub(crate) fn cover<R: Row>(pieces: &[Piece<R>], row: &R, fewest: usize) -> Option<u32>
+pub(crate) fn cover<R: Row>(
+    pieces: &[Piece<R>],
+    row: &R,
+    fewest: usize,
+    guess: Guess,
+) -> Option<u32>
     requires few { length (block_rows pieces.now) < 2 ^ 32 }
     requires is_live { AreLive (block_values R.value pieces.now) }
     requires fewest { HaveComponents (block_values R.value pieces.now) fewest }
@@ -191,5 +211,6 @@ pub(crate) fn cover<R: Row>(pieces: &[Piece<R>], row: &R, fewest: usize) -> Opti
     ensures found { IfSome result (λ i. IsCoveringAt (block_values R.value pieces.now) i (R.value row.now)) }
     ensures none { IfNone result (HasCovering (block_values R.value pieces.now) (R.value row.now) → ⊥) }
 {
-    place_or_cover(pieces, row, fewest).err()
+    let mut guess = guess;
+    place_or_cover(pieces, row, fewest, &mut guess).err()
 }

@@ -6,6 +6,7 @@ ghost use Rattle.willow_entry.specs.Placed.{IsPlaced, OnKept};
 ghost use Rattle.block_store.specs.Positions.{positions};
 
 use crate::block::Piece;
+use crate::guess::{GUESSES, Guess, at_begin, slot_of};
 use crate::index::{row_at, spot_of};
 use crate::offer::{dominated, offer, offer_shared, rows_after};
 use crate::place::cover;
@@ -24,6 +25,8 @@ pub struct BlockStore<R: Row> {
     rows: u32,
     // No row has a path of fewer components.
     fewest: usize,
+    // Where the next rows may stand, by the subspace.
+    guesses: [Guess; GUESSES],
 }
 
 impl<R: Row> Model for BlockStore<R> {
@@ -51,6 +54,7 @@ impl<R: Row> BlockStore<R> {
             pieces: Vec::new(alloc),
             rows: 0,
             fewest: usize::MAX,
+            guesses: [at_begin(); GUESSES],
         }
     }
 
@@ -74,8 +78,10 @@ impl<R: Row> BlockStore<R> {
         ensures was_live { AreLive (map R.value self.old) }
         ensures err { OnErr result (self.new ≡ self.old) }
     {
-        let count = row.entry().path.count();
-        let placed = offer(&mut self.pieces, row, self.fewest)?;
+        let (count, slot) = (row.entry().path.count(), slot_of(&row));
+        let mut guess = self.guesses[slot];
+        let placed = offer(&mut self.pieces, row, self.fewest, &mut guess)?;
+        self.guesses[slot] = guess;
         self.rows = rows_after(self.rows, placed);
         self.fewest = self.fewest.min(count);
         Ok(placed)
@@ -92,8 +98,10 @@ impl<R: Row> BlockStore<R> {
         ensures was_live { AreLive (map R.value self.old) }
         ensures err { OnErr result (self.new ≡ self.old) }
     {
-        let count = row.entry().path.count();
-        let placed = offer_shared(&mut self.pieces, row, self.fewest)?;
+        let (count, slot) = (row.entry().path.count(), slot_of(&*row));
+        let mut guess = self.guesses[slot];
+        let placed = offer_shared(&mut self.pieces, row, self.fewest, &mut guess)?;
+        self.guesses[slot] = guess;
         self.rows = rows_after(self.rows, placed);
         self.fewest = self.fewest.min(count);
         Ok(placed)
@@ -120,14 +128,19 @@ impl<R: Row> BlockStore<R> {
         ensures found { IfSome result (λ i. IsCoveringAt (map R.value self.now) i (R.value row.now)) }
         ensures none { IfNone result (HasCovering (map R.value self.now) (R.value row.now) → ⊥) }
     {
-        cover(&self.pieces, row, self.fewest)
+        cover(&self.pieces, row, self.fewest, self.guesses[slot_of(row)])
     }
 
     /// The positions, rising, of the rows that the row dominates.
     pub fn pruned_by(&self, row: &R) -> Result<Vec<u32>, NoMemory>
         ensures { IfOk result (λ found. found.items ≡ positions (is_dominating (R.value row.now)) (map R.value self.now)) }
     {
-        dominated(*self.pieces.allocator(), &self.pieces, row)
+        dominated(
+            *self.pieces.allocator(),
+            &self.pieces,
+            row,
+            self.guesses[slot_of(row)],
+        )
     }
 
     /// The rows, one after the other, as they are now. No row is copied, and none is added up.

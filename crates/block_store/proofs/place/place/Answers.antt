@@ -3,8 +3,8 @@ use Rattle.block_store.specs.Front.{front}
 use Rattle.block_store.proofs.Extending.{place_found, below_split}
 use Rattle.block_store.proofs.place.place.Goals as goal
 
-pub partition_point-requires : goal.partition_point-requires
-partition_point-requires g c = below_split (front (g.R.Row.value c.args.row.now) c.args.count) (block_values g.R.Row.value c.args.pieces.now) c.requires
+pub partition_point_behind-requires : goal.partition_point_behind-requires
+partition_point_behind-requires g c = below_split (front (g.R.Row.value c.args.row.now) c.args.count) (block_values g.R.Row.value c.args.pieces.now) c.requires
 
 pub returns-clause-place : goal.returns-clause-place
-returns-clause-place g c = place_found (front (g.R.Row.value c.args.row.now) c.args.count) (block_values g.R.Row.value c.args.pieces.now) (index_of c.args.pieces.now c.partition_point.result) c.partition_point.ensures.point
+returns-clause-place g c = place_found (front (g.R.Row.value c.args.row.now) c.args.count) (block_values g.R.Row.value c.args.pieces.now) (index_of c.args.pieces.now c.partition_point_behind.result) c.partition_point_behind.ensures.point

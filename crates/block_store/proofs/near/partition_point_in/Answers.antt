@@ -7,7 +7,7 @@ use Rattle.block_store.specs.Blocks.{block_values, index_of}
 use Rattle.block_store.specs.declared.block.Piece.{Piece}
 use Rattle.block_store.proofs.Finding.{piece_split, found_inside, start}
 use Rattle.block_store.proofs.Pieces.{some_rows, values_long}
-use Rattle.block_store.proofs.search.partition_point_in.Goals as goal
+use Rattle.block_store.proofs.near.partition_point_in.Goals as goal
 
 pub passing_rows-row-requires : goal.passing_rows-row-requires
 passing_rows-row-requires g c =
