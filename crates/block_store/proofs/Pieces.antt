@@ -1,21 +1,26 @@
 -- Blocks as pieces of the list of all rows.
-use Rattle.std.proofs.Common.{◌≡◌, inl, inr, ℕ, suc, ◌+◌, ◌-◌, ◌<◌, ◌≤◌, List, [], ◌∷◌, ◌++◌, length, map, take, drop, get_or, Some, slice_get, sym, ap, ◌∙◌, arith}
+use Rattle.std.proofs.Common.{◌≡◌, inl, inr, ℕ, suc, ◌+◌, ◌-◌, ◌<◌, ◌≤◌, Bool, List, [], ◌∷◌, ◌++◌, length, map, take, drop, get_or, Some, slice_get, sym, ap, ◌∙◌, arith}
+use Rattle.std.specs.List.Sorted.{IsPartitionedBy}
 use Rattle.std.specs.Option.{option_map}
 use Rattle.std.proofs.lemmas.List.{length-map, take_more, append-nil, take-append-drop, drop-drop, get_or-map, get_or_past}
 use Rattle.std.proofs.lemmas.List.Concat.{get_or-flat_map, flat_map-append}
 use Rattle.std.proofs.lemmas.Option.{slice_get-map}
 use Rattle.willow_entry.specs.Row.{RowValue}
-use Rattle.block_store.specs.Blocks.{block_rows, block_values, index_of, size_at, sizes, IsSpot}
+use Rattle.block_store.specs.Blocks.{block_rows, block_values, index_of, last_passes, size_at, sizes, IsSpot}
 use Rattle.block_store.specs.Held.{rows_of, values_of}
 use Rattle.block_store.specs.declared.block.Piece.{Piece}
 use Rattle.block_store.specs.declared.spot.Spot.{Spot}
 use Rattle.block_store.proofs.Copies.{seen_pieces}
-use Rattle.block_store.proofs.Finding.{either, item_of, same_long, start-next, start-rises, start-all, start-within}
+use Rattle.block_store.proofs.Finding.{either, item_of, lasts_split, same_long, start-next, start-rises, start-all, start-within}
 
 module _ {R : Type 0} {b : _} (value : R → RowValue) where
   -- no block is empty
   pub some_rows : (p : Piece R b) → 0 < length (values_of value p.block.value.rows.items)
   some_rows p = omega (arith, length-map p.block.value.rows.items (λ a. value a.value), p.block.value.sized.0, p.block.value.rows.ok.0)
+
+  -- where what passes stands in front, so do the blocks that end passing
+  pub ends_split : (test : RowValue → Bool) (pieces : List (Piece R b)) → IsPartitionedBy test (block_values value pieces) → IsPartitionedBy (λ p. last_passes test (values_of value p.block.value.rows.items)) pieces
+  ends_split test pieces split = lasts_split (λ (p : Piece R b). values_of value p.block.value.rows.items) test some_rows pieces split
 
   -- as many values as rows
   pub values_long : (pieces : List (Piece R b)) → length (block_values value pieces) ≡ length (block_rows pieces)

@@ -8,7 +8,7 @@ ghost use Rattle.block_store.specs.Held.{values_of};
 
 use crate::block::Piece;
 use crate::index::{before, is_spot, row_at};
-use crate::search::{Test, ends_passing, partition_point, passing_blocks, passing_rows, spot_in};
+use crate::search::{Test, ends_passing, passing_blocks, passing_rows, spot_in};
 use crate::spot::Spot;
 use willow_entry::Row;
 
@@ -146,8 +146,7 @@ fn end_of<R: Row, T: Test<R>>(
     }
 }
 
-// Where the rows end that pass: looked for first at two spots, and then in the block of the second and in the one before
-// it.
+// Where the rows end that pass: looked for first at two spots, and then in the block of the second and in those round it.
 pub(crate) fn partition_point_near<R: Row, T: Test<R>>(
     pieces: &[Piece<R>],
     test: &T,
@@ -164,10 +163,8 @@ pub(crate) fn partition_point_near<R: Row, T: Test<R>>(
     if let Some(spot) = partition_point_in(pieces, test, near.block) {
         return spot;
     }
-    if let Some(spot) = partition_point_in(pieces, test, near.block.saturating_sub(1)) {
-        return spot;
-    }
-    partition_point(pieces, test)
+    let block = passing_blocks_near(pieces, test, near.block.saturating_sub(1));
+    spot_in(pieces, test, block)
 }
 
 // Where the rows end that pass, if they end inside the block.

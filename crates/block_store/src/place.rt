@@ -155,14 +155,9 @@ fn covered_in_front<R: Row>(
     ensures found { IfSome result (λ i. position (λ s. is_covering s (R.value row.now)) (block_values R.value pieces.now) ≡ Some i) }
     ensures none { IfNone result (ReachFrom (block_values R.value pieces.now) (R.value row.now) (length (R.value row.now).entry.path)) }
 {
-    let own = guess.own;
-    let mut near = guess.front;
     for count in fewest..row.entry().path.count() {
-        let at = place_near(pieces, row, count, near, own);
-        if count == fewest {
-            guess.front = at;
-        }
-        near = at;
+        let at = place_near(pieces, row, count, guess.front(count - fewest), guess.own);
+        guess.note_front(count - fewest, at);
         if is_covered_at(pieces, row, at) {
             return Some(index_of(pieces, at) as u32);
         }

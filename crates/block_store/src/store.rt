@@ -6,7 +6,7 @@ ghost use Rattle.willow_entry.specs.Placed.{IsPlaced, OnKept};
 ghost use Rattle.block_store.specs.Positions.{positions};
 
 use crate::block::Piece;
-use crate::guess::{GUESSES, Guess, at_begin, slot_of};
+use crate::guess::{GUESSES, Guess, slot_of};
 use crate::index::{row_at, spot_of};
 use crate::offer::{dominated, offer, offer_shared, rows_after};
 use crate::place::cover;
@@ -54,7 +54,7 @@ impl<R: Row> BlockStore<R> {
             pieces: Vec::new(alloc),
             rows: 0,
             fewest: usize::MAX,
-            guesses: [at_begin(); GUESSES],
+            guesses: [Guess::at_begin(); GUESSES],
         }
     }
 
