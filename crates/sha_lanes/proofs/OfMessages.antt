@@ -1,6 +1,6 @@
 -- Blocks of messages in pieces.
-use Rattle.std.proofs.Common.{◌≡◌, ℕ, zero, suc, ◌-◌, ◌*◌, ◌/◌, ◌%◌, ◌^◌, ◌<◌, ◌≤◌, List, [], ◌∷◌, ◌++◌, length, map, take, drop, replicate, refl, sym, ap, ◌∙◌, arith, length-drop}
-use Rattle.std.proofs.lemmas.List.{append_assoc, length-take, take_all}
+use Rattle.std.proofs.Common.{◌≡◌, ℕ, zero, suc, ◌+◌, ◌-◌, ◌*◌, ◌/◌, ◌%◌, ◌^◌, ◌<◌, ◌≤◌, List, [], ◌∷◌, ◌++◌, length, map, take, drop, replicate, refl, sym, ap, ◌∙◌, arith, length-drop}
+use Rattle.std.proofs.lemmas.List.{append_assoc, length-take, take_all, drop_all, drop-append-le, take-append-le}
 use Rattle.std.specs.Int.{w64, to_be_bytes}
 use Rattle.sha2.specs.Sha256.{digest_bytes, hash_after, initial_hash_256, padded_message, sha256}
 use Rattle.sha_lanes.specs.declared.message.Message.{Message}
@@ -44,6 +44,16 @@ block-piece front piece start used skip result block new room long held behind p
     ap (take 64) (drop-append start front piece) ∙ take-append 64 (drop start front) (drop (start - length front) piece)
     ∙ (λ i. take 64 (drop start front) ++ take (left i) (drop (sym behind i) piece)) in
     put ∙ ap (λ (r : List ℕ). r ++ take (64 - used) (drop skip piece)) held ∙ sym whole
+
+-- a block that lies in the second of three pieces
+pub block-within : (front rest behind : List ℕ) (start : ℕ) → length front ≤ start → start + 64 ≤ length (front ++ rest)
+    → take 64 (drop (start - length front) rest) ≡ take 64 (drop start ((front ++ rest) ++ behind))
+block-within front rest behind start from room =
+    let long = length-drop start (front ++ rest) in
+    let none = ap (λ (p : List ℕ). p ++ drop (start - length front) rest) (drop_all start front from) in
+    sym (ap (take 64) (drop-append-le start (front ++ rest) behind (omega arith))
+    ∙ take-append-le 64 (drop start (front ++ rest)) behind (omega (arith, long))
+    ∙ ap (take 64) (drop-append start front rest ∙ none))
 
 -- a block that has all its bytes
 pub block-whole : (message block : List ℕ) (number used : ℕ) → used ≤ 64 → length block ≡ 64 → number < length message / 64

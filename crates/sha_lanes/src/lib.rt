@@ -4,6 +4,7 @@
 mod chain;
 mod compression;
 mod constants;
+mod first_blocks;
 mod functions;
 mod loading;
 mod message;

@@ -60,3 +60,24 @@ pub(crate) fn load_digests(
         h: load_words(first, second, third, fourth, 28),
     }
 }
+
+/// Four hash values, one a lane.
+pub(crate) fn load_values(
+    first: &[u32; 8],
+    second: &[u32; 8],
+    third: &[u32; 8],
+    fourth: &[u32; 8],
+) -> State
+    ensures { (l : ℕ) → l < 4 → hash_in result l ≡ one_of first.now second.now third.now fourth.now l }
+{
+    State {
+        a: Vector::from_array([first[0], second[0], third[0], fourth[0]]),
+        b: Vector::from_array([first[1], second[1], third[1], fourth[1]]),
+        c: Vector::from_array([first[2], second[2], third[2], fourth[2]]),
+        d: Vector::from_array([first[3], second[3], third[3], fourth[3]]),
+        e: Vector::from_array([first[4], second[4], third[4], fourth[4]]),
+        f: Vector::from_array([first[5], second[5], third[5], fourth[5]]),
+        g: Vector::from_array([first[6], second[6], third[6], fourth[6]]),
+        h: Vector::from_array([first[7], second[7], third[7], fourth[7]]),
+    }
+}

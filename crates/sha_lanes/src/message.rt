@@ -45,6 +45,16 @@ fn put_piece(block: &mut [u8; 64], used: usize, piece: &[u8], skip: u128) -> usi
     used + count
 }
 
+/// The block that begins `skip` bytes into a piece.
+fn block_at(piece: &[u8], skip: usize) -> [u8; 64]
+    requires { skip + 64 ≤ length piece.now }
+    ensures { result ≡ take 64 (drop skip piece.now) }
+{
+    let mut block = [0; 64];
+    block.copy_from_slice(&piece[skip..skip + 64]);
+    block
+}
+
 impl Message<'_> {
     /// How many bytes the message has.
     fn length(&self) -> usize
@@ -71,6 +81,9 @@ impl Message<'_> {
         ensures { result ≡ take 64 (drop (number * 64) (padded_message (bytes_of self.now))) }
     {
         let length = self.length();
+        if number < length / 64 && self.front.len() <= number * 64 {
+            return block_at(self.rest, number * 64 - self.front.len());
+        }
         let zeros = padding(length);
         let bit_length = (length as u64).wrapping_mul(8).to_be_bytes();
         // Of the longest messages the last block begins at 2^64.

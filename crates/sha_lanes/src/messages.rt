@@ -1,22 +1,28 @@
 //! Digests of many messages, four at a time.
 
-ghost use Rattle.std.specs.Prelude.{◌≡◌, ℕ, ◌<◌, map, length, slice_index};
-ghost use Rattle.sha_lanes.specs.Message.{AreAlike, digest_of};
-ghost use Rattle.sha_lanes.specs.Windows.{AreHashed, IsBeside, IsHashed};
+ghost use Rattle.std.specs.Prelude.{◌≡◌, ℕ, ◌<◌, ◌≤◌, map, length, slice_index};
+ghost use Rattle.sha2.specs.Sha256.{hash_after, initial_hash_256, padded_message};
+ghost use Rattle.sha_lanes.specs.Lanes.{hash_in};
+ghost use Rattle.sha_lanes.specs.Message.{AreAlike, block_count, bytes_of, digest_of};
+ghost use Rattle.sha_lanes.specs.Windows.{AreHashed, IsBeside, IsHashed, message_at};
 
-use crate::compression::{compress, initial_state};
+use crate::compression::{State, compress, initial_state};
+use crate::first_blocks::FirstBlocks;
 use crate::message::Message;
 use crate::schedule::first_words;
 use crate::storing::digests;
 
-/// The digests of four messages that have equally many blocks with their padding.
-pub fn sha256_four(messages: &[Message<'_>; 4]) -> [[u8; 32]; 4]
-    requires { AreAlike messages.now }
+/// The digests of four messages that have equally many blocks with their padding, from the hash values behind some of
+/// their blocks.
+fn digests_from(messages: &[Message<'_>; 4], state: State, from: usize) -> [[u8; 32]; 4]
+    requires alike { AreAlike messages.now }
+    requires from { from ≤ block_count (bytes_of (message_at messages.now 0)) }
+    requires state { (l : ℕ) → l < 4 → hash_in state l ≡ hash_after initial_hash_256 (padded_message (bytes_of (message_at messages.now l))) from }
     ensures { result ≡ map digest_of messages.now }
 {
     let [first, second, third, fourth] = *messages;
-    let mut state = initial_state();
-    'numbers: for number in 0..first.block_count() {
+    let mut state = state;
+    'numbers: for number in from..first.block_count() {
         let words = first_words(
             &first.block(number),
             &second.block(number),
@@ -26,6 +32,33 @@ pub fn sha256_four(messages: &[Message<'_>; 4]) -> [[u8; 32]; 4]
         state = compress(state, words);
     }
     digests(&state)
+}
+
+/// The digests of four messages that have equally many blocks with their padding.
+pub fn sha256_four(messages: &[Message<'_>; 4]) -> [[u8; 32]; 4]
+    requires { AreAlike messages.now }
+    ensures { result ≡ map digest_of messages.now }
+{
+    digests_from(messages, initial_state(), 0)
+}
+
+/// The digests of four messages that have equally many blocks with their padding. Of messages of more than one block
+/// the first ones are kept, or the hash values behind them taken where they are kept.
+fn digests_beside(messages: &[Message<'_>; 4], known: &mut FirstBlocks) -> [[u8; 32]; 4]
+    requires { AreAlike messages.now }
+    ensures { result ≡ map digest_of messages.now }
+{
+    let [first, second, third, fourth] = *messages;
+    if first.block_count() < 2 {
+        return sha256_four(messages);
+    }
+    let state = known.state_behind(
+        &first.block(0),
+        &second.block(0),
+        &third.block(0),
+        &fourth.block(0),
+    );
+    digests_from(messages, state, 1)
 }
 
 /// How many messages in a row are looked at for some that have equally many blocks.
@@ -58,6 +91,7 @@ fn beside(messages: &[Message<'_>], hashed: &[bool; 64], first: usize) -> [usize
 fn hash_beside(
     messages: &[Message<'_>],
     digests: &mut [[u8; 32]],
+    known: &mut FirstBlocks,
     first: usize,
     second: usize,
     third: usize,
@@ -75,12 +109,13 @@ fn hash_beside(
     ensures third { IsHashed messages.now digests.new third }
     ensures fourth { IsHashed messages.now digests.new fourth }
 {
-    let made = sha256_four(&[
+    let four = [
         messages[first],
         messages[second],
         messages[third],
         messages[fourth],
-    ]);
+    ];
+    let made = digests_beside(&four, known);
     digests[first] = made[0];
     digests[second] = made[1];
     digests[third] = made[2];
@@ -92,6 +127,7 @@ fn hash_first(
     messages: &[Message<'_>],
     digests: &mut [[u8; 32]],
     hashed: &mut [bool; 64],
+    known: &mut FirstBlocks,
     first: usize,
 )
     requires first { first < length messages.now }
@@ -107,7 +143,7 @@ fn hash_first(
         digests[first] = messages[first].digest();
         return;
     }
-    hash_beside(messages, digests, first, second, third, fourth);
+    hash_beside(messages, digests, known, first, second, third, fourth);
     hashed[second % WINDOW] = true;
     hashed[third % WINDOW] = true;
     hashed[fourth % WINDOW] = true;
@@ -122,8 +158,9 @@ pub fn sha256_all(messages: &[Message<'_>], digests: &mut [[u8; 32]])
     ensures { digests.new ≡ map digest_of messages.now }
 {
     let mut hashed = [false; WINDOW];
+    let mut known = FirstBlocks::none();
     'messages: for first in 0..messages.len() {
-        hash_first(messages, digests, &mut hashed, first);
+        hash_first(messages, digests, &mut hashed, &mut known, first);
         hashed[first % WINDOW] = false;
     }
 }

@@ -7,12 +7,13 @@ ghost use Rattle.sha_lanes.specs.Lanes.{hash_in};
 use crate::compression::State;
 use std::simd::prelude::*;
 
-/// The digest in a lane.
-fn digest_in(state: &State, lane: usize) -> [u8; 32]
+/// The hash value in a lane.
+#[inline(always)]
+pub(crate) fn value_in(state: &State, lane: usize) -> [u32; 8]
     requires { lane < 4 }
-    ensures { result ≡ digest_bytes (hash_in state.now lane) 8 }
+    ensures { result ≡ hash_in state.now lane }
 {
-    let words = [
+    [
         state.a.to_array()[lane],
         state.b.to_array()[lane],
         state.c.to_array()[lane],
@@ -21,7 +22,15 @@ fn digest_in(state: &State, lane: usize) -> [u8; 32]
         state.f.to_array()[lane],
         state.g.to_array()[lane],
         state.h.to_array()[lane],
-    ];
+    ]
+}
+
+/// The digest in a lane.
+fn digest_in(state: &State, lane: usize) -> [u8; 32]
+    requires { lane < 4 }
+    ensures { result ≡ digest_bytes (hash_in state.now lane) 8 }
+{
+    let words = value_in(state, lane);
     let mut digest = [0u8; 32];
     'words: for i in 0..8 {
         digest[4 * i..4 * i + 4].copy_from_slice(&words[i].to_be_bytes());

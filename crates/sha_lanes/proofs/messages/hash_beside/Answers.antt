@@ -1,5 +1,5 @@
 use Rattle.sha_lanes.proofs.OfWindows.{AreAlike-four}
 use Rattle.sha_lanes.proofs.messages.hash_beside.Goals as goal
 
-pub sha256_four-made-requires : goal.sha256_four-made-requires
-sha256_four-made-requires c = AreAlike-four _ _ _ _ c.requires.second.alike c.requires.third.alike c.requires.fourth.alike
+pub digests_beside-made-requires : goal.digests_beside-made-requires
+digests_beside-made-requires c = AreAlike-four _ _ _ _ c.requires.second.alike c.requires.third.alike c.requires.fourth.alike

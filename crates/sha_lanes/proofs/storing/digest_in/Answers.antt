@@ -1,4 +1,4 @@
-use Rattle.std.proofs.Common.{rules, ◌≡◌, arith, sym, ◌∙◌}
+use Rattle.std.proofs.Common.{rules, ◌≡◌, ℕ, List, arith, sym, ap, ◌∙◌}
 use Rattle.std.proofs.lemmas.List.{take_all}
 use Rattle.std.proofs.lemmas.Slice.{overwrites}
 use Rattle.sha2.specs.Sha256.{digest_bytes}
@@ -19,4 +19,4 @@ words-preserved c = (
 pub returns : goal.returns
 returns c =
     let done : c.words.i ≡ 8 = omega arith in
-    sym (take_all 32 c.words.digest (omega arith)) ∙ rw done at c.words.invariant.1
+    sym (take_all 32 c.words.digest (omega arith)) ∙ rw done at c.words.invariant.1 ∙ ap (λ (words : List ℕ). digest_bytes words 8) c.value_in-words.ensures

@@ -1,7 +1,14 @@
 use Rattle.std.proofs.Common.{◌≡◌, ℕ, ◌∷◌, ◌++◌, replicate, ◌*◌, ◌-◌, ◌%◌, ◌^◌, length, arith, ap, ◌∙◌, length-append}
 use Rattle.std.specs.Int.{w64, to_be_bytes}
-use Rattle.sha_lanes.proofs.OfMessages.{block-piece, block-whole, padded-pieces}
+use Rattle.sha2.specs.Sha256.{padding}
+use Rattle.sha_lanes.proofs.OfMessages.{block-piece, block-whole, block-within, padded-pieces}
 use Rattle.sha_lanes.proofs.message.Message.block.Goals as goal
+
+pub returns-then-self-number : goal.returns-then-self-number
+returns-then-self-number c =
+    let front = c.args.self.now.front.now in
+    let rest = c.args.self.now.rest.now in
+    c.block_at.ensures ∙ block-within front rest (padding (length (front ++ rest))) (c.args.number * 64) (omega arith) (omega (arith, c.length-length.ensures))
 
 pub returns : goal.returns
 returns c =

@@ -1,0 +1,89 @@
+//! The hash values behind blocks that messages begin with.
+
+ghost use Rattle.std.specs.Prelude.{◌≡◌, ℕ, ◌<◌, IfSome, slice_index};
+ghost use Rattle.sha2.specs.Sha256.{compress, initial_hash_256};
+ghost use Rattle.sha_lanes.specs.Lanes.{hash_in, one_of};
+
+use crate::compression::{State, compress, initial_state};
+use crate::loading::load_values;
+use crate::schedule::first_words;
+use crate::storing::value_in;
+
+/// A block that messages begin with, and the hash value behind it.
+#[derive(Clone, Copy)]
+struct FirstBlock {
+    block: [u8; 64],
+    value: [u32; 8],
+    ghost behind: { value ≡ compress initial_hash_256 block },
+}
+
+/// How many first blocks are kept.
+const PLACES: usize = 16;
+
+/// First blocks of messages that were hashed. Messages that one user signs in one namespace begin with the same block.
+#[derive(Drop)]
+pub(crate) struct FirstBlocks {
+    kept: [Option<FirstBlock>; PLACES],
+}
+
+/// The place where a block is kept, which a later one may take from it.
+fn place_of(block: &[u8; 64]) -> usize
+    ensures { result < 16 }
+{
+    usize::from(block[32] ^ block[63]) % PLACES
+}
+
+impl FirstBlocks {
+    /// No block.
+    pub(crate) fn none() -> FirstBlocks {
+        FirstBlocks {
+            kept: [None; PLACES],
+        }
+    }
+
+    /// The hash value behind a block, where it is kept.
+    fn value_behind(&self, block: &[u8; 64]) -> Option<[u32; 8]>
+        ensures { IfSome result (λ value. value ≡ compress initial_hash_256 block.now) }
+    {
+        match &self.kept[place_of(block)] {
+            Some(first) if first.block == *block => Some(first.value),
+            _ => None,
+        }
+    }
+
+    /// Keeps a block with the hash value behind it.
+    fn keep(&mut self, block: &[u8; 64], value: [u32; 8])
+        requires { value ≡ compress initial_hash_256 block.now }
+    {
+        self.kept[place_of(block)] = Some(FirstBlock {
+            block: *block,
+            value,
+        });
+    }
+
+    /// The hash values behind four first blocks, one a lane. Nothing is compressed where all four are kept.
+    pub(crate) fn state_behind(
+        &mut self,
+        first: &[u8; 64],
+        second: &[u8; 64],
+        third: &[u8; 64],
+        fourth: &[u8; 64],
+    ) -> State
+        ensures { (l : ℕ) → l < 4 → hash_in result l ≡ compress initial_hash_256 (one_of first.now second.now third.now fourth.now l) }
+    {
+        if let (Some(one), Some(two), Some(three), Some(four)) = (
+            self.value_behind(first),
+            self.value_behind(second),
+            self.value_behind(third),
+            self.value_behind(fourth),
+        ) {
+            return load_values(&one, &two, &three, &four);
+        }
+        let state = compress(initial_state(), first_words(first, second, third, fourth));
+        self.keep(first, value_in(&state, 0));
+        self.keep(second, value_in(&state, 1));
+        self.keep(third, value_in(&state, 2));
+        self.keep(fourth, value_in(&state, 3));
+        state
+    }
+}
