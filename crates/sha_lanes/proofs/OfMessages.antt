@@ -1,5 +1,5 @@
 -- Blocks of messages in pieces.
-use Rattle.std.proofs.Common.{◌≡◌, ℕ, zero, suc, ◌+◌, ◌-◌, ◌*◌, ◌/◌, ◌%◌, ◌^◌, ◌<◌, ◌≤◌, List, [], ◌∷◌, ◌++◌, length, map, take, drop, replicate, refl, sym, ap, ◌∙◌, arith, length-drop}
+use Rattle.std.proofs.Common.{◌≡◌, ℕ, zero, suc, ◌+◌, ◌-◌, ◌*◌, ◌%◌, ◌^◌, ◌<◌, ◌≤◌, List, [], ◌∷◌, ◌++◌, length, map, take, drop, replicate, refl, sym, ap, ◌∙◌, arith, length-drop}
 use Rattle.std.proofs.lemmas.List.{append_assoc, length-take, take_all, drop_all, drop-append-le, take-append-le}
 use Rattle.std.specs.Int.{w64, to_be_bytes}
 use Rattle.sha2.specs.Sha256.{digest_bytes, hash_after, initial_hash_256, padded_message, sha256}
@@ -45,21 +45,23 @@ block-piece front piece start used skip result block new room long held behind p
     ∙ (λ i. take 64 (drop start front) ++ take (left i) (drop (sym behind i) piece)) in
     put ∙ ap (λ (r : List ℕ). r ++ take (64 - used) (drop skip piece)) held ∙ sym whole
 
--- a block that lies in the second of three pieces
-pub block-within : (front rest behind : List ℕ) (start : ℕ) → length front ≤ start → start + 64 ≤ length (front ++ rest)
-    → take 64 (drop (start - length front) rest) ≡ take 64 (drop start ((front ++ rest) ++ behind))
-block-within front rest behind start from room =
-    let long = length-drop start (front ++ rest) in
+-- a block that lies behind the first piece
+pub block-behind : (front rest : List ℕ) (start : ℕ) → length front ≤ start → take 64 (drop (start - length front) rest) ≡ take 64 (drop start (front ++ rest))
+block-behind front rest start from =
     let none = ap (λ (p : List ℕ). p ++ drop (start - length front) rest) (drop_all start front from) in
-    sym (ap (take 64) (drop-append-le start (front ++ rest) behind (omega arith))
-    ∙ take-append-le 64 (drop start (front ++ rest)) behind (omega (arith, long))
-    ∙ ap (take 64) (drop-append start front rest ∙ none))
+    sym (ap (take 64) (drop-append start front rest ∙ none))
+
+-- a block that ends before the second piece
+pub block-before : (message behind : List ℕ) (start : ℕ) → start + 64 ≤ length message → take 64 (drop start message) ≡ take 64 (drop start (message ++ behind))
+block-before message behind start room =
+    let long = length-drop start message in
+    sym (ap (take 64) (drop-append-le start message behind (omega arith)) ∙ take-append-le 64 (drop start message) behind (omega (arith, long)))
 
 -- a block that has all its bytes
-pub block-whole : (message block : List ℕ) (number used : ℕ) → used ≤ 64 → length block ≡ 64 → number < length message / 64
-    → take used block ≡ take 64 (drop (number * 64) message) → block ≡ take 64 (drop (number * 64) message)
-block-whole message block number used room long there held =
-    let all : used ≡ 64 = omega (arith, length-take used block, length-take 64 (drop (number * 64) message), length-drop (number * 64) message, ap length held) in
+pub block-whole : (message block : List ℕ) (start used : ℕ) → used ≤ 64 → length block ≡ 64 → start + 64 ≤ length message
+    → take used block ≡ take 64 (drop start message) → block ≡ take 64 (drop start message)
+block-whole message block start used room long there held =
+    let all : used ≡ 64 = omega (arith, length-take used block, length-take 64 (drop start message), length-drop start message, ap length held) in
     sym (take_all 64 block (omega (arith, long))) ∙ rw all at held
 
 -- the pieces of a padded message

@@ -75,14 +75,28 @@ impl Message<'_> {
         }
     }
 
+    /// The block at byte `start` of the message, which has none of the padding.
+    fn block_within(&self, start: usize) -> [u8; 64]
+        requires { start + 64 ≤ length (bytes_of self.now) }
+        ensures { result ≡ take 64 (drop start (bytes_of self.now)) }
+    {
+        if self.front.len() <= start {
+            return block_at(self.rest, start - self.front.len());
+        }
+        let mut block = [0; 64];
+        let used = put_piece(&mut block, 0, self.front, start as u128);
+        put_piece(&mut block, used, self.rest, 0);
+        block
+    }
+
     /// A block of the message with its padding.
     pub(crate) fn block(&self, number: usize) -> [u8; 64]
         requires { number < block_count (bytes_of self.now) }
         ensures { result ≡ take 64 (drop (number * 64) (padded_message (bytes_of self.now))) }
     {
         let length = self.length();
-        if number < length / 64 && self.front.len() <= number * 64 {
-            return block_at(self.rest, number * 64 - self.front.len());
+        if number < length / 64 {
+            return self.block_within(number * 64);
         }
         let zeros = padding(length);
         let bit_length = (length as u64).wrapping_mul(8).to_be_bytes();

@@ -1,14 +1,13 @@
 use Rattle.std.proofs.Common.{◌≡◌, ℕ, ◌∷◌, ◌++◌, replicate, ◌*◌, ◌-◌, ◌%◌, ◌^◌, length, arith, ap, ◌∙◌, length-append}
 use Rattle.std.specs.Int.{w64, to_be_bytes}
 use Rattle.sha2.specs.Sha256.{padding}
-use Rattle.sha_lanes.proofs.OfMessages.{block-piece, block-whole, block-within, padded-pieces}
+use Rattle.sha_lanes.proofs.OfMessages.{block-before, block-piece, block-whole, padded-pieces}
 use Rattle.sha_lanes.proofs.message.Message.block.Goals as goal
 
-pub returns-then-self-number : goal.returns-then-self-number
-returns-then-self-number c =
-    let front = c.args.self.now.front.now in
-    let rest = c.args.self.now.rest.now in
-    c.block_at.ensures ∙ block-within front rest (padding (length (front ++ rest))) (c.args.number * 64) (omega arith) (omega (arith, c.length-length.ensures))
+pub returns-then-number-length : goal.returns-then-number-length
+returns-then-number-length c =
+    let bytes = c.args.self.now.front.now ++ c.args.self.now.rest.now in
+    c.block_within.ensures ∙ block-before bytes (padding (length bytes)) (c.args.number * 64) (omega (arith, c.length-length.ensures))
 
 pub returns : goal.returns
 returns c =
@@ -29,4 +28,4 @@ returns c =
     let whole = block-piece ((front ++ rest) ++ zeros) bits start _ _ _ _ _ three.room c.put_piece-used-3.array_long padded at_bits four.put in
     let pieces = padded-pieces front rest zeros bits (c.padding-zeros.ensures ∙ ap (λ (n : ℕ). 0x80 ∷ replicate ((119 - n % 64) % 64) 0) c.length-length.ensures)
     (c.to_be_bytes-bit_length.ensures ∙ ap (λ (n : ℕ). to_be_bytes w64 (n * 8 % 2 ^ 64)) c.length-length.ensures) in
-    block-whole _ _ c.args.number _ four.room c.put_piece.array_long c.requires (rw pieces at whole)
+    block-whole _ _ start _ four.room c.put_piece.array_long (omega (arith, c.requires)) (rw pieces at whole)
