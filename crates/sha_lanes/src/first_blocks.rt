@@ -20,17 +20,13 @@ struct FirstBlock {
 /// How many first blocks are kept.
 const PLACES: usize = 16;
 
-/// First blocks of messages that were hashed. Messages that one user signs in one namespace begin with the same block.
+/// First blocks of messages that were hashed, the latest few. What one user signs in one namespace begins with the same
+/// block.
 #[derive(Drop)]
 pub(crate) struct FirstBlocks {
     kept: [Option<FirstBlock>; PLACES],
-}
-
-/// The place where a block is kept, which a later one may take from it.
-fn place_of(block: &[u8; 64]) -> usize
-    ensures { result < 16 }
-{
-    usize::from(block[32] ^ block[63]) % PLACES
+    next: usize,
+    ghost in_range: { next < 16 },
 }
 
 impl FirstBlocks {
@@ -38,6 +34,7 @@ impl FirstBlocks {
     pub(crate) fn none() -> FirstBlocks {
         FirstBlocks {
             kept: [None; PLACES],
+            next: 0,
         }
     }
 
@@ -45,23 +42,32 @@ impl FirstBlocks {
     fn value_behind(&self, block: &[u8; 64]) -> Option<[u32; 8]>
         ensures { IfSome result (λ value. value ≡ compress initial_hash_256 block.now) }
     {
-        match &self.kept[place_of(block)] {
-            Some(first) if first.block == *block => Some(first.value),
-            _ => None,
+        'search: for kept in &self.kept {
+            match kept {
+                // Where a user's key ends, blocks of several users differ: so this byte tells most of them apart.
+                Some(first) if first.block[32] == block[32] && first.block == *block => {
+                    return Some(first.value);
+                }
+                Some(_) => (),
+                None => return None,
+            }
         }
+        None
     }
 
-    /// Keeps a block with the hash value behind it.
+    /// Keeps a block with the hash value behind it, in place of the one that is kept longest where there are many.
     fn keep(&mut self, block: &[u8; 64], value: [u32; 8])
         requires { value ≡ compress initial_hash_256 block.now }
     {
-        self.kept[place_of(block)] = Some(FirstBlock {
+        self.kept[self.next] = Some(FirstBlock {
             block: *block,
             value,
         });
+        self.next = (self.next + 1) % PLACES;
     }
 
-    /// The hash values behind four first blocks, one a lane. Nothing is compressed where all four are kept.
+    /// The hash values behind four first blocks, one a lane. Nothing is compressed where all four are kept; else those
+    /// are kept that were not.
     pub(crate) fn state_behind(
         &mut self,
         first: &[u8; 64],
@@ -71,19 +77,28 @@ impl FirstBlocks {
     ) -> State
         ensures { (l : ℕ) → l < 4 → hash_in result l ≡ compress initial_hash_256 (one_of first.now second.now third.now fourth.now l) }
     {
-        if let (Some(one), Some(two), Some(three), Some(four)) = (
+        let found = (
             self.value_behind(first),
             self.value_behind(second),
             self.value_behind(third),
             self.value_behind(fourth),
-        ) {
-            return load_values(&one, &two, &three, &four);
+        );
+        if let (Some(one), Some(two), Some(three), Some(four)) = &found {
+            return load_values(one, two, three, four);
         }
         let state = compress(initial_state(), first_words(first, second, third, fourth));
-        self.keep(first, value_in(&state, 0));
-        self.keep(second, value_in(&state, 1));
-        self.keep(third, value_in(&state, 2));
-        self.keep(fourth, value_in(&state, 3));
+        if found.0.is_none() {
+            self.keep(first, value_in(&state, 0));
+        }
+        if found.1.is_none() {
+            self.keep(second, value_in(&state, 1));
+        }
+        if found.2.is_none() {
+            self.keep(third, value_in(&state, 2));
+        }
+        if found.3.is_none() {
+            self.keep(fourth, value_in(&state, 3));
+        }
         state
     }
 }
