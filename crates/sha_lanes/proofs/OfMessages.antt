@@ -1,6 +1,8 @@
 -- Blocks of messages in pieces.
-use Rattle.std.proofs.Common.{◌≡◌, ℕ, zero, suc, ◌+◌, ◌-◌, ◌*◌, ◌%◌, ◌^◌, ◌<◌, ◌≤◌, List, [], ◌∷◌, ◌++◌, length, map, take, drop, replicate, refl, sym, ap, ◌∙◌, arith, length-drop}
-use Rattle.std.proofs.lemmas.List.{append_assoc, length-take, take_all, drop_all, drop-append-le, take-append-le}
+use Rattle.std.proofs.Common.{◌≡◌, ℕ, zero, suc, ◌+◌, ◌-◌, ◌*◌, ◌/◌, ◌%◌, ◌^◌, ◌<◌, ◌≤◌, List, [], ◌∷◌, ◌++◌, length, map, take, drop, replicate, slice_set, refl, sym, ap, ◌∙◌, arith, length-append, length-drop}
+use Rattle.std.proofs.lemmas.List.{append_assoc, length-take, take_all, append-nil, drop_all, drop-append-le, drop-replicate, length-replicate, take-append-le, take-replicate}
+use Rattle.std.proofs.Math.Seq.{set-append_seam, take-append-add}
+use borrow.Rule.Slice.PartMut.{put_mid}
 use Rattle.std.specs.Int.{w64, to_be_bytes}
 use Rattle.sha2.specs.Sha256.{digest_bytes, hash_after, initial_hash_256, padded_message, sha256}
 use Rattle.sha_lanes.specs.declared.message.Message.{Message}
@@ -64,10 +66,44 @@ block-whole message block start used room long there held =
     let all : used ≡ 64 = omega (arith, length-take used block, length-take 64 (drop start message), length-drop start message, ap length held) in
     sym (take_all 64 block (omega (arith, long))) ∙ rw all at held
 
+-- a last block, written piece by piece over zeros
+pub last_block-written : (bytes bits : List ℕ) → length bytes < 56
+    → put_mid 56 8 (slice_set (bytes ++ drop (length bytes) (replicate 64 0)) (length bytes) 0x80) bits ≡ (bytes ++ 0x80 ∷ replicate (55 - length bytes) 0) ++ bits
+last_block-written bytes bits short =
+    let n = length bytes in
+    let left : 64 - n ≡ suc (63 - n) = omega arith in
+    let before : 56 ≡ n + suc (55 - n) = omega arith in
+    let whole : List ℕ = bytes ++ 0x80 ∷ replicate (63 - n) 0 in
+    let set : slice_set (bytes ++ drop n (replicate 64 0)) n 0x80 ≡ whole =
+    ap (λ (z : List ℕ). slice_set (bytes ++ z) n 0x80) (drop-replicate n 64 0 ∙ ap (λ (k : ℕ). replicate k 0) left) ∙ set-append_seam bytes 0 (replicate (63 - n) 0) 0x80 in
+    let front : take 56 whole ≡ bytes ++ 0x80 ∷ replicate (55 - n) 0 =
+    ap (λ (k : ℕ). take k whole) before ∙ take-append-add bytes (0x80 ∷ replicate (63 - n) 0) (suc (55 - n))
+    ∙ ap (λ (z : List ℕ). bytes ++ 0x80 ∷ z) (take-replicate (55 - n) (63 - n) 0 (omega arith)) in
+    let behind : drop 8 (drop 56 whole) ≡ [] = drop_all 8 (drop 56 whole) (omega (arith, length-drop 56 whole, length-append bytes (0x80 ∷ replicate (63 - n) 0), length-replicate {A = ℕ} (63 - n) 0)) in
+    ap (λ (v : List ℕ). put_mid 56 8 v bits) set ∙ (λ i. front i ++ (bits ++ behind i)) ∙ ap (λ (z : List ℕ). (bytes ++ 0x80 ∷ replicate (55 - n) 0) ++ z) (append-nil bits)
+
 -- the pieces of a padded message
 pub padded-pieces : (front rest zeros bits : List ℕ) → zeros ≡ 0x80 ∷ replicate ((119 - length (front ++ rest) % 64) % 64) 0
     → bits ≡ to_be_bytes w64 (length (front ++ rest) * 8 % 2 ^ 64) → ((front ++ rest) ++ zeros) ++ bits ≡ padded_message (front ++ rest)
 padded-pieces front rest zeros bits ez eb = append_assoc (front ++ rest) zeros bits ∙ (λ i. (front ++ rest) ++ (ez i ++ eb i))
+
+-- the last block of a message that leaves room for the whole padding there
+pub last_block-padded : (front rest tail bits : List ℕ) (start : ℕ) → length front ≤ start → start ≡ length (front ++ rest) / 64 * 64 → length (front ++ rest) % 64 < 56
+    → tail ≡ drop (start - length front) rest → bits ≡ to_be_bytes w64 (length (front ++ rest) * 8 % 2 ^ 64) → length bits ≡ 8
+    → (tail ++ 0x80 ∷ replicate (55 - length tail) 0) ++ bits ≡ take 64 (drop start (padded_message (front ++ rest)))
+last_block-padded front rest tail bits start from last room is eb many =
+    let m = front ++ rest in
+    let zeros : List ℕ = 0x80 ∷ replicate ((119 - length m % 64) % 64) 0 in
+    let here : drop start m ≡ tail = drop-append start front rest ∙ ap (λ (p : List ℕ). p ++ drop (start - length front) rest) (drop_all start front from) ∙ sym is in
+    let long : length tail ≡ length m % 64 = omega (arith, ap length here, length-drop start m) in
+    let count : (119 - length m % 64) % 64 ≡ 55 - length tail = omega arith in
+    let block : List ℕ = (tail ++ 0x80 ∷ replicate (55 - length tail) 0) ++ bits in
+    let full : length block ≤ 64 = omega (arith, length-append (tail ++ 0x80 ∷ replicate (55 - length tail) 0) bits, length-append tail (0x80 ∷ replicate (55 - length tail) 0), length-replicate {A = ℕ} (55 - length tail) 0) in
+    let parts : drop start ((m ++ zeros) ++ bits) ≡ block =
+    drop-append-le start (m ++ zeros) bits (omega (arith, length-append m zeros))
+    ∙ ap (λ (p : List ℕ). p ++ bits) (drop-append-le start m zeros (omega arith))
+    ∙ (λ i. (here i ++ 0x80 ∷ replicate (count i) 0) ++ bits) in
+    sym (ap (λ (p : List ℕ). take 64 (drop start p)) (sym (padded-pieces front rest zeros bits refl eb)) ∙ ap (take 64) parts ∙ take_all 64 block full)
 
 -- a hash value after all blocks of a message is its digest
 pub digest_bytes-hash_after : (bytes h : List ℕ) (n : ℕ) → h ≡ hash_after initial_hash_256 (padded_message bytes) n → n ≡ block_count bytes → digest_bytes h 8 ≡ sha256 bytes

@@ -55,6 +55,18 @@ fn block_at(piece: &[u8], skip: usize) -> [u8; 64]
     block
 }
 
+/// The last block of a message, of which it has these bytes, with the whole padding behind them.
+fn last_block(bytes: &[u8], bit_length: [u8; 8]) -> [u8; 64]
+    requires { length bytes.now < 56 }
+    ensures { result ≡ (bytes.now ++ 0x80 ∷ replicate (55 - length bytes.now) 0) ++ bit_length }
+{
+    let mut block = [0; 64];
+    block[..bytes.len()].copy_from_slice(bytes);
+    block[bytes.len()] = 0x80;
+    block[56..].copy_from_slice(&bit_length);
+    block
+}
+
 impl Message<'_> {
     /// How many bytes the message has.
     fn length(&self) -> usize
@@ -98,8 +110,11 @@ impl Message<'_> {
         if number < length / 64 {
             return self.block_within(number * 64);
         }
-        let zeros = padding(length);
         let bit_length = (length as u64).wrapping_mul(8).to_be_bytes();
+        if number == length / 64 && length % 64 < 56 && self.front.len() <= number * 64 {
+            return last_block(&self.rest[number * 64 - self.front.len()..], bit_length);
+        }
+        let zeros = padding(length);
         // Of the longest messages the last block begins at 2^64.
         let start = number as u128 * 64;
         let behind_front = start.saturating_sub(self.front.len() as u128);

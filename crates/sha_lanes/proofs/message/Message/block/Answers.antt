@@ -1,13 +1,27 @@
-use Rattle.std.proofs.Common.{◌≡◌, ℕ, ◌∷◌, ◌++◌, replicate, ◌*◌, ◌-◌, ◌%◌, ◌^◌, length, arith, ap, ◌∙◌, length-append}
+use Rattle.std.proofs.Common.{◌≡◌, ℕ, ◌∷◌, ◌++◌, replicate, drop, ◌*◌, ◌-◌, ◌%◌, ◌^◌, length, arith, ap, ◌∙◌, length-append, length-drop}
+use Rattle.std.proofs.lemmas.List.{take_all}
 use Rattle.std.specs.Int.{w64, to_be_bytes}
 use Rattle.sha2.specs.Sha256.{padding}
-use Rattle.sha_lanes.proofs.OfMessages.{block-before, block-piece, block-whole, padded-pieces}
+use Rattle.sha_lanes.proofs.OfMessages.{block-before, block-piece, block-whole, last_block-padded, padded-pieces}
 use Rattle.sha_lanes.proofs.message.Message.block.Goals as goal
 
 pub returns-then-number-length : goal.returns-then-number-length
 returns-then-number-length c =
     let bytes = c.args.self.now.front.now ++ c.args.self.now.rest.now in
     c.block_within.ensures ∙ block-before bytes (padding (length bytes)) (c.args.number * 64) (omega (arith, c.length-length.ensures))
+
+pub returns-then-self-number : goal.returns-then-self-number
+returns-then-self-number c =
+    let front = c.args.self.now.front.now in
+    let rest = c.args.self.now.rest.now in
+    let bits = c.to_be_bytes-bit_length.result in
+    let start = c.args.number * 64 in
+    let long = c.length-length.ensures in
+    let skip = start - length front in
+    let tail = take_all (length rest - skip) (drop skip rest) (omega (arith, length-drop skip rest)) in
+    c.last_block.ensures
+    ∙ last_block-padded front rest _ bits start (omega arith) (omega (arith, long)) (omega (arith, long)) tail
+    (c.to_be_bytes-bit_length.ensures ∙ ap (λ (n : ℕ). to_be_bytes w64 (n * 8 % 2 ^ 64)) long) (omega arith)
 
 pub returns : goal.returns
 returns c =
