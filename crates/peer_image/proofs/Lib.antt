@@ -5,5 +5,6 @@ pub mod KeptFronts
 pub mod Falls
 pub mod InOrder
 pub mod Stops
+pub mod ReadParts
 pub mod Misordered
 pub mod ReadBack

@@ -4,10 +4,12 @@
 
 pub mod laws;
 mod order;
+mod parts;
 mod read;
 mod refusal;
 mod write;
 
-pub use read::{Image, read_image};
+pub use parts::{image_head, rows_in_front};
+pub use read::{Image, is_trailer, read_image};
 pub use refusal::ImageRefusal;
 pub use write::{put_head, put_trailer, write_image, write_rows, write_store_image};

@@ -2,17 +2,17 @@
 
 ghost use Rattle.std.specs.Prelude.{◌≡◌, ◌<◌, ◌^◌, ◌++◌, MatchBool, IsErrOf};
 ghost use Rattle.spelling.specs.declared.ending.End.TheVariants as ends;
-ghost use Rattle.spelling.specs.Reading.{Gives, NeedsNoMemory};
 ghost use Rattle.willow_path.specs.Key.{IsKey};
 ghost use Rattle.peer_image.specs.Image.{magic, trailer};
-ghost use Rattle.peer_image.specs.ImageReading.{header_at, HasNoHeader, ReadsImage, ReadsRows};
+ghost use Rattle.peer_image.specs.ImageReading.{HasNoHeader, ReadsImage, ReadsRows};
 
 use crate::order::order_refusal;
+use crate::parts::image_head;
 use crate::refusal::ImageRefusal;
 use cap_codec::{RawRow, frames_in_front};
-use spelling::{End, Input, NoMemory, Unread};
+use spelling::{End, NoMemory};
 use std::alloc::Global;
-use willow_path::{NamespaceKey, read_namespace_key};
+use willow_path::NamespaceKey;
 
 /// The rows of an image, by rising subspace and path, and the namespace that it is of. Nothing is said of whether the
 /// rows are of that namespace, or authorised.
@@ -55,21 +55,10 @@ fn read_rows(alloc: Global, bytes: &[u8]) -> Result<Image, End<ImageRefusal>>
     ensures rows { ReadsRows bytes.now result }
     ensures sure { IsErrOf result ends.NoMemory → HasNoHeader bytes.now → ⊥ }
 {
-    let mut input = Input::new(bytes);
-    match read_header(&mut input) {
-        Ok(namespace) => read_behind(alloc, bytes, namespace, input.front()),
-        Err(_) => Err(End::Refused(ImageRefusal::BadImage { at: 0 })),
+    match image_head(bytes) {
+        Some((namespace, behind)) => read_behind(alloc, bytes, namespace, behind),
+        None => Err(End::Refused(ImageRefusal::BadImage { at: 0 })),
     }
-}
-
-// The text WIM1, and the key behind it.
-#[tactic(auto, unfolding(crate::specs::ImageReading::header_at))]
-fn read_header(input: &mut Input) -> Result<NamespaceKey, Unread>
-    ensures gives { Gives (λ key. key) result input.new (header_at input.old) }
-    ensures sure { NeedsNoMemory result }
-{
-    input.exactly(b"WIM1")?;
-    read_namespace_key(input)
 }
 
 // The rows behind the header of the bytes.
@@ -98,8 +87,8 @@ fn read_behind(
     }
 }
 
-// Whether the bytes are the end of an image of so many rows.
-fn is_trailer(bytes: &[u8], count: usize) -> bool
+/// Whether the bytes are the end of an image of so many rows.
+pub fn is_trailer(bytes: &[u8], count: usize) -> bool
     ensures { MatchBool result ((count < 2 ^ 32) × (bytes.now ≡ trailer count)) (count < 2 ^ 32 → bytes.now ≡ trailer count → ⊥) }
 {
     match u32::try_from(count) {
