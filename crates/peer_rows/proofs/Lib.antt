@@ -11,8 +11,10 @@ pub mod ReadLog
 pub mod Writing
 pub mod Framed
 pub mod Joined
+pub mod RisingLogs
 pub mod Imaged
 pub mod Listed
+pub mod PartedImages
 pub mod Generated
 pub mod DrilledRows
 pub mod Deeds

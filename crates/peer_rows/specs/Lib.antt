@@ -1,6 +1,7 @@
 pub mod RowLogs
 pub mod Logged
 pub mod Images
+pub mod Parts
 pub mod Drilled
 pub mod Stored
 pub mod Join

@@ -12,6 +12,7 @@ mod joining;
 mod listing;
 mod log;
 mod offering;
+mod parts;
 mod row_log;
 mod showing;
 

@@ -9,7 +9,7 @@ use spelling::End;
 use willow_entry::Row;
 
 /// A command has one pass, whoever its rows come from.
-const PASS: u32 = 0;
+pub(crate) const PASS: u32 = 0;
 
 /// Offers a row of the log's namespace, and answers whether it is stored: where a row before it equals or dominates it,
 /// it is kept out. A row that would be stored is refused where the log is full.

@@ -1,19 +1,22 @@
 //! `show`: the listing of the authorised rows of the input's image.
 
-ghost use Rattle.std.specs.Prelude.{◌≡◌, ◌≤◌, ◌<◌, ◌^◌, None, length};
+ghost use Rattle.std.specs.Prelude.{◌≡◌, ◌≤◌, ◌<◌, ◌^◌, ◌++◌, None, length, IfOk};
 ghost use Rattle.peer_stage.specs.World.{World};
 ghost use Rattle.peer_stage.specs.Faults.{CountsStep};
 ghost use Rattle.peer_image.specs.ImageReading.{raw_rows};
 ghost use Rattle.peer_image.specs.Order.{order_refusal};
 ghost use Rattle.peer_rows.specs.Show.{Shows, ShowsInput, ShowsBytes};
-ghost use Rattle.peer_rows.specs.Listed.{ListsImage, show_counts};
+ghost use Rattle.peer_rows.specs.Listed.{IsListing, ListsImage, show_counts};
+ghost use Rattle.peer_rows.specs.Parts.{held_rows, AreAuthorised};
 
-use crate::images::{image_from, log_image};
+use crate::images::{EntryLog, image_from, log_image};
 use crate::listing::list_log;
+use crate::parts::log_in_parts;
 use auth_entry::NewChecker;
 use lms_core::PeerScheme;
 use peer_image::Image;
 use peer_stage::{Done, INPUT_LIMIT, JoinCounts, Origin, ShowCounts, Stop, read_input, write_both};
+use spelling::NoMemory;
 use std::alloc::Global;
 use std::thread::Threads;
 use willow_outside::{Sink, Source};
@@ -54,7 +57,8 @@ fn show_input<C: NewChecker<PeerScheme>, R: Threads + Sync, I: Source>(
     show_bytes::<C, R>(rt, alloc, newest, &bytes)
 }
 
-// The head and the lines of the listing of an image, and the numbers.
+// The head and the lines of the listing of an image, and the numbers. Where nothing is wrong with it, no list of its rows
+// is made.
 fn show_bytes<C: NewChecker<PeerScheme>, R: Threads + Sync>(
     rt: &R,
     alloc: Global,
@@ -63,8 +67,31 @@ fn show_bytes<C: NewChecker<PeerScheme>, R: Threads + Sync>(
 ) -> Result<(Vec<u8>, Vec<u8>, ShowCounts), Stop>
     ensures { ShowsBytes newest bytes.now result }
 {
+    if let Some(log) = log_in_parts::<C, R>(rt, alloc, bytes)? {
+        return Ok(list_whole(alloc, newest, log)?);
+    }
     let image = image_from(alloc, bytes, Origin::Input)?;
     list_image::<C, R>(rt, alloc, newest, image)
+}
+
+// The head and the lines of the listing of a log that holds all rows of an image, and their numbers.
+fn list_whole(
+    alloc: Global,
+    newest: Option<u32>,
+    log: EntryLog,
+) -> Result<(Vec<u8>, Vec<u8>, ShowCounts), NoMemory>
+    requires in_order { order_refusal (raw_rows (held_rows log)) ≡ None }
+    requires authorised { AreAuthorised log.namespace (held_rows log) }
+    ensures { IfOk result (λ x. IsListing newest log.namespace (held_rows log) (x.0.items ++ x.1.items) x.2) }
+{
+    let rows = u64::from(log.front());
+    let (head, lines) = list_log(alloc, newest, log)?;
+    let counts = ShowCounts {
+        rows,
+        refused: 0,
+        first: None,
+    };
+    Ok((head, lines, counts))
 }
 
 // The head and the lines of the listing of the rows of an image, and their numbers.
