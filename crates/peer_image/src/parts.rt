@@ -1,6 +1,6 @@
 //! Images as they are read a part at a time.
 
-ghost use Rattle.std.specs.Prelude.{◌≡◌, ◌<◌, length, IfOk, MatchOption};
+ghost use Rattle.std.specs.Prelude.{IfOk, MatchOption};
 ghost use Rattle.spelling.specs.Reading.{Gives, NeedsNoMemory};
 ghost use Rattle.peer_image.specs.ImageReading.{header_at, HasNoHeader};
 ghost use Rattle.peer_image.specs.Parts.{IsHead, IsPart};

@@ -1,10 +1,9 @@
 //! The logs of images with whose rows nothing is wrong, taken a part at a time: no list of all rows stands in memory.
 
-ghost use Rattle.std.specs.Prelude.{◌≡◌, ◌↔◌, ◌∷◌, ◌++◌, [], IfOk, IfSome, IsTrue};
+ghost use Rattle.std.specs.Prelude.{◌≡◌, ◌↔◌, ◌∷◌, [], IfOk, IfSome, IsTrue};
 ghost use Rattle.cap_codec.specs.Rows.{RawValue};
 ghost use Rattle.auth_entry.specs.Authorised.{row_refusal, verdict};
 ghost use Rattle.lms_core.specs.Use.{peer_rules};
-ghost use Rattle.ns_state.specs.Log.{values};
 ghost use Rattle.peer_image.specs.ImageReading.{raw_rows};
 ghost use Rattle.peer_image.specs.Order.{IsInnerRising};
 ghost use Rattle.peer_rows.specs.Logged.{entry_row};
