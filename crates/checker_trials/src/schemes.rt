@@ -1,7 +1,8 @@
 //! Schemes for tests.
 
+ghost use Rattle.std.specs.Prelude.{◌≡◌, refl};
 ghost use Rattle.scheme_core.specs.Open.{open_rules};
-ghost use Rattle.checker_trials.specs.Padded.{padded_rules};
+ghost use Rattle.checker_trials.specs.Padded.{front_of, padded_rules};
 
 use scheme_core::{Claim, OpenScheme, Scheme, Verify, VerifyMany};
 use spelling::NoMemory;
@@ -37,6 +38,8 @@ impl VerifyMany for Counting<'_> {
         self.asked.fetch_add(claims.len() as u64, Ordering::SeqCst);
         OpenScheme.verify_users(alloc, claims)
     }
+
+    ghost alike = { λ key message signature. refl };
 }
 
 impl Scheme for Counting<'_> {}
@@ -44,7 +47,14 @@ impl Scheme for Counting<'_> {}
 /// How many bytes an open signature has.
 pub(crate) const OPEN_LENGTH: usize = 32;
 
-/// A scheme that answers of a user's signature as the open one does of its first bytes, so that signatures may be long.
+// The first bytes of the signature, as many as an open one has.
+fn front_of(signature: &[u8]) -> &[u8]
+    ensures { result.now ≡ front_of signature.now }
+{
+    &signature[..signature.len().min(OPEN_LENGTH)]
+}
+
+/// A scheme that answers of a signature as the open one does of its first bytes, so that signatures may be long.
 #[derive(Clone, Copy)]
 pub(crate) struct Padded;
 
@@ -52,12 +62,11 @@ impl Verify for Padded {
     ghost rules = { padded_rules };
 
     fn verify_user(&self, key: &UserKey, message: &[u8], signature: &[u8]) -> bool {
-        let front = &signature[..signature.len().min(OPEN_LENGTH)];
-        OpenScheme.verify_user(key, message, front)
+        OpenScheme.verify_user(key, message, front_of(signature))
     }
 
     fn verify_namespace(&self, key: &NamespaceKey, message: &[u8], signature: &[u8]) -> bool {
-        OpenScheme.verify_namespace(key, message, signature)
+        OpenScheme.verify_namespace(key, message, front_of(signature))
     }
 
     fn is_communal(&self, key: &NamespaceKey) -> bool {
@@ -65,6 +74,8 @@ impl Verify for Padded {
     }
 }
 
-impl VerifyMany for Padded {}
+impl VerifyMany for Padded {
+    ghost alike = { λ key message signature. refl };
+}
 
 impl Scheme for Padded {}

@@ -1,6 +1,6 @@
 //! The scheme of keys of both kinds.
 
-ghost use Rattle.std.specs.Prelude.{◌≡◌};
+ghost use Rattle.std.specs.Prelude.{◌≡◌, refl};
 ghost use Rattle.lms_core.specs.Use.{lms_key_accepts, peer_accepts, peer_rules};
 
 use crate::verify::lms_verify;
@@ -63,6 +63,8 @@ impl VerifyMany for PeerScheme {
     fn verify_users(&self, alloc: Global, claims: &[Claim<'_>]) -> Result<Vec<bool>, NoMemory> {
         verify_together(self, alloc, claims)
     }
+
+    ghost alike = { λ key message signature. refl };
 }
 
 impl Scheme for PeerScheme {}

@@ -2,6 +2,7 @@
 //! The contract: a scheme answers by the rules of its type; a signer gives only signatures of its relation.
 #![tactic(auto)]
 
+mod answered;
 mod claim;
 mod digests;
 pub mod laws;
@@ -11,6 +12,7 @@ mod scheme;
 mod signer;
 mod together;
 
+pub use answered::Answered;
 pub use claim::Claim;
 pub use many::verify_each;
 pub use open::{OpenScheme, OpenSigner};

@@ -1,6 +1,6 @@
 //! Open keys: a signature is a digest that anyone can make. They are insecure by design.
 
-ghost use Rattle.std.specs.Prelude.{◌≡◌, ◌++◌, ◌≤◌, ℕ, List, length, true, slice_index, IfOk, IsErrOf};
+ghost use Rattle.std.specs.Prelude.{◌≡◌, ◌++◌, ◌≤◌, ℕ, List, length, true, slice_index, IfOk, IsErrOf, refl};
 ghost use Rattle.spelling.specs.declared.ending.End.TheVariants as ends;
 ghost use Rattle.scheme_core.specs.Open.{open_accepts, open_rules, open_signature};
 ghost use Rattle.scheme_core.specs.OpenLaws.{open_accepts-short};
@@ -58,6 +58,8 @@ impl VerifyMany for OpenScheme {
     fn verify_users(&self, alloc: Global, claims: &[Claim<'_>]) -> Result<Vec<bool>, NoMemory> {
         verify_together(self, alloc, claims)
     }
+
+    ghost alike = { λ key message signature. refl };
 }
 
 impl Scheme for OpenScheme {}

@@ -1,6 +1,6 @@
 //! Schemes of keys.
 
-ghost use Rattle.std.specs.Prelude.{◌≡◌, map, IfOk};
+ghost use Rattle.std.specs.Prelude.{◌≡◌, ℕ, List, map, IfOk};
 ghost use Rattle.scheme_core.specs.Claims.{accepts_claim};
 ghost use Rattle.scheme_core.specs.Rules.{Rules};
 
@@ -35,6 +35,9 @@ pub trait VerifyMany: Verify {
     {
         verify_each(self, alloc, claims)
     }
+
+    /// a signature is accepted for a key whoever has it: a user or a namespace
+    ghost alike: { (key message signature : List ℕ) → Self.rules.owner key message signature ≡ Self.rules.user key message signature };
 }
 
 /// A scheme that threads may share.
