@@ -24,7 +24,7 @@ use Rattle.mc_cap.proofs.Growing.{last_taken, grown}
 abbrev pub text_of : Capability → ℕ → List ℕ
 text_of c k = (72 ∷ head_spelling c) ++ k ∷ flat_map delegation_spelling (take k c.chain)
 
-handover_of : (c : Capability) (k : ℕ) (area : Area) (user : List ℕ) → k ≤ length c.chain → handover (cut c k) area user ≡ text_of c k ++ (area_spelling area ++ user)
+pub handover_of : (c : Capability) (k : ℕ) (area : Area) (user : List ℕ) → k ≤ length c.chain → handover (cut c k) area user ≡ text_of c k ++ (area_spelling area ++ user)
 unfolding handover head_spelling
 handover_of c k area user le =
     let long : length (take k c.chain) ≡ k = omega (arith, length-take k c.chain, le) in
@@ -47,7 +47,7 @@ step_is rules c k x grant receiver text le eg er et =
 
 -- ---- one delegation further
 
-module _ (rules : Rules) (c : Capability) (items : List Delegation) (k : ℕ) (x : Delegation) (all : items ≡ c.chain) (lt : k < length items) (is : x ≡ get_or items k x) where
+module _ (c : Capability) (items : List Delegation) (k : ℕ) (x : Delegation) (all : items ≡ c.chain) (lt : k < length items) (is : x ≡ get_or items k x) where
   within : k < length c.chain
   within = omega (arith, lt, ap length all)
 
@@ -67,17 +67,20 @@ module _ (rules : Rules) (c : Capability) (items : List Delegation) (k : ℕ) (x
       ∙ ap (λ (m : ℕ). set (text_of c k ++ delegation_spelling (get_or c.chain k x)) place (m + 1)) nk
       ∙ grown delegation_spelling (72 ∷ head_spelling c) k (k + 1) place c.chain k x at_front within
 
+  -- the delegations from this one on
+  pub rest_is : drop k c.chain ≡ x ∷ drop (k + 1) c.chain
+  rest_is = drop-cons c.chain k x within ∙ ap (λ (y : Delegation). y ∷ drop (suc k) c.chain) it_is ∙ ap (λ (m : ℕ). x ∷ drop m c.chain) (sym (add-one k))
+
   -- what is left to refuse, from this delegation on
-  pub left_here : (n : ℕ) (grant : Area) (receiver text : List ℕ) (total : Option ChainRefusal) → n ≡ k
+  pub left_here : (rules : Rules) (n : ℕ) (grant : Area) (receiver text : List ℕ) (total : Option ChainRefusal) → n ≡ k
       → grant ≡ granted (cut c k) → receiver ≡ receiver_of (cut c k) → text ≡ text_of c k
       → first_some (step_refusal rules c) k (drop k c.chain) ≡ total
       → or_else (handing_refusal rules grant receiver (text ++ (area_spelling x.area ++ x.user)) (n + 1) x) (first_some (step_refusal rules c) (k + 1) (drop (k + 1) c.chain)) ≡ total
-  left_here n grant receiver text total nk eg er et so_far =
-      let rest : drop k c.chain ≡ x ∷ drop (k + 1) c.chain = drop-cons c.chain k x within ∙ ap (λ (y : Delegation). y ∷ drop (suc k) c.chain) it_is ∙ ap (λ (m : ℕ). x ∷ drop m c.chain) (sym (add-one k)) in
+  left_here rules n grant receiver text total nk eg er et so_far =
       ap (λ (m : ℕ). or_else (handing_refusal rules grant receiver (text ++ (area_spelling x.area ++ x.user)) (m + 1) x) (first_some (step_refusal rules c) (k + 1) (drop (k + 1) c.chain))) nk
       ∙ ap (λ (o : Option ChainRefusal). or_else o (first_some (step_refusal rules c) (k + 1) (drop (k + 1) c.chain))) (step_is rules c k x grant receiver text (omega (arith, within)) eg er et)
       ∙ sym (first_some-cons (step_refusal rules c) k x (drop (k + 1) c.chain))
-      ∙ ap (first_some (step_refusal rules c) k) (sym rest)
+      ∙ ap (first_some (step_refusal rules c) k) (sym rest_is)
       ∙ so_far
 
 -- nothing is left to refuse behind the last delegation

@@ -3,3 +3,4 @@ pub mod Growing
 pub mod Handing
 pub mod Causes
 pub mod Meaning
+pub mod Signing

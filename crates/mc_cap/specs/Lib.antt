@@ -3,3 +3,4 @@ pub mod Grant
 pub mod Forms
 pub mod Messages
 pub mod Valid
+pub mod Signed

@@ -10,9 +10,8 @@ ghost use Rattle.mc_cap.specs.Valid.{beginning_refusal, chain_refusal, handing_r
 
 use crate::capability::Capability;
 use crate::chain::Delegation;
-use crate::messages::{initial_message, spell_signature};
+use crate::messages::{initial_message, spell_handing, spell_signature};
 use scheme_core::Verify;
-use spelling::{put_byte, put_bytes};
 use willow_area::Area;
 use willow_path::{End, UserKey};
 
@@ -88,11 +87,8 @@ impl Capability {
         if self.chain.as_slice().is_empty() {
             return Ok(());
         }
-        let mut message = Vec::new(self.chain.allocator());
-        put_byte(&mut message, b'H')?;
-        self.spell_head(&mut message)?;
-        let count_at = message.len();
-        put_byte(&mut message, 0)?;
+        let mut message = self.begin_handover()?;
+        let count_at = message.len() - 1;
         self.check_delegations(scheme, &self.first_grant(), &mut message, count_at)
     }
 
@@ -141,8 +137,7 @@ fn check_handing<S: Verify>(
     if !grant.includes_area(&next.area) {
         return Err(End::Refused(ChainRefusal::AreaGrows { at }));
     }
-    next.area.encode(message)?;
-    put_bytes(message, &next.user.to_bytes())?;
+    spell_handing(&next.area, &next.user, message)?;
     if !scheme.verify_user(receiver, message, next.signature.as_slice()) {
         return Err(End::Refused(ChainRefusal::BadSignature { at }));
     }

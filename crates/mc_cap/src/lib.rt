@@ -10,6 +10,7 @@ pub mod laws;
 mod messages;
 mod refusal;
 mod signature;
+mod signed;
 
 pub use capability::{Capability, Mode};
 pub use chain::{Chain, Delegation, MAX_CHAIN};
@@ -17,3 +18,4 @@ pub use check::{ChainRefusal, MAX_DELEGATIONS};
 pub use messages::initial_message;
 pub use refusal::{RefusedRow, RowRefusal};
 pub use signature::Signature;
+pub use signed::SignedMessage;

@@ -1,6 +1,7 @@
 //! How capabilities are spelled, and which messages are signed to make them.
 
-ghost use Rattle.std.specs.Prelude.{◌≡◌, ◌++◌, IfOk, OnErr, OnOk};
+ghost use Rattle.std.specs.Prelude.{◌≡◌, ◌++◌, ◌∷◌, [], IfOk, OnErr, OnOk};
+ghost use Rattle.willow_area.specs.AreaSpelling.{area_spelling};
 ghost use Rattle.mc_cap.specs.Signature.{signature_spelling};
 ghost use Rattle.mc_cap.specs.Forms.{mode_byte, form_byte, initial_spelling, delegation_spelling, chain_spelling, head_spelling, capability_spelling};
 ghost use Rattle.mc_cap.specs.Messages.{handover, initial_message};
@@ -51,8 +52,19 @@ impl Capability {
         let mut message = Vec::new(self.chain.allocator());
         put_byte(&mut message, b'H')?;
         self.spell(&mut message)?;
-        area.encode(&mut message)?;
-        put_bytes(&mut message, &user.to_bytes())?;
+        spell_handing(area, user, &mut message)?;
+        Ok(message)
+    }
+
+    // What the handover of each delegation begins with, as it is for the first: the letter H and the capability without
+    // delegations. The last byte is their number.
+    pub(crate) fn begin_handover(&self) -> Result<Vec<u8>, NoMemory>
+        ensures { IfOk result (λ message. message.items ≡ (72 ∷ head_spelling self.now) ++ 0 ∷ []) }
+    {
+        let mut message = Vec::new(self.chain.allocator());
+        put_byte(&mut message, b'H')?;
+        self.spell_head(&mut message)?;
+        put_byte(&mut message, 0)?;
         Ok(message)
     }
 
@@ -132,7 +144,14 @@ fn spell_chain(chain: &Chain, text: &mut Vec<u8>) -> Result<(), NoMemory>
 fn spell_delegation(delegation: &Delegation, text: &mut Vec<u8>) -> Result<(), NoMemory>
     ensures { OnOk result (text.new.items ≡ text.old.items ++ delegation_spelling delegation.now) }
 {
-    delegation.area.encode(text)?;
-    put_bytes(text, &delegation.user.to_bytes())?;
+    spell_handing(&delegation.area, &delegation.user, text)?;
     spell_signature(&delegation.signature, text)
+}
+
+// Appends an area that is handed on, and the user who receives it.
+pub(crate) fn spell_handing(area: &Area, user: &UserKey, text: &mut Vec<u8>) -> Result<(), NoMemory>
+    ensures { OnOk result (text.new.items ≡ text.old.items ++ (area_spelling area.now ++ user.now)) }
+{
+    area.encode(text)?;
+    put_bytes(text, &user.to_bytes())
 }
