@@ -1,11 +1,12 @@
 //! Capabilities that are checked side by side.
 
-ghost use Rattle.std.specs.Prelude.{◌≡◌, map, IfOk};
+ghost use Rattle.std.specs.Prelude.{◌≡◌, ◌<◌, map, IfOk};
 ghost use Rattle.auth_entry.specs.Authorised.{capability_refusal};
 ghost use Rattle.auth_entry.specs.Places.{carried};
 
 use crate::refusal::check_capability;
-use crate::work::{least_checks, work_of};
+use crate::together::causes_together;
+use crate::work::{is_worth_threads, least_checks, work_of};
 use cap_codec::RawRow;
 use mc_cap::{Capability, RowRefusal};
 use rayon::prelude::*;
@@ -14,18 +15,22 @@ use spelling::{End, NoMemory};
 use std::alloc::Global;
 use std::thread::Threads;
 
-// Why the row's capability is not valid, where it is not.
-fn capability_cause<S: Verify>(scheme: &S, row: &RawRow) -> Result<Option<RowRefusal>, NoMemory>
-    ensures { IfOk result (λ cause. cause ≡ capability_refusal S.rules row.now.token.capability) }
+/// Why the capability is not valid, where it is not.
+pub(crate) fn capability_cause<S: Verify>(
+    scheme: &S,
+    capability: &Capability,
+) -> Result<Option<RowRefusal>, NoMemory>
+    ensures { IfOk result (λ cause. cause ≡ capability_refusal S.rules capability.now) }
 {
-    match check_capability(scheme, &row.token().capability) {
+    match check_capability(scheme, capability) {
         Ok(()) => Ok(None),
         Err(End::Refused(refusal)) => Ok(Some(refusal)),
         Err(End::NoMemory) => Err(NoMemory),
     }
 }
 
-/// Why the capability of each row is not valid, where it is not. Where threads are taken they are checked side by side.
+/// Why the capability of each row is not valid, where it is not. Long signatures are checked in threads, where these are
+/// taken.
 pub(crate) fn capability_causes<S: Scheme>(
     rt: &(impl Threads + Sync),
     alloc: Global,
@@ -35,14 +40,32 @@ pub(crate) fn capability_causes<S: Scheme>(
 ) -> Result<Vec<Option<RowRefusal>>, NoMemory>
     ensures { IfOk result (λ causes. causes.items ≡ map (capability_refusal S.rules) (carried rows.now)) }
 {
-    let least = least_checks(threads, rows.len(), capabilities_work(rows));
+    let work = capabilities_work(rows);
+    if threads && is_worth_threads(work) {
+        causes_side_by_side(rt, alloc, scheme, rows, least_checks(rows.len(), work))
+    } else {
+        causes_together(alloc, scheme, rows)
+    }
+}
+
+// The same, where each thread checks at least so many.
+fn causes_side_by_side<S: Scheme>(
+    rt: &(impl Threads + Sync),
+    alloc: Global,
+    scheme: &S,
+    rows: &[&RawRow],
+    least: usize,
+) -> Result<Vec<Option<RowRefusal>>, NoMemory>
+    requires { 0 < least }
+    ensures { IfOk result (λ causes. causes.items ≡ map (capability_refusal S.rules) (carried rows.now)) }
+{
     let causes: Result<Vec<Option<RowRefusal>>, NoMemory> = rows
         .par_iter()
         .with_min_len(least)
         .map(
             |row: &&RawRow| -> Result<Option<RowRefusal>, NoMemory>
                 ensures { IfOk result (λ cause. cause ≡ capability_refusal S.rules row.now.now.token.capability) }
-            { capability_cause(scheme, *row) },
+            { capability_cause(scheme, &row.token().capability) },
         )
         .collect(rt, alloc)?;
     causes
@@ -57,8 +80,8 @@ fn capabilities_work(rows: &[&RawRow]) -> usize {
     work
 }
 
-// How much work the signatures of the capability are.
-fn capability_work(capability: &Capability) -> usize {
+/// How much work the signatures of the capability are.
+pub(crate) fn capability_work(capability: &Capability) -> usize {
     let mut work = match &capability.initial {
         Some(signature) => work_of(signature.as_slice()),
         None => 0,

@@ -9,6 +9,7 @@ pub mod laws;
 mod refusal;
 mod signatures;
 mod standing;
+mod together;
 mod turns;
 mod unknown;
 mod work;

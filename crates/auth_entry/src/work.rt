@@ -18,11 +18,9 @@ pub(crate) fn is_worth_threads(work: usize) -> bool {
     work >= 2 * WORTH
 }
 
-/// How many of so many checks one thread makes at least, where they are so much work together: all of them where no thread
-/// is to be taken.
-pub(crate) fn least_checks(threads: bool, count: usize, work: usize) -> usize
+/// How many of so many checks one thread makes at least, where they are so much work together.
+pub(crate) fn least_checks(count: usize, work: usize) -> usize
     ensures { 0 < result }
 {
-    let parts = if threads { (work / WORTH).max(1) } else { 1 };
-    (count / parts).max(1)
+    (count / (work / WORTH).max(1)).max(1)
 }

@@ -5,7 +5,7 @@ use Rattle.cap_codec.specs.Rows.{RawValue}
 use Rattle.auth_entry.specs.Authorised.{capability_refusal}
 use Rattle.auth_entry.proofs.Lists.{collected, collected_map}
 use Rattle.auth_entry.proofs.Settling.{carried_causes}
-use Rattle.auth_entry.proofs.checks.capability_causes.Goals as goal
+use Rattle.auth_entry.proofs.checks.causes_side_by_side.Goals as goal
 
 pub returns : goal.returns
 returns g c =
