@@ -21,7 +21,11 @@ def open_key(letter: str) -> bytes:
 
 
 N, O = open_key("N"), open_key("O")  # a communal namespace and an owned one
-U, V = open_key("U"), open_key("V")
+U, V, W = open_key("U"), open_key("V"), open_key("W")
+MOST = 8  # delegations of a valid capability
+
+
+INSIDE = Area(U, (b"a",), 3, 9)
 
 
 def entry(namespace=N, subspace=U, path=(b"a",), time=5) -> Entry:
@@ -40,6 +44,24 @@ def handed(capability: Capability, user: bytes, area=whole_subspace(U)) -> Capab
     """The capability, handed on by its receiver."""
     signature = open_signature(capability.receiver(), capability.handover(area, user))
     return capability.delegated(Delegation(area, user, signature))
+
+
+def handed_often(times: int) -> Capability:
+    """The owned capability of U, handed on for /61 to V, to W, to V and so on."""
+    capability = owned(O)
+    for user in ((V, W) * times)[:times]:
+        capability = handed(capability, user, INSIDE)
+    return capability
+
+
+def misbegun() -> Capability:
+    """An owned capability with another signature in place of the namespace's."""
+    return Capability(WRITE, O, U, b"\x22" * 32)
+
+
+def exchanged() -> Capability:
+    """An owned capability that is handed on to W by the signature that hands it on to V."""
+    return owned(O).delegated(Delegation(INSIDE, W, handed(owned(O), V, INSIDE).chain[-1].signature))
 
 
 def spoilt(capability: Capability) -> Capability:
@@ -83,7 +105,18 @@ TEXTS = (
     Text("UNSIGNED", "with a signature of another message", unsigned()),
     Text("IN_OWNED", "/61 in O by U, under a communal capability", row(communal(O), namespace=O)),
     Text("OWNED_ON", "/61 in O by U, under an owned capability of U that was handed on to V for /61 at times from 3 to 8",
-         row(handed(owned(O), V, Area(U, (b"a",), 3, 9)), namespace=O)),
+         row(handed(owned(O), V, INSIDE), namespace=O)),
+    Text("OWNED_PLAIN", "/61 in O by U, under an owned capability", row(owned(O), namespace=O)),
+    Text("MISBEGUN", "the same under a capability that O did not begin", row(misbegun(), namespace=O)),
+    Text("OWNED_TWICE", "the same under an owned capability that was handed on to V and to W",
+         row(handed_often(2), namespace=O)),
+    Text("SECOND_SPOILT", "the same with other bytes for the second signature", row(spoilt(handed_often(2)), namespace=O)),
+    Text("FIRST_SPOILT", "the same with other bytes for the first",
+         row(handed(spoilt(handed_often(1)), W, INSIDE), namespace=O)),
+    Text("EXCHANGED", "/61 in O by U, under a capability that is handed on to W by the signature for V",
+         row(exchanged(), namespace=O)),
+    Text("OFTEN", "the same under one that was handed on as often as may be", row(handed_often(MOST), namespace=O)),
+    Text("TOO_OFTEN", "the same under one that was handed on once more", row(handed_often(MOST + 1), namespace=O)),
 )
 HANDED = tuple(row(handed(communal(), open_key(letter))) for letter in "abcde")
 

@@ -11,19 +11,20 @@ use scheme_core::OpenScheme;
 use std::alloc::Global;
 use std::thread::Threads;
 
-// What a checker that remembers so many capabilities and a plain one answer of the rows, each asked twice: whether it is
-// what is due.
+// What a checker that remembers so many capabilities and a plain one answer of the rows in the namespace of a letter, each
+// asked twice: whether it is what is due.
 fn both_judge(
     rt: &(impl Threads + Sync),
     alloc: Global,
+    letter: u8,
     capacity: u32,
     table: &[(&str, Due)],
     count: usize,
 ) -> Option<[bool; 4]>
     requires { 1 ≤ capacity }
 {
-    let mut cached = CachedChecker::new(alloc, OpenScheme, namespace(b'N')?, capacity).ok()?;
-    let mut plain = PlainChecker::new(OpenScheme, namespace(b'N')?);
+    let mut cached = CachedChecker::new(alloc, OpenScheme, namespace(letter)?, capacity).ok()?;
+    let mut plain = PlainChecker::new(OpenScheme, namespace(letter)?);
     Some([
         judges(rt, alloc, &mut cached, table, count)?,
         judges(rt, alloc, &mut cached, table, count)?,
@@ -40,7 +41,7 @@ fn a_refused_row_and_three_others(rt: HostRuntime) {
         (texts::EARLIER, Ok(117)),
         (texts::DELEGATED, Ok(117)),
     ];
-    let judged = both_judge(&rt, rt.alloc(), 1, &rows, rows.len());
+    let judged = both_judge(&rt, rt.alloc(), b'N', 1, &rows, rows.len());
     assert_eq!(rt; judged, Some([true; 4]));
 }
 
@@ -63,7 +64,42 @@ fn rows_of_all_kinds(rt: HostRuntime) {
         (texts::EARLIER, Ok(117)),
     ];
     for (capacity, count) in [(1, 0), (1, 12), (2, 11), (3, 2_100)] {
-        let judged = both_judge(&rt, rt.alloc(), capacity, &rows, count);
+        let judged = both_judge(&rt, rt.alloc(), b'N', capacity, &rows, count);
+        assert_eq!(rt; judged, Some([true; 4]));
+    }
+}
+
+// That the row's capability is refused so.
+fn chain(refusal: ChainRefusal) -> Due {
+    Err(RowRefusal::Chain(refusal))
+}
+
+// The capabilities of a list are judged together: each has the answers on its own signatures, however many others have.
+#[test]
+fn capabilities_of_all_kinds(rt: HostRuntime) {
+    let rows = [
+        (texts::OWNED_PLAIN, Ok(117)),
+        (
+            texts::SECOND_SPOILT,
+            chain(ChainRefusal::BadSignature { at: 2 }),
+        ),
+        (texts::OWNED_TWICE, Ok(117)),
+        (texts::TOO_OFTEN, chain(ChainRefusal::TooManyDelegations)),
+        (texts::MISBEGUN, chain(ChainRefusal::BadInitial)),
+        (texts::OFTEN, Ok(117)),
+        (texts::IN_OWNED, chain(ChainRefusal::NotCommunal)),
+        (
+            texts::EXCHANGED,
+            chain(ChainRefusal::BadSignature { at: 1 }),
+        ),
+        (texts::OWNED_ON, Ok(117)),
+        (
+            texts::FIRST_SPOILT,
+            chain(ChainRefusal::BadSignature { at: 1 }),
+        ),
+    ];
+    for (capacity, count) in [(1, 1), (1, 10), (4, 9), (8, 5), (2, 1_100)] {
+        let judged = both_judge(&rt, rt.alloc(), b'O', capacity, &rows, count);
         assert_eq!(rt; judged, Some([true; 4]));
     }
 }
