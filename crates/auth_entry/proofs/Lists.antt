@@ -1,7 +1,7 @@
 -- Lists that are gone through, and what is collected of them.
-use Rattle.std.proofs.Common.{◌≡◌, ◌⊎◌, inl, inr, ◌+◌, ◌<◌, ◌≤◌, ℕ, All, List, [], ◌∷◌, ◌++◌, length, map, take, slice_index_or, Some, None, Result, Ok, Err, arith, sym, ap, subst, ◌∙◌, add-one}
-use Rattle.std.proofs.Math.Seq.{take-suc}
-use Rattle.std.proofs.lemmas.List.{map-append}
+use Rattle.std.proofs.Common.{◌≡◌, ◌⊎◌, inl, inr, ◌+◌, ◌-◌, ◌<◌, ◌≤◌, ℕ, All, List, [], ◌∷◌, ◌++◌, length, map, drop, take, slice_index_or, Some, None, Result, Ok, Err, arith, sym, ap, subst, ◌∙◌, add-one}
+use Rattle.std.proofs.Math.Seq.{take-append-add, take-suc}
+use Rattle.std.proofs.lemmas.List.{length-take, map-append, take-append-drop}
 use Rattle.std.proofs.lemmas.List.Elements.{All-cons}
 use Rattle.std.proofs.lemmas.Option.{slice_get_cases}
 use Rattle.std.proofs.lemmas.Slice.Zip.{AllZip-map}
@@ -27,6 +27,19 @@ module _ {X Y : Type 0} (f : X → Y) where
 
   pub both_begin : (xs rest : List X) (ys others : List Y) → ys ≡ map f xs → rest ≡ xs → others ≡ ys → others ≡ map f rest
   both_begin xs rest ys others are first second = second ∙ are ∙ ap (map f) (sym first)
+
+-- some elements more of a list that is mapped by two functions, one behind the other
+module _ {X Y Z : Type 0} (f : Y → Z) (g : X → Y) where
+  pub group_more : (xs : List X) (n to : ℕ) (done more : List Z) → n ≤ to → n ≤ length xs → done ≡ map f (map g (take n xs)) → more ≡ map f (map g (take (to - n) (drop n xs)))
+      → done ++ more ≡ map f (map g (take to xs))
+  group_more xs n to done more order within are next =
+      let long : length (take n xs) ≡ n = omega (arith, length-take n xs, within) in
+      let front : take n xs ++ take (to - n) (drop n xs) ≡ take to xs =
+      sym (take-append-add (take n xs) (drop n xs) (to - n)) ∙ ap (λ (l : List X). take (length (take n xs) + (to - n)) l) (take-append-drop n xs)
+      ∙ ap (λ (k : ℕ). take k xs) (omega (arith, long, order)) in
+      ap (λ (l : List Z). l ++ more) are ∙ ap (λ (l : List Z). map f (map g (take n xs)) ++ l) next
+      ∙ sym (map-append f (map g (take n xs)) (map g (take (to - n) (drop n xs))))
+      ∙ ap (map f) (sym (map-append g (take n xs) (take (to - n) (drop n xs))) ∙ ap (map g) front)
 
 -- one element more of a list that is mapped place by place
 pub mapped_on : {X Y : Type 0} (f : X → Y) (xs : List X) (k : ℕ) (ys : List Y) (y : Y) → k < length xs → ys ≡ map f (take k xs) → ((x : X) → slice_get xs k ≡ Some x → y ≡ f x) → ys ++ y ∷ [] ≡ map f (take (k + 1) xs)

@@ -12,8 +12,30 @@ use scheme_core::{Answered, Claim, Scheme};
 use spelling::NoMemory;
 use std::alloc::Global;
 
-/// Why the capability of each row is not valid, where it is not. One call verifies their short signatures.
+// The capabilities of so many rows are verified together: enough for all lanes, few enough that what is signed of them
+// stays near.
+const TOGETHER: usize = 64;
+
+/// Why the capability of each row is not valid, where it is not. Their short signatures are verified many by one call.
 pub(crate) fn causes_together<S: Scheme>(
+    alloc: Global,
+    scheme: &S,
+    rows: &[&RawRow],
+) -> Result<Vec<Option<RowRefusal>>, NoMemory>
+    ensures { IfOk result (λ causes. causes.items ≡ map (capability_refusal S.rules) (carried rows.now)) }
+{
+    let mut causes = Vec::with_capacity(alloc, rows.len())?;
+    let mut from = 0;
+    'groups: while from < rows.len() {
+        let to = from + (rows.len() - from).min(TOGETHER);
+        causes.extend_from_slice(&causes_by_one_call(alloc, scheme, &rows[from..to])?)?;
+        from = to;
+    }
+    Ok(causes)
+}
+
+// The same. One call verifies the short signatures.
+fn causes_by_one_call<S: Scheme>(
     alloc: Global,
     scheme: &S,
     rows: &[&RawRow],

@@ -16,6 +16,9 @@ use willow_path::{NoMemory, UserKey};
 // The room that is taken at first: most capabilities have two keys, a signature of 32 bytes and no delegation.
 const USUAL_ROOM: usize = 128;
 
+// The room that is taken at first for a handover: most have three keys, an initial signature of 32 bytes and a short path.
+const HANDOVER_ROOM: usize = 256;
+
 /// What a namespace signs for an owned capability: the letter I, a byte for the mode (0 to read, 1 to
 /// write), and the key of the user who has it first.
 pub fn initial_message(mode: Mode, user: &UserKey) -> [u8; 35]
@@ -61,7 +64,7 @@ impl Capability {
     pub(crate) fn begin_handover(&self) -> Result<Vec<u8>, NoMemory>
         ensures { IfOk result (λ message. message.items ≡ (72 ∷ head_spelling self.now) ++ 0 ∷ []) }
     {
-        let mut message = Vec::new(self.chain.allocator());
+        let mut message = Vec::with_capacity(self.chain.allocator(), HANDOVER_ROOM)?;
         put_byte(&mut message, b'H')?;
         self.spell_head(&mut message)?;
         put_byte(&mut message, 0)?;
