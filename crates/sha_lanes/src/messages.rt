@@ -42,8 +42,8 @@ pub fn sha256_four(messages: &[Message<'_>; 4]) -> [[u8; 32]; 4]
     digests_from(messages, initial_state(), 0)
 }
 
-/// The digests of four messages that have equally many blocks with their padding. Of messages of more than one block
-/// the first ones are kept, or the hash values behind them taken where they are kept.
+/// The digests of four messages that have equally many blocks with their padding. The hash values behind first blocks
+/// are kept, and taken where they are kept. Messages of one block go without: it is seldom the same.
 fn digests_beside(messages: &[Message<'_>; 4], known: &mut FirstBlocks) -> [[u8; 32]; 4]
     requires { AreAlike messages.now }
     ensures { result ≡ map digest_of messages.now }
@@ -152,7 +152,8 @@ fn hash_first(
 /// The digests of messages of any lengths. It takes no memory.
 ///
 /// Messages that have equally many blocks and stand fewer than 64 places apart are hashed four at a time, or three
-/// where no fourth is left; the rest one by one.
+/// where no fourth is left; the rest one by one. A block that several of them begin with is compressed once where few
+/// others come between.
 pub fn sha256_all(messages: &[Message<'_>], digests: &mut [[u8; 32]])
     requires { length digests.old ≡ length messages.now }
     ensures { digests.new ≡ map digest_of messages.now }
