@@ -1,5 +1,6 @@
 -- Rows in blocks.
-use Rattle.std.specs.Prelude.{◌≡◌, ℕ, ◌+◌, ◌<◌, ◌≤◌, Bool, true, List, [], ◌∷◌, length, map, take, flat_map, slice_index_or}
+use Rattle.std.specs.Prelude.{◌≡◌, ℕ, ◌+◌, ◌<◌, ◌≤◌, Bool, true, false, List, [], ◌∷◌, length, map, take, flat_map, slice_index_or}
+use Rattle.std.specs.List.Sorted.{IsPartitionPoint}
 use Rattle.willow_entry.specs.Row.{RowValue}
 use Rattle.block_store.specs.Held.{rows_of, values_of}
 use Rattle.block_store.specs.declared.block.Piece.{Piece}
@@ -36,3 +37,8 @@ abbrev pub last_passes : {X : Type 0} → (X → Bool) → List X → Bool
 last_passes test [] = true
 last_passes test (x ∷ []) = test x
 last_passes test (x ∷ y ∷ ys) = last_passes test (y ∷ ys)
+
+-- so many blocks end by a row that passes a test, and none behind them does
+abbrev pub EndPassing : {R : Type 0} {b : _} → (R → RowValue) → (RowValue → Bool) → List (Piece R b) → ℕ → Type 0
+EndPassing value test pieces count =
+  IsPartitionPoint (λ p. last_passes test (values_of value p.block.value.rows.items) ≡ true) (λ p. last_passes test (values_of value p.block.value.rows.items) ≡ false) pieces count

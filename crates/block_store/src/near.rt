@@ -3,7 +3,7 @@
 ghost use Rattle.std.specs.Prelude.{◌≡◌, ℕ, ◌+◌, ◌≤◌, true, false, length, slice_get, Some, IsTrue, IfSome};
 ghost use Rattle.std.specs.List.Sorted.{IsPartitionedBy, IsPartitionPoint};
 ghost use Rattle.willow_entry.specs.Row.{RowValue};
-ghost use Rattle.block_store.specs.Blocks.{block_values, index_of, IsSpot, last_passes};
+ghost use Rattle.block_store.specs.Blocks.{block_values, index_of, last_passes, EndPassing, IsSpot};
 ghost use Rattle.block_store.specs.Held.{values_of};
 
 use crate::block::Piece;
@@ -78,7 +78,7 @@ fn passing_blocks_from<R: Row, T: Test<R>>(
     near: usize,
 ) -> Option<usize>
     requires { IsPartitionedBy (λ p. last_passes (T.test test.now) (values_of R.value p.block.value.rows.items)) pieces.now }
-    ensures point { IfSome result (λ block. IsPartitionPoint (λ p. last_passes (T.test test.now) (values_of R.value p.block.value.rows.items) ≡ true) (λ p. last_passes (T.test test.now) (values_of R.value p.block.value.rows.items) ≡ false) pieces.now block) }
+    ensures point { IfSome result (λ block. EndPassing R.value (T.test test.now) pieces.now block) }
     ensures bound { IfSome result (λ block. block ≤ length pieces.now) }
 {
     if near >= pieces.len() {
@@ -98,7 +98,7 @@ fn passing_blocks_from<R: Row, T: Test<R>>(
 // The number of blocks whose last row passes.
 fn passing_blocks_near<R: Row, T: Test<R>>(pieces: &[Piece<R>], test: &T, near: usize) -> usize
     requires { IsPartitionedBy (λ p. last_passes (T.test test.now) (values_of R.value p.block.value.rows.items)) pieces.now }
-    ensures point { IsPartitionPoint (λ p. last_passes (T.test test.now) (values_of R.value p.block.value.rows.items) ≡ true) (λ p. last_passes (T.test test.now) (values_of R.value p.block.value.rows.items) ≡ false) pieces.now result }
+    ensures point { EndPassing R.value (T.test test.now) pieces.now result }
     ensures bound { result ≤ length pieces.now }
 {
     match passing_blocks_from(pieces, test, near) {
