@@ -41,4 +41,4 @@ last_passes test (x ∷ y ∷ ys) = last_passes test (y ∷ ys)
 -- so many blocks end by a row that passes a test, and none behind them does
 abbrev pub EndPassing : {R : Type 0} {b : _} → (R → RowValue) → (RowValue → Bool) → List (Piece R b) → ℕ → Type 0
 EndPassing value test pieces count =
-  IsPartitionPoint (λ p. last_passes test (values_of value p.block.value.rows.items) ≡ true) (λ p. last_passes test (values_of value p.block.value.rows.items) ≡ false) pieces count
+    IsPartitionPoint (λ p. last_passes test (values_of value p.block.value.rows.items) ≡ true) (λ p. last_passes test (values_of value p.block.value.rows.items) ≡ false) pieces count
