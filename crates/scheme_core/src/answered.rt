@@ -1,6 +1,6 @@
 //! A scheme that has answers at hand.
 
-ghost use Rattle.std.specs.Prelude.{◌≡◌, ◌++◌, ℕ, List, map, IfSome, IsTrue, ⊤};
+ghost use Rattle.std.specs.Prelude.{◌≡◌, ◌↔◌, ◌++◌, ℕ, List, map, IfSome, IsTrue, ⊤};
 ghost use Rattle.scheme_core.specs.Claims.{accepts_claim, message_of};
 
 use crate::claim::Claim;
@@ -84,9 +84,7 @@ impl<S: VerifyMany> Verify for Answered<'_, S> {
 
 // Whether the claim is of just this signature of just this message by just this key.
 fn claims_just(claim: &Claim<'_>, key: &[u8; 33], message: &[u8], signature: &[u8]) -> bool
-    ensures key { IsTrue result → claim.now.key ≡ key.now }
-    ensures message { IsTrue result → message_of claim.now ≡ message.now }
-    ensures signature { IsTrue result → claim.now.signature.now ≡ signature.now }
+    ensures { IsTrue result ↔ ((claim.now.key ≡ key.now) × (message_of claim.now ≡ message.now) × (claim.now.signature.now ≡ signature.now)) }
 {
     claim.key.to_bytes() == *key
         && is_joined(claim.front, claim.rest, message)
@@ -95,7 +93,7 @@ fn claims_just(claim: &Claim<'_>, key: &[u8; 33], message: &[u8], signature: &[u
 
 // Whether the whole is the front and behind it the rest.
 fn is_joined(front: &[u8], rest: &[u8], whole: &[u8]) -> bool
-    ensures { IsTrue result → front.now ++ rest.now ≡ whole.now }
+    ensures { IsTrue result ↔ (front.now ++ rest.now ≡ whole.now) }
 {
     if whole.len() < front.len() {
         return false;
