@@ -1,4 +1,4 @@
-//! Capabilities that are checked side by side.
+//! Capabilities that are checked, side by side in threads or together on one.
 
 ghost use Rattle.std.specs.Prelude.{◌≡◌, ◌<◌, map, IfOk};
 ghost use Rattle.auth_entry.specs.Authorised.{capability_refusal};

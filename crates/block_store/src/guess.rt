@@ -12,7 +12,7 @@ pub(crate) const GUESSES: usize = 32;
 // How many fronts of a path a guess is kept for: most paths are short.
 const FRONTS: usize = 3;
 
-// Where the last row went in, and where the shortest fronts of its path stood that were looked for.
+// Where the last row went in, or would have stood, and where the shortest fronts of its path stood that were looked for.
 #[derive(Clone, Copy)]
 pub(crate) struct Guess {
     pub(crate) own: Spot,

@@ -10,7 +10,7 @@ use std::alloc::Global;
 use std::sync::atomic::{AtomicU64, Ordering};
 use willow_path::{NamespaceKey, UserKey};
 
-/// A scheme that answers as the open one, and counts the signatures of users that it is asked about.
+/// A scheme that answers as the open one, and counts the signatures that it is asked about as those of users.
 #[derive(Clone, Copy)]
 pub(crate) struct Counting<'a> {
     pub(crate) asked: &'a AtomicU64,

@@ -38,7 +38,7 @@ impl SignedMessage<'_> {
 impl Capability {
     /// Appends what is signed of the capability (Meadowcap), in the order in which `check` asks for it: where it is owned,
     /// the initial message by the namespace; and for each delegation its handover by the receiver before it. These are at
-    /// most `MAX_CHAIN` messages and one, of which each has the spelling of the capability up to there; of a valid
+    /// most `MAX_CHAIN` messages and one, and each handover has the spelling of the capability up to there; of a valid
     /// capability they are at most `MAX_DELEGATIONS` and one. Without memory some of them may have been appended.
     pub fn put_signed<'a>(&'a self, signed: &mut Vec<SignedMessage<'a>>) -> Result<(), NoMemory>
         ensures { OnOk result (map signing_of signed.new.items ≡ map signing_of signed.old.items ++ signings self.now) }

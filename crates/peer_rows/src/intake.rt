@@ -50,6 +50,7 @@ impl Intake {
         ensures log { self.new.log ≡ self.old.log }
         ensures waits { OnOk result (self.new.waiting.items ≡ self.old.waiting.items ++ rows.items) }
     {
+        // Where none waits, the list is taken as it is.
         if self.waiting.is_empty() {
             self.waiting = rows;
             return Ok(());

@@ -30,7 +30,7 @@ const PIECE: usize = 65_536;
 /// Reads row frames from the input, keeps the live rows of those that are authorised in the namespace, and
 /// writes their image. Rows of several pieces of the input wait to be judged together, by a checker of the given kind; still
 /// what is wrong, and a row that meets a full log, are told at the piece that brings them. Neither all of the input nor all
-/// of the image stands in memory.
+/// of the image stands in memory. Once the image is written the log of the rows is left to the end of the run.
 pub fn join<C: NewChecker<PeerScheme>, R: Threads + Sync, I: Source, O: Sink>(
     rt: &R,
     alloc: Global,

@@ -17,6 +17,7 @@ use willow_entry::Row;
 use willow_path::NamespaceKey;
 
 /// The head and the lines of the listing of the live rows that is asked for. The head counts the lines.
+/// Once these are made the log is left to the end of the run.
 pub(crate) fn list_log(
     alloc: Global,
     newest: Option<u32>,
@@ -25,11 +26,11 @@ pub(crate) fn list_log(
     ensures { IfOk result (λ made. AreText made (log_listing newest log.namespace (live_rows log))) }
 {
     let made = match newest {
-        None => list_all(alloc, &log),
-        Some(most) => list_newest(alloc, most, &log),
+        None => list_all(alloc, &log)?,
+        Some(most) => list_newest(alloc, most, &log)?,
     };
     leave_to_exit(log);
-    made
+    Ok(made)
 }
 
 // Those of all live rows, in order.

@@ -1,4 +1,5 @@
-//! The logs of images with whose rows nothing is wrong, taken a part at a time: no list of all rows stands in memory.
+//! The logs of images with whose rows nothing is wrong, taken a part at a time: no list of all rows stands in memory
+//! beside the log.
 
 ghost use Rattle.std.specs.Prelude.{◌≡◌, ◌↔◌, ◌∷◌, [], IfOk, IfSome, IsTrue};
 ghost use Rattle.cap_codec.specs.Rows.{RawValue};

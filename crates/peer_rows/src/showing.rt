@@ -25,7 +25,7 @@ use willow_outside::{Sink, Source};
 /// namespace: a head with the number of the lines, and a line for each, in the order of the image; or, where `newest`
 /// says so, for the first so many by recency, or all where there are fewer. Told are the numbers of all rows of the
 /// image and of those that are not authorised, with the first of these, counted from 1. A checker of the given kind judges
-/// the rows.
+/// the rows. Once its lines are made the log of the rows is left to the end of the run.
 pub fn show<C: NewChecker<PeerScheme>, R: Threads + Sync, I: Source, O: Sink>(
     rt: &R,
     alloc: Global,
@@ -58,7 +58,7 @@ fn show_input<C: NewChecker<PeerScheme>, R: Threads + Sync, I: Source>(
 }
 
 // The head and the lines of the listing of an image, and the numbers. Where nothing is wrong with it, no list of its rows
-// is made.
+// is made beside the log.
 fn show_bytes<C: NewChecker<PeerScheme>, R: Threads + Sync>(
     rt: &R,
     alloc: Global,

@@ -19,6 +19,7 @@ pub struct Answered<'a, S: VerifyMany> {
     ghost told: { answers.now ≡ map (accepts_claim S.rules) claims.now },
 }
 
+// By hand, since a type with a fact of its own is not derived.
 impl<S: VerifyMany> Clone for Answered<'_, S> {
     ghost is_clone = { λ x y. (y.scheme ≡ x.scheme) × (y.claims ≡ x.claims) × (y.answers ≡ x.answers) };
 

@@ -152,8 +152,8 @@ fn hash_first(
 /// The digests of messages of any lengths. It takes no memory.
 ///
 /// Messages that have equally many blocks and stand fewer than 64 places apart are hashed four at a time, or three
-/// where no fourth is left; the rest one by one. A block that several of them begin with is compressed once where few
-/// others come between.
+/// where no fourth is left; the rest one by one. Where all four begin with
+/// blocks that were hashed a little before, these are not compressed again.
 pub fn sha256_all(messages: &[Message<'_>], digests: &mut [[u8; 32]])
     requires { length digests.old ≡ length messages.now }
     ensures { digests.new ≡ map digest_of messages.now }
