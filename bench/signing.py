@@ -6,8 +6,10 @@ PROGRAM and OTHER are executables `willow_peer`. PROGRAM makes a key of height 1
 signed; that takes some 40 seconds of processors. Then `key --height 10`, `write` with that key and `join` of these rows are
 timed by the clock and in the time of the processors, and the `join` on one processor too: alone, and while each of the others
 does the same, as a processor of a shared machine may be slower where all are busy. The runs of all of them take turns, so that
-what else the machine does falls on all alike; told are medians of RUNS runs. Both programs get the same files, and have to
-write the same rows and images.
+what else the machine does falls on all alike; told are medians of RUNS runs. On a virtual machine the host may take processors
+away for a while. A run that lost more than STOLEN of its time so is done again, up to TRIES times, and the one that lost least
+counts; told is how many counted though they lost more. Both programs get the same files, and have to write the same rows and
+images.
 """
 import os
 import shutil
@@ -19,6 +21,8 @@ import time
 from concurrent.futures import ThreadPoolExecutor
 
 RUNS = 7
+STOLEN = 0.02
+TRIES = 20
 KEYS = 40
 ROWS = 1_000
 NAMESPACE = "00" + "4e" * 32  # communal: nobody signs its capabilities
@@ -113,20 +117,42 @@ def run(program, folder, part):
         return timed(program, place, write_words("tall", ROWS), file["tall.cap"])
 
 
+def stolen():
+    """The seconds that the host kept this machine's processors for others, up to now."""
+    with open("/proc/stat") as file:
+        return int(file.readline().split()[8]) / os.sysconf("SC_CLK_TCK")
+
+
+def calm_run(program, folder, part):
+    """A run of one part that lost little to the host, or of TRIES the one that lost least, and which share it lost."""
+    least = None
+    for _ in range(TRIES):
+        before = stolen()
+        ran = run(program, folder, part)
+        lost = (stolen() - before) / (ran[0] * len(os.sched_getaffinity(0)))
+        if least is None or lost < least[1]:
+            least = ran, lost
+        if lost <= STOLEN:
+            break
+    return least
+
+
 def take_turns(programs, folder):
-    """Of each part and program the seconds by the clock and of the processors, one pair a run."""
+    """Of each part and program the seconds by the clock and of the processors, one pair a run; and how many lost much."""
     taken = {(part, program): [] for part in PARTS for program in programs}
     wrote = {}
+    disturbed = 0
     for _ in range(RUNS):
         for part in PARTS:
             for program in programs:
-                took, used, output = run(program, folder, part)
+                (took, used, output), lost = calm_run(program, folder, part)
                 taken[part, program].append((took, used))
+                disturbed += lost > STOLEN
                 # A key is drawn anew each time; what is signed and joined is the same in each run.
                 what = "write" if part == "write" else "join"
                 if part != "key" and wrote.setdefault(what, output) != output:
                     raise SystemExit(f"{program}: {part} wrote something else than before")
-    return taken
+    return taken, disturbed
 
 
 def show(programs, taken):
@@ -152,9 +178,10 @@ def main():
         raise SystemExit("usage: python3 bench/signing.py PROGRAM [OTHER]")
     with tempfile.TemporaryDirectory() as folder:
         make_files(programs[0], folder)
-        taken = take_turns(programs, folder)
+        taken, disturbed = take_turns(programs, folder)
         show(programs, taken)
         show_shares(programs, taken)
+        print(f"{disturbed} of {RUNS * len(PARTS) * len(programs)} runs lost more than {STOLEN:.0%} of their time to the host")
 
 
 if __name__ == "__main__":
