@@ -1,6 +1,8 @@
 mod OfLanes
 mod OfBytes
+mod OfSchedules
 mod OfSteps
+mod OfRuns
 mod OfChains
 mod OfMessages
 mod OfWindows

@@ -1,6 +1,6 @@
 -- What the lanes of vectors hold. A vector is the list of its lanes, an array of vectors the list of these.
 use Rattle.std.specs.Prelude.{◌≡◌, ◌<◌, ℕ, List, [], ◌∷◌, length, map, slice_index, slice_index_or}
-use Rattle.sha2.specs.Sha256.{first_words}
+use Rattle.sha2.specs.Sha256.{first_words, schedule}
 use Rattle.sha_lanes.specs.declared.compression.State.{State}
 
 -- v has four lanes, and lane l holds f l
@@ -20,6 +20,11 @@ words_of vectors l = map (λ v. slice_index v l) vectors
 -- the words are those of a block's bytes
 abbrev pub IsBlock : List ℕ → List ℕ → Type 0
 IsBlock words b = words ≡ first_words b 16
+
+-- the first n of 64 words are those of the message schedule of a block
+pub record IsSchedule (words b : List ℕ) (n : ℕ) : Type 0 where
+  pub long : length words ≡ 64
+  pub each : (t : ℕ) → t < n → slice_index words t ≡ slice_index (schedule b 48) t
 
 -- string l of several
 abbrev pub row : List (List ℕ) → ℕ → List ℕ

@@ -3,6 +3,7 @@
 ghost use Rattle.std.specs.Prelude.{◌≡◌, ℕ, ◌<◌, IfSome, slice_index};
 ghost use Rattle.sha2.specs.Sha256.{compress, initial_hash_256};
 ghost use Rattle.sha_lanes.specs.Lanes.{hash_in, one_of};
+ghost use Rattle.sha_lanes.specs.declared.first_blocks.TheConstants.{PLACES};
 
 use crate::compression::{State, compress, initial_state};
 use crate::loading::load_values;
@@ -26,7 +27,7 @@ const PLACES: usize = 16;
 pub(crate) struct FirstBlocks {
     kept: [Option<FirstBlock>; PLACES],
     next: usize,
-    ghost in_range: { next < 16 },
+    ghost in_range: { next < PLACES },
 }
 
 impl FirstBlocks {

@@ -1,7 +1,7 @@
 //! The message schedules of four blocks (FIPS 180-4, section 6.2.2).
 
-ghost use Rattle.std.specs.Prelude.{◌≡◌, ℕ, ◌<◌, ◌*◌, slice_index, slice_set};
-ghost use Rattle.sha2.specs.Sha256.{window_word};
+ghost use Rattle.std.specs.Prelude.{◌≡◌, ℕ, ◌<◌, ◌≤◌};
+ghost use Rattle.sha2.specs.Sha256.{next_word};
 ghost use Rattle.sha_lanes.specs.Lanes.{HasLanes, IsBlock, one_of, words_of};
 
 use crate::functions::{small_sigma0, small_sigma1};
@@ -26,20 +26,14 @@ pub(crate) fn first_words(
     words
 }
 
-/// The next word of the schedules. `words` is a ring of the last 16: the next one goes at `place`, over the word
-/// 16 before it.
+/// Word `t` of the schedules, from word 16 on.
 #[inline(always)]
-pub(crate) fn next_word(words: &mut [Vector; 16], place: usize) -> Vector
-    requires { place < 16 }
-    ensures value { HasLanes result (λ l. window_word (words_of words.old l) place) }
-    ensures window { (l : ℕ) → l < 4 → words_of words.new l ≡ slice_set (words_of words.old l) place (slice_index result l) }
+pub(crate) fn next_word(words: &[Vector; 64], t: usize) -> Vector
+    requires low { 16 ≤ t }
+    requires high { t < 64 }
+    ensures { HasLanes result (λ l. next_word (words_of words.now l) t) }
 {
-    let first = add(
-        small_sigma1(words[(place + 14) % 16]),
-        words[(place + 9) % 16],
-    );
-    let second = add(first, small_sigma0(words[(place + 1) % 16]));
-    let word = add(second, words[place]);
-    words[place] = word;
-    word
+    let first = add(small_sigma1(words[t - 2]), words[t - 7]);
+    let second = add(first, small_sigma0(words[t - 15]));
+    add(second, words[t - 16])
 }

@@ -1,36 +1,43 @@
 use Rattle.std.proofs.Common.{◌≡◌, ℕ, List, [], ◌∷◌, ◌++◌, length, slice_index, sym, ap, ◌∙◌, arith, length-append}
 use Rattle.std.proofs.lemmas.List.{append_assoc}
-use Rattle.sha2.specs.Sha256.{digest_bytes, padding, compress, initial_hash_256}
-use Rattle.sha_lanes.specs.Step.{joined}
-use Rattle.sha_lanes.specs.Lanes.{hash_in, words_of}
-use Rattle.sha_lanes.proofs.OfLanes.{words_of-at, splat_at}
-use Rattle.sha_lanes.proofs.OfSteps.{block_words, one_block, length-digest}
+use Rattle.sha2.specs.Sha256.{add_state, digest_bytes, padding, compress, initial_hash_256}
+use Rattle.sha_lanes.specs.Step.{step_block}
+use Rattle.sha_lanes.specs.Lanes.{hash_in}
+use Rattle.sha_lanes.proofs.OfSteps.{length-digest, one_block}
+use Rattle.sha_lanes.proofs.OfRuns.{IsBegun-schedule}
 use Rattle.sha_lanes.proofs.step.hash_step.Goals as goal
 
-pub returns : goal.returns
-returns c = λ l f low front.
+pub returns-clause-words : goal.returns-clause-words
+returns-clause-words c = λ l j front low begun numbered midstate.
     let v = c.args.value in
-    let d = digest_bytes (hash_in v l) 8 in
-    let vectors = c.args.front.now in
-    let p0 = words_of-at vectors 0 l [] (omega (arith, c.told-front)) in
-    let p1 = words_of-at vectors 1 l [] (omega (arith, c.told-front)) in
-    let p2 = words_of-at vectors 2 l [] (omega (arith, c.told-front)) in
-    let p3 = words_of-at vectors 3 l [] (omega (arith, c.told-front)) in
-    let p4 = words_of-at vectors 4 l [] (omega (arith, c.told-front)) in
-    let p5 = words_of-at vectors 5 l [] (omega (arith, c.told-front)) in
-    let q5 = c.joined.ensures.each l low ∙ ap (λ (x : ℕ). joined x (slice_index v.a l)) p5 in
-    let q6 = c.joined-2.ensures.each l low in
-    let q7 = c.joined-3.ensures.each l low in
-    let q8 = c.joined-4.ensures.each l low in
-    let q9 = c.joined-5.ensures.each l low in
-    let q10 = c.joined-6.ensures.each l low in
-    let q11 = c.joined-7.ensures.each l low in
-    let q12 = c.joined-8.ensures.each l low in
-    let q13 = c.joined-9.ensures.each l low ∙ ap (λ (y : ℕ). joined (slice_index v.h l) y) (splat_at 0x80000000 l low) in
-    let q14 = splat_at 0 l low in
-    let q15 = splat_at 440 l low in
-    let block = (λ i. p0 i ∷ p1 i ∷ p2 i ∷ p3 i ∷ p4 i ∷ q5 i ∷ q6 i ∷ q7 i ∷ q8 i ∷ q9 i ∷ q10 i ∷ q11 i ∷ q12 i ∷ q13 i ∷ q14 i ∷ q15 i ∷ [])
-    ∙ block_words (words_of vectors l) f _ _ _ _ _ _ _ _ front in
-    let long : length (f ++ d) ≡ 55 = omega (arith, length-append f d, front.long, length-digest (slice_index v.a l) (slice_index v.b l) (slice_index v.c l) (slice_index v.d l) (slice_index v.e l) (slice_index v.f l) (slice_index v.g l) (slice_index v.h l)) in
-    let hashed = c.compress.ensures l (f ++ (d ++ padding 55)) low block ∙ ap (λ (s : List ℕ). compress s (f ++ (d ++ padding 55))) (c.initial_state.ensures l low) in
-    ap (λ (s : List ℕ). digest_bytes s 8) (hashed ∙ ap (compress initial_hash_256) (sym (append_assoc f d (padding 55)))) ∙ sym (one_block (f ++ d) long)
+    let value = digest_bytes (hash_in v l) 8 in
+    let b = step_block front j value in
+    let w16 = c.put_values.ensures l j front low begun numbered in
+    let w21 = c.put_next_words.ensures l b low midstate.sums w16 in
+    let w22 = c.round_and_word-v.ensures.words l b low w21 in
+    let w23 = c.round_and_word-v-2.ensures.words l b low w22 in
+    let w24 = c.round_and_word-v-3.ensures.words l b low w23 in
+    let long = length-digest (slice_index v.a l) (slice_index v.b l) (slice_index v.c l) (slice_index v.d l) (slice_index v.e l) (slice_index v.f l) (slice_index v.g l) (slice_index v.h l) in
+    IsBegun-schedule _ front j value begun.long long (c.rounds_from.ensures.words l b low w24)
+
+pub returns-clause-digest : goal.returns-clause-digest
+unfolding compress
+returns-clause-digest c = λ l j front low begun numbered midstate.
+    let v = c.args.value in
+    let value = digest_bytes (hash_in v l) 8 in
+    let b = step_block front j value in
+    let h = initial_hash_256 in
+    let w16 = c.put_values.ensures l j front low begun numbered in
+    let w21 = c.put_next_words.ensures l b low midstate.sums w16 in
+    let w22 = c.round_and_word-v.ensures.words l b low w21 in
+    let w23 = c.round_and_word-v-2.ensures.words l b low w22 in
+    let w24 = c.round_and_word-v-3.ensures.words l b low w23 in
+    let s6 = c.round_and_word-v.ensures.state l b h low w21 midstate.state in
+    let s7 = c.round_and_word-v-2.ensures.state l b h low w22 s6 in
+    let s8 = c.round_and_word-v-3.ensures.state l b h low w23 s7 in
+    let s64 = c.rounds_from.ensures.state l b h low w24 s8 in
+    let hashed : hash_in c.add_states.result l ≡ compress h b =
+    c.add_states.ensures l low ∙ (λ i. add_state (c.initial_state.ensures l low i) (s64 i)) in
+    let f = front ++ j ∷ [] in
+    let long : length (f ++ value) ≡ 55 = omega (arith, length-append f value, numbered.long, length-digest (slice_index v.a l) (slice_index v.b l) (slice_index v.c l) (slice_index v.d l) (slice_index v.e l) (slice_index v.f l) (slice_index v.g l) (slice_index v.h l)) in
+    ap (λ (s : List ℕ). digest_bytes s 8) (hashed ∙ ap (compress h) (sym (append_assoc f value (padding 55)))) ∙ sym (one_block (f ++ value) long)

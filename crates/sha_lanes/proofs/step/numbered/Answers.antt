@@ -1,4 +1,4 @@
-use Rattle.std.proofs.Common.{ℕ, [], ◌<◌, slice_index, ap, ◌∙◌, arith}
+use Rattle.std.proofs.Common.{ℕ, [], slice_index, ap, ◌∙◌, arith}
 use Rattle.sha2.specs.Sha256.{add32}
 use Rattle.sha_lanes.specs.Lanes.{words_of}
 use Rattle.sha_lanes.proofs.OfLanes.{words_of-at}
@@ -9,6 +9,5 @@ pub returns : goal.returns
 returns c = λ l f h low front.
     let w = c.args.fronts.now in
     let number = slice_index c.args.numbers l in
-    let at = λ (k : ℕ) (lt : k < 6). words_of-at w k l [] (omega (arith, c.told-fronts)) in
-    front_numbered (words_of w l) _ f number low front (at 0 (omega arith)) (at 1 (omega arith)) (at 2 (omega arith)) (at 3 (omega arith)) (at 4 (omega arith))
-    (c.add.ensures.each l h ∙ ap (λ (x : ℕ). add32 x number) (at 5 (omega arith)))
+    front_numbered (words_of w l) f _ number low front
+    (c.add.ensures.each l h ∙ ap (λ (x : ℕ). add32 x number) (words_of-at w 5 l [] (omega (arith, c.told-fronts))))

@@ -1,0 +1,22 @@
+use Rattle.std.proofs.Common.{◌+◌, arith}
+use Rattle.sha_lanes.proofs.OfSchedules.{IsSchedule-at, rounds-at}
+use Rattle.sha_lanes.proofs.compression.four_rounds_and_words.Goals as goal
+
+pub returns-clause-words : goal.returns-clause-words
+returns-clause-words c = λ l b low held.
+    let w1 = c.round_and_word-v.ensures.words l b low held in
+    let w2 = c.round_and_word-v-2.ensures.words l b low (IsSchedule-at _ b _ _ (omega arith) w1) in
+    let w3 = c.round_and_word-v-3.ensures.words l b low (IsSchedule-at _ b _ _ (omega arith) w2) in
+    IsSchedule-at _ b _ _ (omega arith) (c.round_and_word.ensures.words l b low (IsSchedule-at _ b _ _ (omega arith) w3))
+
+pub returns-clause-state : goal.returns-clause-state
+returns-clause-state c = λ l b h low held before.
+    let t = c.args.t in
+    let w1 = IsSchedule-at _ b _ _ (omega arith) (c.round_and_word-v.ensures.words l b low held) in
+    let w2 = IsSchedule-at _ b _ _ (omega arith) (c.round_and_word-v-2.ensures.words l b low w1) in
+    let w3 = IsSchedule-at _ b _ _ (omega arith) (c.round_and_word-v-3.ensures.words l b low w2) in
+    let s1 = c.round_and_word-v.ensures.state l b h low held before in
+    let s2 = c.round_and_word-v-2.ensures.state l b h low w1 s1 in
+    let s3 = c.round_and_word-v-3.ensures.state l b h low w2 (rounds-at h _ _ (t + 1 + 1) (t + 2) (omega arith) s2) in
+    let s4 = c.round_and_word.ensures.state l b h low w3 (rounds-at h _ _ (t + 2 + 1) (t + 3) (omega arith) s3) in
+    rounds-at h _ _ (t + 3 + 1) (t + 4) (omega arith) s4
