@@ -1,8 +1,9 @@
 -- The block of a chain's step: 22 bytes of a front, a number in one byte, the 32 bytes of a value, and the padding.
 use Rattle.std.specs.Prelude.{◌≡◌, ◌<◌, ◌+◌, ◌*◌, ℕ, List, [], ◌∷◌, ◌++◌, length, slice_index}
 use Rattle.std.specs.Int.{w32, to_be_bytes, from_be_bytes}
-use Rattle.sha2.specs.Sha256.{add32, initial_hash_256, padding, rounds, schedule, small_sigma1, word_at}
-use Rattle.sha_lanes.specs.Lanes.{hash_in}
+use Rattle.sha2.specs.Sha256.{add32, digest_bytes, initial_hash_256, padding, rounds, schedule, small_sigma1, word_at}
+use Rattle.sha_lanes.specs.Lanes.{hash_in, words_of}
+use Rattle.sha_lanes.specs.declared.compression.State.{State}
 use Rattle.sha_lanes.specs.declared.step.Midstate.{Midstate}
 use Rattle.sha_lanes.specs.declared.step.Sums.{Sums}
 
@@ -64,3 +65,10 @@ pub record AreSums (sums : Sums) (l : ℕ) (b : List ℕ) : Type 0 where
 pub record IsMidstate (midstate : Midstate) (l : ℕ) (b : List ℕ) : Type 0 where
   pub state : hash_in midstate.state l ≡ rounds initial_hash_256 (schedule b 48) 5
   pub sums : AreSums midstate.sums l b
+
+-- In lane l all is there for a step: the words that the steps share, the number behind the front, and what the step's
+-- block has in common with the others.
+pub record IsReady (words : List (List ℕ)) (midstate : Midstate) (ends : List ℕ) (value : State) (l : ℕ) (front : List ℕ) (j : ℕ) : Type 0 where
+  pub begun : IsBegun (words_of words l) front
+  pub numbered : IsNumbered (slice_index ends l) (front ++ j ∷ [])
+  pub shared : IsMidstate midstate l (step_block front j (digest_bytes (hash_in value l) 8))

@@ -4,7 +4,7 @@
 ghost use Rattle.std.specs.Prelude.{◌≡◌, ℕ, List, [], ◌∷◌, ◌++◌, ◌+◌, ◌<◌, ◌≤◌, length, slice_index};
 ghost use Rattle.sha2.specs.Sha256.{digest_bytes};
 ghost use Rattle.sha_lanes.specs.Lanes.{HasLanes, IsSchedule, hash_in, one_of, words_of};
-ghost use Rattle.sha_lanes.specs.Step.{AreSums, IsBegun, IsFront, IsMidstate, IsNumbered, IsStepOf, joined, step_block};
+ghost use Rattle.sha_lanes.specs.Step.{AreSums, IsBegun, IsFront, IsMidstate, IsNumbered, IsReady, IsStepOf, joined, step_block};
 ghost use Rattle.sha_lanes.specs.Chain.{run, step};
 
 use crate::compression::{
@@ -145,10 +145,8 @@ fn put_next_words(words: &mut [Vector; 64], midstate: &Midstate)
 /// The digests of 55 bytes: the 23 of a numbered front, and the 32 of a value.
 #[inline(always)]
 fn hash_step(words: &mut [Vector; 64], midstate: &Midstate, ends: Vector, value: State) -> State
-    ensures words { (l j : ℕ) (front : List ℕ) → l < 4 → IsBegun (words_of words.old l) front → IsNumbered (slice_index ends l) (front ++ j ∷ [])
-        → IsMidstate midstate.now l (step_block front j (digest_bytes (hash_in value l) 8)) → IsBegun (words_of words.new l) front }
-    ensures digest { (l j : ℕ) (front : List ℕ) → l < 4 → IsBegun (words_of words.old l) front → IsNumbered (slice_index ends l) (front ++ j ∷ [])
-        → IsMidstate midstate.now l (step_block front j (digest_bytes (hash_in value l) 8))
+    ensures words { (l j : ℕ) (front : List ℕ) → l < 4 → IsReady words.old midstate.now ends value l front j → IsBegun (words_of words.new l) front }
+    ensures digest { (l j : ℕ) (front : List ℕ) → l < 4 → IsReady words.old midstate.now ends value l front j
         → digest_bytes (hash_in result l) 8 ≡ step front j (digest_bytes (hash_in value l) 8) }
 {
     put_values(words, ends, value);

@@ -12,9 +12,9 @@ returns-clause-words c = λ l b low held.
 pub returns-clause-state : goal.returns-clause-state
 returns-clause-state c = λ l b h low held before.
     let t = c.args.t in
-    let w1 = IsSchedule-at _ b _ _ (omega arith) (c.round_and_word-v.ensures.words l b low held) in
-    let w2 = IsSchedule-at _ b _ _ (omega arith) (c.round_and_word-v-2.ensures.words l b low w1) in
-    let w3 = IsSchedule-at _ b _ _ (omega arith) (c.round_and_word-v-3.ensures.words l b low w2) in
+    let w1 = IsSchedule-at _ b (t + 17) (t + 1 + 16) (omega arith) (c.round_and_word-v.ensures.words l b low held) in
+    let w2 = IsSchedule-at _ b (t + 1 + 17) (t + 2 + 16) (omega arith) (c.round_and_word-v-2.ensures.words l b low w1) in
+    let w3 = IsSchedule-at _ b (t + 2 + 17) (t + 3 + 16) (omega arith) (c.round_and_word-v-3.ensures.words l b low w2) in
     let s1 = c.round_and_word-v.ensures.state l b h low held before in
     let s2 = c.round_and_word-v-2.ensures.state l b h low w1 s1 in
     let s3 = c.round_and_word-v-3.ensures.state l b h low w2 (rounds-at h _ _ (t + 1 + 1) (t + 2) (omega arith) s2) in
