@@ -4,16 +4,10 @@ use Rattle.sha_lanes.proofs.compression.rounds_from.Goals as goal
 
 pub turns-preserved : goal.turns-preserved
 turns-preserved c =
-    let first = c.four_rounds_and_words-reached.ensures in
-    let second = c.four_rounds_and_words-reached-in-turns.ensures in (
-      λ l b low held.
-          let w1 = first.words l b low (c.turns.invariant.0 l b low held) in
-          IsSchedule-at _ b _ _ (omega arith) (second.words l b low (IsSchedule-at _ b _ _ (omega arith) w1)),
+    let turn = c.eight_rounds_and_words-reached.ensures in (
+      λ l b low held. IsSchedule-at _ b _ _ (omega arith) (turn.words l b low (c.turns.invariant.0 l b low held)),
       λ l b h low held before.
-          let w0 = c.turns.invariant.0 l b low held in
-          let w1 = first.words l b low w0 in
-          let s1 = first.state l b h low w0 (c.turns.invariant.1 l b h low held before) in
-          rounds-at h _ _ _ _ (omega arith) (second.state l b h low (IsSchedule-at _ b _ _ (omega arith) w1) s1),
+          rounds-at h _ _ _ _ (omega arith) (turn.state l b h low (c.turns.invariant.0 l b low held) (c.turns.invariant.1 l b h low held before)),
     )
 
 pub ends-init : goal.ends-init
