@@ -1,6 +1,6 @@
 -- What is signed of a capability, one delegation after the other.
-use Rattle.std.proofs.Common.{◌≡◌, ℕ, ◌+◌, ◌<◌, ◌≤◌, List, [], ◌∷◌, ◌++◌, length, map, drop, get_or, refl, sym, ap, ◌∙◌, append_assoc, arith}
-use Rattle.std.proofs.lemmas.List.{append-nil, drop_all, map-append, nil_from_length}
+use Rattle.std.proofs.Common.{◌≡◌, ℕ, ◌+◌, ◌<◌, ◌≤◌, List, [], ◌∷◌, ◌++◌, length, map, take, drop, get_or, refl, sym, ap, ◌∙◌, append_assoc, arith}
+use Rattle.std.proofs.lemmas.List.{append-nil, drop_all, map-append, nil_from_length, take_at, take-append-drop}
 use Rattle.willow_area.specs.AreaSpelling.{area_spelling}
 use Rattle.mc_cap.specs.Signature.{signature_spelling}
 use Rattle.mc_cap.specs.Forms.{delegation_spelling}
@@ -76,3 +76,10 @@ pub first_told : (c : Capability) (items : List Delegation) (begun : List Signed
 first_told c items begun all none =
     let empty : handing_signings c 0 c.chain ≡ [] = ap (handing_signings c 0) (sym all ∙ nil_from_length items none) ∙ signings-nil c 0 in
     sym (append-nil (map signing_of begun)) ∙ ap (λ (l : List Signing). map signing_of begun ++ l) (sym empty)
+
+-- what stood first stays first where more is appended
+pub kept_on : (old mid new more : List SignedMessage) (n : ℕ) → n ≡ length old → take n mid ≡ old → new ≡ mid ++ more → take n new ≡ old
+kept_on old mid new more n is kept grown =
+    let parts : mid ≡ old ++ drop n mid = sym (take-append-drop n mid) ∙ ap (λ (l : List SignedMessage). l ++ drop n mid) kept in
+    let whole : new ≡ old ++ (drop n mid ++ more) = grown ∙ ap (λ (l : List SignedMessage). l ++ more) parts ∙ append_assoc old (drop n mid) more in
+    ap (λ (l : List SignedMessage). take n l) whole ∙ take_at old (drop n mid ++ more) n (sym is)

@@ -1,6 +1,6 @@
 //! What is signed of a capability, for those who verify many signatures by one call.
 
-ghost use Rattle.std.specs.Prelude.{◌≡◌, ◌++◌, List, ℕ, map, OnOk};
+ghost use Rattle.std.specs.Prelude.{◌≡◌, ◌++◌, List, ℕ, map, take, OnErr, OnOk, vec_len};
 ghost use Rattle.scheme_core.specs.Claims.{accepts_claim};
 ghost use Rattle.scheme_core.specs.Rules.{Rules};
 ghost use Rattle.mc_cap.specs.Signed.{handing_signings, initial_signings, signing_of, signings};
@@ -39,9 +39,25 @@ impl Capability {
     /// Appends what is signed of the capability (Meadowcap), in the order in which `check` asks for it: where it is owned,
     /// the initial message by the namespace; and for each delegation its handover by the receiver before it. These are at
     /// most `MAX_CHAIN` messages and one, and each handover has the spelling of the capability up to there; of a valid
-    /// capability they are at most `MAX_DELEGATIONS` and one. Without memory some of them may have been appended.
+    /// capability they are at most `MAX_DELEGATIONS` and one. Without memory `signed` stays as it was.
     pub fn put_signed<'a>(&'a self, signed: &mut Vec<SignedMessage<'a>>) -> Result<(), NoMemory>
-        ensures { OnOk result (map signing_of signed.new.items ≡ map signing_of signed.old.items ++ signings self.now) }
+        ensures told { OnOk result (map signing_of signed.new.items ≡ map signing_of signed.old.items ++ signings self.now) }
+        ensures err { OnErr result (signed.new.items ≡ signed.old.items) }
+    {
+        let begun = signed.len();
+        match self.put_each(signed) {
+            Ok(()) => Ok(()),
+            Err(NoMemory) => {
+                signed.truncate(begun);
+                Err(NoMemory)
+            }
+        }
+    }
+
+    // Appends the same, or without memory some of it.
+    fn put_each<'a>(&'a self, signed: &mut Vec<SignedMessage<'a>>) -> Result<(), NoMemory>
+        ensures told { OnOk result (map signing_of signed.new.items ≡ map signing_of signed.old.items ++ signings self.now) }
+        ensures kept { take (vec_len signed.old) signed.new.items ≡ signed.old.items }
     {
         self.put_initial(signed)?;
         if self.chain.as_slice().is_empty() {
@@ -52,7 +68,8 @@ impl Capability {
 
     // Appends the initial message, where the capability is owned.
     fn put_initial<'a>(&'a self, signed: &mut Vec<SignedMessage<'a>>) -> Result<(), NoMemory>
-        ensures { OnOk result (map signing_of signed.new.items ≡ map signing_of signed.old.items ++ initial_signings self.now self.now.initial) }
+        ensures told { OnOk result (map signing_of signed.new.items ≡ map signing_of signed.old.items ++ initial_signings self.now self.now.initial) }
+        ensures kept { take (vec_len signed.old) signed.new.items ≡ signed.old.items }
     {
         if let Some(signature) = &self.initial {
             signed.push(SignedMessage {
@@ -67,9 +84,10 @@ impl Capability {
         Ok(())
     }
 
-    // Appends the handover of each delegation. The message grows by one after the other.
+    // Appends the handover of each delegation, or without memory of some. The message grows by one after the other.
     fn put_handovers<'a>(&'a self, signed: &mut Vec<SignedMessage<'a>>) -> Result<(), NoMemory>
-        ensures { OnOk result (map signing_of signed.new.items ≡ map signing_of signed.old.items ++ handing_signings self.now 0 self.now.chain) }
+        ensures told { OnOk result (map signing_of signed.new.items ≡ map signing_of signed.old.items ++ handing_signings self.now 0 self.now.chain) }
+        ensures kept { take (vec_len signed.old) signed.new.items ≡ signed.old.items }
     {
         let mut message = self.begin_handover()?;
         let count_at = message.len() - 1;

@@ -1,4 +1,4 @@
-use Rattle.std.proofs.Common.{◌≡◌, ◌++◌, ◌+◌, drop, length, map}
+use Rattle.std.proofs.Common.{◌≡◌, ◌++◌, ◌+◌, drop, length, map, take, vec_len}
 use Rattle.mc_cap.specs.Forms.{head_spelling}
 use Rattle.mc_cap.specs.Grant.{cut, receiver_of}
 use Rattle.mc_cap.specs.Signed.{handing_signings, signing_of}
@@ -13,4 +13,5 @@ invariant-loop-next l = record {
   message : l.message.items ≡ text_of l.self l.next-index;
   receiver : l.receiver ≡ receiver_of (cut l.self l.next-index);
   left : map signing_of l.signed.items ++ handing_signings l.self l.next-index (drop l.next-index l.self.chain) ≡ map signing_of l.fn.signed.items ++ handing_signings l.self 0 l.self.chain;
+  kept : take (vec_len l.fn.signed) l.signed.items ≡ l.fn.signed.items;
 }
