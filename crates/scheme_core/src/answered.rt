@@ -40,6 +40,8 @@ impl<'a, S: VerifyMany> Answered<'a, S> {
     /// The scheme with what it answers on the claims, in order.
     pub fn new(scheme: S, claims: &'a [Claim<'a>], answers: &'a [bool]) -> Answered<'a, S>
         requires { answers.now ≡ map (accepts_claim S.rules) claims.now }
+        ensures scheme { result.scheme ≡ scheme }
+        ensures claims { result.claims.now ≡ claims.now }
     {
         Answered {
             scheme,
