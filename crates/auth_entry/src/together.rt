@@ -1,6 +1,6 @@
 //! Capabilities whose signatures are verified by one call.
 
-ghost use Rattle.std.specs.Prelude.{◌≡◌, ◌+◌, ◌≤◌, length, map, sum, IfOk, OnOk};
+ghost use Rattle.std.specs.Prelude.{◌≡◌, ◌+◌, ◌-◌, ◌≤◌, length, map, take, drop, sum, IfOk, OnOk};
 ghost use Rattle.scheme_core.specs.Claims.{accepts_claim};
 ghost use Rattle.auth_entry.specs.Authorised.{capability_refusal};
 ghost use Rattle.auth_entry.specs.Places.{carried};
@@ -127,6 +127,7 @@ fn answered<'s, S: Scheme>(
     requires order { from ≤ to }
     requires within { to ≤ length claims.now }
     requires answers { answers.now ≡ map (accepts_claim S.rules) claims.now }
+    ensures { result.claims.now ≡ take (to - from) (drop from claims.now) }
 {
     Answered::new(*scheme, &claims[from..to], &answers[from..to])
 }
