@@ -2,6 +2,7 @@
 //! guess, since a search looks whether it is right.
 
 ghost use Rattle.std.specs.Prelude.{◌<◌};
+ghost use Rattle.block_store.specs.declared.guess.TheConstants.{GUESSES};
 
 use crate::spot::Spot;
 use willow_entry::Row;
@@ -44,7 +45,7 @@ impl Guess {
 
 // Which guess is kept for the row's subspace.
 pub(crate) fn slot_of<R: Row>(row: &R) -> usize
-    ensures { result < 32 }
+    ensures { result < GUESSES }
 {
     row.entry().subspace.to_bytes()[32] as usize % GUESSES
 }

@@ -3,7 +3,7 @@
 ghost use Rattle.std.specs.Prelude.{◌≡◌, ◌≤◌, Bool, true, false, length, IfSome};
 ghost use Rattle.std.specs.List.Sorted.{IsPartitionedBy, IsPartitionPoint};
 ghost use Rattle.willow_entry.specs.Row.{RowValue};
-ghost use Rattle.block_store.specs.Blocks.{block_values, index_of, IsSpot, last_passes};
+ghost use Rattle.block_store.specs.Blocks.{block_values, index_of, last_passes, EndPassing, IsSpot};
 ghost use Rattle.block_store.specs.Held.{values_of};
 
 use crate::block::{Block, Piece};
@@ -30,7 +30,7 @@ pub(crate) fn ends_passing<R: Row, T: Test<R>>(block: &Block<R>, test: &T) -> bo
 // The number of blocks whose last row passes. Rows often come in rising order: then all pass, which the last one tells.
 pub(crate) fn passing_blocks<R: Row, T: Test<R>>(pieces: &[Piece<R>], test: &T) -> usize
     requires { IsPartitionedBy (λ p. last_passes (T.test test.now) (values_of R.value p.block.value.rows.items)) pieces.now }
-    ensures point { IsPartitionPoint (λ p. last_passes (T.test test.now) (values_of R.value p.block.value.rows.items) ≡ true) (λ p. last_passes (T.test test.now) (values_of R.value p.block.value.rows.items) ≡ false) pieces.now result }
+    ensures point { EndPassing R.value (T.test test.now) pieces.now result }
     ensures bound { result ≤ length pieces.now }
 {
     let count = pieces.len();
@@ -56,7 +56,7 @@ pub(crate) fn passing_rows<R: Row, T: Test<R>>(rows: &[Arc<R>], test: &T) -> usi
 // Where the rows end that pass: in the first block that does not end passing.
 pub(crate) fn spot_in<R: Row, T: Test<R>>(pieces: &[Piece<R>], test: &T, block: usize) -> Spot
     requires split { IsPartitionedBy (T.test test.now) (block_values R.value pieces.now) }
-    requires point { IsPartitionPoint (λ p. last_passes (T.test test.now) (values_of R.value p.block.value.rows.items) ≡ true) (λ p. last_passes (T.test test.now) (values_of R.value p.block.value.rows.items) ≡ false) pieces.now block }
+    requires point { EndPassing R.value (T.test test.now) pieces.now block }
     requires bound { block ≤ length pieces.now }
     ensures spot { IsSpot pieces.now result }
     ensures point { IsPartitionPoint (λ r. T.test test.now r ≡ true) (λ r. T.test test.now r ≡ false) (block_values R.value pieces.now) (index_of pieces.now result) }
