@@ -28,7 +28,7 @@ less_from Less e = refl
 less_from Equal e = absurd cc
 less_from Greater e = absurd cc
 
-all_above : (r s : RowValue) (rows : List RowValue) → inner_place_cmp r s ≡ Less → AllByRecursion (λ t. inner_place_cmp s t ≡ Less) rows → AllByRecursion (λ t. inner_place_cmp r t ≡ Less) rows
+pub all_above : (r s : RowValue) (rows : List RowValue) → inner_place_cmp r s ≡ Less → AllByRecursion (λ t. inner_place_cmp s t ≡ Less) rows → AllByRecursion (λ t. inner_place_cmp r t ≡ Less) rows
 all_above r s [] e up = tt
 all_above r s (t ∷ rows) e up = (inner_total.trans r s t e up.0, all_above r s rows e up.1)
 

@@ -19,7 +19,7 @@ use Rattle.peer_image.proofs.Falls.{rising_from_none, none_from_rising}
 use Rattle.peer_image.proofs.Inner.{inner_total, inner_not_above, dominated_at_inner, rising_from_inner, inner_from_rising}
 
 -- a row below another is not dominated by it
-above_spares : (r s : RowValue) → inner_place_cmp r s ≡ Less → is_dominating s r ≡ false
+pub above_spares : (r s : RowValue) → inner_place_cmp r s ≡ Less → is_dominating s r ≡ false
 above_spares r s less = false_from_ne_true (is_dominating s r) (λ d.
     false≢true (sym (inner_not_above s r (dominated_at_inner s r d)) ∙ ap is_gt (inner_total.antisymm s r ∙ ap ordering_reverse less)))
 

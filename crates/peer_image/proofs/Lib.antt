@@ -4,6 +4,8 @@ pub mod Inner
 pub mod KeptFronts
 pub mod Falls
 pub mod InOrder
+pub mod LastFronts
+pub mod OrderBehind
 pub mod Stops
 pub mod ReadParts
 pub mod Misordered

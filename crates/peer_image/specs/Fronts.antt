@@ -1,10 +1,11 @@
 -- The rows at the prefixes of a row among those before it, with their numbers.
-use Rattle.std.specs.Prelude.{◌≡◌, ℕ, ◌+◌, Bool, ◌&&◌, List, [], ◌∷◌, Option, Some, None, filter, if◌then◌else◌}
-use Rattle.std.specs.List.{AllByRecursion}
+use Rattle.std.specs.Prelude.{◌≡◌, ◌↔◌, ℕ, ◌+◌, Bool, ◌&&◌, List, [], ◌∷◌, ◌++◌, length, Option, Some, None, filter, if◌then◌else◌}
+use Rattle.std.specs.List.{AllByRecursion, last_or}
 use Rattle.std.specs.declared.cmp.Ordering.TheVariants.{Less}
 use Rattle.willow_path.specs.Path.{is_prefix}
 use Rattle.willow_entry.specs.Entry.{same_bytes}
 use Rattle.willow_entry.specs.Row.{RowValue, is_dominating, inner_place_cmp}
+use Rattle.peer_image.specs.Order.{order_refusal, IsInnerRising}
 use Rattle.peer_image.specs.declared.order.Front.{Front}
 
 -- a row and its number
@@ -37,3 +38,28 @@ first_dominating r (s ∷ seen) = if is_dominating s.row r then Some s.at else f
 -- for each row above the earlier ones, the kept ones have all that stand at its prefixes
 abbrev pub Suffices : List RowValue → List Seen → Type 0
 Suffices earlier kept = (r : RowValue) → AllByRecursion (λ s. inner_place_cmp s r ≡ Less) earlier → fronts_of r kept ≡ fronts_of r (numbered 1 earlier)
+
+-- So many rows stand before these, and these rise behind them. Of the earlier ones those are kept that may dominate one.
+pub record StandBehind (earlier : List RowValue) (kept : List Seen) (before : ℕ) (rows : List RowValue) : Type 0 where
+  pub counted : before ≡ length earlier
+  pub sufficient : Suffices earlier kept
+  pub rising : IsInnerRising (earlier ++ rows)
+
+-- ---- a part at a time
+
+-- those of the rows that stand at prefixes of this one
+abbrev pub at_prefixes_of : Option RowValue → List RowValue → List RowValue
+at_prefixes_of None rows = []
+at_prefixes_of (Some last) rows = filter (λ r. is_at_inner_prefix r last) rows
+
+-- those of the rows that stand at prefixes of the last of them, itself among these
+abbrev pub last_fronts : List RowValue → List RowValue
+last_fronts rows = at_prefixes_of (last_or None rows) rows
+
+-- Where rows are in order, whether further ones are so behind them shows behind the fronts of the last alone.
+abbrev pub FrontsDecideOrder : Type 0
+FrontsDecideOrder = (rows more : List RowValue) → order_refusal rows ≡ None → (order_refusal (rows ++ more) ≡ None) ↔ (order_refusal (last_fronts rows ++ more) ≡ None)
+
+-- Where they are so, the fronts of the last of all are found among the fronts before and the further rows.
+abbrev pub FrontsGoOn : Type 0
+FrontsGoOn = (rows more : List RowValue) → order_refusal (rows ++ more) ≡ None → last_fronts (rows ++ more) ≡ last_fronts (last_fronts rows ++ more)

@@ -1,5 +1,6 @@
 //! What holds of images.
 
+ghost use Rattle.peer_image.specs.Fronts.{FrontsDecideOrder, FrontsGoOn};
 ghost use Rattle.peer_image.specs.Order.{IsOrder, IsOrderOfLive};
 ghost use Rattle.peer_image.specs.ImageReading.{header_at, header_spelling, image_spelling, ImagesNeverGoWrong, FitsImage, HaveOneImage, HaveOnePlace, ReadsBack};
 ghost use Rattle.spelling.specs.Form.{IsForm};
@@ -21,6 +22,18 @@ pub fn order_decides()
 /// Rows of one namespace are not refused for their order exactly where a store keeps them all, in this order.
 pub fn order_of_live()
     ensures { IsOrderOfLive }
+{}
+
+/// Where rows are in order, further ones are so behind them exactly where they are behind those of the rows that stand at
+/// prefixes of the last.
+pub fn fronts_decide_order()
+    ensures { FrontsDecideOrder }
+{}
+
+/// Where all are in order, those that stand at prefixes of the last of all are found among those before and the further
+/// ones.
+pub fn fronts_go_on()
+    ensures { FrontsGoOn }
 {}
 
 /// A namespace with rows has one image, which begins that of no other.

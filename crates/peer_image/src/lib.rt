@@ -9,6 +9,7 @@ mod read;
 mod refusal;
 mod write;
 
+pub use order::{are_in_order, last_fronts};
 pub use parts::{image_head, rows_in_front};
 pub use read::{Image, is_trailer, read_image};
 pub use refusal::ImageRefusal;

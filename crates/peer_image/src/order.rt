@@ -1,9 +1,10 @@
 //! The order of an image's rows: they rise by subspace and path, and no row dominates a later one.
 
-ghost use Rattle.std.specs.Prelude.{◌≡◌, ◌+◌, ◌<◌, ◌^◌, length, map, IfOk};
-ghost use Rattle.willow_entry.specs.Row.{inner_place_cmp};
-ghost use Rattle.peer_image.specs.Fronts.{first_dominating, fronts_of, is_at_inner_prefix, seen};
-ghost use Rattle.peer_image.specs.Order.{fall_after, first_fall, first_pruned, order_refusal, IsInnerRising};
+ghost use Rattle.std.specs.Prelude.{◌≡◌, ◌↔◌, ◌+◌, ◌++◌, ◌<◌, ◌^◌, List, length, map, option_map, None, Some, IfOk, IsTrue, OnOk};
+ghost use Rattle.std.specs.List.{last_or};
+ghost use Rattle.willow_entry.specs.Row.{RowValue, inner_place_cmp};
+ghost use Rattle.peer_image.specs.Fronts.{at_prefixes_of, first_dominating, fronts_of, is_at_inner_prefix, last_fronts, numbered, seen, StandBehind};
+ghost use Rattle.peer_image.specs.Order.{fall_after, first_fall, first_pruned, order_refusal, pruned_after, IsInnerRising};
 
 use crate::refusal::ImageRefusal;
 use spelling::NoMemory;
@@ -94,16 +95,29 @@ fn dominating<R: Row>(fronts: &[Front<R>], row: &R) -> Option<u32>
     }
 }
 
-// The first row that an earlier one dominates. Such rows stand at prefixes of its path, and as rows rise by subspace
-// and path, what is at no prefix of a row is at none of a later one: so only the prefixes of the row before are
-// looked at. Rows of other namespaces may stand between, so namespaces do not decide what is kept.
+// The first row that an earlier one dominates.
 fn first_pruned<R: Row>(alloc: Global, rows: &[R]) -> Result<Option<ImageRefusal>, NoMemory>
     requires count { length rows.now < 2 ^ 32 }
     requires rising { IsInnerRising (map R.value rows.now) }
     ensures { IfOk result (λ found. found ≡ first_pruned (map R.value rows.now)) }
 {
-    let mut fronts = Vec::new(alloc);
-    let mut at = 0;
+    pruned_behind(Vec::new(alloc), 0, rows)
+}
+
+// The first of the rows that an earlier one dominates, where so many stand before them and the fronts of these are given.
+// Such rows stand at prefixes of its path, and as rows rise by subspace and path, what is at no prefix of a row is at none
+// of a later one: so only the prefixes of the row before are looked at. Rows of other namespaces may stand between, so
+// namespaces do not decide what is kept.
+fn pruned_behind<'a, R: Row>(
+    mut fronts: Vec<Front<'a, R>>,
+    before: u32,
+    rows: &'a [R],
+) -> Result<Option<ImageRefusal>, NoMemory>
+    requires { before + length rows.now < 2 ^ 32 }
+    ensures { (earlier : List RowValue) → StandBehind earlier (map (seen R.value) fronts.entry.items) before (map R.value rows.now)
+        → IfOk result (λ found. found ≡ pruned_after earlier (map R.value rows.now)) }
+{
+    let mut at = before;
     for row in rows {
         at += 1;
         keep_fronts(&mut fronts, row);
@@ -113,4 +127,81 @@ fn first_pruned<R: Row>(alloc: Global, rows: &[R]) -> Result<Option<ImageRefusal
         }
     }
     Ok(None)
+}
+
+// ---- a part at a time
+
+/// Whether the rows are in order behind others, of which the fronts of the last are given.
+pub fn are_in_order<R: Row>(alloc: Global, fronts: &[R], rows: &[R]) -> Result<bool, NoMemory>
+    requires count { length fronts.now + length rows.now < 2 ^ 32 }
+    requires in_order { order_refusal (map R.value fronts.now) ≡ None }
+    ensures { IfOk result (λ x. IsTrue x ↔ (order_refusal (map R.value fronts.now ++ map R.value rows.now) ≡ None)) }
+{
+    if !rise_behind(fronts, rows) {
+        return Ok(false);
+    }
+    let kept = numbered(alloc, fronts)?;
+    let pruned = pruned_behind(kept, fronts.len() as u32, rows)?;
+    Ok(pruned.is_none())
+}
+
+// Whether the rows rise behind others that do.
+fn rise_behind<R: Row>(earlier: &[R], rows: &[R]) -> bool
+    requires count { length earlier.now + length rows.now < 2 ^ 32 }
+    requires rising { IsInnerRising (map R.value earlier.now) }
+    ensures { IsTrue result ↔ IsInnerRising (map R.value earlier.now ++ map R.value rows.now) }
+{
+    match earlier.last() {
+        Some(last) => fall_after(last, rows).is_none(),
+        None => first_fall(rows).is_none(),
+    }
+}
+
+// The rows with their numbers.
+fn numbered<R: Row>(alloc: Global, rows: &[R]) -> Result<Vec<Front<R>>, NoMemory>
+    requires { length rows.now < 2 ^ 32 }
+    ensures { IfOk result (λ fronts. map (seen R.value) fronts.items ≡ numbered 1 (map R.value rows.now)) }
+{
+    let mut fronts = Vec::with_capacity(alloc, rows.len())?;
+    let mut at = 0;
+    for row in rows {
+        at += 1;
+        fronts.push(Front { at, row })?;
+    }
+    Ok(fronts)
+}
+
+/// Those of the rows, which stand behind others of which the fronts are given, and of these fronts that stand at prefixes
+/// of the last row, itself among them: as rows of their own.
+pub fn last_fronts<R: Row>(alloc: Global, fronts: &[R], rows: &[R]) -> Result<Vec<R>, NoMemory>
+    ensures { IfOk result (λ kept. map R.value kept.items ≡ last_fronts (map R.value fronts.now ++ map R.value rows.now)) }
+{
+    let mut kept = Vec::new(alloc);
+    if let Some(last) = last_of(fronts, rows) {
+        copy_fronts(fronts, last, &mut kept)?;
+        copy_fronts(rows, last, &mut kept)?;
+    }
+    Ok(kept)
+}
+
+// The last of the rows, or of the earlier ones where there are none.
+fn last_of<'a, R: Row>(earlier: &'a [R], rows: &'a [R]) -> Option<&'a R>
+    ensures { option_map (λ r. R.value r.now) result ≡ last_or None (map R.value earlier.now ++ map R.value rows.now) }
+{
+    match rows.last() {
+        Some(last) => Some(last),
+        None => earlier.last(),
+    }
+}
+
+// Puts copies of those that stand at prefixes of the last row behind the kept ones.
+fn copy_fronts<R: Row>(rows: &[R], last: &R, kept: &mut Vec<R>) -> Result<(), NoMemory>
+    ensures { OnOk result (map R.value kept.new.items ≡ map R.value kept.old.items ++ at_prefixes_of (Some (R.value last.now)) (map R.value rows.now)) }
+{
+    for row in rows {
+        if is_at_inner_prefix(row, last) {
+            kept.push(row.copy()?)?;
+        }
+    }
+    Ok(())
 }
