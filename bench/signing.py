@@ -7,8 +7,8 @@ signed; that takes some 40 seconds of processors. Then `key --height 10`, `write
 timed by the clock and in the time of the processors, and the `join` on one processor too: alone, and while each of the others
 does the same, as a processor of a shared machine may be slower where all are busy. The runs of all of them take turns, so that
 what else the machine does falls on all alike; told are medians of RUNS runs. On a virtual machine the host may take processors
-away for a while. A run that lost more than STOLEN of its time so is done again, up to TRIES times, and the one that lost least
-counts; told is how many counted though they lost more. Both programs get the same files, and have to write the same rows and
+away for a while. A run that lost more than STOLEN of its processors' time so is done again, TRIES runs in all, and the one that
+lost least counts; told is how many counted though they lost more. Both programs get the same files, and have to write the same rows and
 images.
 """
 import os
@@ -118,18 +118,19 @@ def run(program, folder, part):
 
 
 def stolen():
-    """The seconds that the host kept this machine's processors for others, up to now."""
+    """The seconds that the host kept the machine's processors, all together, for others, up to now."""
     with open("/proc/stat") as file:
         return int(file.readline().split()[8]) / os.sysconf("SC_CLK_TCK")
 
 
 def calm_run(program, folder, part):
     """A run of one part that lost little to the host, or of TRIES the one that lost least, and which share it lost."""
+    processors = 1 if part == "alone" else len(os.sched_getaffinity(0))
     least = None
     for _ in range(TRIES):
         before = stolen()
         ran = run(program, folder, part)
-        lost = (stolen() - before) / (ran[0] * len(os.sched_getaffinity(0)))
+        lost = (stolen() - before) / (ran[0] * processors)
         if least is None or lost < least[1]:
             least = ran, lost
         if lost <= STOLEN:

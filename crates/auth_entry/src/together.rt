@@ -127,7 +127,8 @@ fn answered<'s, S: Scheme>(
     requires order { from ≤ to }
     requires within { to ≤ length claims.now }
     requires answers { answers.now ≡ map (accepts_claim S.rules) claims.now }
-    ensures { result.claims.now ≡ take (to - from) (drop from claims.now) }
+    ensures scheme { result.scheme ≡ scheme.now }
+    ensures claims { result.claims.now ≡ take (to - from) (drop from claims.now) }
 {
     Answered::new(*scheme, &claims[from..to], &answers[from..to])
 }

@@ -1,6 +1,6 @@
 //! The one search among rows in blocks: where the rows end that pass a test.
 
-ghost use Rattle.std.specs.Prelude.{◌≡◌, ◌≤◌, Bool, true, false, length, IfSome};
+ghost use Rattle.std.specs.Prelude.{◌≡◌, ◌≤◌, Bool, true, false, length};
 ghost use Rattle.std.specs.List.Sorted.{IsPartitionedBy, IsPartitionPoint};
 ghost use Rattle.willow_entry.specs.Row.{RowValue};
 ghost use Rattle.block_store.specs.Blocks.{block_values, index_of, last_passes, EndPassing, IsSpot};

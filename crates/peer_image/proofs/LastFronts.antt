@@ -110,9 +110,6 @@ at_itself r =
 abbrev at_front : RowValue → RowValue → Bool
 at_front last r = is_at_inner_prefix r last
 
-fronts_of_none : last_fronts [] ≡ []
-fronts_of_none = refl
-
 fronts_of_snoc : (front : List RowValue) (last : RowValue) → last_fronts (front ++ last ∷ []) ≡ filter (at_front last) (front ++ last ∷ [])
 fronts_of_snoc front last = rw (last_of_snoc None front last) refl
 

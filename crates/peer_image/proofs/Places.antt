@@ -1,7 +1,7 @@
 -- One step further along a list that is mapped.
 use Rattle.std.proofs.Common.{◌≡◌, ℕ, suc, ◌+◌, ◌<◌, List, [], ◌∷◌, ◌++◌, length, take, drop, map, get_or, sym, ap, subst, ◌∙◌, add-one, arith}
 use Rattle.std.specs.List.{AllByRecursion, flat_map}
-use Rattle.std.proofs.lemmas.List.{length-map, map-append, flat_map_more, take-append-drop}
+use Rattle.std.proofs.lemmas.List.{length-map, map-append, flat_map_more}
 use Rattle.std.proofs.lemmas.List.Elements.{All-from_recursion}
 use Rattle.std.proofs.Math.Seq.{drop-cons, take-suc}
 use Rattle.std.proofs.Math.ListN.{get_or-map}
@@ -37,7 +37,3 @@ module _ {X Y : Type 0} (f : X → Y) (xs : List X) (k : ℕ) (x : X) (within : 
   -- what holds of each holds of the item
   pub all_here : (P : Y → Type 0) → AllByRecursion P (map f xs) → P (f x)
   all_here P all = subst P item_is (All-from_recursion P (map f xs) all k (f x) (omega (arith, within, length-map xs f)))
-
-  -- the list is what was passed, the item, and what is left behind it
-  pub split_is : map f xs ≡ take k (map f xs) ++ f x ∷ drop (k + 1) (map f xs)
-  split_is = sym (take-append-drop k (map f xs)) ∙ ap (λ l. take k (map f xs) ++ l) left_is

@@ -39,7 +39,7 @@ first_dominating r (s ∷ seen) = if is_dominating s.row r then Some s.at else f
 abbrev pub Suffices : List RowValue → List Seen → Type 0
 Suffices earlier kept = (r : RowValue) → AllByRecursion (λ s. inner_place_cmp s r ≡ Less) earlier → fronts_of r kept ≡ fronts_of r (numbered 1 earlier)
 
--- So many rows stand before these, and these rise behind them. Of the earlier ones those are kept that may dominate one.
+-- So many rows stand before these, and all of them rise. Of the earlier ones those are kept that may dominate one.
 pub record StandBehind (earlier : List RowValue) (kept : List Seen) (before : ℕ) (rows : List RowValue) : Type 0 where
   pub counted : before ≡ length earlier
   pub sufficient : Suffices earlier kept
@@ -47,7 +47,7 @@ pub record StandBehind (earlier : List RowValue) (kept : List Seen) (before : �
 
 -- ---- a part at a time
 
--- those of the rows that stand at prefixes of this one
+-- those of the rows that stand at prefixes of this one, none without one
 abbrev pub at_prefixes_of : Option RowValue → List RowValue → List RowValue
 at_prefixes_of None rows = []
 at_prefixes_of (Some last) rows = filter (λ r. is_at_inner_prefix r last) rows
@@ -56,10 +56,11 @@ at_prefixes_of (Some last) rows = filter (λ r. is_at_inner_prefix r last) rows
 abbrev pub last_fronts : List RowValue → List RowValue
 last_fronts rows = at_prefixes_of (last_or None rows) rows
 
--- Where rows are in order, whether further ones are so behind them shows behind the fronts of the last alone.
+-- Where rows are not refused for their order, whether further ones are behind them shows behind the fronts of the last
+-- alone.
 abbrev pub FrontsDecideOrder : Type 0
 FrontsDecideOrder = (rows more : List RowValue) → order_refusal rows ≡ None → (order_refusal (rows ++ more) ≡ None) ↔ (order_refusal (last_fronts rows ++ more) ≡ None)
 
--- Where they are so, the fronts of the last of all are found among the fronts before and the further rows.
+-- Where none are, the fronts of the last of all are found among the fronts of the first rows and the further rows.
 abbrev pub FrontsGoOn : Type 0
 FrontsGoOn = (rows more : List RowValue) → order_refusal (rows ++ more) ≡ None → last_fronts (rows ++ more) ≡ last_fronts (last_fronts rows ++ more)

@@ -30,8 +30,8 @@ pub fn fronts_decide_order()
     ensures { FrontsDecideOrder }
 {}
 
-/// Where all are in order, those that stand at prefixes of the last of all are found among those before and the further
-/// ones.
+/// Where all are in order, those that stand at prefixes of the last of all are found among the further ones and those that
+/// stood at prefixes of the last one before.
 pub fn fronts_go_on()
     ensures { FrontsGoOn }
 {}

@@ -131,7 +131,8 @@ fn pruned_behind<'a, R: Row>(
 
 // ---- a part at a time
 
-/// Whether the rows are in order behind others, of which the fronts of the last are given.
+/// Whether the rows are in order behind others, of which the fronts of the last are given: those at prefixes of its path,
+/// itself among them. By these alone it shows for all (`fronts_decide_order`).
 pub fn are_in_order<R: Row>(alloc: Global, fronts: &[R], rows: &[R]) -> Result<bool, NoMemory>
     requires count { length fronts.now + length rows.now < 2 ^ 32 }
     requires in_order { order_refusal (map R.value fronts.now) ≡ None }
@@ -171,8 +172,8 @@ fn numbered<R: Row>(alloc: Global, rows: &[R]) -> Result<Vec<Front<R>>, NoMemory
     Ok(fronts)
 }
 
-/// Those of the rows, which stand behind others of which the fronts are given, and of these fronts that stand at prefixes
-/// of the last row, itself among them: as rows of their own.
+/// The fronts of the last of the rows, as rows of their own: those at prefixes of its path, itself among them. They are
+/// found among the rows and the fronts of those before (`fronts_go_on`).
 pub fn last_fronts<R: Row>(alloc: Global, fronts: &[R], rows: &[R]) -> Result<Vec<R>, NoMemory>
     ensures { IfOk result (λ kept. map R.value kept.items ≡ last_fronts (map R.value fronts.now ++ map R.value rows.now)) }
 {

@@ -1,4 +1,5 @@
--- The block of a chain's step: 22 bytes of a front, a number in one byte, the 32 bytes of a value, and the padding.
+-- The block of a chain's step: 22 bytes of a front, a number in one byte, the 32 bytes of a value, and the padding. What
+-- the steps of one run of a chain share.
 use Rattle.std.specs.Prelude.{◌≡◌, ◌<◌, ◌+◌, ◌*◌, ℕ, List, [], ◌∷◌, ◌++◌, length, slice_index}
 use Rattle.std.specs.Int.{w32, to_be_bytes, from_be_bytes}
 use Rattle.sha2.specs.Sha256.{add32, digest_bytes, initial_hash_256, padding, rounds, schedule, small_sigma1, word_at}
@@ -54,7 +55,7 @@ pub record IsBegun (words front : List ℕ) : Type 0 where
 abbrev pub scheduled : List ℕ → ℕ → ℕ
 scheduled b t = slice_index (schedule b 48) t
 
--- In lane l the sums are what words 16 to 19 of the schedule of a block are made of, but for the words behind the front.
+-- In lane l the sums make words 16 to 19 of the schedule of a block, with words 9 to 12 and with σ1 of words 16 and 17.
 pub record AreSums (sums : Sums) (l : ℕ) (b : List ℕ) : Type 0 where
   pub word_16 : scheduled b 16 ≡ add32 (slice_index sums.word_16 l) (scheduled b 9)
   pub word_17 : scheduled b 17 ≡ add32 (slice_index sums.word_17 l) (scheduled b 10)

@@ -1,6 +1,6 @@
 //! The message schedules of four blocks (FIPS 180-4, section 6.2.2).
 
-ghost use Rattle.std.specs.Prelude.{◌≡◌, ℕ, ◌<◌, ◌≤◌};
+ghost use Rattle.std.specs.Prelude.{ℕ, ◌<◌, ◌≤◌};
 ghost use Rattle.sha2.specs.Sha256.{next_word};
 ghost use Rattle.sha_lanes.specs.Lanes.{HasLanes, IsBlock, one_of, words_of};
 

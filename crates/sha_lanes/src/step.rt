@@ -36,7 +36,7 @@ pub(crate) fn load_fronts(
     ]
 }
 
-/// The last words of the fronts with a number behind each: three bytes of the front and the number.
+/// The last words of the numbered fronts: in the last three bytes of each, the last two of the front and the number.
 #[inline(always)]
 fn numbered(fronts: &[Vector; 6], numbers: Vector) -> Vector
     ensures { (l : ℕ) (front : List ℕ) → l < 4 → slice_index numbers l < 256 → IsFront (words_of fronts.now l) front
@@ -142,7 +142,8 @@ fn put_next_words(words: &mut [Vector; 64], midstate: &Midstate)
     words[20] = next_word(words, 20);
 }
 
-/// The digests of 55 bytes: the 23 of a numbered front, and the 32 of a value.
+/// One step: the digests of 55 bytes, the 23 of a numbered front and the 32 of a value. The words have what the steps of
+/// the run share, and have it again behind the step.
 #[inline(always)]
 fn hash_step(words: &mut [Vector; 64], midstate: &Midstate, ends: Vector, value: State) -> State
     ensures words { (l j : ℕ) (front : List ℕ) → l < 4 → IsReady words.old midstate.now ends value l front j → IsBegun (words_of words.new l) front }
