@@ -11,7 +11,6 @@ pub mod ReadLog
 pub mod Writing
 pub mod Framed
 pub mod Joined
-pub mod RisingLogs
 pub mod Imaged
 pub mod Listed
 pub mod PartedImages

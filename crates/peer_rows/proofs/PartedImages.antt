@@ -1,78 +1,106 @@
--- Images whose rows came into a log a part at a time, and their listing.
-use Rattle.std.proofs.Common.{◌≡◌, ℕ, List, [], length, map, Option, None, refl, sym, ap, ◌∙◌, subst, arith}
-use Rattle.std.specs.List.Sorted.{IsStrictlySortedBy}
-use Rattle.willow_entry.specs.declared.row.LogRow.{LogRow}
-use Rattle.willow_entry.specs.Row.{RowValue, new}
-use Rattle.cap_codec.specs.Rows.{RawValue}
-use Rattle.auth_entry.specs.Authorised.{AuthorisedValue}
-use Rattle.ns_state.specs.Log.{StateValue, IsLog}
+-- Images whose rows came into a log a part at a time.
+use Rattle.std.proofs.Common.{◌≡◌, ℕ, ◌≤◌, ◌<◌, ◌^◌, Bool, true, false, cond, List, [], ◌∷◌, ◌++◌, length, filter, Option, Some, None, refl, sym, ap, ◌∙◌, subst, append-nil, arith}
+use Rattle.std.specs.List.{last_or}
+use Rattle.std.proofs.lemmas.List.{length-map, map-append}
+use Rattle.willow_entry.specs.Row.{RowValue}
+use Rattle.cap_codec.specs.Rows.{RawValue, row_of}
+use Rattle.peer_image.specs.Fronts.{at_prefixes_of, last_fronts}
 use Rattle.peer_image.specs.Image.{trailer}
 use Rattle.peer_image.specs.ImageReading.{raw_rows, IsFront}
-use Rattle.peer_image.specs.Order.{IsInnerRising, order_refusal}
+use Rattle.peer_image.specs.Order.{order_refusal, first_fall, pruned_after}
 use Rattle.peer_image.specs.Parts.{IsHead}
+use Rattle.peer_image.proofs.LastFronts.{fronts_decide_order, fronts_go_on}
 use Rattle.peer_image.proofs.ReadParts.{front_none, front_on}
 use Rattle.peer_image.proofs.Stops.{image_of_front}
 use Rattle.peer_rows.specs.declared.intake.TheConstants.{TOGETHER}
-use Rattle.peer_rows.specs.Logged.{entry_row, live_rows}
-use Rattle.peer_rows.specs.Listed.{log_listing, show_counts, IsListing}
-use Rattle.peer_rows.specs.Parts.{held_rows, AreAuthorised, HasTakenPart, IsLoggedImage, IsRisingLog}
-use Rattle.peer_rows.proofs.Listed.{is_listing_of}
-use Rattle.peer_rows.proofs.RisingLogs.{all_stored, authorised_whole, counts_whole, held_many, order_of_new, values_are}
+use Rattle.peer_rows.specs.declared.parts.Taken.{Taken}
+use Rattle.peer_rows.specs.Images.{IsImageInOrder}
+use Rattle.peer_rows.specs.Stored.{IsWholeLog}
+use Rattle.peer_rows.specs.Parts.{HasTakenPart, HasTakenRows, HaveFronts, IsLoggedImage}
+use Rattle.peer_rows.proofs.Offered.{IsLogOf-start, no_counts}
 
--- the image begins with the rows of the log, whose namespace is that of the checker, and these bytes are left
-pub record HasReadSome (bytes judged_in : List ℕ) (log : StateValue AuthorisedValue) (left : List ℕ) : Type 0 where
-  pub front : IsFront bytes log.namespace (held_rows log) left
-  pub is_rising : IsRisingLog log
-  pub checks : judged_in ≡ log.namespace
+-- ---- fronts
 
-none_rise : IsInnerRising []
-unfolding IsStrictlySortedBy
-none_rise = tt
+filtered_few : {X : Type 0} (p : X → Bool) (xs : List X) → length (filter p xs) ≤ length xs
+filtered_few p [] = omega arith
+filtered_few {X} p (x ∷ xs) = split (p x) (filtered_few p xs) where
+  split : (b : Bool) → length (filter p xs) ≤ length xs → length (cond b (x ∷ filter p xs) (filter p xs)) ≤ length (x ∷ xs)
+  split true few = omega (arith, few)
+  split false few = omega (arith, few)
 
-pub read_none : (bytes n left judged_in : List ℕ) (log : StateValue AuthorisedValue) → IsHead bytes n left → judged_in ≡ n → log.namespace ≡ n → log.log ≡ [] → HasReadSome bytes judged_in log left
-read_none bytes n left judged_in log head checks here empty =
-    let none : [] ≡ held_rows log = sym (ap (map (λ (l : LogRow AuthorisedValue). l.row.row)) empty) in
-    record {
-      front = subst (λ (m : List ℕ). IsFront bytes m (held_rows log) left) (sym here) (subst (λ (l : List RawValue). IsFront bytes n l left) none (front_none bytes n left head));
-      is_rising = record {
-        authorised = subst (AreAuthorised log.namespace) none tt;
-        rising = subst (λ (l : List RawValue). IsInnerRising (raw_rows l)) none none_rise;
-      };
-      checks = checks ∙ sym here;
-    }
+fronts_few : (last : Option RowValue) (rows : List RowValue) → length (at_prefixes_of last rows) ≤ length rows
+fronts_few None rows = omega arith
+fronts_few (Some last) rows = filtered_few _ rows
 
--- one part more
-pub read_on : (bytes judged_in judged_in' : List ℕ) (log log' : StateValue AuthorisedValue) (left rest : List ℕ) → HasReadSome bytes judged_in log left → judged_in' ≡ judged_in → log'.namespace ≡ log.namespace → HasTakenPart log left rest log'
-    → HasReadSome bytes judged_in' log' rest
-read_on bytes judged_in judged_in' log log' left rest h checks same part = record {
-  front =
-      subst (λ (m : List ℕ). IsFront bytes m (held_rows log') rest) (sym same)
-      (subst (λ (l : List RawValue). IsFront bytes log.namespace l rest) (sym part.all_kept.grown) (front_on bytes log.namespace (held_rows log) left TOGETHER part.rows rest h.front part.part));
-  is_rising = part.all_kept.is_rising;
-  checks = checks ∙ h.checks ∙ sym same;
+none_in_order : order_refusal [] ≡ None
+unfolding first_fall pruned_after
+none_in_order = refl
+
+module _ (rows fronts : List RawValue) (h : HaveFronts rows fronts) where
+  -- they are not more than the rows
+  pub few_fronts : length fronts ≤ length rows
+  few_fronts = omega (arith, ap length h.are_fronts, fronts_few (last_or None (raw_rows rows)) (raw_rows rows), length-map fronts row_of, length-map rows row_of)
+
+  -- and in order as these are
+  pub fronts_in_order : order_refusal (raw_rows fronts) ≡ None
+  fronts_in_order =
+      let whole = subst (λ (l : List RowValue). order_refusal l ≡ None) (sym (append-nil (raw_rows rows))) h.in_order in
+      ap order_refusal (h.are_fronts ∙ sym (append-nil (last_fronts (raw_rows rows)))) ∙ (fronts_decide_order (raw_rows rows) [] h.in_order).0 whole
+
+  -- rows that are in order behind them go on, and the fronts of all are found among these
+  pub fronts_on : (more fronts' : List RawValue) → order_refusal (raw_rows fronts ++ raw_rows more) ≡ None → raw_rows fronts' ≡ last_fronts (raw_rows fronts ++ raw_rows more) → HaveFronts (rows ++ more) fronts'
+  fronts_on more fronts' order are =
+      let same = map-append row_of rows more in
+      let behind : order_refusal (last_fronts (raw_rows rows) ++ raw_rows more) ≡ None = subst (λ (l : List RowValue). order_refusal (l ++ raw_rows more) ≡ None) h.are_fronts order in
+      let all = (fronts_decide_order (raw_rows rows) (raw_rows more) h.in_order).1 behind in
+      record {
+        in_order = ap order_refusal same ∙ all;
+        are_fronts = are ∙ ap (λ (l : List RowValue). last_fronts (l ++ raw_rows more)) h.are_fronts ∙ sym (fronts_go_on (raw_rows rows) (raw_rows more) all) ∙ sym (ap last_fronts same);
+      }
+
+pub no_fronts : (fronts : List RawValue) → fronts ≡ [] → HaveFronts [] fronts
+no_fronts fronts none = record { in_order = none_in_order; are_fronts = ap raw_rows none }
+
+-- ---- parts
+
+-- the image begins with rows that were taken, of the namespace that the checker judges in, and these bytes are left
+pub record HasReadSome (bytes judged_in : List ℕ) (taken : Taken) (left : List ℕ) : Type 0 where
+  pub namespace : List ℕ
+  pub seen : List RawValue
+  pub front : IsFront bytes namespace seen left
+  pub all_taken : HasTakenRows namespace seen taken
+  pub checks : judged_in ≡ namespace
+
+pub read_none : (bytes n left judged_in : List ℕ) (taken : Taken) → IsHead bytes n left → judged_in ≡ n → taken.log.kept ≡ record { namespace = n; log = [] } → taken.log.counts ≡ no_counts → taken.fronts.items ≡ [] → HasReadSome bytes judged_in taken left
+read_none bytes n left judged_in taken head checks empty counts none = record {
+  namespace = n;
+  seen = [];
+  front = front_none bytes n left head;
+  all_taken = record { is_log = IsLogOf-start n taken.log empty counts; fits = rw counts (omega arith); fronts = no_fronts taken.fronts.items none };
+  checks = checks;
 }
 
-all_new : (log : StateValue AuthorisedValue) → IsLog entry_row log.namespace log.log → new (raw_rows (held_rows log)) ≡ raw_rows (held_rows log)
-all_new log is = subst (λ (l : List RowValue). new l ≡ l) (values_are log) is.fresh
+-- one part more
+pub read_on : (bytes judged_in judged_in' : List ℕ) (taken taken' : Taken) (left rest : List ℕ) (h : HasReadSome bytes judged_in taken left) → judged_in' ≡ judged_in → HasTakenPart h.namespace h.seen left rest taken'
+    → HasReadSome bytes judged_in' taken' rest
+read_on bytes judged_in judged_in' taken taken' left rest h same part = record {
+  namespace = h.namespace;
+  seen = h.seen ++ part.rows;
+  front = front_on bytes h.namespace h.seen left TOGETHER part.rows rest h.front part.part;
+  all_taken = part.all_taken;
+  checks = same ∙ h.checks;
+}
 
 -- where its end is left, all is read
-pub read_whole : (bytes judged_in left : List ℕ) (log : StateValue AuthorisedValue) (many : ℕ) → HasReadSome bytes judged_in log left → IsLog entry_row log.namespace log.log → many ≡ length log.log → left ≡ trailer many → IsLoggedImage bytes log
-read_whole bytes judged_in left log many h is long ends =
-    let held : many ≡ length (held_rows log) = long ∙ sym (held_many log) in
+pub read_whole : (bytes judged_in left : List ℕ) (taken : Taken) (many : ℕ) → HasReadSome bytes judged_in taken left → many ≡ taken.log.counts.rows → many < 2 ^ 32 → left ≡ trailer many → IsLoggedImage bytes taken.log
+read_whole bytes judged_in left taken many h counted few ends =
+    let log = h.all_taken.is_log in
+    let long : many ≡ length h.seen = counted ∙ log.counted.all in
+    let here : h.namespace ≡ taken.log.kept.namespace = sym log.of_namespace in
     record {
-      is_image = record {
-        is_image = image_of_front bytes log.namespace (held_rows log) left h.front (omega (arith, held, long, is.few)) (ends ∙ ap trailer held);
-        in_order = order_of_new (raw_rows (held_rows log)) h.is_rising.rising (all_new log is);
-      };
-      authorised = h.is_rising.authorised;
+      rows = h.seen;
+      is_image = subst (λ (n : List ℕ). IsImageInOrder bytes n h.seen) here
+          (record { is_image = image_of_front bytes h.namespace h.seen left h.front (omega (arith, few, long)) (ends ∙ ap trailer long); in_order = h.all_taken.fronts.in_order });
+      whole = subst (λ (n : List ℕ). IsWholeLog n h.seen taken.log) here
+          (record { is_log = log; fits_log = omega (arith, h.all_taken.fits, log.counted.stored) });
     }
-
--- ---- the listing
-
-pub whole_listed : (asked : Option ℕ) (log : StateValue AuthorisedValue) (many : ℕ) (text : List ℕ) → order_refusal (raw_rows (held_rows log)) ≡ None → AreAuthorised log.namespace (held_rows log) → IsLog entry_row log.namespace log.log
-    → many ≡ length log.log → text ≡ log_listing asked log.namespace (live_rows log) → IsListing asked log.namespace (held_rows log) text (show_counts (all_stored many))
-whole_listed asked log many text order fine is long listed =
-    let rows = held_rows log in
-    is_listing_of asked log.namespace rows log (all_stored many) text order is.few
-    (values_are log ∙ sym (all_new log is) ∙ ap new (sym (authorised_whole log.namespace rows fine)))
-    (counts_whole log.namespace rows many fine (all_new log is) (long ∙ sym (held_many log))) refl listed

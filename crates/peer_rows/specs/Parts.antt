@@ -1,55 +1,38 @@
--- Images that are taken a part at a time, where nothing is wrong with any row.
-use Rattle.std.specs.Prelude.{◌≡◌, ℕ, ◌<◌, Bool, true, false, List, ◌++◌, length, map, None, Result, Ok, Err}
-use Rattle.std.specs.List.{AllByRecursion}
-use Rattle.std.specs.declared.cmp.Ordering.TheVariants.{Less}
-use Rattle.spelling.specs.declared.ending.NoMemory.{NoMemory}
-use Rattle.willow_entry.specs.Row.{RowValue, inner_place_cmp}
-use Rattle.lms_core.specs.Use.{peer_rules}
+-- Images that are taken a part at a time, as long as their rows are in order.
+use Rattle.std.specs.Prelude.{◌≡◌, ℕ, ◌<◌, ◌≤◌, List, ◌++◌, length, None}
 use Rattle.cap_codec.specs.Rows.{RawValue}
-use Rattle.auth_entry.specs.Authorised.{AuthorisedValue, row_refusal}
-use Rattle.ns_state.specs.Log.{StateValue}
+use Rattle.ns_state.specs.declared.live_log.TheConstants.{LOG_LIMIT}
+use Rattle.peer_image.specs.Fronts.{last_fronts}
 use Rattle.peer_image.specs.ImageReading.{raw_rows}
-use Rattle.peer_image.specs.Order.{IsInnerRising}
+use Rattle.peer_image.specs.Order.{order_refusal}
 use Rattle.peer_image.specs.Parts.{IsPart}
 use Rattle.peer_rows.specs.Images.{IsImageInOrder}
+use Rattle.peer_rows.specs.Logged.{IsLogOf}
+use Rattle.peer_rows.specs.Stored.{IsWholeLog}
 use Rattle.peer_rows.specs.declared.intake.TheConstants.{TOGETHER}
+use Rattle.peer_rows.specs.declared.log.Log.{Log}
+use Rattle.peer_rows.specs.declared.parts.Taken.{Taken}
 
--- the rows of a log, in order
-abbrev pub held_rows : StateValue AuthorisedValue → List RawValue
-held_rows log = map (λ l. l.row.row) log.log
+-- the rows are in order, and these are those of them that stand at prefixes of the last
+pub record HaveFronts (rows fronts : List RawValue) : Type 0 where
+  pub in_order : order_refusal (raw_rows rows) ≡ None
+  pub are_fronts : raw_rows fronts ≡ last_fronts (raw_rows rows)
 
--- each of the rows is authorised in the namespace
-abbrev pub AreAuthorised : List ℕ → List RawValue → Type 0
-AreAuthorised namespace = AllByRecursion (λ r. row_refusal peer_rules namespace r ≡ None)
+-- these rows were taken, in order: the log is that of them, each that would be stored with room
+pub record HasTakenRows (namespace : List ℕ) (rows : List RawValue) (taken : Taken) : Type 0 where
+  pub is_log : IsLogOf namespace rows taken.log.kept taken.log.counts
+  pub fits : taken.log.counts.stored ≤ LOG_LIMIT
+  pub fronts : HaveFronts rows taken.fronts.items
 
--- each of the rows stands below r, by subspace and path
-abbrev pub StandBelow : List RowValue → RowValue → Type 0
-StandBelow rows r = AllByRecursion (λ s. inner_place_cmp s r ≡ Less) rows
-
--- the rows of the log are authorised in its namespace, and rise by subspace and path
-pub record IsRisingLog (log : StateValue AuthorisedValue) : Type 0 where
-  pub authorised : AreAuthorised log.namespace (held_rows log)
-  pub rising : IsInnerRising (raw_rows (held_rows log))
-
--- all of these rows came into the log, behind its others
-pub record IsGrownBy (old : StateValue AuthorisedValue) (rows : List RawValue) (log : StateValue AuthorisedValue) : Type 0 where
-  pub is_rising : IsRisingLog log
-  pub grown : held_rows log ≡ held_rows old ++ rows
-
--- how the keeping of rows ends: all of them came into the log, or not all did
-abbrev pub KeepsAll : StateValue AuthorisedValue → List RawValue → StateValue AuthorisedValue → Result Bool NoMemory → Type 0
-KeepsAll old rows log (Ok true) = IsGrownBy old rows log
-KeepsAll old rows log (Ok false) = Unit {0}
-KeepsAll old rows log (Err e) = Unit {0}
-
--- the rows of the first frames in front of the bytes came into the log, and these bytes are left
-pub record HasTakenPart (old : StateValue AuthorisedValue) (bytes left : List ℕ) (log : StateValue AuthorisedValue) : Type 0 where
+-- the rows of the first frames in front of the bytes were taken behind these, and these bytes are left
+pub record HasTakenPart (namespace : List ℕ) (seen : List RawValue) (bytes left : List ℕ) (taken : Taken) : Type 0 where
   pub rows : List RawValue
   pub part : IsPart bytes TOGETHER rows left
-  pub all_kept : IsGrownBy old rows log
+  pub all_taken : HasTakenRows namespace (seen ++ rows) taken
   pub shorter : length left < length bytes
 
--- The bytes are the image of just the rows of the log, in order, and all of these are authorised.
-pub record IsLoggedImage (bytes : List ℕ) (log : StateValue AuthorisedValue) : Type 0 where
-  pub is_image : IsImageInOrder bytes log.namespace (held_rows log)
-  pub authorised : AreAuthorised log.namespace (held_rows log)
+-- The bytes are an image of rows in order, and the log is that of all of them.
+pub record IsLoggedImage (bytes : List ℕ) (log : Log) : Type 0 where
+  pub rows : List RawValue
+  pub is_image : IsImageInOrder bytes log.kept.namespace rows
+  pub whole : IsWholeLog log.kept.namespace rows log

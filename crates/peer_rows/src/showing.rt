@@ -1,13 +1,14 @@
 //! `show`: the listing of the authorised rows of the input's image.
 
-ghost use Rattle.std.specs.Prelude.{◌≡◌, ◌≤◌, ◌<◌, ◌^◌, ◌++◌, None, length, IfOk};
+ghost use Rattle.std.specs.Prelude.{◌≡◌, ◌≤◌, ◌<◌, ◌^◌, ◌++◌, List, None, length, IfOk};
+ghost use Rattle.cap_codec.specs.Rows.{RawValue};
 ghost use Rattle.peer_stage.specs.World.{World};
 ghost use Rattle.peer_stage.specs.Faults.{CountsStep};
 ghost use Rattle.peer_image.specs.ImageReading.{raw_rows};
 ghost use Rattle.peer_image.specs.Order.{order_refusal};
 ghost use Rattle.peer_rows.specs.Show.{Shows, ShowsInput, ShowsBytes};
 ghost use Rattle.peer_rows.specs.Listed.{IsListing, ListsImage, show_counts};
-ghost use Rattle.peer_rows.specs.Parts.{held_rows, AreAuthorised};
+ghost use Rattle.peer_rows.specs.Logged.{IsLogOf};
 
 use crate::images::{EntryLog, image_from, log_image};
 use crate::listing::list_log;
@@ -57,8 +58,8 @@ fn show_input<C: NewChecker<PeerScheme>, R: Threads + Sync, I: Source>(
     show_bytes::<C, R>(rt, alloc, newest, &bytes)
 }
 
-// The head and the lines of the listing of an image, and the numbers. Where nothing is wrong with it, no list of its rows
-// is made beside the log.
+// The head and the lines of the listing of an image, and the numbers. Where its rows are in order and find room, no list of
+// them is made beside the log.
 fn show_bytes<C: NewChecker<PeerScheme>, R: Threads + Sync>(
     rt: &R,
     alloc: Global,
@@ -68,30 +69,10 @@ fn show_bytes<C: NewChecker<PeerScheme>, R: Threads + Sync>(
     ensures { ShowsBytes newest bytes.now result }
 {
     if let Some(log) = log_in_parts::<C, R>(rt, alloc, bytes)? {
-        return Ok(list_whole(alloc, newest, log)?);
+        return Ok(list_rows(alloc, newest, log.kept, &log.counts)?);
     }
     let image = image_from(alloc, bytes, Origin::Input)?;
     list_image::<C, R>(rt, alloc, newest, image)
-}
-
-// The head and the lines of the listing of a log that holds all rows of an image, and their numbers.
-fn list_whole(
-    alloc: Global,
-    newest: Option<u32>,
-    log: EntryLog,
-) -> Result<(Vec<u8>, Vec<u8>, ShowCounts), NoMemory>
-    requires in_order { order_refusal (raw_rows (held_rows log)) ≡ None }
-    requires authorised { AreAuthorised log.namespace (held_rows log) }
-    ensures { IfOk result (λ x. IsListing newest log.namespace (held_rows log) (x.0.items ++ x.1.items) x.2) }
-{
-    let rows = u64::from(log.front());
-    let (head, lines) = list_log(alloc, newest, log)?;
-    let counts = ShowCounts {
-        rows,
-        refused: 0,
-        first: None,
-    };
-    Ok((head, lines, counts))
 }
 
 // The head and the lines of the listing of the rows of an image, and their numbers.
@@ -106,9 +87,22 @@ fn list_image<C: NewChecker<PeerScheme>, R: Threads + Sync>(
     ensures { ListsImage newest image.namespace image.rows.items result }
 {
     let (log, counts) = log_image::<C, R>(rt, alloc, image)?;
+    Ok(list_rows(alloc, newest, log, &counts)?)
+}
+
+// The head and the lines of the listing of rows in order, of which this is the log, and their numbers.
+fn list_rows(
+    alloc: Global,
+    newest: Option<u32>,
+    log: EntryLog,
+    counts: &JoinCounts,
+) -> Result<(Vec<u8>, Vec<u8>, ShowCounts), NoMemory>
+    ensures { (rows : List RawValue) → order_refusal (raw_rows rows) ≡ None → IsLogOf log.namespace rows log counts.now
+        → IfOk result (λ x. IsListing newest log.namespace rows (x.0.items ++ x.1.items) x.2) }
+{
     let _front = log.front();
     let (head, lines) = list_log(alloc, newest, log)?;
-    Ok((head, lines, show_counts(&counts)))
+    Ok((head, lines, show_counts(counts)))
 }
 
 // The numbers of a listing of rows that were offered to a log.
