@@ -12,7 +12,7 @@ use Rattle.peer_image.specs.Parts.{IsHead}
 use Rattle.peer_image.proofs.LastFronts.{fronts_decide_order, fronts_go_on}
 use Rattle.peer_image.proofs.ReadParts.{front_none, front_on}
 use Rattle.peer_image.proofs.Stops.{image_of_front}
-use Rattle.peer_rows.specs.declared.intake.TheConstants.{TOGETHER}
+use Rattle.peer_rows.specs.declared.parts.TheConstants.{PART}
 use Rattle.peer_rows.specs.declared.parts.Taken.{Taken}
 use Rattle.peer_rows.specs.Images.{IsImageInOrder}
 use Rattle.peer_rows.specs.Stored.{IsWholeLog}
@@ -86,7 +86,7 @@ pub read_on : (bytes judged_in judged_in' : List ℕ) (taken taken' : Taken) (le
 read_on bytes judged_in judged_in' taken taken' left rest h same part = record {
   namespace = h.namespace;
   seen = h.seen ++ part.rows;
-  front = front_on bytes h.namespace h.seen left TOGETHER part.rows rest h.front part.part;
+  front = front_on bytes h.namespace h.seen left PART part.rows rest h.front part.part;
   all_taken = part.all_taken;
   checks = same ∙ h.checks;
 }

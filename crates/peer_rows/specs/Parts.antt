@@ -9,7 +9,7 @@ use Rattle.peer_image.specs.Parts.{IsPart}
 use Rattle.peer_rows.specs.Images.{IsImageInOrder}
 use Rattle.peer_rows.specs.Logged.{IsLogOf}
 use Rattle.peer_rows.specs.Stored.{IsWholeLog}
-use Rattle.peer_rows.specs.declared.intake.TheConstants.{TOGETHER}
+use Rattle.peer_rows.specs.declared.parts.TheConstants.{PART}
 use Rattle.peer_rows.specs.declared.log.Log.{Log}
 use Rattle.peer_rows.specs.declared.parts.Taken.{Taken}
 
@@ -27,7 +27,7 @@ pub record HasTakenRows (namespace : List ℕ) (rows : List RawValue) (taken : T
 -- the rows of the first frames in front of the bytes were taken behind these, and these bytes are left
 pub record HasTakenPart (namespace : List ℕ) (seen : List RawValue) (bytes left : List ℕ) (taken : Taken) : Type 0 where
   pub rows : List RawValue
-  pub part : IsPart bytes TOGETHER rows left
+  pub part : IsPart bytes PART rows left
   pub all_taken : HasTakenRows namespace (seen ++ rows) taken
   pub shorter : length left < length bytes
 

@@ -20,7 +20,7 @@ use willow_path::NamespaceKey;
 
 /// So many rows are worth the threads that judge them: to start those may take milliseconds, and a read brings only some
 /// forty rows that are signed by LMS keys.
-pub(crate) const TOGETHER: usize = 512;
+pub(crate) const TOGETHER: usize = 1024;
 
 /// Where a read brings fewer rows than this, each of them is long to judge. Of rows of open keys, which take no threads, a
 /// read brings more, and none waits.

@@ -4,7 +4,6 @@ ghost use Rattle.std.specs.Prelude.{◌≡◌, ℕ, ◌+◌, ◌<◌, ◌^◌, �
 ghost use Rattle.cap_codec.specs.Rows.{RawValue};
 ghost use Rattle.peer_rows.specs.Parts.{HasTakenPart, HasTakenRows, HaveFronts, IsLoggedImage};
 
-use crate::intake::TOGETHER;
 use crate::log::Log;
 use crate::offering::offer_all;
 use auth_entry::{Checker, NewChecker};
@@ -19,8 +18,11 @@ use std::thread::Threads;
 /// How many bytes an image has behind its frames.
 const TRAILER: usize = 8;
 
+/// How many rows are taken together at most: so few that what is made of them stays in the caches of a processor.
+const PART: usize = 512;
+
 /// Behind so many rows one part more may have more rows than the end of an image can count.
-const MOST: u64 = 4_294_966_784;
+const MOST: u64 = (1 << 32) - PART as u64;
 
 /// Rows of an image, in order: the log of them, and those that stand at prefixes of the last. By these alone it shows whether
 /// further rows are in order behind all of them.
@@ -79,7 +81,7 @@ fn take_part<'a, C: Checker<PeerScheme>, R: Threads + Sync>(
     ensures takes { (namespace : List ℕ) (seen : List RawValue) → HasTakenRows namespace seen taken.old
         → IfOk result (λ found. IfSome found (λ left. HasTakenPart namespace seen bytes.now left.now taken.new)) }
 {
-    let (rows, left) = rows_in_front(alloc, bytes, TOGETHER)?;
+    let (rows, left) = rows_in_front(alloc, bytes, PART)?;
     if rows.is_empty() || !go_on(alloc, &mut taken.fronts, &rows)? {
         return Ok(None);
     }

@@ -4,7 +4,7 @@ use Rattle.std.specs.Vec.{vec_len}
 use Rattle.std.proofs.lemmas.Bool.Decides.{nat_tests}
 use Rattle.cap_codec.specs.Rows.{RawValue}
 use Rattle.peer_image.proofs.ReadParts.{part_shorter}
-use Rattle.peer_rows.specs.declared.intake.TheConstants.{TOGETHER}
+use Rattle.peer_rows.specs.declared.parts.TheConstants.{PART}
 use Rattle.peer_rows.specs.Parts.{HaveFronts}
 use Rattle.peer_rows.proofs.parts.take_part.Goals as goal
 
@@ -21,5 +21,5 @@ returns-in-Ok-clause-takes g c = λ n seen h.
         fits = c.in-Ok.ensures.fits;
         fronts = subst (λ (l : List RawValue). HaveFronts (seen ++ l) c.go_on.new.fronts.items) c.deref.ensures.value (c.in_ok-go_on.ensures seen h.fronts c.if-not-branch.false);
       };
-      shorter = part_shorter c.args.bytes.now TOGETHER rows c.in_ok-rows.left.now c.in_ok-rows.ensures some;
+      shorter = part_shorter c.args.bytes.now PART rows c.in_ok-rows.left.now c.in_ok-rows.ensures some;
     }
