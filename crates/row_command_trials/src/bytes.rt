@@ -38,3 +38,12 @@ pub(crate) fn joined(alloc: Global, texts: &[&str]) -> Option<Vec<u8>> {
     }
     Some(bytes)
 }
+
+// Moves the frame of a row of two components of one byte each to another path and time. The signature stays what it was.
+pub(crate) fn at_path(frame: &mut [u8], path: [u8; 2], time: u8) -> Option<()> {
+    let [high, low] = path;
+    *frame.get_mut(72)? = high;
+    *frame.get_mut(74)? = low;
+    *frame.get_mut(82)? = time;
+    Some(())
+}

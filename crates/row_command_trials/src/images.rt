@@ -1,6 +1,8 @@
 //! Listings of images, against texts made elsewhere.
 
-use crate::bytes::{BELOW, HEAD, NEW, NO_ROW, OLD, ONE_ROW, OTHER, SPOILT, TWO_ROWS, joined};
+use crate::bytes::{
+    BELOW, HEAD, NEW, NO_ROW, OLD, ONE_ROW, OTHER, SPOILT, TWO_ROWS, at_path, joined,
+};
 use crate::endings::{Ended, ending_of, shown};
 use auth_entry::PlainChecker;
 use lms_core::PeerScheme;
@@ -110,4 +112,81 @@ fn images_shown(rt: HostRuntime) {
         shows_fault(&rt, alloc, 0, 2, NEW_HEAD),
         Some(Ended::WriteFault)
     );
+}
+
+// An image of so many rows below all others, whose signatures are of another entry, of a row at this place below /61 where
+// one is asked for, and of the rows of two frames.
+fn behind_others(
+    alloc: Global,
+    many: u16,
+    between: Option<u8>,
+    frames: [&str; 2],
+) -> Option<Vec<u8>> {
+    let mut image = joined(alloc, &[HEAD])?;
+    let mut frame = joined(alloc, &[BELOW])?;
+    for i in 0..many {
+        let [high, low] = i.to_be_bytes();
+        at_path(&mut frame, [high, low], 5)?;
+        image.extend_from_slice(&frame).ok()?;
+    }
+    let mut count = u64::from(many) + 2;
+    let [first, second] = frames;
+    image.extend_from_slice(&joined(alloc, &[first])?).ok()?;
+    if let Some(low) = between {
+        at_path(&mut frame, [0x61, low], 7)?;
+        image.extend_from_slice(&frame).ok()?;
+        count += 1;
+    }
+    image.extend_from_slice(&joined(alloc, &[second])?).ok()?;
+    image.extend_from_slice(&count.to_be_bytes()).ok()?;
+    Some(image)
+}
+
+// Rows that are read 512 at a time, of which the first of a part is refused, falls, or is dominated by the last of the part
+// before or by one that is not the last.
+#[test]
+fn images_of_two_parts(rt: HostRuntime) {
+    let alloc = rt.alloc();
+    let refused = Some(RefusedRow {
+        row: 1,
+        refusal: RowRefusal::BadEntrySignature,
+    });
+    for (many, between, frames, text, due) in [
+        (
+            511,
+            None,
+            [OLD, BELOW],
+            BOTH_LISTED,
+            shown(513, 511, refused),
+        ),
+        (
+            511,
+            None,
+            [OLD, SPOILT],
+            OLD_LISTED,
+            shown(513, 512, refused),
+        ),
+        (
+            512,
+            None,
+            [OLD, SPOILT],
+            OLD_LISTED,
+            shown(514, 513, refused),
+        ),
+        (
+            510,
+            Some(0),
+            [OLD, BELOW],
+            BOTH_LISTED,
+            shown(513, 511, refused),
+        ),
+        (511, None, [BELOW, OLD], "", Ended::NotRising(513)),
+        (511, None, [NEW, BELOW], "", Ended::Pruned(513, 512)),
+        (510, Some(0), [NEW, BELOW], "", Ended::Pruned(513, 511)),
+    ] {
+        let end = behind_others(alloc, many, between, frames).and_then(|image| shows(
+            &rt, alloc, image, 0, 0, text,
+        ));
+        assert_eq!(rt; end, Some(due));
+    }
 }
