@@ -12,6 +12,7 @@ use Rattle.mc_cap.specs.Messages.{handover}
 use Rattle.mc_cap.specs.Valid.{chain_refusal, start_refusal, start_by, step_refusal, handing_refusal}
 use Rattle.mc_cap.specs.declared.capability.Capability.{Capability}
 use Rattle.mc_cap.specs.declared.chain.Delegation.{Delegation}
+use Rattle.mc_cap.specs.declared.check.TheConstants.{MAX_DELEGATIONS}
 use Rattle.mc_cap.specs.declared.check.ChainRefusal.{ChainRefusal}
 use Rattle.mc_cap.specs.declared.check.ChainRefusal.TheVariants.{AreaGrows, TooManyDelegations}
 use Rattle.peer_make.specs.Delegating.{growing_refusal}
@@ -79,14 +80,14 @@ module _ (rules : Rules) (c : Capability) (area : Area) (user signature : List �
       ∙ ap (λ (o : Option ChainRefusal). or_else (first_some (step_refusal rules c) 0 c.chain) o)
       (ap (λ (n : ℕ). step_refusal rules longer n one_more) at_end ∙ last_step outside)
 
-  -- what is against a capability of no more than eight delegations
-  few : nat_lt 8 (length c.chain + 1) ≡ false → chain_refusal rules c ≡ or_else (start_refusal rules c) (first_some (step_refusal rules c) 0 c.chain)
+  -- what is against a capability of no more delegations than a capability may have
+  few : nat_lt MAX_DELEGATIONS (length c.chain + 1) ≡ false → chain_refusal rules c ≡ or_else (start_refusal rules c) (first_some (step_refusal rules c) 0 c.chain)
   unfolding chain_refusal
   few e =
-      let within : length c.chain ≤ 8 = omega (arith, ltb-false 8 (length c.chain + 1) e) in
-      ap (λ (b : Bool). cond b (Some TooManyDelegations) (or_else (start_refusal rules c) (first_some (step_refusal rules c) 0 c.chain))) (le-ltb 8 (length c.chain) within)
+      let within : length c.chain ≤ MAX_DELEGATIONS = omega (arith, ltb-false MAX_DELEGATIONS (length c.chain + 1) e) in
+      ap (λ (b : Bool). cond b (Some TooManyDelegations) (or_else (start_refusal rules c) (first_some (step_refusal rules c) 0 c.chain))) (le-ltb MAX_DELEGATIONS (length c.chain) within)
 
-  by_length : (b : Bool) → nat_lt 8 (length c.chain + 1) ≡ b → includes_area (granted c) area ≡ false
+  by_length : (b : Bool) → nat_lt MAX_DELEGATIONS (length c.chain + 1) ≡ b → includes_area (granted c) area ≡ false
       → cond b (Some TooManyDelegations) (or_else (start_refusal rules longer) (first_some (step_refusal rules longer) 0 longer.chain))
       ≡ Some (cond b TooManyDelegations (unwrap_or (chain_refusal rules c) growing))
   by_length true e outside = refl
@@ -99,6 +100,6 @@ module _ (rules : Rules) (c : Capability) (area : Area) (user signature : List �
   pub refused_as_growing : includes_area (granted c) area ≡ false → chain_refusal rules longer ≡ Some (growing_refusal rules c)
   unfolding chain_refusal growing_refusal
   refused_as_growing outside =
-      ap (λ (n : ℕ). cond (nat_lt 8 n) (Some TooManyDelegations) (or_else (start_refusal rules longer) (first_some (step_refusal rules longer) 0 longer.chain)))
+      ap (λ (n : ℕ). cond (nat_lt MAX_DELEGATIONS n) (Some TooManyDelegations) (or_else (start_refusal rules longer) (first_some (step_refusal rules longer) 0 longer.chain)))
       (length-append c.chain (one_more ∷ []))
-      ∙ by_length (nat_lt 8 (length c.chain + 1)) refl outside
+      ∙ by_length (nat_lt MAX_DELEGATIONS (length c.chain + 1)) refl outside

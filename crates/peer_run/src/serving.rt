@@ -5,6 +5,7 @@ ghost use Rattle.std.specs.String.{string_bytes};
 ghost use Rattle.spelling.specs.Answers.{or_else};
 ghost use Rattle.peer_stage.specs.World.{World};
 ghost use Rattle.peer_words.specs.Signers.{IsSigner};
+ghost use Rattle.peer_words.specs.declared.limits.TheConstants.{MOST_LINKS};
 ghost use Rattle.peer_run.specs.Closing.{IsForWant, refused_after};
 ghost use Rattle.peer_run.specs.Serve.{AreNotForWant, ClosesHouse, IsServed, OpensHouse, Serves, first_of_links, refused_in, rows_told, told_of};
 
@@ -57,7 +58,7 @@ pub(crate) fn serve<R: Wait + Threads + Sync, H: Shelf, D: Door, N: Noise>(
     noise: &mut N,
 ) -> Result<Done, Stop>
     requires signer { IsSigner words.key }
-    requires links { (1 ≤ words.links) × (words.links ≤ 64) }
+    requires links { (1 ≤ words.links) × (words.links ≤ MOST_LINKS) }
     ensures { (others : World) → Serves words
         (record others { shelf = H.facts shelf.old; door = D.facts door.old; noise = N.facts noise.old })
         (record others { shelf = H.facts shelf.new; door = D.facts door.new; noise = N.facts noise.new }) result }

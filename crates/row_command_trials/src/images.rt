@@ -142,50 +142,38 @@ fn behind_others(
     Some(image)
 }
 
-// Rows that are read 512 at a time, of which the first of a part is refused, falls, or is dominated by the last of the part
-// before or by one that is not the last.
+// Images of two parts that are listed: how many rows stand in front, which row between and which frames behind them, the
+// listing, and how many rows are read and refused. The first row of a part is refused, or is the first that is not.
+const LISTED: [(u16, Option<u8>, [&str; 2], &str, u64, u64); 4] = [
+    (511, None, [OLD, BELOW], BOTH_LISTED, 513, 511),
+    (511, None, [OLD, SPOILT], OLD_LISTED, 513, 512),
+    (512, None, [OLD, SPOILT], OLD_LISTED, 514, 513),
+    (510, Some(0), [OLD, BELOW], BOTH_LISTED, 513, 511),
+];
+
+// Others that are not: the first row of the second part falls, or is dominated by the last of the part before, or by one
+// that is not the last.
+const OUT_OF_ORDER: [(u16, Option<u8>, [&str; 2], Ended); 3] = [
+    (511, None, [BELOW, OLD], Ended::NotRising(513)),
+    (511, None, [NEW, BELOW], Ended::Pruned(513, 512)),
+    (510, Some(0), [NEW, BELOW], Ended::Pruned(513, 511)),
+];
+
+// Rows are read 512 at a time.
 #[test]
 fn images_of_two_parts(rt: HostRuntime) {
     let alloc = rt.alloc();
-    let refused = Some(RefusedRow {
-        row: 1,
-        refusal: RowRefusal::BadEntrySignature,
-    });
-    for (many, between, frames, text, due) in [
-        (
-            511,
-            None,
-            [OLD, BELOW],
-            BOTH_LISTED,
-            shown(513, 511, refused),
-        ),
-        (
-            511,
-            None,
-            [OLD, SPOILT],
-            OLD_LISTED,
-            shown(513, 512, refused),
-        ),
-        (
-            512,
-            None,
-            [OLD, SPOILT],
-            OLD_LISTED,
-            shown(514, 513, refused),
-        ),
-        (
-            510,
-            Some(0),
-            [OLD, BELOW],
-            BOTH_LISTED,
-            shown(513, 511, refused),
-        ),
-        (511, None, [BELOW, OLD], "", Ended::NotRising(513)),
-        (511, None, [NEW, BELOW], "", Ended::Pruned(513, 512)),
-        (510, Some(0), [NEW, BELOW], "", Ended::Pruned(513, 511)),
-    ] {
+    let refusal = RowRefusal::BadEntrySignature;
+    for (many, between, frames, text, rows, refused) in LISTED {
+        let due = shown(rows, refused, Some(RefusedRow { row: 1, refusal }));
         let end = behind_others(alloc, many, between, frames).and_then(|image| shows(
             &rt, alloc, image, 0, 0, text,
+        ));
+        assert_eq!(rt; end, Some(due));
+    }
+    for (many, between, frames, due) in OUT_OF_ORDER {
+        let end = behind_others(alloc, many, between, frames).and_then(|image| shows(
+            &rt, alloc, image, 0, 0, "",
         ));
         assert_eq!(rt; end, Some(due));
     }

@@ -60,7 +60,7 @@ module _ (IsRow : RowValue → Type 0) where
           subst (λ (r : StreamRefusal). AreFirst IsRow (bytes ++ piece) (rows ++ []) r) same (subst (λ (xs : List RowValue). AreFirst IsRow (bytes ++ piece) xs refusal) (sym (append-nil rows)) first);
     }
     step piece (Err NoMemory) h =
-        subst (λ (s : StreamState). HandsOutAll IsRow (bytes ++ []) (rows ++ []) s) (sym h)
+        subst (λ (s : StreamState). HandsOutAll IsRow (bytes ++ []) (rows ++ []) s) (sym h.1)
         (subst (λ (b : List ℕ). HandsOutAll IsRow b (rows ++ []) old) (sym (append-nil bytes)) (subst (λ (xs : List RowValue). HandsOutAll IsRow bytes xs old) (sym (append-nil rows)) so_far))
 
   all_steps : (bytes : List ℕ) (rows : List RowValue) (old new : StreamState) (fed : List Fed) → HandsOutAll IsRow bytes rows old → Runs IsRow old fed new → HandsOutAll IsRow (bytes ++ all_taken fed) (rows ++ all_rows fed) new

@@ -1,5 +1,5 @@
 -- The frame in front of bytes, from the readers of its length and its body.
-use Rattle.std.proofs.Common.{◌≡◌, ℕ, ◌<◌, ◌≤◌, Bool, true, false, cond, ltb, List, ◌++◌, length, take, drop, Result, Err, refl, sym, ap, subst, ◌∙◌, append_assoc, arith}
+use Rattle.std.proofs.Common.{◌≡◌, ◌≢◌, ℕ, ◌<◌, ◌≤◌, Bool, true, false, cond, ltb, List, ◌++◌, length, take, drop, Result, Err, refl, sym, ap, subst, ◌∙◌, append_assoc, arith}
 use Rattle.std.specs.Int.{w32, from_be_bytes, to_be_bytes}
 use Rattle.std.proofs.lemmas.Nat.{be_bytes_4}
 use Rattle.spelling.specs.Form.{AreBytes}
@@ -80,12 +80,12 @@ split bytes input size left body behind are is e within whole =
 
 -- an error of the body's reader is that the bytes end inside it
 pub no_body : {X : Type 0} (body behind : X → List ℕ) (bytes input : List ℕ) (size : ℕ) (left : List ℕ) (u : Unread) (result : Result X Unread)
-    → input ≡ bytes → number_at w32 input ≡ Whole size left → size ≤ MAX_FRAME → Fails u (bytes_at size left) → IsErrAnd result (λ e. e ≡ u) → Splits body behind bytes result
-no_body {X} body behind bytes input size left u result is e within fails err =
+    → input ≡ bytes → number_at w32 input ≡ Whole size left → size ≤ MAX_FRAME → Fails u (bytes_at size left) → u ≢ unread.NoMemory → IsErrAnd result (λ e. e ≡ u) → Splits body behind bytes result
+no_body {X} body behind bytes input size left u result is e within fails sure err =
     let p = err_from_is_err_and result err in
-    subst (λ (r : Result X Unread). Splits body behind bytes r) (ap (λ (v : Unread). Err v) (sym p.2) ∙ sym p.1) (told u fails)
+    subst (λ (r : Result X Unread). Splits body behind bytes r) (ap (λ (v : Unread). Err v) (sym p.2) ∙ sym p.1) (told u fails sure)
   where
-    told : (v : Unread) → Fails v (bytes_at size left) → Splits body behind bytes (Err v)
-    told unread.Part h = cut_body bytes input size left is e within h
-    told unread.Wrong h = absurd (never_wrong (ltb (length left) size) (take size left) (drop size left) h)
-    told unread.NoMemory h = tt
+    told : (v : Unread) → Fails v (bytes_at size left) → v ≢ unread.NoMemory → Splits body behind bytes (Err v)
+    told unread.Part h some = cut_body bytes input size left is e within h
+    told unread.Wrong h some = absurd (never_wrong (ltb (length left) size) (take size left) (drop size left) h)
+    told unread.NoMemory h some = absurd (some refl)

@@ -37,12 +37,12 @@ pub record Breaks (IsRow : RowValue → Type 0) (old : StreamState) (piece : Lis
   pub unrefused : old.refusal ≡ None
   pub wrong : GoesWrong IsRow old.at (old.begun ++ piece) refusal
 
--- How a piece is answered, and the state behind it. A stream that is refused answers its refusal, and stays so; without
--- memory it stays as it was.
+-- How a piece is answered, and the state behind it. A stream that is refused answers its refusal, and stays so; one that
+-- is not stays as it was without memory.
 abbrev pub Feeds : (RowValue → Type 0) → StreamState → StreamState → List ℕ → Result (List RowValue) (End StreamRefusal) → Type 0
 Feeds IsRow old new piece (Ok rows) = HandsOutRows IsRow old new piece rows
 Feeds IsRow old new piece (Err (Refused refusal)) = (new.refusal ≡ Some refusal) × ((old.refusal ≡ Some refusal) ⊎ Breaks IsRow old piece refusal)
-Feeds IsRow old new piece (Err NoMemory) = new ≡ old
+Feeds IsRow old new piece (Err NoMemory) = (old.refusal ≡ None) × (new ≡ old)
 
 -- a frame has begun, and the stream ends inside it
 pub record IsCut (state : StreamState) (refusal : StreamRefusal) : Type 0 where

@@ -23,12 +23,12 @@ pub record IsSplit (bytes body behind : List ℕ) : Type 0 where
   pub body_is : body ≡ body_told bytes
   pub parts : bytes ≡ text_spelling (to_be_bytes w32) body ++ behind
 
--- the frame in front, or why there is none
+-- the frame in front, or why there is none; no memory is asked for
 abbrev pub Splits : {X : Type 0} → (X → List ℕ) → (X → List ℕ) → List ℕ → Result X Unread → Type 0
 Splits body behind bytes (Ok x) = IsSplit bytes (body x) (behind x)
 Splits body behind bytes (Err unread.Part) = IsUnfinished bytes
 Splits body behind bytes (Err unread.Wrong) = IsTooLong bytes
-Splits body behind bytes (Err unread.NoMemory) = Unit {0}
+Splits body behind bytes (Err unread.NoMemory) = ⊥
 
 -- the row of a body, or that it is none's, which is told at the frame's offset
 abbrev pub ReadsRow : {R : Type 0} → (RowValue → Type 0) → (R → RowValue) → ℕ → List ℕ → Result R (End StreamRefusal) → Type 0

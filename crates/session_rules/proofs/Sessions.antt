@@ -159,7 +159,7 @@ module _ {H P X F R T I G : Type 0} (g : Greeting H P X F) (k : Talk R X T I G) 
 
   greeted : (Then : H → List ℕ → Type 0) (bytes : List ℕ) → GreetedThen Then bytes → (w : IsGreeted g own bytes) × Then w.hello w.behind
   greeted Then bytes w =
-      (record { hello = w.0; greets = w.1; proof = w.2.0; proof_bytes = w.2.1; behind = w.2.2; is_proof = w.2.3; joined = w.2.4; accepted = w.2.5 }, w.2.6)
+      (record { hello = w.0; greets = w.1; proof = w.2.0; proof_bytes = w.2.1; behind = w.2.2; is_proof = w.2.3; joined = w.2.4; proof_passes = w.2.5 }, w.2.6)
 
   pub items_granted : (bytes : List ℕ) (item : I) → Contains (said here bytes) (Item item)
       → (w : IsGreeted g own bytes) × Contains (said (exchange_with g k own rows w.hello) w.behind) item

@@ -65,7 +65,7 @@ pub record IsGreeted {H P X F : Type 0} (g : Greeting H P X F) (own : Own H P) (
   pub behind : List ℕ
   pub joined : greets.behind ≡ proof_bytes ++ behind
   pub is_proof : g.sees_proof proof_bytes ≡ Whole proof
-  pub accepted : other_refusal g own hello proof ≡ None
+  pub proof_passes : other_refusal g own hello proof ≡ None
 
 -- ---- a greeting that passes
 

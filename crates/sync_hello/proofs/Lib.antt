@@ -3,3 +3,4 @@ pub mod WholeText
 pub mod InFront
 pub mod Meaning
 pub mod Granting
+pub mod Beginning

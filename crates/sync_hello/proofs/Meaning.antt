@@ -23,7 +23,7 @@ reads : (mode : Mode) → mode_refusal mode ≡ None → mode ≡ Read
 reads Read e = refl
 reads Write e = absurd cc
 
-no_chain : (o : Option ChainRefusal) → option_map Chain o ≡ None → o ≡ None
+pub no_chain : (o : Option ChainRefusal) → option_map Chain o ≡ None → o ≡ None
 no_chain None e = refl
 no_chain (Some refusal) e = absurd cc
 

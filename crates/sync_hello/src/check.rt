@@ -3,6 +3,7 @@
 ghost use Rattle.std.specs.Prelude.{◌≡◌, None, IsErrOf};
 ghost use Rattle.spelling.specs.Answers.{Judges};
 ghost use Rattle.spelling.specs.declared.ending.End.TheVariants as ends;
+ghost use Rattle.mc_cap.specs.Valid.{beginning_refusal};
 ghost use Rattle.sync_hello.specs.Checked.{ask_refusal, capability_refusal, claim_refusal, hello_refusal};
 
 use crate::hello::Hello;
@@ -14,8 +15,9 @@ use willow_path::NamespaceKey;
 
 /// Whether the hello is one of this namespace by the rules of the scheme: its version is not 0; its capability is of
 /// the namespace, for reading, and valid (Meadowcap); and what that grants includes the ask. It is refused with the
-/// first of these that fails, in this order. What needs no memory is judged before any is asked for.
-#[tactic(auto, unfolding(crate::specs::Checked::hello_refusal))]
+/// first of these that fails, in this order. What needs no memory is judged before any is asked for: the version, the
+/// namespace, the mode, and how the capability begins.
+#[tactic(auto, unfolding(crate::specs::Checked::hello_refusal), using(crate::proofs::Beginning::begins_where_passed))]
 pub fn check_hello<S: Verify>(
     scheme: &S,
     namespace: &NamespaceKey,
@@ -23,6 +25,7 @@ pub fn check_hello<S: Verify>(
 ) -> Result<(), End<HelloRefusal>>
     ensures answer { Judges result (hello_refusal S.rules namespace.now hello.now) }
     ensures early { IsErrOf result ends.NoMemory → claim_refusal namespace.now hello.now ≡ None }
+    ensures begun { IsErrOf result ends.NoMemory → beginning_refusal S.rules hello.now.capability ≡ None }
 {
     if let Some(refusal) = claim_refusal(namespace, hello) {
         return Err(End::Refused(refusal));
@@ -50,7 +53,8 @@ fn claim_refusal(namespace: &NamespaceKey, hello: &Hello) -> Option<HelloRefusal
 
 // Whether the capability is valid.
 fn check_capability<S: Verify>(scheme: &S, capability: &Capability) -> Result<(), End<HelloRefusal>>
-    ensures { Judges result (capability_refusal S.rules capability.now) }
+    ensures answer { Judges result (capability_refusal S.rules capability.now) }
+    ensures begun { IsErrOf result ends.NoMemory → beginning_refusal S.rules capability.now ≡ None }
 {
     match capability.check(scheme) {
         Ok(()) => Ok(()),

@@ -58,7 +58,7 @@ pub record AreCounted (p q : Party) (rows others : List RowValue) (left right : 
 module _ (rules : Rules) (namespace : List ℕ) (hello other : Hello) (signature proof : List ℕ) (rows others : List RowValue)
     (own : IsOpening namespace rows) (theirs : IsOpening namespace others)
     (accepts : Accepts (caller rules namespace hello other signature proof) (answerer rules namespace hello other signature proof))
-    (accepted : Accepts (answerer rules namespace hello other signature proof) (caller rules namespace hello other signature proof)) where
+    (is_accepted : Accepts (answerer rules namespace hello other signature proof) (caller rules namespace hello other signature proof)) where
   abbrev one : Party
   one = caller rules namespace hello other signature proof
 
@@ -81,7 +81,7 @@ module _ (rules : Rules) (namespace : List ℕ) (hello other : Hello) (signature
   both = pair rules namespace hello other signature proof rows others
 
   greets : GreetEachOther both
-  greets = greet rules namespace hello other signature proof rows others accepts accepted
+  greets = greet rules namespace hello other signature proof rows others accepts is_accepted
 
   up : IsStrictlySortedBy inner_place_cmp mine
   up = inside_rises namespace rows own x
@@ -114,7 +114,7 @@ module _ (rules : Rules) (namespace : List ℕ) (hello other : Hello) (signature
 
   counts : (left right : List ℕ) → Meet (out one rows) (out two others) left right → AreCounted one two rows others left right
   counts left right meet =
-      let e = exchanged rules namespace hello other signature proof rows others own theirs accepts accepted left right meet in
+      let e = exchanged rules namespace hello other signature proof rows others own theirs accepts is_accepted left right meet in
       let to_caller = all_items (answerer_turns ts) in
       let to_answerer = all_items (caller_turns ts) in
       let said_there = ap (λ l. counted (said one rows l)) e.answerer_writes ∙ said_items one rows other proof greets.caller_hears to_caller can_read.caller_can ∙ ap to_count caller_tells in
@@ -135,7 +135,7 @@ CountsFor p q = (rows others : List RowValue) (left right : List ℕ) → Accept
 pub counts_for : (p q : Party) → CanMeet p q → CountsFor p q
 counts_for p q can =
     let plain : CountsFor (record p { role = roles.Caller }) (record q { rules = p.rules; namespace = p.namespace; role = roles.Answerer }) =
-    λ rows others left right accepts accepted own theirs meet. counts p.rules p.namespace p.hello q.hello p.signature q.signature rows others own theirs accepts accepted left right meet in
+    λ rows others left right accepts is_accepted own theirs meet. counts p.rules p.namespace p.hello q.hello p.signature q.signature rows others own theirs accepts is_accepted left right meet in
     let P : Party → Type 0 = λ y. CountsFor (record p { role = roles.Caller }) y in
     subst (λ y. CountsFor y q) (calling p q can) (subst P (answering p q can) plain)
 
@@ -191,14 +191,14 @@ module _ (p : List ℕ → Party) (ran : Ran p) (q : Party) (others : List RowVa
   few_as_caller : CanMeet party q → IsFew
   few_as_caller can =
       let own = own_opens p ran q others other done in
-      let c = counts_for party q can rows others ran.did.written others_bytes can.accepts can.accepted own other.opens (meets p ran q others other over (all_written p ran q others other done)) in
+      let c = counts_for party q can rows others ran.did.written others_bytes can.accepts can.is_accepted own other.opens (meets p ran q others other over (all_written p ran q others other done)) in
       omega (arith, c.by_caller, ap counted said_all, ap counted heard_all, few_turns party q rows others own other.opens)
 
   few_as_answerer : CanMeet q party → IsFew
   few_as_answerer can =
       let own = subst (λ n. IsOpening n rows) can.same_namespace (own_opens p ran q others other done) in
       let theirs = subst (λ n. IsOpening n others) can.same_namespace other.opens in
-      let c = counts_for q party can others rows others_bytes ran.did.written can.accepts can.accepted theirs own (meets_back p ran q others other over (all_written p ran q others other done)) in
+      let c = counts_for q party can others rows others_bytes ran.did.written can.accepts can.is_accepted theirs own (meets_back p ran q others other over (all_written p ran q others other done)) in
       let box = same_box party q can.answers can.calls in
       subst (λ (x : Option Ranges). counted (said party rows bytes) + counted (heard party rows bytes) ≤ most_counted x (length (rows_of_area x rows)) (length (rows_of_area x others))) box
       (omega (

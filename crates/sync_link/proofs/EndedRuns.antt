@@ -88,8 +88,8 @@ module _ (p : List ℕ → Party) (ran : Ran p) (q : Party) (others : List RowVa
   passes_there : Passes q.rules q.namespace party.hello
   passes_there = passes_at party q party.hello other.same_rules other.same_namespace ran.did.own_passes
 
-  accepted : IsProofOf party ran.gives bytes → Accepts q party
-  accepted proof =
+  is_accepted : IsProofOf party ran.gives bytes → Accepts q party
+  is_accepted proof =
       let is = same_hello party q others ran.did.written bytes other.accepts.hello_fits ran.did.are_bytes other.hears proof.other proof.stands in
       let well = signs (own_message party.role party.hello proof.other) party.signature proof.fits proof.given in
       let message : own_message party.role party.hello proof.other ≡ message_due q.role q.hello party.hello =
@@ -104,7 +104,7 @@ module _ (p : List ℕ → Party) (ran : Ran p) (q : Party) (others : List RowVa
       }
 
   can_meet : IsProofOf party ran.gives bytes → MeetAs party q
-  can_meet proof = meet_as party q other.roles other.same_rules other.same_namespace other.accepts (accepted proof)
+  can_meet proof = meet_as party q other.roles other.same_rules other.same_namespace other.accepts (is_accepted proof)
 
   -- ---- where all that is due to all of the other's bytes was written
 

@@ -71,7 +71,7 @@ module _ (p : Party) (bytes : List ℕ) (are : AreBytes bytes) (greeted : IsGree
     fits = hello_spelled.0;
     proof_fits = (proof_back greeted.proof_bytes greeted.proof proof_are greeted.is_proof).0;
     passes = passes p.rules p.namespace greeted.hello greeted.greets.passes;
-    proved = accepted_by p.role greeted.accepted;
+    proved = accepted_by p.role greeted.proof_passes;
   }
 
 -- ---- rows

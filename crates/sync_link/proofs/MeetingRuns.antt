@@ -41,4 +41,4 @@ module _ (p q : List ℕ → Party) (one : Ran p) (other : Ran q) (can : CanMeet
   }
 
   pub runs_meet : IsOther one (side other) theirs
-  runs_meet = record { roles = can.roles; same_rules = can.same_rules; same_namespace = can.same_namespace; accepts = accepts; accepted = can.accepted; opens = opens; hears = front_trans one.did.bytes other.did.written (out (side other) theirs one.did.written) hears written_front }
+  runs_meet = record { roles = can.roles; same_rules = can.same_rules; same_namespace = can.same_namespace; accepts = accepts; is_accepted = can.is_accepted; opens = opens; hears = front_trans one.did.bytes other.did.written (out (side other) theirs one.did.written) hears written_front }

@@ -17,15 +17,15 @@ passes_at p q hello rules namespace passes =
 
 -- two that accept each other can meet
 pub meet_as : (p q : Party) → AreBothRoles p.role q.role → q.rules ≡ p.rules → q.namespace ≡ p.namespace → Accepts p q → Accepts q p → MeetAs p q
-meet_as p q (inl r) rules namespace accepts accepted = inl (record { calls = r.0; answers = r.1; same_rules = rules; same_namespace = namespace; accepts = accepts; accepted = accepted })
-meet_as p q (inr r) rules namespace accepts accepted = inr (record { calls = r.1; answers = r.0; same_rules = sym rules; same_namespace = sym namespace; accepts = accepted; accepted = accepts })
+meet_as p q (inl r) rules namespace accepts is_accepted = inl (record { calls = r.0; answers = r.1; same_rules = rules; same_namespace = namespace; accepts = accepts; is_accepted = is_accepted })
+meet_as p q (inr r) rules namespace accepts is_accepted = inr (record { calls = r.1; answers = r.0; same_rules = sym rules; same_namespace = sym namespace; accepts = is_accepted; is_accepted = accepts })
 
 pub is_met : (p : List ℕ → Party) (ran : Ran p) (q : Party) (others : List RowValue) → IsOther ran q others → IsMet ran q others
 is_met p ran q others other =
     let party = side ran in
     let own_passes = passes_at party q party.hello other.same_rules other.same_namespace ran.did.own_passes in
     record {
-      can_meet = meet_as party q other.roles other.same_rules other.same_namespace other.accepts (record { hello_fits = ran.did.own_fits; hello_passes = own_passes; proof_fits = ran.did.proof_fits; proved = other.accepted });
+      can_meet = meet_as party q other.roles other.same_rules other.same_namespace other.accepts (record { hello_fits = ran.did.own_fits; hello_passes = own_passes; proof_fits = ran.did.proof_fits; proved = other.is_accepted });
       opens = other.opens;
       hears = other.hears;
     }

@@ -95,7 +95,7 @@ module _ (rules : Rules) (namespace : List ℕ) (hello other : Hello) (signature
   pair rows others = record { greeting = greeting rules namespace; talk = places; caller = own_part caller; answerer = own_part answerer; caller_rows = rows; answerer_rows = others }
 
   pub greet : (rows others : List RowValue) → Accepts caller answerer → Accepts answerer caller → GreetEachOther (pair rows others)
-  greet rows others accepts accepted = record {
+  greet rows others accepts is_accepted = record {
     calls = refl;
     answers = refl;
     caller_hears = record {
@@ -105,14 +105,14 @@ module _ (rules : Rules) (namespace : List ℕ) (hello other : Hello) (signature
       proof_passes = ap (λ b. cause_if (not b) BadProof) accepts.proved;
     };
     answerer_hears = record {
-      hello_read = hello_as hello accepted.hello_fits;
-      hello_passes = (passes_means rules namespace hello).1 accepted.hello_passes;
-      proof_read = proof_as signature accepted.proof_fits;
-      proof_passes = ap (λ b. cause_if (not b) BadProof) accepted.proved;
+      hello_read = hello_as hello is_accepted.hello_fits;
+      hello_passes = (passes_means rules namespace hello).1 is_accepted.hello_passes;
+      proof_read = proof_as signature is_accepted.proof_fits;
+      proof_passes = ap (λ b. cause_if (not b) BadProof) is_accepted.proved;
     };
   }
 
-  module _ (rows others : List RowValue) (own : IsOpening namespace rows) (theirs : IsOpening namespace others) (accepts : Accepts caller answerer) (accepted : Accepts answerer caller) where
+  module _ (rows others : List RowValue) (own : IsOpening namespace rows) (theirs : IsOpening namespace others) (accepts : Accepts caller answerer) (is_accepted : Accepts answerer caller) where
     abbrev pub box : Option Ranges
     box = box_with caller other
 
@@ -123,7 +123,7 @@ module _ (rules : Rules) (namespace : List ℕ) (hello other : Hello) (signature
         let few = inside_few namespace rows own box in
         let few' = inside_few namespace others theirs box in
         exchanged_all (pair rows others) by_items sync_rules (inside box rows) (inside box others) box disjoint (can_cut_rows (inside box rows) up) (can_cut_rows (inside box others) down)
-        (greet rows others accepts accepted)
+        (greet rows others accepts is_accepted)
         (take_turns (inside box rows) (inside box others) up down few' few box)
         (can_read_turns (inside box rows) (inside box others) up down few few' (inside_sendable namespace rows own box) (inside_sendable namespace others theirs box) box)
         left right meet
@@ -135,7 +135,7 @@ module _ (rules : Rules) (namespace : List ℕ) (hello other : Hello) (signature
         let few = inside_few namespace rows own box in
         let few' = inside_few namespace others theirs box in
         do_meet (pair rows others) by_items sync_rules (inside box rows) (inside box others) box disjoint (can_cut_rows (inside box rows) up) (can_cut_rows (inside box others) down)
-        (greet rows others accepts accepted)
+        (greet rows others accepts is_accepted)
         (take_turns (inside box rows) (inside box others) up down few' few box)
         (can_read_turns (inside box rows) (inside box others) up down few few' (inside_sendable namespace rows own box) (inside_sendable namespace others theirs box) box)
 
@@ -166,22 +166,22 @@ module _ (p q : Party) (can : CanMeet p q) where
   settles_for : Settles p q
   settles_for =
       let plain : Settles (record p { role = roles.Caller }) (record q { rules = p.rules; namespace = p.namespace; role = roles.Answerer }) =
-      λ rows others left right accepts accepted own theirs meet. both_done p.rules p.namespace p.hello q.hello p.signature q.signature rows others own theirs accepts accepted left right meet in
+      λ rows others left right accepts is_accepted own theirs meet. both_done p.rules p.namespace p.hello q.hello p.signature q.signature rows others own theirs accepts is_accepted left right meet in
       let P : Party → Type 0 = λ x. Settles (record p { role = roles.Caller }) x in
       subst (λ x. Settles x q) calling (subst P answering plain)
 
   meets_for : Meets p q
   meets_for =
       let plain : Meets (record p { role = roles.Caller }) (record q { rules = p.rules; namespace = p.namespace; role = roles.Answerer }) =
-      λ rows others accepts accepted own theirs. they_meet p.rules p.namespace p.hello q.hello p.signature q.signature rows others own theirs accepts accepted in
+      λ rows others accepts is_accepted own theirs. they_meet p.rules p.namespace p.hello q.hello p.signature q.signature rows others own theirs accepts is_accepted in
       let P : Party → Type 0 = λ x. Meets (record p { role = roles.Caller }) x in
       subst (λ x. Meets x q) calling (subst P answering plain)
 
   pub meets : (rows others : List RowValue) → IsOpening p.namespace rows → IsOpening p.namespace others → (left : List ℕ) × (right : List ℕ) × Meet (out p rows) (out q others) left right
-  meets rows others own theirs = meets_for rows others can.accepts can.accepted own theirs
+  meets rows others own theirs = meets_for rows others can.accepts can.is_accepted own theirs
 
   pub settled : (rows others : List RowValue) (left right : List ℕ) → IsOpening p.namespace rows → IsOpening p.namespace others → Meet (out p rows) (out q others) left right → AreDone p q rows others left right
-  settled rows others left right own theirs meet = settles_for rows others left right can.accepts can.accepted own theirs meet
+  settled rows others left right own theirs meet = settles_for rows others left right can.accepts can.is_accepted own theirs meet
 
 -- ---- what both have then
 

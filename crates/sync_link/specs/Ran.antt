@@ -143,7 +143,7 @@ pub record CanMeetAs {p q : List ℕ → Party} (one : Ran p) (other : Ran q) : 
   pub same_rules : (side other).rules ≡ (side one).rules
   pub same_namespace : (side other).namespace ≡ (side one).namespace
   pub accepts : IsProved (side one) (side other)
-  pub accepted : IsProved (side other) (side one)
+  pub is_accepted : IsProved (side other) (side one)
 
 -- The session read what the other side, which has these rows, writes to what this one wrote, or a front of that.
 abbrev pub HearsFrom : {p : List ℕ → Party} → Ran p → Party → List RowValue → Type 0
@@ -156,7 +156,7 @@ pub record IsOther {p : List ℕ → Party} (ran : Ran p) (q : Party) (others : 
   pub same_rules : q.rules ≡ (side ran).rules
   pub same_namespace : q.namespace ≡ (side ran).namespace
   pub accepts : Accepts (side ran) q
-  pub accepted : IsProved q (side ran)
+  pub is_accepted : IsProved q (side ran)
   pub opens : IsOpening (side ran).namespace others
   pub hears : HearsFrom ran q others
 

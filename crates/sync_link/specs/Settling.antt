@@ -41,7 +41,7 @@ pub record CanMeet (p q : Party) : Type 0 where
   pub same_rules : q.rules ≡ p.rules
   pub same_namespace : q.namespace ≡ p.namespace
   pub accepts : Accepts p q
-  pub accepted : Accepts q p
+  pub is_accepted : Accepts q p
 
 -- the exchange of their rows, over the box of the area that both may read
 abbrev pub turns_between : Party → Party → List RowValue → List RowValue → List TurnValue

@@ -9,7 +9,7 @@ returns-then-size-gt-MAX_FRAME c = too_long c.args.bytes.now c.new-input.result 
 pub returns-in_err-body : goal.returns-in_err-body
 returns-in_err-body c =
     no_body _ _ c.args.bytes.now c.new-input.result c.in_ok-size.field-0 c.number_u32.new.self c.in_err-body.field-0.0 c.from_residual-in_err-body.result c.new-input.ensures c.in_ok-size.ensures.gives (omega arith)
-    c.in_err-body.ensures.gives c.from_residual-in_err-body.ensures.1
+    c.in_err-body.ensures.gives c.in_err-body.ensures.sure c.from_residual-in_err-body.ensures.1
 
 pub returns : goal.returns
 returns c =
