@@ -1,7 +1,8 @@
 //! Bytes that are read from the front, field by field.
 
-ghost use Rattle.std.specs.Prelude.{◌≡◌, List, ℕ, ◌-◌, length, slice_index, if◌then◌else◌};
+ghost use Rattle.std.specs.Prelude.{◌≡◌, List, ℕ, ◌-◌, length, slice_index, IsErrOf, if◌then◌else◌};
 ghost use Rattle.std.specs.Int.{w16, w32, w64};
+ghost use Rattle.spelling.specs.Memory.{IsWhole};
 ghost use Rattle.spelling.specs.Reading.{Gives, IsEndOf, NeedsNoMemory, byte_at, byte_up_to, bytes_at, exactly_at, number_at, number_up_to};
 ghost use Rattle.spelling.specs.declared.ending.End.TheVariants as ends;
 ghost use Rattle.spelling.specs.declared.input.Unread.TheVariants as unread;
@@ -117,9 +118,10 @@ impl<'a> Input<'a> {
         Ok(array)
     }
 
-    /// So many bytes, in a vector.
+    /// So many bytes, in a vector. Memory is asked for where they are there.
     pub fn vec(&mut self, alloc: Global, n: usize) -> Result<Vec<u8>, Unread>
-        ensures { Gives (λ v. v.items) result self.new (bytes_at n self.old) }
+        ensures gives { Gives (λ v. v.items) result self.new (bytes_at n self.old) }
+        ensures asked { IsErrOf result unread.NoMemory → IsWhole (bytes_at n self.old) }
     {
         let front = self.slice(n)?;
         Ok(Vec::from_slice(alloc, front)?)

@@ -10,7 +10,7 @@ use Rattle.willow_path.proofs.PathOrder.{part_cmp_total, path_cmp_total}
 use Rattle.willow_area.specs.Range.{Range, in_range, is_before_end, is_inside, lower, upper}
 use Rattle.willow_area.specs.Boxes.{Ranges, in_box}
 use Rattle.willow_area.specs.Cuts.{can_cut, cut_refusal, lower_part, upper_part, is_below, HasWhatIsBelow, HasTheRest}
-use Rattle.spelling.specs.Answers.{Judges, cause_if}
+use Rattle.spelling.specs.Answers.{JudgesFirst, cause_if}
 use Rattle.spelling.specs.declared.ending.End.{End}
 use Rattle.willow_area.specs.declared.cut.CutOutside.{CutOutside}
 use Rattle.willow_area.specs.declared.cut.CutAt.{CutAt}
@@ -128,12 +128,12 @@ can_where_none : (can : Bool) (e : CutOutside) → cause_if (not can) e ≡ None
 can_where_none true e h = refl
 can_where_none false e h = absurd cc
 
-pub answers_below : {T : Type 0} (part : T → Ranges) (ranges : Ranges) (at : CutAt) (answer : Result T (End CutOutside)) → Judges answer (cut_refusal ranges at)
+pub answers_below : {T : Type 0} (part : T → Ranges) (ranges : Ranges) (at : CutAt) (answer : Result T (End CutOutside)) → JudgesFirst answer (cut_refusal ranges at)
     → IfOk answer (λ parts. part parts ≡ lower_part ranges at) → IfOk answer (λ parts. HasWhatIsBelow (part parts) ranges at)
 answers_below part ranges at (Ok parts) h e = rw e (lower_part_has ranges at (can_where_none (can_cut ranges at) (record {}) h))
 answers_below part ranges at (Err refusal) h e = tt
 
-pub answers_rest : {T : Type 0} (part : T → Ranges) (ranges : Ranges) (at : CutAt) (answer : Result T (End CutOutside)) → Judges answer (cut_refusal ranges at)
+pub answers_rest : {T : Type 0} (part : T → Ranges) (ranges : Ranges) (at : CutAt) (answer : Result T (End CutOutside)) → JudgesFirst answer (cut_refusal ranges at)
     → IfOk answer (λ parts. part parts ≡ upper_part ranges at) → IfOk answer (λ parts. HasTheRest (part parts) ranges at)
 answers_rest part ranges at (Ok parts) h e = rw e (upper_part_has ranges at (can_where_none (can_cut ranges at) (record {}) h))
 answers_rest part ranges at (Err refusal) h e = tt

@@ -1,13 +1,15 @@
 //! How areas are spelled as bytes, and read back.
 
-ghost use Rattle.std.specs.Prelude.{◌≡◌, ℕ, ◌++◌, List, OnOk, OnErr, IfOk};
+ghost use Rattle.std.specs.Prelude.{◌≡◌, ℕ, ◌++◌, List, OnOk, OnErr, IfOk, IsErrOf};
 ghost use Rattle.std.specs.Int.{w64, to_be_bytes};
 ghost use Rattle.spelling.specs.Form.{Decodes};
 ghost use Rattle.spelling.specs.Reading.{Gives, NeedsNoMemory, option_at};
 ghost use Rattle.spelling.specs.Spelling.{option_spelling};
+ghost use Rattle.spelling.specs.declared.ending.End.TheVariants as ends;
+ghost use Rattle.spelling.specs.declared.input.Unread.TheVariants as unread;
 ghost use Rattle.willow_path.specs.Key.{key_at};
 ghost use Rattle.willow_area.specs.Area.{IsArea};
-ghost use Rattle.willow_area.specs.AreaSpelling.{area_at, area_spelling};
+ghost use Rattle.willow_area.specs.AreaSpelling.{AreaAsks, area_at, area_spelling};
 
 use crate::area::Area;
 use crate::times_codec::read_times;
@@ -28,9 +30,10 @@ impl Area {
     }
 
     /// The area that is spelled at the front of the bytes, with the number of bytes taken. It is not here
-    /// exactly where no front of the bytes is the spelling of an area.
+    /// exactly where no front of the bytes is the spelling of an area. Memory is asked for behind the path.
     pub fn decode(alloc: Global, bytes: &[u8]) -> Result<(Area, usize), End<NotHere>>
-        ensures { Decodes area_spelling IsArea bytes.now result }
+        ensures decodes { Decodes area_spelling IsArea bytes.now result }
+        ensures asked { IsErrOf result ends.NoMemory → AreaAsks bytes.now }
     {
         let mut input = Input::new(bytes);
         let area = read_area(alloc, &mut input)?;
@@ -39,10 +42,11 @@ impl Area {
 }
 
 /// Reads an area from the front of the input. It is wrong as soon as no area's spelling begins with the
-/// bytes read.
+/// bytes read. Memory is asked for behind the path.
 #[tactic(auto, unfolding(crate::specs::AreaSpelling::area_at))]
 pub fn read_area(alloc: Global, input: &mut Input) -> Result<Area, Unread>
-    ensures { Gives (λ area. area) result input.new (area_at input.old) }
+    ensures gives { Gives (λ area. area) result input.new (area_at input.old) }
+    ensures asked { IsErrOf result unread.NoMemory → AreaAsks input.old }
 {
     let subspace = read_subspace(input)?;
     let path = read_path(alloc, input)?;

@@ -2,7 +2,7 @@
 
 ghost use Rattle.std.specs.Prelude.{◌≡◌, Some, None, IfOk, MatchOption, not};
 ghost use Rattle.std.specs.Ordering.{nat_cmp};
-ghost use Rattle.spelling.specs.Answers.{Judges, cause_if};
+ghost use Rattle.spelling.specs.Answers.{JudgesFirst, cause_if};
 ghost use Rattle.willow_path.specs.Path.{part_cmp, path_cmp};
 ghost use Rattle.willow_area.specs.Range.{is_before_end, in_range, is_inside, IsRising, lower, upper};
 ghost use Rattle.willow_area.specs.Times.{IsTimes};
@@ -99,7 +99,7 @@ impl Box3 {
     /// The part of the box below the point, and the part from the point on. It is refused exactly where the
     /// point is at most the start, or at least the end, of its range.
     pub fn cut(&self, at: &CutAt) -> Result<(Box3, Box3), End<CutOutside>>
-        ensures answer { Judges result (cut_refusal self.now at.now) }
+        ensures answer { JudgesFirst result (cut_refusal self.now at.now) }
         ensures lower { IfOk result (λ parts. parts.0 ≡ lower_part self.now at.now) }
         ensures upper { IfOk result (λ parts. parts.1 ≡ upper_part self.now at.now) }
         ensures below { IfOk result (λ parts. HasWhatIsBelow parts.0 self.now at.now) }
@@ -111,7 +111,7 @@ impl Box3 {
     // Both parts of a cut.
     #[tactic(auto, unfolding(crate::specs::Cuts::can_cut, crate::specs::Cuts::lower_part, crate::specs::Cuts::upper_part))]
     fn parts(&self, at: &CutAt) -> Result<(Box3, Box3), End<CutOutside>>
-        ensures answer { Judges result (cut_refusal self.now at.now) }
+        ensures answer { JudgesFirst result (cut_refusal self.now at.now) }
         ensures lower { IfOk result (λ parts. parts.0 ≡ lower_part self.now at.now) }
         ensures upper { IfOk result (λ parts. parts.1 ≡ upper_part self.now at.now) }
     {
@@ -124,7 +124,7 @@ impl Box3 {
 
     // Both parts of a cut at a key.
     fn cut_keys(&self, key: &UserKey) -> Result<(Box3, Box3), End<CutOutside>>
-        ensures answer { Judges result (cause_if (not (is_inside part_cmp self.now.keys key.now)) (record {})) }
+        ensures answer { JudgesFirst result (cause_if (not (is_inside part_cmp self.now.keys key.now)) (record {})) }
         ensures lower { IfOk result (λ parts. parts.0 ≡ record { keys = lower self.now.keys key.now; paths = self.now.paths; times = self.now.times }) }
         ensures upper { IfOk result (λ parts. parts.1 ≡ record { keys = upper self.now.keys key.now; paths = self.now.paths; times = self.now.times }) }
     {
@@ -139,7 +139,7 @@ impl Box3 {
 
     // Both parts of a cut at a path.
     fn cut_paths(&self, path: &Path) -> Result<(Box3, Box3), End<CutOutside>>
-        ensures answer { Judges result (cause_if (not (is_inside path_cmp self.now.paths path.now)) (record {})) }
+        ensures answer { JudgesFirst result (cause_if (not (is_inside path_cmp self.now.paths path.now)) (record {})) }
         ensures lower { IfOk result (λ parts. parts.0 ≡ record { keys = self.now.keys; paths = lower self.now.paths path.now; times = self.now.times }) }
         ensures upper { IfOk result (λ parts. parts.1 ≡ record { keys = self.now.keys; paths = upper self.now.paths path.now; times = self.now.times }) }
     {
@@ -154,7 +154,7 @@ impl Box3 {
 
     // Both parts of a cut at a time.
     fn cut_times(&self, time: u64) -> Result<(Box3, Box3), End<CutOutside>>
-        ensures answer { Judges result (cause_if (not (is_inside nat_cmp self.now.times time)) (record {})) }
+        ensures answer { JudgesFirst result (cause_if (not (is_inside nat_cmp self.now.times time)) (record {})) }
         ensures lower { IfOk result (λ parts. parts.0 ≡ record { keys = self.now.keys; paths = self.now.paths; times = lower self.now.times time }) }
         ensures upper { IfOk result (λ parts. parts.1 ≡ record { keys = self.now.keys; paths = self.now.paths; times = upper self.now.times time }) }
     {

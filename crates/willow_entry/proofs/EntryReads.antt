@@ -7,7 +7,7 @@ use Rattle.spelling.specs.Form.{IsForm, AreBytes}
 use Rattle.spelling.specs.Reader.{IsReader}
 use Rattle.spelling.specs.Reading.{number_at, bytes_at}
 use Rattle.spelling.specs.Spelling.{AreSoManyBytes}
-use Rattle.spelling.proofs.Joining.{Reads, Reads-then, Reads-last, Reads-is, any_follows, one_spelling}
+use Rattle.spelling.proofs.Joining.{bind_whole, Reads, Reads-then, Reads-last, Reads-is, any_follows, one_spelling}
 use Rattle.spelling.proofs.Reader.{reader}
 use Rattle.spelling.proofs.Fields.{bytes-reads, u64-reads, zeros_are_bytes}
 use Rattle.willow_path.specs.Key.{IsKey, key_at}
@@ -15,7 +15,7 @@ use Rattle.willow_path.specs.Path.{IsPath}
 use Rattle.willow_path.specs.PathSpelling.{path_spelling, path_at}
 use Rattle.willow_path.proofs.PathReads.{key-reads, path-reads}
 use Rattle.willow_entry.specs.declared.entry.Entry.{Entry}
-use Rattle.willow_entry.specs.EntryForm.{entry_spelling, entry_at, IsEntry}
+use Rattle.willow_entry.specs.EntryForm.{entry_spelling, entry_at, EntryAsks, IsEntry}
 use Rattle.willow_entry.specs.Row.{RowValue}
 use Rattle.willow_entry.specs.RowBody.{row_body, IsBareRow}
 use Rattle.willow_entry.proofs.RowLaws.{row_same}
@@ -86,6 +86,21 @@ entry-reads =
     Reads-is joined (λ e. refl)
     (λ e f. record { namespace = f.0; subspace = f.1.0; path = f.1.1.0; timestamp = f.1.1.1.0; length_fits = f.1.1.1.1.0; digest = f.1.1.1.1.1.0 })
     (λ e f. (f.namespace, (f.subspace, (f.path, (f.timestamp, (f.length_fits, (f.digest, refl)))))))
+
+-- where an entry stands in front, memory was asked for
+pub whole_asks : (bytes : List ℕ) (e : Entry) (rest : List ℕ) → entry_at bytes ≡ Whole e rest → EntryAsks bytes
+unfolding entry_at
+whole_asks bytes e rest is =
+    let namespace = bind_whole (key_at bytes) (λ n. owned_at n.0 n.1) e rest is in
+    let subspace = bind_whole (key_at namespace.1) (λ s. named_at namespace.0 s.0 s.1) e rest namespace.3 in
+    let path = bind_whole (path_at subspace.1) (λ p. time_at namespace.0 subspace.0 p.0 p.1) e rest subspace.3 in
+    rw (namespace.2, subspace.2, path.2) tt
+
+-- where bytes begin with an entry's spelling, memory was asked for
+pub spelled_asks : (bytes : List ℕ) (e : Entry) (taken : ℕ) → IsEntry e → take taken bytes ≡ entry_spelling e → EntryAsks bytes
+spelled_asks bytes e taken fits front =
+    let parts : entry_spelling e ++ drop taken bytes ≡ bytes = rw (← front) (take-append-drop taken bytes) in
+    whole_asks bytes e (drop taken bytes) (subst (λ (all : List ℕ). entry_at all ≡ Whole e (drop taken bytes)) parts (entry-reads.again e (drop taken bytes) fits))
 
 -- an entry within its limits has one spelling, and none begins another
 pub entry_form : IsForm entry_spelling IsEntry

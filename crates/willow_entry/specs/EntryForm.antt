@@ -2,6 +2,7 @@
 use Rattle.std.specs.Prelude.{ℕ, ◌<◌, ◌^◌, List, ◌++◌}
 use Rattle.std.specs.Int.{w64, to_be_bytes}
 use Rattle.spelling.specs.Front.{Front, Whole, ◌>>=◌}
+use Rattle.spelling.specs.Memory.{Behind, IsWhole}
 use Rattle.spelling.specs.Reading.{bytes_at, number_at}
 use Rattle.spelling.specs.Spelling.{AreSoManyBytes}
 use Rattle.willow_path.specs.Key.{IsKey, key_at}
@@ -22,6 +23,10 @@ pub record IsEntry (e : Entry) : Type 0 where
   pub timestamp : e.timestamp < 2 ^ 64
   pub length_fits : e.length < 2 ^ 64
   pub digest : AreSoManyBytes 32 e.digest.0
+
+-- An entry asks for memory behind its path.
+abbrev pub EntryAsks : List ℕ → Type 0
+EntryAsks bytes = Behind (key_at bytes) (λ namespace others. Behind (key_at others) (λ subspace rest. IsWhole (path_at rest)))
 
 -- an entry
 unfoldable pub entry_at : List ℕ → Front Entry

@@ -1,11 +1,13 @@
 //! How entries are spelled as bytes, and read back.
 
-ghost use Rattle.std.specs.Prelude.{◌≡◌, ◌<◌, ◌≤◌, ◌^◌, ◌++◌, length, take, vec_len, OnOk, OnErr};
+ghost use Rattle.std.specs.Prelude.{◌≡◌, ◌<◌, ◌≤◌, ◌^◌, ◌++◌, length, take, vec_len, OnOk, OnErr, IsErrOf};
 ghost use Rattle.std.specs.Int.{w64, to_be_bytes};
 ghost use Rattle.spelling.specs.Form.{Decodes};
 ghost use Rattle.spelling.specs.Reading.{Gives};
 ghost use Rattle.spelling.specs.Spelling.{AreSoManyBytes};
-ghost use Rattle.willow_entry.specs.EntryForm.{entry_at, entry_spelling, IsEntry};
+ghost use Rattle.spelling.specs.declared.ending.End.TheVariants as ends;
+ghost use Rattle.spelling.specs.declared.input.Unread.TheVariants as unread;
+ghost use Rattle.willow_entry.specs.EntryForm.{entry_at, entry_spelling, EntryAsks, IsEntry};
 
 use crate::entry::Entry;
 use spelling::{End, Input, NoMemory, NotHere, Unread, put_bytes, put_u64};
@@ -48,9 +50,10 @@ impl Entry {
     }
 
     /// The entry that is spelled at the front of the bytes, with the number of bytes taken. It is not here
-    /// exactly where no front of the bytes is the spelling of an entry.
+    /// exactly where no front of the bytes is the spelling of an entry. Memory is asked for behind the path.
     pub fn decode(alloc: Global, bytes: &[u8]) -> Result<(Entry, usize), End<NotHere>>
-        ensures { Decodes entry_spelling IsEntry bytes.now result }
+        ensures decodes { Decodes entry_spelling IsEntry bytes.now result }
+        ensures asked { IsErrOf result ends.NoMemory → EntryAsks bytes.now }
     {
         let mut input = Input::new(bytes);
         let entry = read_entry(alloc, &mut input)?;
@@ -58,10 +61,12 @@ impl Entry {
     }
 }
 
-/// Reads an entry from the front of the input. It is wrong as soon as the bytes read begin none.
+/// Reads an entry from the front of the input. It is wrong as soon as the bytes read begin none. Memory is asked for
+/// behind the path.
 #[tactic(auto, unfolding(crate::specs::EntryForm::entry_at))]
 pub fn read_entry(alloc: Global, input: &mut Input) -> Result<Entry, Unread>
-    ensures { Gives (λ entry. entry) result input.new (entry_at input.old) }
+    ensures gives { Gives (λ entry. entry) result input.new (entry_at input.old) }
+    ensures asked { IsErrOf result unread.NoMemory → EntryAsks input.old }
 {
     Ok(Entry {
         namespace: read_namespace_key(input)?,

@@ -1,7 +1,7 @@
 //! Rows read from the bodies of frames.
 
-ghost use Rattle.std.specs.Prelude.{◌≡◌, option_map, IfOk};
-ghost use Rattle.willow_entry.specs.EntryForm.{IsEntry};
+ghost use Rattle.std.specs.Prelude.{◌≡◌, option_map, IfOk, OnErr};
+ghost use Rattle.willow_entry.specs.EntryForm.{EntryAsks, IsEntry};
 ghost use Rattle.willow_entry.specs.RowBody.{ReadsBody};
 ghost use Rattle.willow_entry.specs.Row.{RowValue};
 
@@ -16,9 +16,11 @@ pub trait RowForm {
 
     ghost IsRow: { RowValue → Type 0 };
 
-    /// The row of the body, or None exactly where the body is not in the grammar.
+    /// The row of the body, or None exactly where the body is not in the grammar. Memory is asked for behind the
+    /// entry's path.
     fn read(alloc: Global, body: &[u8]) -> Result<Option<Self::R>, NoMemory>
-        ensures { IfOk result (λ row. ReadsBody IsRow body.now (option_map Self.R.value row)) };
+        ensures reads { IfOk result (λ row. ReadsBody IsRow body.now (option_map Self.R.value row)) }
+        ensures asked { OnErr result (EntryAsks body.now) };
 
     ghost entries_fit: { (r : RowValue) → IsRow r → IsEntry r.entry };
 }

@@ -1,8 +1,11 @@
 //! How paths are spelled as bytes, and read back.
 
-ghost use Rattle.std.specs.Prelude.{◌≡◌, ℕ, ◌≤◌, ◌++◌, List, length, min, OnOk, OnErr, IfOk};
+ghost use Rattle.std.specs.Prelude.{◌≡◌, ℕ, ◌≤◌, ◌++◌, List, length, min, OnOk, OnErr, IfOk, IsErrOf};
 ghost use Rattle.spelling.specs.Form.{Decodes};
+ghost use Rattle.spelling.specs.Memory.{IsWhole};
 ghost use Rattle.spelling.specs.Reading.{Gives, NeedsNoMemory};
+ghost use Rattle.spelling.specs.declared.ending.End.TheVariants as ends;
+ghost use Rattle.spelling.specs.declared.input.Unread.TheVariants as unread;
 ghost use Rattle.willow_path.specs.Path.{IsPath};
 ghost use Rattle.willow_path.specs.PathSpelling.{part_at, part_spelling, parts_at, path_at, path_spelling};
 
@@ -26,9 +29,10 @@ impl Path {
     }
 
     /// The path that is spelled at the front of the bytes, with the number of bytes taken. It is not here
-    /// exactly where no front of the bytes is the spelling of a path within the limits.
+    /// exactly where no front of the bytes is the spelling of a path within the limits. Memory is asked for where one is.
     pub fn decode(alloc: Global, bytes: &[u8]) -> Result<(Path, usize), End<NotHere>>
-        ensures { Decodes path_spelling IsPath bytes.now result }
+        ensures decodes { Decodes path_spelling IsPath bytes.now result }
+        ensures asked { IsErrOf result ends.NoMemory → IsWhole (path_at bytes.now) }
     {
         let mut input = Input::new(bytes);
         let path = read_path(alloc, &mut input)?;
@@ -36,10 +40,12 @@ impl Path {
     }
 }
 
-/// Reads a path from the front of the input. It is wrong as soon as the bytes read exceed a limit.
+/// Reads a path from the front of the input. It is wrong as soon as the bytes read exceed a limit. Memory is asked for
+/// where a path stands there.
 #[tactic(auto, unfolding(crate::specs::PathSpelling::path_at))]
 pub fn read_path(alloc: Global, input: &mut Input) -> Result<Path, Unread>
-    ensures { Gives (λ path. path) result input.new (path_at input.old) }
+    ensures gives { Gives (λ path. path) result input.new (path_at input.old) }
+    ensures asked { IsErrOf result unread.NoMemory → IsWhole (path_at input.old) }
 {
     let count = usize::from(input.byte_up_to(MAX_PARTS as u8)?);
     read_parts(alloc, input, count)
@@ -48,7 +54,8 @@ pub fn read_path(alloc: Global, input: &mut Input) -> Result<Path, Unread>
 // Reads so many components. They stand in the path as they are spelled.
 fn read_parts(alloc: Global, input: &mut Input, count: usize) -> Result<Path, Unread>
     requires { count ≤ MAX_PARTS }
-    ensures { Gives (λ path. path) result input.new (parts_at MAX_TOTAL count input.old) }
+    ensures gives { Gives (λ path. path) result input.new (parts_at MAX_TOTAL count input.old) }
+    ensures asked { IsErrOf result unread.NoMemory → IsWhole (parts_at MAX_TOTAL count input.old) }
 {
     let whole = input.front();
     let mut room = MAX_TOTAL;
