@@ -3,16 +3,18 @@ use Rattle.std.proofs.Common.{◌≡◌, ℕ, List, [], ◌++◌, Option, None, 
 use Rattle.spelling.specs.Front.{Whole, ◌>>=◌}
 use Rattle.spelling.specs.Form.{IsForm}
 use Rattle.spelling.specs.Reader.{IsReader}
+use Rattle.spelling.specs.Reading.{option_at}
 use Rattle.spelling.proofs.Reader.{reader}
-use Rattle.spelling.proofs.Joining.{Reads, Reads-then, Reads-last, Reads-is, any_follows, one_spelling}
+use Rattle.spelling.proofs.Joining.{bind_whole, Reads, Reads-then, Reads-last, Reads-is, any_follows, one_spelling}
 use Rattle.spelling.proofs.Repeated.{option-reads}
+use Rattle.willow_path.specs.Key.{key_at}
 use Rattle.willow_path.specs.Path.{IsPath}
 use Rattle.willow_path.specs.PathSpelling.{path_at, path_spelling}
 use Rattle.willow_path.proofs.PathReads.{key-reads, path-reads}
 use Rattle.willow_area.specs.Times.{Times, IsTimes}
 use Rattle.willow_area.specs.TimesSpelling.{times_at, times_spelling}
 use Rattle.willow_area.specs.Area.{IsArea}
-use Rattle.willow_area.specs.AreaSpelling.{area_at, area_spelling}
+use Rattle.willow_area.specs.AreaSpelling.{AreaAsks, area_at, area_spelling}
 use Rattle.willow_area.specs.declared.area.Area.{Area}
 use Rattle.willow_area.proofs.TimesReads.{times-reads}
 
@@ -52,3 +54,11 @@ area_form = one_spelling area-reads
 
 pub area_reader : IsReader area_at area_spelling IsArea
 area_reader = reader area-reads
+
+-- where an area stands in front, memory was asked for
+pub whole_asks : (bytes : List ℕ) (area : Area) (rest : List ℕ) → area_at bytes ≡ Whole area rest → AreaAsks bytes
+unfolding area_at
+whole_asks bytes area rest is =
+    let subspace = bind_whole (option_at key_at bytes) (λ s. path_at s.1 >>= λ path. times_at path.1 >>= λ times. Whole (made s.0 path.0 times.0) times.1) area rest is in
+    let path = bind_whole (path_at subspace.1) (λ p. times_at p.1 >>= λ times. Whole (made subspace.0 p.0 times.0) times.1) area rest subspace.3 in
+    rw (subspace.2, path.2) tt
