@@ -4,3 +4,4 @@ pub mod CapReads
 pub mod RowReads
 pub mod Frames
 pub mod Spelled
+pub mod Asking

@@ -2,3 +2,4 @@ pub mod Rows
 pub mod Streams
 pub mod Reading
 pub mod Spelled
+pub mod Memory

@@ -1,9 +1,11 @@
 //! Rows in frames, one after the other.
 
-ghost use Rattle.std.specs.Prelude.{◌≡◌, ◌≤◌, length, drop, IfOk};
+ghost use Rattle.std.specs.Prelude.{◌≡◌, ◌≤◌, length, drop, IfOk, IsErrOf, OnErr};
 ghost use Rattle.std.specs.Int.{w32};
 ghost use Rattle.spelling.specs.Form.{Decodes};
 ghost use Rattle.spelling.specs.Reading.{Gives, NeedsNoMemory, number_up_to, text_at};
+ghost use Rattle.spelling.specs.declared.ending.End.TheVariants as ends;
+ghost use Rattle.willow_entry.specs.Frame.{FrameAsks};
 ghost use Rattle.cap_codec.specs.Rows.{frame, FitsFrame};
 ghost use Rattle.cap_codec.specs.Streams.{AreAllFrames, ReadsFrames};
 
@@ -21,9 +23,11 @@ pub struct BadFrames {
 
 /// The row in the frame at the front of the bytes, with the number of bytes taken: four bytes for the
 /// length of the body, from 1 to `MAX_FRAME`, and the body, which is one row and nothing else. It is not
-/// here exactly where no front of the bytes is the frame of a row.
+/// here exactly where no front of the bytes is the frame of a row. Memory is asked for where the body is whole, behind
+/// the path of its entry.
 pub fn decode_frame(alloc: Global, bytes: &[u8]) -> Result<(RawRow, usize), End<NotHere>>
-    ensures { Decodes frame FitsFrame bytes.now result }
+    ensures decodes { Decodes frame FitsFrame bytes.now result }
+    ensures asked { IsErrOf result ends.NoMemory → FrameAsks bytes.now }
 {
     let mut input = Input::new(bytes);
     let body = read_body(&mut input)?;
@@ -42,9 +46,11 @@ fn read_body<'a>(input: &mut Input<'a>) -> Result<&'a [u8], Unread>
 }
 
 /// The rows whose frames the bytes are, one after the other and nothing else. Otherwise the first frame that is
-/// none is told: its length is 0 or above `MAX_FRAME`, its body is no row, or the bytes end inside it.
+/// none is told: its length is 0 or above `MAX_FRAME`, its body is no row, or the bytes end inside it. Memory is asked for
+/// where the first frame asks.
 pub fn read_frames(alloc: Global, bytes: &[u8]) -> Result<Vec<RawRow>, End<BadFrames>>
-    ensures { ReadsFrames (λ rows. rows.items) bytes.now result }
+    ensures reads { ReadsFrames (λ rows. rows.items) bytes.now result }
+    ensures asked { IsErrOf result ends.NoMemory → FrameAsks bytes.now }
 {
     let (rows, left) = frames_in_front(alloc, bytes)?;
     if left.len() > 0 {
@@ -56,7 +62,8 @@ pub fn read_frames(alloc: Global, bytes: &[u8]) -> Result<Vec<RawRow>, End<BadFr
 
 /// The rows of all frames in front of the bytes, and the bytes behind these frames.
 pub fn frames_in_front(alloc: Global, bytes: &[u8]) -> Result<(Vec<RawRow>, &[u8]), NoMemory>
-    ensures { IfOk result (λ read. AreAllFrames bytes.now read.0.items read.1.now) }
+    ensures reads { IfOk result (λ read. AreAllFrames bytes.now read.0.items read.1.now) }
+    ensures asked { OnErr result (FrameAsks bytes.now) }
 {
     let mut rows = Vec::new(alloc);
     let mut left = bytes;

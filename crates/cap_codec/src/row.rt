@@ -1,7 +1,9 @@
 //! Rows: an entry, by whose leave it was written, and the bytes of both. Their tokens are read out, or kept as bytes
 //! alone.
 
-ghost use Rattle.std.specs.Prelude.{◌≡◌, IfOk};
+ghost use Rattle.std.specs.Prelude.{◌≡◌, IfOk, IsErrOf};
+ghost use Rattle.spelling.specs.declared.ending.End.TheVariants as ends;
+ghost use Rattle.willow_entry.specs.EntryForm.{EntryAsks};
 ghost use Rattle.mc_cap.specs.Forms.{capability_spelling};
 ghost use Rattle.cap_codec.specs.Rows.{RawValue, row_of, raw_spelling, IsRaw, IsRawRow, IsToken, ReadsWhole};
 
@@ -63,9 +65,11 @@ impl RawRow {
     }
 
     /// The row that the whole body spells: an entry, a token, and nothing else. It is not here exactly
-    /// where no row is spelled so.
+    /// where no row is spelled so. Memory is asked for behind the entry's path.
+    #[tactic(auto, using(willow_entry::proofs::EntryReads::whole_asks))]
     pub fn decode(alloc: Global, body: &[u8]) -> Result<RawRow, End<NotHere>>
-        ensures { ReadsWhole body.now result }
+        ensures reads { ReadsWhole body.now result }
+        ensures asked { IsErrOf result ends.NoMemory → EntryAsks body.now }
     {
         let mut input = Input::new(body);
         let entry = read_entry(alloc, &mut input)?;

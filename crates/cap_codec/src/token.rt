@@ -1,9 +1,11 @@
 //! Write tokens: by whose leave an entry was written, and the signature of the entry.
 
-ghost use Rattle.std.specs.Prelude.{◌≡◌, ◌++◌, length, take, vec_len, IfOk, OnErr, OnOk};
+ghost use Rattle.std.specs.Prelude.{◌≡◌, ◌++◌, length, take, vec_len, IfOk, IsErrOf, OnErr, OnOk};
 ghost use Rattle.mc_cap.specs.Forms.{capability_spelling};
 ghost use Rattle.mc_cap.specs.Signature.{signature_spelling};
 ghost use Rattle.spelling.specs.Reading.{Gives};
+ghost use Rattle.spelling.specs.declared.input.Unread.TheVariants as unread;
+ghost use Rattle.cap_codec.specs.Memory.{TokenAsks};
 ghost use Rattle.cap_codec.specs.Reading.{token_at};
 ghost use Rattle.cap_codec.specs.Rows.{token_spelling, IsToken};
 
@@ -78,9 +80,11 @@ pub(crate) fn put_signature(signature: &Signature, out: &mut Vec<u8>) -> Result<
     put_bytes(out, bytes)
 }
 
-/// Reads a write token from the front of the input. It is wrong as soon as no token begins so.
+/// Reads a write token from the front of the input. It is wrong as soon as no token begins so. Memory is asked for where
+/// its capability asks, or else with its signature.
 pub fn read_token(alloc: Global, input: &mut Input) -> Result<WriteToken, Unread>
-    ensures { Gives (λ token. token) result input.new (token_at input.old) }
+    ensures gives { Gives (λ token. token) result input.new (token_at input.old) }
+    ensures asked { IsErrOf result unread.NoMemory → TokenAsks input.old }
 {
     let bytes = input.front();
     let (token, _capability_len) = read_measured(alloc, bytes, input)?;
@@ -96,6 +100,7 @@ pub(crate) fn read_measured(
 ) -> Result<(WriteToken, usize), Unread>
     requires { bytes.now ≡ input.old }
     ensures gives { Gives (λ read. read.0) result input.new (token_at input.old) }
+    ensures asked { IsErrOf result unread.NoMemory → TokenAsks input.old }
     ensures measured { IfOk result (λ read. read.1 ≡ length (capability_spelling read.0.capability)) }
 {
     let capability = read_capability(alloc, input)?;

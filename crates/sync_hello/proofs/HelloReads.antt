@@ -7,15 +7,15 @@ use Rattle.spelling.specs.Front.{Front, Whole, ◌>>=◌}
 use Rattle.spelling.specs.Form.{IsForm}
 use Rattle.spelling.specs.Reader.{IsReader}
 use Rattle.spelling.specs.Spelling.{text_spelling, AreSoManyBytes, IsText}
-use Rattle.spelling.specs.Reading.{byte_at, bytes_at, text_at}
-use Rattle.spelling.proofs.Joining.{Reads, Reads-then, Reads-last, Reads-is, any_follows, one_spelling, whole_value, whole_rest}
+use Rattle.spelling.specs.Reading.{byte_at, bytes_at, exactly_at, text_at}
+use Rattle.spelling.proofs.Joining.{bind_whole, Reads, Reads-then, Reads-last, Reads-is, any_follows, one_spelling, whole_value, whole_rest}
 use Rattle.spelling.proofs.Fields.{byte-reads, byte_follows, bytes-reads, u32_up_to-reads, zeros_are_bytes}
 use Rattle.spelling.proofs.Exact.{exactly-reads}
 use Rattle.spelling.proofs.Reader.{reader}
 use Rattle.willow_area.specs.Area.{IsArea}
 use Rattle.willow_area.specs.AreaSpelling.{area_at, area_spelling}
 use Rattle.willow_area.specs.declared.area.Area.{Area}
-use Rattle.willow_area.proofs.AreaReads.{area-reads}
+use Rattle.willow_area.proofs.AreaReads.{area-reads, whole_asks as area_asks}
 use Rattle.willow_entry.specs.declared.frame.TheConstants.{MAX_FRAME}
 use Rattle.mc_cap.specs.Forms.{capability_spelling}
 use Rattle.mc_cap.specs.declared.capability.Capability.{Capability}
@@ -25,6 +25,7 @@ use Rattle.sync_msg.proofs.HeadReads.{body-reads}
 use Rattle.sync_hello.specs.declared.hello.Hello.{Hello}
 use Rattle.sync_hello.specs.HelloForm.{Draft, magic, draft_spelling, IsDraft, draft_of, hello_spelling, IsHello}
 use Rattle.sync_hello.specs.HelloReading.{draft_at}
+use Rattle.sync_hello.specs.Memory.{HelloAsks}
 
 -- ---- the bytes of a capability
 
@@ -135,6 +136,16 @@ draft-reads =
 
 pub draft_reader : IsReader draft_at draft_spelling IsDraft
 draft_reader = reader draft-reads
+
+-- a draft that stands in front asked for memory with its ask
+pub draft_asks : (bytes : List ℕ) (d : Draft) (rest : List ℕ) → draft_at bytes ≡ Whole d rest → HelloAsks bytes
+unfolding draft_at
+draft_asks bytes d rest is =
+    let letters = bind_whole (exactly_at magic bytes) (λ l. byte_at l.1 >>= λ version. bytes_at 16 version.1 >>= λ nonce. area_at nonce.1 >>= λ ask. body_at ask.1 >>= λ text. Whole (draft version.0 nonce.0 ask.0 text.0) text.1) d rest is in
+    let version = bind_whole (byte_at letters.1) (λ v. bytes_at 16 v.1 >>= λ nonce. area_at nonce.1 >>= λ ask. body_at ask.1 >>= λ text. Whole (draft v.0 nonce.0 ask.0 text.0) text.1) d rest letters.3 in
+    let nonce = bind_whole (bytes_at 16 version.1) (λ n. area_at n.1 >>= λ ask. body_at ask.1 >>= λ text. Whole (draft version.0 n.0 ask.0 text.0) text.1) d rest version.3 in
+    let ask = bind_whole (area_at nonce.1) (λ a. body_at a.1 >>= λ text. Whole (draft version.0 nonce.0 a.0 text.0) text.1) d rest nonce.3 in
+    rw (letters.2, version.2, nonce.2) (area_asks nonce.1 ask.0 ask.1 ask.2)
 
 -- ---- hellos
 

@@ -1,5 +1,6 @@
 pub mod HelloForm
 pub mod HelloReading
+pub mod Memory
 pub mod HelloSteps
 pub mod Checked
 pub mod Proof

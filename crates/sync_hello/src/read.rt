@@ -1,9 +1,11 @@
 //! Hellos, read from the front of bytes that come a few at a time.
 
-ghost use Rattle.std.specs.Prelude.{◌≡◌};
+ghost use Rattle.std.specs.Prelude.{◌≡◌, IsErrOf, OnErr};
 ghost use Rattle.spelling.specs.Reading.{Gives, NeedsNoMemory};
+ghost use Rattle.spelling.specs.declared.input.Unread.TheVariants as unread;
 ghost use Rattle.sync_msg.specs.ItemReading.{body_at};
 ghost use Rattle.sync_hello.specs.HelloReading.{draft_at, GivesHello, ReadsText};
+ghost use Rattle.sync_hello.specs.Memory.{HelloAsks};
 ghost use Rattle.sync_hello.specs.HelloSteps.{IsInFront, ReadsHello};
 
 use crate::hello::Hello;
@@ -32,9 +34,11 @@ pub enum HelloStep {
 
 /// The hello at the front of the bytes. `More` is answered exactly where the bytes are a proper beginning of a hello,
 /// and `Bad` exactly where they are no such beginning and no hello stands in front. The bytes are judged one by one,
-/// but those of the capability once they are all there. Whether the hello is refused is not judged.
+/// but those of the capability once they are all there. Whether the hello is refused is not judged. Memory is asked for
+/// behind the path of the ask.
 pub fn read_hello(alloc: Global, bytes: &[u8]) -> Result<HelloStep, NoMemory>
-    ensures { ReadsHello bytes.now result }
+    ensures reads { ReadsHello bytes.now result }
+    ensures asked { OnErr result (HelloAsks bytes.now) }
 {
     match hello_in_front(alloc, bytes) {
         Ok((hello, taken)) => Ok(HelloStep::Whole { hello, taken }),
@@ -46,7 +50,8 @@ pub fn read_hello(alloc: Global, bytes: &[u8]) -> Result<HelloStep, NoMemory>
 
 // The hello at the front of the bytes, with the number of its bytes.
 fn hello_in_front(alloc: Global, bytes: &[u8]) -> Result<(Hello, usize), Unread>
-    ensures { IsInFront bytes.now result }
+    ensures front { IsInFront bytes.now result }
+    ensures asked { IsErrOf result unread.NoMemory → HelloAsks bytes.now }
 {
     let mut input = Input::new(bytes);
     let hello = read_whole(alloc, &mut input)?;
@@ -54,8 +59,10 @@ fn hello_in_front(alloc: Global, bytes: &[u8]) -> Result<(Hello, usize), Unread>
 }
 
 // Reads a hello, and its capability once all the bytes of that are there.
+#[tactic(auto, using(crate::proofs::HelloReads::draft_asks))]
 fn read_whole(alloc: Global, input: &mut Input) -> Result<Hello, Unread>
-    ensures { GivesHello result input.new (draft_at input.old) }
+    ensures gives { GivesHello result input.new (draft_at input.old) }
+    ensures asked { IsErrOf result unread.NoMemory → HelloAsks input.old }
 {
     let draft = read_draft(alloc, input)?;
     let capability = whole_capability(alloc, draft.text)?.ok_or(Unread::Wrong)?;
@@ -79,7 +86,8 @@ struct Draft<'a> {
 // Reads a hello up to the bytes of its capability, and takes those as they are.
 #[tactic(auto, unfolding(crate::specs::HelloReading::draft_at))]
 fn read_draft<'a>(alloc: Global, input: &mut Input<'a>) -> Result<Draft<'a>, Unread>
-    ensures { Gives (λ d. record { version = d.version; nonce = d.nonce; ask = d.ask; text = d.text.now }) result input.new (draft_at input.old) }
+    ensures gives { Gives (λ d. record { version = d.version; nonce = d.nonce; ask = d.ask; text = d.text.now }) result input.new (draft_at input.old) }
+    ensures asked { IsErrOf result unread.NoMemory → HelloAsks input.old }
 {
     input.exactly(b"WSY")?;
     let version = input.byte()?;

@@ -13,11 +13,12 @@ use Rattle.spelling.proofs.Joining.{whole_value, whole_not_part, whole_not_wrong
 use Rattle.spelling.proofs.Lists.{take_front, All-left, All-right}
 use Rattle.willow_entry.specs.Row.{RowValue}
 use Rattle.willow_entry.specs.RowBody.{row_body}
-use Rattle.willow_entry.specs.Frame.{row_frame, HasFrame}
+use Rattle.willow_entry.specs.Frame.{row_frame, FrameAsks, HasFrame}
 use Rattle.sync_msg.specs.declared.item.Item.{Item}
 use Rattle.sync_msg.specs.declared.item.Item.TheVariants.{First, Agree, Split, Entries, Rest, Row, EndTurn, Bye}
 use Rattle.sync_msg.specs.Items.{ItemValue, item_spelling, IsHead, IsRowItem}
 use Rattle.sync_msg.specs.ItemReading.{head_at, body_at, GivesRow}
+use Rattle.sync_msg.specs.Memory.{HeadAsks, ItemAsks}
 use Rattle.sync_msg.specs.Reader.{BeginsFrame, BeginsItem, HasNoItem, IsInFront, MayCome, TakesItem}
 use Rattle.sync_msg.proofs.HeadReads.{head-reads, head_reader, body-reads, body_reader}
 
@@ -116,3 +117,11 @@ pub some_due : {R : Type 0} (IsRow : RowValue → Type 0) (value : R → RowValu
     → IsInFront (IsRowItem IsRow) BeginsFrame value bytes result → IsInFront (MayCome IsRow due) (BeginsItem due) value bytes result
 some_due IsRow value zero bytes result e h = absurd (omega (arith, e))
 some_due IsRow value (suc due) bytes result e h = h
+
+pub head_asks : (due : ℕ) (bytes : List ℕ) → due ≤ 0 → HeadAsks bytes → ItemAsks due bytes
+head_asks zero bytes e asks = asks
+head_asks (suc due) bytes e asks = absurd (omega (arith, e))
+
+pub row_asks : (due : ℕ) (bytes : List ℕ) → 0 < due → FrameAsks bytes → ItemAsks due bytes
+row_asks zero bytes e asks = absurd (omega (arith, e))
+row_asks (suc due) bytes e asks = asks

@@ -1,3 +1,4 @@
 pub mod Items
 pub mod ItemReading
 pub mod Reader
+pub mod Memory

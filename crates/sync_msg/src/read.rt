@@ -1,9 +1,12 @@
 //! Items, read from the front of an input.
 
-ghost use Rattle.std.specs.Prelude.{◌≡◌};
+ghost use Rattle.std.specs.Prelude.{◌≡◌, IsErrOf};
 ghost use Rattle.spelling.specs.Reading.{Gives, NeedsNoMemory};
+ghost use Rattle.spelling.specs.declared.input.Unread.TheVariants as unread;
+ghost use Rattle.willow_entry.specs.Frame.{FrameAsks};
 ghost use Rattle.sync_msg.specs.Items.{item_value};
 ghost use Rattle.sync_msg.specs.ItemReading.{cut_at, split_at, head_at, body_at, GivesRow};
+ghost use Rattle.sync_msg.specs.Memory.{CutAsks, HeadAsks};
 
 use crate::item::{Item, MAX_ENTRIES, MAX_REST};
 use spelling::{Input, Unread};
@@ -15,7 +18,8 @@ use willow_path::{read_path, read_user_key};
 // Reads an item that is no row. It is wrong as soon as no such item begins with the bytes read.
 #[tactic(auto, unfolding(crate::specs::ItemReading::head_at, crate::specs::ItemReading::behind_kind))]
 pub(crate) fn read_head<R: Row>(alloc: Global, input: &mut Input) -> Result<Item<R>, Unread>
-    ensures { Gives (item_value R.value) result input.new (head_at input.old) }
+    ensures gives { Gives (item_value R.value) result input.new (head_at input.old) }
+    ensures asked { IsErrOf result unread.NoMemory → HeadAsks input.old }
 {
     match input.byte()? {
         1 => Ok(Item::First {
@@ -38,7 +42,8 @@ pub(crate) fn read_head<R: Row>(alloc: Global, input: &mut Input) -> Result<Item
 // Reads a cut and the fingerprints of its parts.
 #[tactic(auto, unfolding(crate::specs::ItemReading::split_at))]
 fn read_split<R: Row>(alloc: Global, input: &mut Input) -> Result<Item<R>, Unread>
-    ensures { Gives (item_value R.value) result input.new (split_at input.old) }
+    ensures gives { Gives (item_value R.value) result input.new (split_at input.old) }
+    ensures asked { IsErrOf result unread.NoMemory → CutAsks input.old }
 {
     let at = read_cut(alloc, input)?;
     let lower: [u8; 32] = input.array()?;
@@ -49,7 +54,8 @@ fn read_split<R: Row>(alloc: Global, input: &mut Input) -> Result<Item<R>, Unrea
 // Reads the dimension and the point of a cut.
 #[tactic(auto, unfolding(crate::specs::ItemReading::cut_at, crate::specs::ItemReading::point_at))]
 fn read_cut(alloc: Global, input: &mut Input) -> Result<CutAt, Unread>
-    ensures { Gives (λ cut. cut) result input.new (cut_at input.old) }
+    ensures gives { Gives (λ cut. cut) result input.new (cut_at input.old) }
+    ensures asked { IsErrOf result unread.NoMemory → CutAsks input.old }
 {
     match input.byte()? {
         0 => Ok(CutAt::Subspace(read_user_key(input)?)),
@@ -59,8 +65,10 @@ fn read_cut(alloc: Global, input: &mut Input) -> Result<CutAt, Unread>
 }
 
 // Reads the row in a frame.
+#[tactic(auto, unfolding(crate::specs::ItemReading::body_at))]
 pub(crate) fn read_row<F: RowForm>(alloc: Global, input: &mut Input) -> Result<F::R, Unread>
-    ensures { GivesRow F.IsRow F.R.value result input.new (body_at input.old) }
+    ensures gives { GivesRow F.IsRow F.R.value result input.new (body_at input.old) }
+    ensures asked { IsErrOf result unread.NoMemory → FrameAsks input.old }
 {
     let body = read_body(input)?;
     F::read(alloc, body)?.ok_or(Unread::Wrong)

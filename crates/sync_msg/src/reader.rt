@@ -1,8 +1,12 @@
 //! The reader of items from bytes that come a few at a time.
 
-ghost use Rattle.std.specs.Prelude.{◌≡◌, ◌+◌, ◌<◌, ◌^◌, length};
+ghost use Rattle.std.specs.Prelude.{◌≡◌, ◌+◌, ◌<◌, ◌^◌, length, IsErrOf};
 ghost use Rattle.spelling.specs.Reader.{Begins};
+ghost use Rattle.spelling.specs.declared.ending.End.TheVariants as ends;
+ghost use Rattle.spelling.specs.declared.input.Unread.TheVariants as unread;
+ghost use Rattle.willow_entry.specs.Frame.{FrameAsks};
 ghost use Rattle.sync_msg.specs.Items.{item_value, item_spelling, IsHead, IsRowItem, due_behind};
+ghost use Rattle.sync_msg.specs.Memory.{HeadAsks, ItemAsks};
 ghost use Rattle.sync_msg.specs.Reader.{at_start, BeginsFrame, BeginsItem, IsInFront, MayCome, StepsItem};
 
 use crate::item::Item;
@@ -67,10 +71,12 @@ impl<F: RowForm> ItemReader<F> {
     /// The item at the front of the bytes, which are those behind the bytes taken so far. More is answered exactly
     /// where the bytes are a proper beginning of an item that may come now, and bad exactly where they are no such
     /// beginning and no such item stands in front. A row's body is judged once it is whole. The reader moves on only
-    /// behind an item.
+    /// behind an item. Memory is asked for behind the path of a cut, and where the body of a row is whole, behind the
+    /// path of its entry.
     pub fn next(&mut self, bytes: &[u8]) -> Result<Step<F::R>, End<BadItem>>
         requires { self.old.taken + length bytes.now < 2 ^ 64 }
-        ensures { StepsItem F.IsRow F.R.value self.old self.new bytes.now result }
+        ensures steps { StepsItem F.IsRow F.R.value self.old self.new bytes.now result }
+        ensures asked { IsErrOf result ends.NoMemory → ItemAsks self.old.due bytes.now }
     {
         match item_in_front::<F>(self.alloc, self.due, bytes) {
             Ok((item, taken)) => {
@@ -103,7 +109,8 @@ fn item_in_front<F: RowForm>(
     due: u32,
     bytes: &[u8],
 ) -> Result<(Item<F::R>, usize), Unread>
-    ensures { IsInFront (MayCome F.IsRow due) (BeginsItem due) F.R.value bytes.now result }
+    ensures front { IsInFront (MayCome F.IsRow due) (BeginsItem due) F.R.value bytes.now result }
+    ensures asked { IsErrOf result unread.NoMemory → ItemAsks due bytes.now }
 {
     if due > 0 {
         row_in_front::<F>(alloc, bytes)
@@ -114,7 +121,8 @@ fn item_in_front<F: RowForm>(
 
 // The item that is no row at the front of the bytes.
 fn head_in_front<R: Row>(alloc: Global, bytes: &[u8]) -> Result<(Item<R>, usize), Unread>
-    ensures { IsInFront IsHead (Begins item_spelling IsHead) R.value bytes.now result }
+    ensures front { IsInFront IsHead (Begins item_spelling IsHead) R.value bytes.now result }
+    ensures asked { IsErrOf result unread.NoMemory → HeadAsks bytes.now }
 {
     let mut input = Input::new(bytes);
     let item = read_head(alloc, &mut input)?;
@@ -123,7 +131,8 @@ fn head_in_front<R: Row>(alloc: Global, bytes: &[u8]) -> Result<(Item<R>, usize)
 
 // The row at the front of the bytes.
 fn row_in_front<F: RowForm>(alloc: Global, bytes: &[u8]) -> Result<(Item<F::R>, usize), Unread>
-    ensures { IsInFront (IsRowItem F.IsRow) BeginsFrame F.R.value bytes.now result }
+    ensures front { IsInFront (IsRowItem F.IsRow) BeginsFrame F.R.value bytes.now result }
+    ensures asked { IsErrOf result unread.NoMemory → FrameAsks bytes.now }
 {
     let mut input = Input::new(bytes);
     let row = read_row::<F>(alloc, &mut input)?;

@@ -2,13 +2,13 @@ use Rattle.spelling.proofs.Lists.{are_bytes}
 use Rattle.cap_codec.proofs.Frames.{frame_end, frame_err, frame_whole}
 use Rattle.cap_codec.proofs.frame.decode_frame.Goals as goal
 
-pub returns-in_err-body : goal.returns-in_err-body
-returns-in_err-body c = frame_end c.args.bytes.now c.new-input.result c.in_err-body.field-0.0 c.from_residual.result c.new-input.ensures c.in_err-body.ensures.gives c.from_residual.ensures.1
+pub returns-in_err-body-clause-decodes : goal.returns-in_err-body-clause-decodes
+returns-in_err-body-clause-decodes c = frame_end c.args.bytes.now c.new-input.result c.in_err-body.field-0.0 c.from_residual.result c.new-input.ensures c.in_err-body.ensures.gives c.from_residual.ensures.1
 
-pub returns-in_err-row : goal.returns-in_err-row
-returns-in_err-row c =
-    frame_err c.args.bytes.now c.new-input.result c.in_ok-body.body.now c.read_body.new.input c.in_err-row.field-0.0 c.from_residual-in_err-row.result c.new-input.ensures c.in_ok-body.ensures.gives c.in_err-row.ensures c.from_residual-in_err-row.ensures.1
+pub returns-in_err-row-clause-decodes : goal.returns-in_err-row-clause-decodes
+returns-in_err-row-clause-decodes c =
+    frame_err c.args.bytes.now c.new-input.result c.in_ok-body.body.now c.read_body.new.input c.in_err-row.field-0.0 c.from_residual-in_err-row.result c.new-input.ensures c.in_ok-body.ensures.gives c.in_err-row.ensures.reads c.from_residual-in_err-row.ensures.1
 
-pub returns : goal.returns
-returns c =
-    frame_whole c.args.bytes.now c.new-input.result c.in_ok-body.body.now c.read_body.new.input c.in_ok-row.row c.taken_of.result (are_bytes c.args.bytes.now c.type_inv.bytes) c.new-input.ensures c.in_ok-body.ensures.gives c.in_ok-row.ensures c.taken_of.ensures
+pub returns-clause-decodes : goal.returns-clause-decodes
+returns-clause-decodes c =
+    frame_whole c.args.bytes.now c.new-input.result c.in_ok-body.body.now c.read_body.new.input c.in_ok-row.row c.taken_of.result (are_bytes c.args.bytes.now c.type_inv.bytes) c.new-input.ensures c.in_ok-body.ensures.gives c.in_ok-row.ensures.reads c.taken_of.ensures
