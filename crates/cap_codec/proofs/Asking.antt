@@ -1,10 +1,11 @@
 -- Where memory was asked for, from what was read.
-use Rattle.std.proofs.Common.{◌≡◌, ℕ, Bool, true, false, List, [], ◌∷◌, ◌++◌, drop, Option, None, Some, Ok, sym, ap, subst, ◌∙◌, append_assoc, ◌⊎◌, inl, inr}
+use Rattle.std.proofs.Common.{◌≡◌, ℕ, Bool, true, false, List, [], ◌∷◌, ◌++◌, drop, Option, None, Some, Ok, refl, sym, ap, subst, ◌∙◌, append_assoc, ◌⊎◌, inl, inr}
 use Rattle.std.proofs.lemmas.List.{take-append-drop}
 use Rattle.std.specs.List.{flat_map}
-use Rattle.spelling.specs.Front.{Front, Whole, ◌>>=◌}
+use Rattle.spelling.specs.Front.{Front, Whole, Part, Wrong, ◌>>=◌}
 use Rattle.spelling.specs.Form.{Decodes}
 use Rattle.spelling.proofs.Joining.{bind_whole, whole_rest}
+use Rattle.spelling.proofs.Loop.{behind}
 use Rattle.willow_path.specs.Key.{key_at}
 use Rattle.willow_area.specs.AreaSpelling.{AreaAsks, area_at}
 use Rattle.willow_area.proofs.AreaReads.{whole_asks as area_asks}
@@ -24,6 +25,12 @@ behind_initial false bytes initial rest e asks = subst ChainAsks (sym (whole_res
 behind_initial true bytes initial rest e asks = let signature = bind_whole (signature_at bytes) (λ x. Whole (Some x.0) x.1) initial rest e in rw signature.2 tt
 
 -- ---- delegations
+
+-- before anything was read
+pub nothing_read : {A : Type 0} (front : Front (List A)) → behind [] front ≡ front
+nothing_read (Whole xs rest) = refl
+nothing_read Part = refl
+nothing_read Wrong = refl
 
 -- nothing was read yet, or the first area asked
 abbrev pub HasAsked : List ℕ → List ℕ → Type 0

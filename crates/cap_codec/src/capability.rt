@@ -85,7 +85,7 @@ pub fn read_signature(alloc: Global, input: &mut Input) -> Result<Signature, Unr
     Signature::new(bytes).ok_or(Unread::Wrong)
 }
 
-#[tactic(auto, unfolding(crate::specs::Reading::delegation_at))]
+#[tactic(auto, unfolding(crate::specs::Reading::delegation_at), using(willow_area::proofs::AreaReads::whole_asks))]
 fn read_delegation(alloc: Global, input: &mut Input) -> Result<Delegation, Unread>
     ensures gives { Gives (λ delegation. delegation) result input.new (delegation_at input.old) }
     ensures asked { IsErrOf result unread.NoMemory → AreaAsks input.old }

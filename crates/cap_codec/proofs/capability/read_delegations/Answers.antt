@@ -1,9 +1,9 @@
-use Rattle.std.proofs.Common.{arith, inl, inr, refl}
+use Rattle.std.proofs.Common.{◌≡◌, ◌-◌, arith, inl, inr, refl}
 use Rattle.std.proofs.lemmas.Result.{err_from_is_err_and}
 use Rattle.spelling.specs.Reading.{many_at}
 use Rattle.spelling.proofs.Loop.{read_on, read_ends, read_all}
 use Rattle.cap_codec.specs.Reading.{delegation_at}
-use Rattle.cap_codec.proofs.Asking.{asks_now, delegation_asks}
+use Rattle.cap_codec.proofs.Asking.{asks_now, delegation_asks, nothing_read}
 use Rattle.cap_codec.proofs.Loops.{one_longer}
 use Rattle.cap_codec.proofs.capability.read_delegations.Goals as goal
 
@@ -22,7 +22,12 @@ returns-in_err-push-clause-asked c = λ wants.
     (omega (arith, c.loop-test.true), asks_now c.args.input.now c.loop.input c.loop.invariant.2 (delegation_asks c.loop.input c.in_ok-delegation.delegation c.read_delegation.new.input c.in_ok-delegation.ensures.gives))
 
 pub loop-init : goal.loop-init
-loop-init c = ?
+loop-init c =
+    let whole : c.args.count - 0 ≡ c.args.count = omega arith in (
+      rw (c.new-delegations.ensures.items, whole) (nothing_read (many_at delegation_at c.args.count c.args.input.now)),
+      rw c.new-delegations.ensures.items refl,
+      inl refl,
+    )
 
 pub loop-preserved : goal.loop-preserved
 loop-preserved c = (
