@@ -59,7 +59,6 @@ fn hello_in_front(alloc: Global, bytes: &[u8]) -> Result<(Hello, usize), Unread>
 }
 
 // Reads a hello, and its capability once all the bytes of that are there.
-#[tactic(auto, using(crate::proofs::HelloReads::draft_asks))]
 fn read_whole(alloc: Global, input: &mut Input) -> Result<Hello, Unread>
     ensures gives { GivesHello result input.new (draft_at input.old) }
     ensures asked { IsErrOf result unread.NoMemory → HelloAsks input.old }
