@@ -9,7 +9,7 @@ use Rattle.spelling.proofs.Loop.{behind}
 use Rattle.willow_path.specs.Key.{key_at}
 use Rattle.willow_area.specs.AreaSpelling.{AreaAsks, area_at}
 use Rattle.willow_area.proofs.AreaReads.{whole_asks as area_asks}
-use Rattle.willow_entry.specs.EntryForm.{EntryAsks, entry_spelling}
+use Rattle.willow_entry.specs.EntryForm.{EntryAsks}
 use Rattle.willow_entry.specs.Frame.{FrameAsks}
 use Rattle.willow_entry.proofs.EntryReads.{entry-reads, whole_asks as entry_asks}
 use Rattle.mc_cap.specs.declared.chain.Delegation.{Delegation}
