@@ -10,3 +10,4 @@ pub mod Stops
 pub mod ReadParts
 pub mod Misordered
 pub mod ReadBack
+pub mod Asking

@@ -2,12 +2,13 @@
 use Rattle.std.specs.Prelude.{◌≡◌, ℕ, ◌+◌, ◌<◌, ◌^◌, ◌⊎◌, List, ◌++◌, length, map, Some, None, Result, Ok, Err}
 use Rattle.std.specs.List.{flat_map, AllByRecursion}
 use Rattle.spelling.specs.Front.{Front, ◌>>=◌}
+use Rattle.spelling.specs.Memory.{Behind}
 use Rattle.spelling.specs.Reading.{exactly_at}
 use Rattle.spelling.specs.declared.ending.End.{End}
 use Rattle.spelling.specs.declared.ending.End.TheVariants.{Refused, NoMemory}
 use Rattle.willow_path.specs.Key.{IsKey, key_at}
 use Rattle.willow_entry.specs.Row.{RowValue, live}
-use Rattle.willow_entry.specs.Frame.{HasFrame}
+use Rattle.willow_entry.specs.Frame.{FrameAsks, HasFrame}
 use Rattle.cap_codec.specs.Rows.{RawValue, row_of, IsRawRow, FitsFrame, frame}
 use Rattle.cap_codec.specs.Streams.{HasNoFrame}
 use Rattle.peer_image.specs.declared.refusal.ImageRefusal.{ImageRefusal}
@@ -29,6 +30,10 @@ unfoldable pub header_at : List ℕ → Front (List ℕ)
 header_at bytes = do
   text ← exactly_at magic bytes
   key_at text.1
+
+-- an image asks for memory behind its header, where the first frame does, or where it has no rows
+abbrev pub ImageAsks : List ℕ → Type 0
+ImageAsks bytes = Behind (header_at bytes) (λ key rest. FrameAsks rest ⊎ (rest ≡ trailer 0))
 
 -- the bytes are the image of rows that frames may carry, fewer than a count of four bytes can tell
 pub record IsImage (bytes n : List ℕ) (rows : List RawValue) : Type 0 where

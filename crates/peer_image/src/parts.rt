@@ -1,7 +1,8 @@
 //! Images as they are read a part at a time.
 
-ghost use Rattle.std.specs.Prelude.{IfOk, MatchOption};
+ghost use Rattle.std.specs.Prelude.{IfOk, MatchOption, OnErr};
 ghost use Rattle.spelling.specs.Reading.{Gives, NeedsNoMemory};
+ghost use Rattle.willow_entry.specs.Frame.{FrameAsks};
 ghost use Rattle.peer_image.specs.ImageReading.{header_at, HasNoHeader};
 ghost use Rattle.peer_image.specs.Parts.{IsHead, IsPart};
 
@@ -31,13 +32,15 @@ fn read_header(input: &mut Input) -> Result<NamespaceKey, Unread>
     read_namespace_key(input)
 }
 
-/// The rows of the first frames in front of the bytes, at most so many, and the bytes behind these frames.
+/// The rows of the first frames in front of the bytes, at most so many, and the bytes behind these frames. Memory is
+/// asked for where the first frame asks.
 pub fn rows_in_front(
     alloc: Global,
     bytes: &[u8],
     most: usize,
 ) -> Result<(Vec<RawRow>, &[u8]), NoMemory>
-    ensures { IfOk result (λ read. IsPart bytes.now most read.0.items read.1.now) }
+    ensures reads { IfOk result (λ read. IsPart bytes.now most read.0.items read.1.now) }
+    ensures asked { OnErr result (FrameAsks bytes.now) }
 {
     let mut rows = Vec::new(alloc);
     let mut left = bytes;

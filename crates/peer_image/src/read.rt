@@ -4,7 +4,7 @@ ghost use Rattle.std.specs.Prelude.{◌≡◌, ◌<◌, ◌^◌, ◌++◌, Match
 ghost use Rattle.spelling.specs.declared.ending.End.TheVariants as ends;
 ghost use Rattle.willow_path.specs.Key.{IsKey};
 ghost use Rattle.peer_image.specs.Image.{magic, trailer};
-ghost use Rattle.peer_image.specs.ImageReading.{HasNoHeader, ReadsImage, ReadsRows};
+ghost use Rattle.peer_image.specs.ImageReading.{HasNoHeader, ImageAsks, ReadsImage, ReadsRows};
 
 use crate::order::order_refusal;
 use crate::parts::image_head;
@@ -27,10 +27,12 @@ pub struct Image {
 /// The rows of the image that the bytes are: the text WIM1, a namespace key, frames of rows, four bytes 00,
 /// the number of rows in four bytes, and nothing else. The rows rise by subspace and then by path, and none
 /// dominates a later one. Bytes that are no image are refused first, then rows that do not rise, then pruned ones,
-/// with the places that `ImageRefusal` tells. Bytes without a header are refused before any memory is asked for.
+/// with the places that `ImageRefusal` tells. Bytes without a header, or whose first frame is none, are refused before
+/// any memory is asked for.
 pub fn read_image(alloc: Global, bytes: &[u8]) -> Result<Image, End<ImageRefusal>>
     ensures image { ReadsImage bytes.now result }
     ensures sure { IsErrOf result ends.NoMemory → HasNoHeader bytes.now → ⊥ }
+    ensures asked { IsErrOf result ends.NoMemory → ImageAsks bytes.now }
 {
     match read_rows(alloc, bytes) {
         Ok(image) => in_order(alloc, bytes, image),
@@ -54,6 +56,7 @@ fn in_order(alloc: Global, bytes: &[u8], image: Image) -> Result<Image, End<Imag
 fn read_rows(alloc: Global, bytes: &[u8]) -> Result<Image, End<ImageRefusal>>
     ensures rows { ReadsRows bytes.now result }
     ensures sure { IsErrOf result ends.NoMemory → HasNoHeader bytes.now → ⊥ }
+    ensures asked { IsErrOf result ends.NoMemory → ImageAsks bytes.now }
 {
     match image_head(bytes) {
         Some((namespace, behind)) => read_behind(alloc, bytes, namespace, behind),
@@ -73,6 +76,7 @@ fn read_behind(
     requires behind { bytes.now ≡ (magic ++ namespace) ++ behind.now }
     ensures rows { ReadsRows bytes.now result }
     ensures sure { HasNoHeader bytes.now → ⊥ }
+    ensures asked { IsErrOf result ends.NoMemory → ImageAsks bytes.now }
 {
     match frames_in_front(alloc, behind) {
         Ok((rows, left)) => {

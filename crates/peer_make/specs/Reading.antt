@@ -3,6 +3,7 @@ use Rattle.std.specs.Prelude.{◌≡◌, ℕ, ◌⊎◌, List, Result, Ok, Err}
 use Rattle.willow_outside.specs.Facts.{SourceFacts}
 use Rattle.mc_cap.specs.Forms.{IsCapability, capability_spelling}
 use Rattle.mc_cap.specs.declared.capability.Capability.{Capability}
+use Rattle.cap_codec.specs.Memory.{CapabilityAsks}
 use Rattle.peer_stage.specs.Stages.{IsReadWhole, IsReadTooFar, IsReadToFault, IsReadSomewhat, IsInput}
 use Rattle.peer_stage.specs.declared.stage.TheConstants.{INPUT_LIMIT}
 use Rattle.peer_stage.specs.declared.outcome.Origin.{Origin}
@@ -18,11 +19,12 @@ pub record IsSpelled (bytes : List ℕ) (c : Capability) : Type 0 where
 abbrev pub IsNoCapability : List ℕ → Type 0
 IsNoCapability bytes = (c : Capability) → IsSpelled bytes c → ⊥
 
--- the capability that the bytes are; that they are none is told at 0 of where they came from
+-- The capability that the bytes are; that they are none is told at 0 of where they came from. Want of memory comes only
+-- where the bytes so far made the reader ask for some.
 abbrev pub ReadsCapabilityFrom : Origin → List ℕ → Result Capability Stop → Type 0
 ReadsCapabilityFrom origin bytes (Ok c) = IsSpelled bytes c
 ReadsCapabilityFrom origin bytes (Err (stop.BadInput from at)) = (from ≡ origin) × (at ≡ 0) × IsNoCapability bytes
-ReadsCapabilityFrom origin bytes (Err stop.NoMemory) = Unit {0}
+ReadsCapabilityFrom origin bytes (Err stop.NoMemory) = CapabilityAsks bytes
 ReadsCapabilityFrom origin bytes (Err e) = ⊥
 
 -- the input was read whole, and is the spelling of the capability

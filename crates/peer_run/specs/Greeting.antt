@@ -3,6 +3,7 @@ use Rattle.std.specs.Prelude.{◌≡◌, ℕ, List, Option, Some, None, Result, 
 use Rattle.spelling.specs.Answers.{or_else}
 use Rattle.lms_core.specs.Use.{peer_rules}
 use Rattle.mc_cap.specs.Grant.{granted}
+use Rattle.mc_cap.specs.Valid.{beginning_refusal}
 use Rattle.mc_cap.specs.declared.capability.Capability.{Capability}
 use Rattle.willow_area.specs.declared.area.Area.{Area}
 use Rattle.session_end.specs.declared.refusal.HelloRefusal.{HelloRefusal}
@@ -39,9 +40,10 @@ Greets n words c nonce (Err (stop.SessionRefused refusal)) = own_refusal n (own_
 Greets n words c nonce (Err stop.NoMemory) = Unit {0}
 Greets n words c nonce (Err e) = ⊥
 
--- the same of a hello whose ask has times
+-- The same of a hello whose ask has times. Memory is asked for where neither the claim nor the beginning of the capability
+-- is refused.
 abbrev pub JudgesOwn : List ℕ → Hello → Result Hello Stop → Type 0
 JudgesOwn n h (Ok hello) = (hello ≡ h) × (hello_refusal peer_rules n h ≡ None)
 JudgesOwn n h (Err (stop.SessionRefused refusal)) = hello_refusal peer_rules n h ≡ Some refusal
-JudgesOwn n h (Err stop.NoMemory) = Unit {0}
+JudgesOwn n h (Err stop.NoMemory) = (claim_refusal n h ≡ None) × (beginning_refusal peer_rules h.capability ≡ None)
 JudgesOwn n h (Err e) = ⊥
