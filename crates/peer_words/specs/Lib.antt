@@ -6,4 +6,5 @@ pub mod Values
 pub mod Signers
 pub mod Areas
 pub mod Commands
+pub mod Memory
 pub mod Alike

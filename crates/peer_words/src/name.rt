@@ -19,6 +19,8 @@ pub(crate) struct Name(pub(crate) String);
 impl Word for Name {
     ghost spells = { λ word name. IsNameWord word name.0 };
 
+    ghost asks = { IsName };
+
     fn of_word(alloc: Global, word: &str) -> Result<Name, End<Usage>> {
         if !is_name(word) {
             return Err(End::Refused(Usage));
@@ -50,6 +52,8 @@ pub(crate) struct Place(pub(crate) String);
 
 impl Word for Place {
     ghost spells = { λ word place. IsPlaceWord word place.0 };
+
+    ghost asks = { IsPlace };
 
     fn of_word(alloc: Global, word: &str) -> Result<Place, End<Usage>> {
         if !is_place(word) {

@@ -44,6 +44,8 @@ pub(crate) fn number_within(least: u32, most: u32, word: &str) -> Option<u32>
 impl Word for u64 {
     ghost spells = { IsNumber };
 
+    ghost asks = { λ word. ⊥ };
+
     fn of_word(_alloc: Global, word: &str) -> Result<u64, End<Usage>> {
         number_of(word).ok_or(End::Refused(Usage))
     }
@@ -52,6 +54,8 @@ impl Word for u64 {
 /// None is the word `none`.
 impl Word for Option<u64> {
     ghost spells = { IsNumberOrNone };
+
+    ghost asks = { λ word. ⊥ };
 
     fn of_word(_alloc: Global, word: &str) -> Result<Option<u64>, End<Usage>> {
         if word == "none" {
@@ -68,6 +72,8 @@ impl Word for Option<u64> {
 impl Word for u32 {
     ghost spells = { IsCount };
 
+    ghost asks = { λ word. ⊥ };
+
     fn of_word(_alloc: Global, word: &str) -> Result<u32, End<Usage>> {
         number_within(1, MOST_ROWS, word).ok_or(End::Refused(Usage))
     }
@@ -79,6 +85,8 @@ pub(crate) struct Links(pub(crate) u32);
 
 impl Word for Links {
     ghost spells = { λ word links. IsLinks word links.0 };
+
+    ghost asks = { λ word. ⊥ };
 
     fn of_word(_alloc: Global, word: &str) -> Result<Links, End<Usage>> {
         match number_within(1, MOST_LINKS, word) {

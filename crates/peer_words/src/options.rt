@@ -1,6 +1,8 @@
 //! The options of a command.
 
-ghost use Rattle.std.specs.Prelude.{◌≡◌, ℕ, List, MatchBool, MatchOption};
+ghost use Rattle.std.specs.Prelude.{◌≡◌, ℕ, List, MatchBool, MatchOption, IsErrOf};
+ghost use Rattle.spelling.specs.declared.ending.End.TheVariants as ends;
+ghost use Rattle.peer_words.specs.Memory.{IsSetAs};
 ghost use Rattle.peer_words.specs.Options.{Setting, IsValue, HaveOwnNames, AreSettings, IsSpelled, IsSet, IsSetTo, MayBeSet};
 ghost use Rattle.peer_words.specs.Pairs.{settings_of};
 ghost use Rattle.peer_words.specs.Verbs.{names_of};
@@ -62,8 +64,10 @@ impl<'a> Options<'a> {
     }
 
     /// What the value behind a name spells; refused where the name does not stand, or its value spells nothing.
+    /// Memory is asked for only where that value asks.
     pub(crate) fn given<T: Word>(&self, alloc: Global, name: &str) -> Result<T, End<Usage>>
-        ensures { Reads (IsSetTo T.spells self.now name.now) result }
+        ensures reads { Reads (IsSetTo T.spells self.now name.now) result }
+        ensures asked { IsErrOf result ends.NoMemory → IsSetAs T.asks self.now name.now }
     {
         match self.value_of(name) {
             Some(word) => T::of_word(alloc, word),
@@ -72,12 +76,14 @@ impl<'a> Options<'a> {
     }
 
     /// What the value behind a name spells, where the name stands; refused where its value spells nothing.
+    /// Memory is asked for only where that value asks.
     pub(crate) fn given_if<T: Word>(
         &self,
         alloc: Global,
         name: &str,
     ) -> Result<Option<T>, End<Usage>>
-        ensures { Reads (MayBeSet T.spells self.now name.now) result }
+        ensures reads { Reads (MayBeSet T.spells self.now name.now) result }
+        ensures asked { IsErrOf result ends.NoMemory → IsSetAs T.asks self.now name.now }
     {
         match self.value_of(name) {
             Some(word) => Ok(Some(T::of_word(alloc, word)?)),

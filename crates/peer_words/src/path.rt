@@ -1,8 +1,10 @@
 //! Paths in words.
 
-ghost use Rattle.std.specs.Prelude.{◌≡◌, ◌==◌, ◌≤◌, List, ℕ, length};
+ghost use Rattle.std.specs.Prelude.{◌≡◌, ◌==◌, ◌≤◌, ◌%◌, List, ℕ, length, IsErrOf};
 ghost use Rattle.std.specs.List.{position_or_len};
 ghost use Rattle.hex.specs.Hex.{decode_of};
+ghost use Rattle.spelling.specs.declared.ending.End.TheVariants as ends;
+ghost use Rattle.peer_words.specs.Memory.{PathAsks};
 ghost use Rattle.peer_words.specs.Values.{IsPathWord, IsParts};
 ghost use Rattle.peer_words.specs.Words.{Reads, ReadsBy};
 
@@ -15,6 +17,8 @@ use willow_path::{End, Path};
 impl Word for Path {
     ghost spells = { IsPathWord };
 
+    ghost asks = { PathAsks };
+
     fn of_word(alloc: Global, word: &str) -> Result<Path, End<Usage>> {
         if word == "." {
             return Ok(Path::empty(alloc));
@@ -26,9 +30,10 @@ impl Word for Path {
     }
 }
 
-// The path whose components are spelled in the word one after another.
+// The path whose components are spelled in the word one after another. Memory is asked for behind the first `/`.
 fn parts_of(alloc: Global, word: &[u8]) -> Result<Path, End<Usage>>
-    ensures { Reads (IsParts word.now) result }
+    ensures reads { Reads (IsParts word.now) result }
+    ensures asked { IsErrOf result ends.NoMemory → PathAsks word.now }
 {
     let mut path = Path::empty(alloc);
     let mut left = word;
@@ -61,9 +66,10 @@ fn part_end(word: &[u8]) -> usize
     end
 }
 
-// The component that the digits spell.
+// The component that the digits spell. Memory is asked for where their number is even.
 fn part_of(alloc: Global, digits: &[u8]) -> Result<Vec<u8>, End<Usage>>
-    ensures { ReadsBy (λ part. part.items) (λ part. decode_of digits.now ≡ Ok part) result }
+    ensures reads { ReadsBy (λ part. part.items) (λ part. decode_of digits.now ≡ Ok part) result }
+    ensures asked { IsErrOf result ends.NoMemory → length digits.now % 2 ≡ 0 }
 {
     match hex::decode(alloc, digits) {
         Ok(part) => Ok(part),

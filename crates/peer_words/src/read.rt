@@ -1,7 +1,9 @@
 //! Words to commands.
 
-ghost use Rattle.std.specs.Prelude.{◌≡◌, List, not};
+ghost use Rattle.std.specs.Prelude.{◌≡◌, List, not, IsErrOf};
+ghost use Rattle.spelling.specs.declared.ending.End.TheVariants as ends;
 ghost use Rattle.peer_words.specs.Commands.{IsOf, ReadsWords};
+ghost use Rattle.peer_words.specs.Memory.{AskForMemory, AsksOf};
 ghost use Rattle.peer_words.specs.Words.{Reads, texts};
 ghost use Rattle.peer_words.specs.declared.verb.Verb.TheVariants as verbs;
 
@@ -19,9 +21,12 @@ use willow_path::{Digest, End, NamespaceKey, Path, UserKey};
 
 /// The command that the words spell: its word, and then its options in any order, each at most once, a name
 /// and a value each. The error is `Refused(Usage)`, which comes only where the words spell no command, or
-/// `NoMemory`, for want of memory to read them, which says nothing of the words.
+/// `NoMemory`, which comes only where the words ask for memory: a command is named, options of it stand behind it,
+/// and all that is read of these before memory is asked for is as it should be. Names of files, places and paths
+/// take memory; `join`, `show`, `gen` and `drill` never ask for any.
 pub fn read_words(alloc: Global, words: &[String]) -> Result<Command, End<Usage>>
-    ensures { ReadsWords (texts words.now) result }
+    ensures reads { ReadsWords (texts words.now) result }
+    ensures asked { IsErrOf result ends.NoMemory → AskForMemory (texts words.now) }
 {
     if words.is_empty() {
         return Err(End::Refused(Usage));
@@ -38,7 +43,8 @@ pub fn read_words(alloc: Global, words: &[String]) -> Result<Command, End<Usage>
 
 // The command with what its options give.
 fn command_of(alloc: Global, verb: Verb, options: &Options) -> Result<Command, End<Usage>>
-    ensures { Reads (IsOf verb options.now) result }
+    ensures reads { Reads (IsOf verb options.now) result }
+    ensures asked { IsErrOf result ends.NoMemory → AsksOf verb options.now }
 {
     match verb {
         Verb::Join => join(alloc, options),
@@ -57,21 +63,24 @@ fn command_of(alloc: Global, verb: Verb, options: &Options) -> Result<Command, E
 }
 
 fn join(alloc: Global, options: &Options) -> Result<Command, End<Usage>>
-    ensures { Reads (IsOf verbs.Join options.now) result }
+    ensures reads { Reads (IsOf verbs.Join options.now) result }
+    ensures asked { IsErrOf result ends.NoMemory → AsksOf verbs.Join options.now }
 {
     let namespace = options.given::<NamespaceKey>(alloc, "--namespace")?;
     Ok(Command::Join { namespace })
 }
 
 fn show(alloc: Global, options: &Options) -> Result<Command, End<Usage>>
-    ensures { Reads (IsOf verbs.Show options.now) result }
+    ensures reads { Reads (IsOf verbs.Show options.now) result }
+    ensures asked { IsErrOf result ends.NoMemory → AsksOf verbs.Show options.now }
 {
     let newest = options.given_if::<u32>(alloc, "--newest")?;
     Ok(Command::Show { newest })
 }
 
 fn key(alloc: Global, options: &Options) -> Result<Command, End<Usage>>
-    ensures { Reads (IsOf verbs.Key options.now) result }
+    ensures reads { Reads (IsOf verbs.Key options.now) result }
+    ensures asked { IsErrOf result ends.NoMemory → AsksOf verbs.Key options.now }
 {
     let height = options.given::<Height>(alloc, "--height")?;
     let name = options.given::<Name>(alloc, "--name")?.0;
@@ -79,7 +88,8 @@ fn key(alloc: Global, options: &Options) -> Result<Command, End<Usage>>
 }
 
 fn grant(alloc: Global, options: &Options) -> Result<Command, End<Usage>>
-    ensures { Reads (IsOf verbs.Grant options.now) result }
+    ensures reads { Reads (IsOf verbs.Grant options.now) result }
+    ensures asked { IsErrOf result ends.NoMemory → AsksOf verbs.Grant options.now }
 {
     let namespace = options.given::<NamespaceKey>(alloc, "--namespace")?;
     let mode = options.given::<Mode>(alloc, "--mode")?;
@@ -98,7 +108,8 @@ fn grant(alloc: Global, options: &Options) -> Result<Command, End<Usage>>
 }
 
 fn delegate(alloc: Global, options: &Options) -> Result<Command, End<Usage>>
-    ensures { Reads (IsOf verbs.Delegate options.now) result }
+    ensures reads { Reads (IsOf verbs.Delegate options.now) result }
+    ensures asked { IsErrOf result ends.NoMemory → AsksOf verbs.Delegate options.now }
 {
     let to = options.given::<UserKey>(alloc, "--to")?;
     let key = options.given::<SignerWord>(alloc, "--key")?;
@@ -107,7 +118,8 @@ fn delegate(alloc: Global, options: &Options) -> Result<Command, End<Usage>>
 }
 
 fn write(alloc: Global, options: &Options) -> Result<Command, End<Usage>>
-    ensures { Reads (IsOf verbs.Write options.now) result }
+    ensures reads { Reads (IsOf verbs.Write options.now) result }
+    ensures asked { IsErrOf result ends.NoMemory → AsksOf verbs.Write options.now }
 {
     let time = options.given::<u64>(alloc, "--time")?;
     let length = options.given::<u64>(alloc, "--length")?;
@@ -126,21 +138,24 @@ fn write(alloc: Global, options: &Options) -> Result<Command, End<Usage>>
 }
 
 fn generate(alloc: Global, options: &Options) -> Result<Command, End<Usage>>
-    ensures { Reads (IsOf verbs.Gen options.now) result }
+    ensures reads { Reads (IsOf verbs.Gen options.now) result }
+    ensures asked { IsErrOf result ends.NoMemory → AsksOf verbs.Gen options.now }
 {
     let rows = options.given::<u32>(alloc, "--rows")?;
     Ok(Command::Gen { rows })
 }
 
 fn drill(alloc: Global, options: &Options) -> Result<Command, End<Usage>>
-    ensures { Reads (IsOf verbs.Drill options.now) result }
+    ensures reads { Reads (IsOf verbs.Drill options.now) result }
+    ensures asked { IsErrOf result ends.NoMemory → AsksOf verbs.Drill options.now }
 {
     let rows = options.given::<u32>(alloc, "--rows")?;
     Ok(Command::Drill { rows })
 }
 
 fn meet(alloc: Global, options: &Options) -> Result<Command, End<Usage>>
-    ensures { Reads (IsOf verbs.Meet options.now) result }
+    ensures reads { Reads (IsOf verbs.Meet options.now) result }
+    ensures asked { IsErrOf result ends.NoMemory → AsksOf verbs.Meet options.now }
 {
     let left = options.given::<Name>(alloc, "--left")?.0;
     let right = options.given::<Name>(alloc, "--right")?.0;
@@ -161,7 +176,8 @@ fn meet(alloc: Global, options: &Options) -> Result<Command, End<Usage>>
 }
 
 fn sync(alloc: Global, options: &Options) -> Result<Command, End<Usage>>
-    ensures { Reads (IsOf verbs.Sync options.now) result }
+    ensures reads { Reads (IsOf verbs.Sync options.now) result }
+    ensures asked { IsErrOf result ends.NoMemory → AsksOf verbs.Sync options.now }
 {
     let image = options.given::<Name>(alloc, "--image")?.0;
     let cap = options.given::<Name>(alloc, "--cap")?.0;
@@ -178,7 +194,8 @@ fn sync(alloc: Global, options: &Options) -> Result<Command, End<Usage>>
 }
 
 fn serve(alloc: Global, options: &Options) -> Result<Command, End<Usage>>
-    ensures { Reads (IsOf verbs.Serve options.now) result }
+    ensures reads { Reads (IsOf verbs.Serve options.now) result }
+    ensures asked { IsErrOf result ends.NoMemory → AsksOf verbs.Serve options.now }
 {
     let links = options.given::<Links>(alloc, "--links")?.0;
     let image = options.given::<Name>(alloc, "--image")?.0;
@@ -197,7 +214,8 @@ fn serve(alloc: Global, options: &Options) -> Result<Command, End<Usage>>
 }
 
 fn watch(alloc: Global, options: &Options) -> Result<Command, End<Usage>>
-    ensures { Reads (IsOf verbs.Watch options.now) result }
+    ensures reads { Reads (IsOf verbs.Watch options.now) result }
+    ensures asked { IsErrOf result ends.NoMemory → AsksOf verbs.Watch options.now }
 {
     let image = options.given::<Name>(alloc, "--image")?.0;
     let area = area_of(alloc, options)?;

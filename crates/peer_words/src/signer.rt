@@ -1,6 +1,7 @@
 //! Signers in words.
 
 ghost use Rattle.std.specs.Prelude.{◌≡◌, List, ℕ, MatchOption};
+ghost use Rattle.peer_words.specs.Memory.{SignerAsks};
 ghost use Rattle.peer_words.specs.Signers.{IsSignerWord, IsOpenBody};
 ghost use Rattle.peer_words.specs.Words.{Reads};
 
@@ -13,6 +14,8 @@ use willow_path::{End, UserKey};
 
 impl Word for SignerWord {
     ghost spells = { IsSignerWord };
+
+    ghost asks = { SignerAsks };
 
     fn of_word(alloc: Global, word: &str) -> Result<SignerWord, End<Usage>> {
         if let Some(digits) = word.strip_prefix("open:") {

@@ -1,6 +1,7 @@
 //! What can be read from a value.
 
-ghost use Rattle.std.specs.Prelude.{ℕ, List};
+ghost use Rattle.std.specs.Prelude.{◌≡◌, ℕ, List, IsErrOf};
+ghost use Rattle.spelling.specs.declared.ending.End.TheVariants as ends;
 ghost use Rattle.peer_words.specs.Values.{IsKeyWord, IsAnyOrKey, IsDigestWord, IsHeight, IsMode};
 ghost use Rattle.peer_words.specs.Words.{Reads};
 
@@ -15,13 +16,19 @@ use willow_path::{Digest, End, NamespaceKey, UserKey};
 pub(crate) trait Word: Sized {
     ghost spells: { List ℕ → Self → Type 0 };
 
-    /// What the word spells; it is refused exactly where it spells nothing.
+    // where the word asks for memory
+    ghost asks: { List ℕ → Type 0 };
+
+    /// What the word spells; it is refused exactly where it spells nothing. Memory is asked for only where the word asks.
     fn of_word(alloc: Global, word: &str) -> Result<Self, End<Usage>>
-        ensures { Reads (spells word.now) result };
+        ensures reads { Reads (spells word.now) result }
+        ensures asked { IsErrOf result ends.NoMemory → asks word.now };
 }
 
 impl Word for NamespaceKey {
     ghost spells = { IsKeyWord };
+
+    ghost asks = { λ word. ⊥ };
 
     fn of_word(_alloc: Global, word: &str) -> Result<NamespaceKey, End<Usage>> {
         let Ok(bytes) = <[u8; 33] as FromHex>::from_hex(word) else {
@@ -33,6 +40,8 @@ impl Word for NamespaceKey {
 
 impl Word for UserKey {
     ghost spells = { IsKeyWord };
+
+    ghost asks = { λ word. ⊥ };
 
     fn of_word(_alloc: Global, word: &str) -> Result<UserKey, End<Usage>> {
         let Ok(bytes) = <[u8; 33] as FromHex>::from_hex(word) else {
@@ -46,6 +55,8 @@ impl Word for UserKey {
 impl Word for Option<UserKey> {
     ghost spells = { IsAnyOrKey };
 
+    ghost asks = { λ word. ⊥ };
+
     fn of_word(alloc: Global, word: &str) -> Result<Option<UserKey>, End<Usage>> {
         if word == "any" {
             return Ok(None);
@@ -56,6 +67,8 @@ impl Word for Option<UserKey> {
 
 impl Word for Digest {
     ghost spells = { IsDigestWord };
+
+    ghost asks = { λ word. ⊥ };
 
     fn of_word(_alloc: Global, word: &str) -> Result<Digest, End<Usage>> {
         match <[u8; 32] as FromHex>::from_hex(word) {
@@ -68,6 +81,8 @@ impl Word for Digest {
 impl Word for Height {
     ghost spells = { IsHeight };
 
+    ghost asks = { λ word. ⊥ };
+
     fn of_word(_alloc: Global, word: &str) -> Result<Height, End<Usage>> {
         match word {
             "5" => Ok(Height::H5),
@@ -79,6 +94,8 @@ impl Word for Height {
 
 impl Word for Mode {
     ghost spells = { IsMode };
+
+    ghost asks = { λ word. ⊥ };
 
     fn of_word(_alloc: Global, word: &str) -> Result<Mode, End<Usage>> {
         match word {

@@ -14,7 +14,7 @@ returns-then-is_local g c =
       door = g.D.Door.facts c.args.door.now;
       noise = g.N.Noise.facts c.args.noise.now;
     } in
-    record { promises = c.run_local.ensures.promises (texts c.args.words.now) others c.in-Ok.ensures }
+    record { promises = c.run_local.ensures.promises (texts c.args.words.now) others c.in-Ok.ensures.reads }
 
 pub returns-else-is_local : goal.returns-else-is_local
 returns-else-is_local g c =
@@ -29,7 +29,7 @@ returns-else-is_local g c =
     record {
       promises = keeps _ (inl (record {
         command = c.in-Ok.command;
-        is_words = c.in-Ok.ensures;
+        is_words = c.in-Ok.ensures.reads;
         end = c.run_afar-end.result;
         meets = c.run_afar-end.ensures others;
         reports = c.end_run.ensures.reports;
@@ -38,7 +38,7 @@ returns-else-is_local g c =
 
 pub returns-in-Err-Refused : goal.returns-in-Err-Refused
 returns-in-Err-Refused g c =
-    record { promises = keeps _ (inr (inl (record { no_command = rw c.in-Err-Refused.field-0-is at c.in-Err-Refused.ensures; same = refl; reports = c.end_run-in-Err-Refused.ensures.reports }))) c.end_run-in-Err-Refused.ensures.faults }
+    record { promises = keeps _ (inr (inl (record { no_command = rw c.in-Err-Refused.field-0-is at c.in-Err-Refused.ensures.reads; same = refl; reports = c.end_run-in-Err-Refused.ensures.reports }))) c.end_run-in-Err-Refused.ensures.faults }
 
 pub returns-in-Err-NoMemory : goal.returns-in-Err-NoMemory
 returns-in-Err-NoMemory g c =

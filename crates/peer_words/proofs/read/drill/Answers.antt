@@ -4,7 +4,7 @@ use Rattle.peer_words.proofs.Endings.{passed_on}
 use Rattle.peer_words.proofs.Fields.{of_drill}
 use Rattle.peer_words.proofs.read.drill.Goals as goal
 
-pub returns-in_err-rows : goal.returns-in_err-rows
-returns-in_err-rows c =
-    passed_on _ (IsOf verbs.Drill c.args.options.now) c.in_err-rows.field-0.0 c.from_residual.result c.from_residual.ensures.1 c.in_err-rows.ensures
+pub returns-in_err-rows-clause-reads : goal.returns-in_err-rows-clause-reads
+returns-in_err-rows-clause-reads c =
+    passed_on _ (IsOf verbs.Drill c.args.options.now) c.in_err-rows.field-0.0 c.from_residual.result c.from_residual.ensures.1 c.in_err-rows.ensures.reads
     (λ none command is. of_drill (λ _. ⊥) c.args.options.now command is (λ rows has. none rows has))

@@ -5,12 +5,12 @@ use Rattle.peer_words.proofs.Fields.{of_watch}
 use Rattle.peer_words.proofs.OneValue.{given_end}
 use Rattle.peer_words.proofs.read.watch.Goals as goal
 
-pub returns-in_err-image : goal.returns-in_err-image
-returns-in_err-image c =
-    passed_on _ (IsOf verbs.Watch c.args.options.now) c.in_err-image.field-0.0 c.from_residual.result c.from_residual.ensures.1 c.in_err-image.ensures
+pub returns-in_err-image-clause-reads : goal.returns-in_err-image-clause-reads
+returns-in_err-image-clause-reads c =
+    passed_on _ (IsOf verbs.Watch c.args.options.now) c.in_err-image.field-0.0 c.from_residual.result c.from_residual.ensures.1 c.in_err-image.ensures.reads
     (λ none command is. of_watch (λ _. ⊥) c.args.options.now command is (λ image area has. none (record { 0 = image }) has.image_given))
 
-pub returns-then-eq : goal.returns-then-eq
-returns-then-eq c =
+pub returns-then-eq-clause-reads : goal.returns-then-eq-clause-reads
+returns-then-eq-clause-reads c =
     λ command is. of_watch (λ _. ⊥) c.args.options.now command is
-    (λ image area has. has.some_time (given_end c.args.options.now c.have_own_names.ensures area.until c.in_ok-area.area.until has.area_given.end (c.in_ok-area.ensures).end c.if-eq.ensures))
+    (λ image area has. has.some_time (given_end c.args.options.now c.have_own_names.ensures area.until c.in_ok-area.area.until has.area_given.end c.in_ok-area.ensures.reads.end c.if-eq.ensures))
