@@ -5,6 +5,7 @@ use Rattle.peer_stage.specs.declared.outcome.Done.{Done}
 use Rattle.peer_stage.specs.declared.outcome.Stop.{Stop}
 use Rattle.peer_stage.specs.declared.outcome.Stop.TheVariants as stop
 use Rattle.peer_words.specs.Commands.{IsWords, IsNoCommand}
+use Rattle.peer_words.specs.Memory.{AskForMemory}
 use Rattle.peer_words.specs.declared.command.Command.{Command}
 use Rattle.peer_report.specs.Report.{Reports}
 use Rattle.peer_run.specs.Deeds.{deed_of}
@@ -34,8 +35,9 @@ pub record IsMisused (run : Run) : Type 0 where
   pub same : before_report run ≡ run.old
   pub reports : Reports run.old.report run.new.report (Err stop.Usage) run.status
 
--- no memory was found to read the words, and nothing but the report was touched
+-- no memory was found to read the words, which ask for some, and nothing but the report was touched
 pub record IsUnread (run : Run) : Type 0 where
+  pub asked : AskForMemory run.words
   pub same : before_report run ≡ run.old
   pub reports : Reports run.old.report run.new.report (Err stop.NoMemory) run.status
 

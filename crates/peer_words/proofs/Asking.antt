@@ -7,7 +7,7 @@ use Rattle.hex.specs.Hex.{decode_of}
 use Rattle.hex.proofs.HexLemmas.{decode_of-ok}
 use Rattle.spelling.specs.declared.ending.End.{End}
 use Rattle.spelling.specs.declared.ending.End.TheVariants.{NoMemory}
-use Rattle.peer_words.specs.Memory.{IsSetAs, PathAsks}
+use Rattle.peer_words.specs.Memory.{IsSetAs, PathWordAsks}
 use Rattle.peer_words.specs.Options.{Setting, IsSetTo}
 use Rattle.peer_words.specs.Values.{IsName, IsNameWord}
 use Rattle.peer_words.specs.declared.command.Usage.{Usage}
@@ -31,8 +31,8 @@ pub even_digits : (digits part : List ℕ) → decode_of digits ≡ Ok part → 
 even_digits digits part decoded = (decode_of-ok digits part decoded).0
 
 -- a word that is read from its front asks at its first component
-pub path_asks : (word left : List ℕ) (n : ℕ) → (left ≡ word) ⊎ PathAsks word → 1 ≤ length left → get_or left 0 0 ≡ 47 → n ≡ position_or_len is_slash (drop 1 left) → n % 2 ≡ 0 → PathAsks word
+pub path_asks : (word left : List ℕ) (n : ℕ) → (left ≡ word) ⊎ PathWordAsks word → 1 ≤ length left → get_or left 0 0 ≡ 47 → n ≡ position_or_len is_slash (drop 1 left) → n % 2 ≡ 0 → PathWordAsks word
 path_asks word left n (inl same) some slash end even =
-    let front : PathAsks left = record { behind = drop 1 left; spelled = front_of left some slash; even = ap (λ (m : ℕ). m % 2) (sym end) ∙ even } in
-    subst (λ (w : List ℕ). PathAsks w) same front
+    let front : PathWordAsks left = record { behind = drop 1 left; spelled = front_of left some slash; even = ap (λ (m : ℕ). m % 2) (sym end) ∙ even } in
+    subst (λ (w : List ℕ). PathWordAsks w) same front
 path_asks word left n (inr asks) some slash end even = asks

@@ -26,30 +26,30 @@ IsSetAs P settings name = (word : List ℕ) × IsSet settings name word × P wor
 -- ---- the words that ask for memory, besides names and places
 
 -- a signer asks where it is a key file: `lms:` and a name
-pub record SignerAsks (word : List ℕ) : Type 0 where
+pub record SignerWordAsks (word : List ℕ) : Type 0 where
   pub file : List ℕ
   pub spelled : word ≡ codes "lms:" ++ file
   pub is_name : IsName file
 
 -- a path asks behind its first `/`, where an even number of bytes stands up to the next `/` or the end
-pub record PathAsks (word : List ℕ) : Type 0 where
+pub record PathWordAsks (word : List ℕ) : Type 0 where
   pub behind : List ℕ
   pub spelled : word ≡ 47 ∷ behind
   pub even : position_or_len (λ b. b == 47) behind % 2 ≡ 0
 
 -- an area asks for its path, behind its times and its subspace
-pub record AreaAsks (settings : List Setting) : Type 0 where
+pub record AreaWordsAsk (settings : List Setting) : Type 0 where
   pub start : Option ℕ
   pub end : Option (Option ℕ)
   pub start_given : MayBeSet IsNumber settings (codes "--from") start
   pub end_given : MayBeSet IsNumberOrNone settings (codes "--until") end
   pub rising : AreRising start end
   pub subspace_given : MayBeGiven IsAnyOrKey settings (codes "--subspace")
-  pub path_asks : IsSetAs PathAsks settings (codes "--under")
+  pub path_asks : IsSetAs PathWordAsks settings (codes "--under")
 
 -- the signer asks; or one is given, and what is read behind it asks
-abbrev pub SignerAsksOr : List Setting → Type 0 → Type 0
-SignerAsksOr settings more = IsSetAs SignerAsks settings (codes "--key") ⊎ (IsGiven IsSignerWord settings (codes "--key") × more)
+abbrev pub SignerWordAsksOr : List Setting → Type 0 → Type 0
+SignerWordAsksOr settings more = IsSetAs SignerWordAsks settings (codes "--key") ⊎ (IsGiven IsSignerWord settings (codes "--key") × more)
 
 -- ---- each command
 
@@ -61,17 +61,17 @@ KeyAsks settings = IsGiven IsHeight settings (codes "--height") × IsSetAs IsNam
 abbrev pub GrantAsks : List Setting → Type 0
 GrantAsks settings =
     IsGiven IsKeyWord settings (codes "--namespace") × IsGiven IsMode settings (codes "--mode") × IsGiven IsKeyWord settings (codes "--user")
-    × IsSetAs SignerAsks settings (codes "--key")
+    × IsSetAs SignerWordAsks settings (codes "--key")
 
 -- a capability that is handed on asks for its signer or else its area, behind the user
 abbrev pub DelegateAsks : List Setting → Type 0
-DelegateAsks settings = IsGiven IsKeyWord settings (codes "--to") × SignerAsksOr settings (AreaAsks settings)
+DelegateAsks settings = IsGiven IsKeyWord settings (codes "--to") × SignerWordAsksOr settings (AreaWordsAsk settings)
 
 -- a row asks for its signer or else its path, behind all else
 abbrev pub WriteAsks : List Setting → Type 0
 WriteAsks settings =
     IsGiven IsNumber settings (codes "--time") × IsGiven IsNumber settings (codes "--length") × IsGiven IsDigestWord settings (codes "--digest")
-    × MayBeGiven IsKeyWord settings (codes "--subspace") × SignerAsksOr settings (IsSetAs PathAsks settings (codes "--path"))
+    × MayBeGiven IsKeyWord settings (codes "--subspace") × SignerWordAsksOr settings (IsSetAs PathWordAsks settings (codes "--path"))
 
 -- sessions as answerer ask for the name of their image, behind the number of links
 abbrev pub ServeAsks : List Setting → Type 0

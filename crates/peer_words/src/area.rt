@@ -4,7 +4,7 @@ ghost use Rattle.std.specs.Prelude.{◌≡◌, List, MatchBool, MatchOption, IfO
 ghost use Rattle.spelling.specs.declared.ending.End.TheVariants as ends;
 ghost use Rattle.willow_area.specs.Times.{ends_by};
 ghost use Rattle.peer_words.specs.Areas.{HasArea, AreRising, Completes};
-ghost use Rattle.peer_words.specs.Memory.{AreaAsks};
+ghost use Rattle.peer_words.specs.Memory.{AreaWordsAsk};
 ghost use Rattle.peer_words.specs.Words.{Reads};
 
 use crate::command::{AreaWords, Usage};
@@ -61,7 +61,7 @@ fn are_rising(start: Option<u64>, end: Option<Option<u64>>) -> bool
 /// What the options say of an area. Memory is asked for only for its path, behind its times and its subspace.
 pub(crate) fn area_of(alloc: Global, options: &Options) -> Result<AreaWords, End<Usage>>
     ensures reads { Reads (HasArea options.now) result }
-    ensures asked { IsErrOf result ends.NoMemory → AreaAsks options.now }
+    ensures asked { IsErrOf result ends.NoMemory → AreaWordsAsk options.now }
 {
     let from = options.given_if::<u64>(alloc, "--from")?;
     let until = options.given_if::<Option<u64>>(alloc, "--until")?;

@@ -4,7 +4,7 @@ ghost use Rattle.std.specs.Prelude.{◌≡◌, ◌==◌, ◌≤◌, ◌%◌, Lis
 ghost use Rattle.std.specs.List.{position_or_len};
 ghost use Rattle.hex.specs.Hex.{decode_of};
 ghost use Rattle.spelling.specs.declared.ending.End.TheVariants as ends;
-ghost use Rattle.peer_words.specs.Memory.{PathAsks};
+ghost use Rattle.peer_words.specs.Memory.{PathWordAsks};
 ghost use Rattle.peer_words.specs.Values.{IsPathWord, IsParts};
 ghost use Rattle.peer_words.specs.Words.{Reads, ReadsBy};
 
@@ -17,7 +17,7 @@ use willow_path::{End, Path};
 impl Word for Path {
     ghost spells = { IsPathWord };
 
-    ghost asks = { PathAsks };
+    ghost asks = { PathWordAsks };
 
     fn of_word(alloc: Global, word: &str) -> Result<Path, End<Usage>> {
         if word == "." {
@@ -33,7 +33,7 @@ impl Word for Path {
 // The path whose components are spelled in the word one after another. Memory is asked for behind the first `/`.
 fn parts_of(alloc: Global, word: &[u8]) -> Result<Path, End<Usage>>
     ensures reads { Reads (IsParts word.now) result }
-    ensures asked { IsErrOf result ends.NoMemory → PathAsks word.now }
+    ensures asked { IsErrOf result ends.NoMemory → PathWordAsks word.now }
 {
     let mut path = Path::empty(alloc);
     let mut left = word;

@@ -1,7 +1,7 @@
 //! Signers in words.
 
 ghost use Rattle.std.specs.Prelude.{◌≡◌, List, ℕ, MatchOption};
-ghost use Rattle.peer_words.specs.Memory.{SignerAsks};
+ghost use Rattle.peer_words.specs.Memory.{SignerWordAsks};
 ghost use Rattle.peer_words.specs.Signers.{IsSignerWord, IsOpenBody};
 ghost use Rattle.peer_words.specs.Words.{Reads};
 
@@ -15,7 +15,7 @@ use willow_path::{End, UserKey};
 impl Word for SignerWord {
     ghost spells = { IsSignerWord };
 
-    ghost asks = { SignerAsks };
+    ghost asks = { SignerWordAsks };
 
     fn of_word(alloc: Global, word: &str) -> Result<SignerWord, End<Usage>> {
         if let Some(digits) = word.strip_prefix("open:") {

@@ -42,4 +42,4 @@ returns-in-Err-Refused g c =
 
 pub returns-in-Err-NoMemory : goal.returns-in-Err-NoMemory
 returns-in-Err-NoMemory g c =
-    record { promises = keeps _ (inr (inr (record { same = refl; reports = c.end_run-in-Err-NoMemory.ensures.reports }))) c.end_run-in-Err-NoMemory.ensures.faults }
+    record { promises = keeps _ (inr (inr (record { asked = c.in-Err-NoMemory.ensures.asked cc; same = refl; reports = c.end_run-in-Err-NoMemory.ensures.reports }))) c.end_run-in-Err-NoMemory.ensures.faults }
