@@ -1,5 +1,5 @@
 -- Which rows are authorised in a namespace, and which condition is the first that fails.
-use Rattle.std.specs.Prelude.{◌≡◌, ℕ, Bool, ◌&&◌, not, List, filter, Option, Some, None, is_some, option_map, Result, Ok, Err, IsTrue}
+use Rattle.std.specs.Prelude.{◌≡◌, ℕ, ◌<◌, ◌⊎◌, Bool, ◌&&◌, not, List, filter, length, Option, Some, None, is_some, option_map, Result, Ok, Err, IsTrue}
 use Rattle.spelling.specs.Answers.{or_else, cause_if}
 use Rattle.scheme_core.specs.Rules.{Rules}
 use Rattle.willow_area.specs.Area.{in_area}
@@ -53,6 +53,10 @@ row_refusal rules n r = or_else (claim_refusal n r) (or_else (capability_refusal
 -- what is judged before any memory is asked for: the claim, and how the capability begins
 unfoldable pub early_refusal : Rules → List ℕ → RawValue → Option RowRefusal
 early_refusal rules n r = or_else (claim_refusal n r) (option_map Chain (beginning_refusal rules r.token.capability))
+
+-- memory is asked for to check a delegation, or else the signature of an entry that the grant includes
+abbrev pub CheckAsks : RawValue → Type 0
+CheckAsks r = (0 < length r.token.capability.chain) ⊎ (grant_refusal r.token.capability r.entry ≡ None)
 
 -- ---- authorised
 

@@ -4,7 +4,7 @@ ghost use Rattle.std.specs.Prelude.{◌≡◌, None, IfOk, IsErrOf};
 ghost use Rattle.spelling.specs.Answers.{Judges};
 ghost use Rattle.spelling.specs.declared.ending.End.TheVariants as ends;
 ghost use Rattle.cap_codec.specs.Rows.{FitsFrame, row_of};
-ghost use Rattle.auth_entry.specs.Authorised.{AuthorisedValue, early_refusal, row_refusal};
+ghost use Rattle.auth_entry.specs.Authorised.{AuthorisedValue, CheckAsks, early_refusal, row_refusal};
 
 use crate::refusal::check_row;
 use cap_codec::{RawRow, SpelledRow};
@@ -26,7 +26,7 @@ pub struct AuthorisedEntry<S: Verify> {
 
 impl<S: Verify> Model for AuthorisedEntry<S> {
     ghost use Rattle.std.specs.Prelude.{◌≡◌, None};
-    ghost use Rattle.auth_entry.specs.Authorised.{AuthorisedValue, row_refusal};
+    ghost use Rattle.auth_entry.specs.Authorised.{AuthorisedValue, CheckAsks, row_refusal};
 
     ghost Value = { AuthorisedValue };
 
@@ -45,6 +45,7 @@ pub fn authorise<S: Verify>(
 ) -> Result<AuthorisedEntry<S>, End<RowRefusal>>
     ensures answer { Judges result (row_refusal S.rules namespace.now row) }
     ensures early { IsErrOf result ends.NoMemory → early_refusal S.rules namespace.now row ≡ None }
+    ensures asked { IsErrOf result ends.NoMemory → CheckAsks row }
     ensures namespace { IfOk result (λ entry. entry.namespace ≡ namespace.now) }
     ensures row { IfOk result (λ entry. entry.row ≡ row) }
 {

@@ -1,10 +1,10 @@
 //! Why a row is not authorised.
 
-ghost use Rattle.std.specs.Prelude.{◌≡◌, None, IsErrOf};
+ghost use Rattle.std.specs.Prelude.{◌≡◌, ◌<◌, length, None, IsErrOf};
 ghost use Rattle.spelling.specs.Answers.{Judges};
 ghost use Rattle.spelling.specs.declared.ending.End.TheVariants as ends;
 ghost use Rattle.mc_cap.specs.Valid.{beginning_refusal};
-ghost use Rattle.auth_entry.specs.Authorised.{capability_refusal, claim_refusal, early_refusal, entry_refusal, grant_refusal, row_refusal};
+ghost use Rattle.auth_entry.specs.Authorised.{CheckAsks, capability_refusal, claim_refusal, early_refusal, entry_refusal, grant_refusal, row_refusal};
 
 use cap_codec::RawRow;
 use mc_cap::{Capability, Mode, RowRefusal};
@@ -27,6 +27,7 @@ pub fn check_row<S: Verify>(
 ) -> Result<(), End<RowRefusal>>
     ensures answer { Judges result (row_refusal S.rules namespace.now row.now) }
     ensures early { IsErrOf result ends.NoMemory → early_refusal S.rules namespace.now row.now ≡ None }
+    ensures asked { IsErrOf result ends.NoMemory → CheckAsks row.now }
 {
     if let Some(refusal) = claim_refusal(namespace, row) {
         return Err(End::Refused(refusal));
@@ -58,6 +59,7 @@ pub fn check_capability<S: Verify>(
 ) -> Result<(), End<RowRefusal>>
     ensures answer { Judges result (capability_refusal S.rules capability.now) }
     ensures begun { IsErrOf result ends.NoMemory → beginning_refusal S.rules capability.now ≡ None }
+    ensures handed_on { IsErrOf result ends.NoMemory → 0 < length capability.now.chain }
 {
     match capability.check(scheme) {
         Ok(()) => Ok(()),

@@ -1,13 +1,15 @@
 -- There is no cause to refuse a capability exactly where it is valid.
-use Rattle.std.proofs.Common.{◌≡◌, ◌↔◌, ℕ, ◌+◌, ◌≤◌, Bool, true, false, not, cond, List, length, Option, Some, None, IsTrue, IfSome, nat_lt, refl, sym, ap, ◌∙◌}
-use Rattle.std.proofs.lemmas.Bool.{ltb-false, le-ltb, false≢true}
+use Rattle.std.proofs.Common.{◌≡◌, ◌↔◌, ℕ, ◌+◌, ◌≤◌, Bool, true, false, not, cond, List, [], ◌∷◌, ◌++◌, length, Option, Some, None, IsTrue, IfSome, nat_lt, refl, sym, ap, ◌∙◌, arith}
+use Rattle.std.proofs.lemmas.Bool.{ltb-false, lt-ltb, le-ltb, false≢true}
+use Rattle.std.proofs.lemmas.List.{length-append}
 use Rattle.spelling.specs.Answers.{or_else, cause_if, first_some}
 use Rattle.spelling.proofs.Causes.{or_else_both}
 use Rattle.scheme_core.specs.Rules.{Rules}
 use Rattle.willow_area.specs.Area.{includes_area}
-use Rattle.mc_cap.specs.Grant.{cut, receiver_of, granted}
+use Rattle.mc_cap.specs.Grant.{cut, extended, receiver_of, granted}
 use Rattle.mc_cap.specs.Messages.{initial_message, handover}
 use Rattle.mc_cap.specs.Valid.{IsHandedOn, IsValid, start_by, start_refusal, beginning_refusal, step_refusal, chain_refusal}
+use Rattle.willow_area.specs.declared.area.Area.{Area}
 use Rattle.mc_cap.specs.declared.chain.Delegation.{Delegation}
 use Rattle.mc_cap.specs.declared.capability.Capability.{Capability}
 use Rattle.mc_cap.specs.declared.check.TheConstants.{MAX_DELEGATIONS}
@@ -87,3 +89,10 @@ module _ (rules : Rules) (c : Capability) where
 
   pub valid_means : (chain_refusal rules c ≡ None) ↔ IsValid rules c
   valid_means = (valid, no_refusal)
+
+-- one delegation more than a valid capability may have
+pub too_many : (rules : Rules) (c : Capability) (area : Area) (user signature : List ℕ) → MAX_DELEGATIONS ≤ length c.chain → chain_refusal rules (extended c area user signature) ≡ Some TooManyDelegations
+unfolding chain_refusal
+too_many rules c area user signature full =
+    let d : Delegation = record { area = area; user = user; signature = signature } in
+    rw (lt-ltb MAX_DELEGATIONS (length (c.chain ++ d ∷ [])) (omega (arith, full, length-append c.chain (d ∷ [])))) refl

@@ -1,6 +1,6 @@
 //! Capabilities: who they were given to, and for what.
 
-ghost use Rattle.std.specs.Prelude.{◌≡◌, IfOk, IfSome};
+ghost use Rattle.std.specs.Prelude.{◌≡◌, ◌<◌, length, IfOk, IfSome, OnErr};
 ghost use Rattle.willow_area.specs.Area.{in_area};
 ghost use Rattle.mc_cap.specs.Signature.{IsSignature};
 ghost use Rattle.mc_cap.specs.Forms.{IsCapability};
@@ -46,9 +46,11 @@ impl Capability {
     }
 
     /// The area that it is good for: that of the last delegation. Without delegations it is the whole
-    /// subspace of the first user where the capability is communal, and everything where it is owned.
+    /// subspace of the first user where the capability is communal, and everything where it is owned. Only that of a
+    /// delegation needs memory.
     pub fn granted_area(&self) -> Result<Area, NoMemory>
-        ensures { IfOk result (λ area. area ≡ granted self.now) }
+        ensures granted { IfOk result (λ area. area ≡ granted self.now) }
+        ensures asked { OnErr result (0 < length self.now.chain) }
     {
         match self.chain.as_slice().last() {
             Some(delegation) => delegation.area.copy(),

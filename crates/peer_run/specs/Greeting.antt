@@ -1,5 +1,5 @@
 -- The own hello of a side, and why it is refused before anything is compared.
-use Rattle.std.specs.Prelude.{◌≡◌, ℕ, List, Option, Some, None, Result, Ok, Err, if◌then◌else◌}
+use Rattle.std.specs.Prelude.{◌≡◌, ℕ, ◌<◌, List, length, Option, Some, None, Result, Ok, Err, if◌then◌else◌}
 use Rattle.spelling.specs.Answers.{or_else}
 use Rattle.lms_core.specs.Use.{peer_rules}
 use Rattle.mc_cap.specs.Grant.{granted}
@@ -41,9 +41,9 @@ Greets n words c nonce (Err stop.NoMemory) = Unit {0}
 Greets n words c nonce (Err e) = ⊥
 
 -- The same of a hello whose ask has times. Memory is asked for where neither the claim nor the beginning of the capability
--- is refused.
+-- is refused, for its delegations.
 abbrev pub JudgesOwn : List ℕ → Hello → Result Hello Stop → Type 0
 JudgesOwn n h (Ok hello) = (hello ≡ h) × (hello_refusal peer_rules n h ≡ None)
 JudgesOwn n h (Err (stop.SessionRefused refusal)) = hello_refusal peer_rules n h ≡ Some refusal
-JudgesOwn n h (Err stop.NoMemory) = (claim_refusal n h ≡ None) × (beginning_refusal peer_rules h.capability ≡ None)
+JudgesOwn n h (Err stop.NoMemory) = (claim_refusal n h ≡ None) × (beginning_refusal peer_rules h.capability ≡ None) × (0 < length h.capability.chain)
 JudgesOwn n h (Err e) = ⊥

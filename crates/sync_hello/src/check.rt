@@ -1,6 +1,6 @@
 //! Which hellos are refused.
 
-ghost use Rattle.std.specs.Prelude.{◌≡◌, None, IsErrOf};
+ghost use Rattle.std.specs.Prelude.{◌≡◌, ◌<◌, length, None, IsErrOf};
 ghost use Rattle.spelling.specs.Answers.{Judges};
 ghost use Rattle.spelling.specs.declared.ending.End.TheVariants as ends;
 ghost use Rattle.mc_cap.specs.Valid.{beginning_refusal};
@@ -16,7 +16,7 @@ use willow_path::NamespaceKey;
 /// Whether the hello is one of this namespace by the rules of the scheme: its version is not 0; its capability is of
 /// the namespace, for reading, and valid (Meadowcap); and what that grants includes the ask. It is refused with the
 /// first of these that fails, in this order. What needs no memory is judged before any is asked for: the version, the
-/// namespace, the mode, and how the capability begins.
+/// namespace, the mode, and how the capability begins; where it has no delegations, all.
 #[tactic(auto, unfolding(crate::specs::Checked::hello_refusal), using(crate::proofs::Beginning::begins_where_passed))]
 pub fn check_hello<S: Verify>(
     scheme: &S,
@@ -26,6 +26,7 @@ pub fn check_hello<S: Verify>(
     ensures answer { Judges result (hello_refusal S.rules namespace.now hello.now) }
     ensures early { IsErrOf result ends.NoMemory → claim_refusal namespace.now hello.now ≡ None }
     ensures begun { IsErrOf result ends.NoMemory → beginning_refusal S.rules hello.now.capability ≡ None }
+    ensures handed_on { IsErrOf result ends.NoMemory → 0 < length hello.now.capability.chain }
 {
     if let Some(refusal) = claim_refusal(namespace, hello) {
         return Err(End::Refused(refusal));
@@ -55,6 +56,7 @@ fn claim_refusal(namespace: &NamespaceKey, hello: &Hello) -> Option<HelloRefusal
 fn check_capability<S: Verify>(scheme: &S, capability: &Capability) -> Result<(), End<HelloRefusal>>
     ensures answer { Judges result (capability_refusal S.rules capability.now) }
     ensures begun { IsErrOf result ends.NoMemory → beginning_refusal S.rules capability.now ≡ None }
+    ensures handed_on { IsErrOf result ends.NoMemory → 0 < length capability.now.chain }
 {
     match capability.check(scheme) {
         Ok(()) => Ok(()),
@@ -65,7 +67,8 @@ fn check_capability<S: Verify>(scheme: &S, capability: &Capability) -> Result<()
 
 // Whether the ask is within what the capability grants.
 fn check_ask(hello: &Hello) -> Result<(), End<HelloRefusal>>
-    ensures { Judges result (ask_refusal hello.now) }
+    ensures answer { Judges result (ask_refusal hello.now) }
+    ensures handed_on { IsErrOf result ends.NoMemory → 0 < length hello.now.capability.chain }
 {
     let granted = hello.capability.granted_area()?;
     if !granted.includes_area(&hello.ask) {
