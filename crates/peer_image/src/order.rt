@@ -1,6 +1,6 @@
 //! The order of an image's rows: they rise by subspace and path, and no row dominates a later one.
 
-ghost use Rattle.std.specs.Prelude.{◌≡◌, ◌↔◌, ◌+◌, ◌++◌, ◌<◌, ◌^◌, List, length, map, option_map, None, Some, IfOk, IsTrue, OnOk};
+ghost use Rattle.std.specs.Prelude.{◌≡◌, ◌↔◌, ◌+◌, ◌++◌, ◌<◌, ◌^◌, List, length, map, option_map, None, Some, IfOk, IsTrue, OnErr, OnOk};
 ghost use Rattle.std.specs.List.{last_or};
 ghost use Rattle.willow_entry.specs.Row.{RowValue, inner_place_cmp};
 ghost use Rattle.peer_image.specs.Fronts.{at_prefixes_of, first_dominating, fronts_of, is_at_inner_prefix, last_fronts, numbered, seen, StandBehind};
@@ -132,11 +132,12 @@ fn pruned_behind<'a, R: Row>(
 // ---- a part at a time
 
 /// Whether the rows are in order behind others, of which the fronts of the last are given: those at prefixes of its path,
-/// itself among them. By these alone it shows for all (`fronts_decide_order`).
+/// itself among them. By these alone it shows for all (`fronts_decide_order`). Memory is asked for where the rows rise.
 pub fn are_in_order<R: Row>(alloc: Global, fronts: &[R], rows: &[R]) -> Result<bool, NoMemory>
     requires count { length fronts.now + length rows.now < 2 ^ 32 }
     requires in_order { order_refusal (map R.value fronts.now) ≡ None }
-    ensures { IfOk result (λ x. IsTrue x ↔ (order_refusal (map R.value fronts.now ++ map R.value rows.now) ≡ None)) }
+    ensures order { IfOk result (λ x. IsTrue x ↔ (order_refusal (map R.value fronts.now ++ map R.value rows.now) ≡ None)) }
+    ensures rising { OnErr result (IsInnerRising (map R.value fronts.now ++ map R.value rows.now)) }
 {
     if !rise_behind(fronts, rows) {
         return Ok(false);

@@ -4,7 +4,7 @@ use Rattle.spelling.specs.declared.ending.End.{End}
 use Rattle.spelling.specs.declared.ending.End.TheVariants.{Refused, NoMemory}
 use Rattle.cap_codec.specs.Rows.{RawValue}
 use Rattle.auth_entry.specs.Authorised.{AuthorisedValue}
-use Rattle.peer_image.specs.ImageReading.{IsImage, IsWrong, IsMisordered, raw_rows}
+use Rattle.peer_image.specs.ImageReading.{ImageAsks, IsImage, IsWrong, IsMisordered, raw_rows}
 use Rattle.peer_image.specs.Order.{order_refusal}
 use Rattle.peer_image.specs.declared.read.Image.{Image}
 use Rattle.peer_image.specs.declared.refusal.ImageRefusal.TheVariants as refusal
@@ -22,13 +22,14 @@ pub record IsImageInOrder (bytes namespace : List ℕ) (rows : List RawValue) : 
   pub is_image : IsImage bytes namespace rows
   pub in_order : order_refusal (raw_rows rows) ≡ None
 
--- the image that the bytes are, or why they are none, told of where they came from
+-- The image that the bytes are, or why they are none, told of where they came from. Want of memory comes only where the
+-- bytes made the reader ask for some.
 abbrev pub ReadsImageFrom : Origin → List ℕ → Result Image Stop → Type 0
 ReadsImageFrom origin bytes (Ok image) = IsImageInOrder bytes image.namespace image.rows.items
 ReadsImageFrom origin bytes (Err (stop.BadInput from at)) = IsWrong bytes at × (from ≡ origin)
 ReadsImageFrom origin bytes (Err (stop.NotRising from row)) = IsMisordered bytes (refusal.NotRising row) × (from ≡ origin)
 ReadsImageFrom origin bytes (Err (stop.Pruned from row by)) = IsMisordered bytes (refusal.Pruned row by) × (from ≡ origin)
-ReadsImageFrom origin bytes (Err stop.NoMemory) = Unit {0}
+ReadsImageFrom origin bytes (Err stop.NoMemory) = ImageAsks bytes
 ReadsImageFrom origin bytes (Err e) = ⊥
 
 -- the log of the authorised rows, with the numbers of all of them; or one too many would be stored

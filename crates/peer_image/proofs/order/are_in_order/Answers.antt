@@ -8,15 +8,15 @@ use Rattle.peer_image.proofs.order.are_in_order.Goals as goal
 pub rise_behind-requires-clause-rising : goal.rise_behind-requires-clause-rising
 rise_behind-requires-clause-rising g c = order_rises (map g.R.Row.value c.args.fronts.now) c.requires.in_order
 
-pub returns-then-not-rise_behind : goal.returns-then-not-rise_behind
-returns-then-not-rise_behind g c =
+pub returns-then-not-rise_behind-clause-order : goal.returns-then-not-rise_behind-clause-order
+returns-then-not-rise_behind-clause-order g c =
     let value = g.R.Row.value in
     let earlier = map value c.args.fronts.now in
     let rows = map value c.args.rows.now in
     (λ yes. absurd cc, λ none. sym c.if-not-rise_behind.true ∙ c.rise_behind.ensures.1 (order_rises (earlier ++ rows) none))
 
-pub returns : goal.returns
-returns g c =
+pub returns-clause-order : goal.returns-clause-order
+returns-clause-order g c =
     let value = g.R.Row.value in
     let earlier = map value c.args.fronts.now in
     let rows = map value c.args.rows.now in

@@ -17,5 +17,5 @@ returns c = λ seen h yes.
     let fronts = c.args.fronts.now.items in
     let rows = c.args.rows.now in
     let order : order_refusal (raw_rows fronts ++ raw_rows rows) ≡ None =
-    subst (λ (l : List RawValue). order_refusal (raw_rows l ++ raw_rows rows) ≡ None) c.deref.ensures.value (c.in_ok-are_in_order.ensures.0 c.if-not-branch.false) in
+    subst (λ (l : List RawValue). order_refusal (raw_rows l ++ raw_rows rows) ≡ None) c.deref.ensures.value (c.in_ok-are_in_order.ensures.order.0 c.if-not-branch.false) in
     fronts_on seen fronts h rows c.in_ok-fronts.field-0.items order (c.in_ok-fronts.ensures ∙ ap (λ (l : List RawValue). last_fronts (raw_rows l ++ raw_rows rows)) c.deref-2.ensures.value)
