@@ -15,11 +15,11 @@ returns-in-Ok-clause-takes g c = λ n seen h.
     let some : 0 < length rows = grind (arith, nat_tests) in
     record {
       rows = rows;
-      part = c.in_ok-rows.ensures;
+      part = c.in_ok-rows.ensures.reads;
       all_taken = record {
         is_log = c.in-Ok.ensures.offers n seen h.is_log;
         fits = c.in-Ok.ensures.fits;
         fronts = subst (λ (l : List RawValue). HaveFronts (seen ++ l) c.go_on.new.fronts.items) c.deref.ensures.value (c.in_ok-go_on.ensures seen h.fronts c.if-not-branch.false);
       };
-      shorter = part_shorter c.args.bytes.now PART rows c.in_ok-rows.left.now c.in_ok-rows.ensures some;
+      shorter = part_shorter c.args.bytes.now PART rows c.in_ok-rows.left.now c.in_ok-rows.ensures.reads some;
     }
