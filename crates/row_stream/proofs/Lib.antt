@@ -1,6 +1,7 @@
 pub mod Splitting
 pub mod Completing
 pub mod Frames
+pub mod Asking
 pub mod Longer
 pub mod Passing
 pub mod CutFrame

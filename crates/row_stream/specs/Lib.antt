@@ -1,4 +1,5 @@
 pub mod Places
+pub mod Memory
 pub mod Streams
 pub mod Feeding
 pub mod Steps

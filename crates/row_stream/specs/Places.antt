@@ -3,6 +3,7 @@ use Rattle.std.specs.Prelude.{ℕ, ◌+◌, ◌<◌, ◌≤◌, List, length, ta
 use Rattle.std.specs.Int.{w32, from_be_bytes}
 use Rattle.willow_entry.specs.Row.{RowValue}
 use Rattle.willow_entry.specs.RowBody.{ReadsBody}
+use Rattle.willow_entry.specs.declared.entry_codec.TheConstants.{LEAST_ENTRY}
 use Rattle.willow_entry.specs.declared.frame.TheConstants.{MAX_FRAME}
 
 -- the number that the first four bytes spell, the highest byte first
@@ -21,6 +22,12 @@ IsUnfinished left = 4 ≤ length left → (length_told left ≤ MAX_FRAME) × (l
 pub record IsTooLong (left : List ℕ) : Type 0 where
   pub field_there : 4 ≤ length left
   pub beyond : MAX_FRAME < length_told left
+
+-- a frame is whole, and its body is shorter than any entry
+pub record IsTooShort (left : List ℕ) : Type 0 where
+  pub field_there : 4 ≤ length left
+  pub whole : 4 + length_told left ≤ length left
+  pub below : length_told left < LEAST_ENTRY
 
 -- a frame's length and all of its body are there, and the body is no row's
 pub record IsBadFrame (IsRow : RowValue → Type 0) (left : List ℕ) : Type 0 where

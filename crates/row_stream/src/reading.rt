@@ -1,6 +1,9 @@
 //! Reading the frames of a piece.
 
-ghost use Rattle.std.specs.Prelude.{◌≡◌, ◌+◌, ◌^◌, ◌<◌, ◌≤◌, [], ◌++◌, length, take, OnErr};
+ghost use Rattle.std.specs.Prelude.{◌≡◌, ◌+◌, ◌^◌, ◌<◌, ◌≤◌, [], ◌++◌, length, take, OnErr, IsErrOf};
+ghost use Rattle.spelling.specs.declared.ending.End.TheVariants as ends;
+ghost use Rattle.willow_entry.specs.EntryForm.{EntryAsks};
+ghost use Rattle.row_stream.specs.Memory.{PieceAsks};
 ghost use Rattle.row_stream.specs.Places.{IsUnfinished};
 ghost use Rattle.row_stream.specs.Steps.{ReadsFrames, ReadsOn, ReadsRow};
 
@@ -13,7 +16,7 @@ use willow_entry::{LEAST_ENTRY, RowForm};
 
 // Reads a piece behind the bytes that have begun, of which the first has this offset. Answers the rows that became
 // whole and the offset behind their frames, and leaves what then has begun. Where that does not end well, what had
-// begun still stands in front.
+// begun still stands in front. Where nothing had begun, memory is asked for only where the piece asks.
 pub(crate) fn read_piece<F: RowForm>(
     alloc: Global,
     at: u64,
@@ -24,6 +27,7 @@ pub(crate) fn read_piece<F: RowForm>(
     requires few { at + length begun.old.items + length piece.now < 2 ^ 64 }
     ensures reads { ReadsOn F.IsRow F.R.value at (begun.old.items ++ piece.now) [] begun.new.items result }
     ensures kept { OnErr result (take (length begun.old.items) begun.new.items ≡ begun.old.items) }
+    ensures asked { IsErrOf result ends.NoMemory → begun.old.items ≡ [] → PieceAsks piece.now }
 {
     let mut rows = Vec::new(alloc);
     if begun.is_empty() {
@@ -43,7 +47,7 @@ pub(crate) fn read_piece<F: RowForm>(
 }
 
 // Reads the frames in front of the bytes, of which the first has this offset, adds their rows, and puts what is left
-// in place of what has begun.
+// in place of what has begun. Memory is asked for only where the bytes ask as a piece.
 fn read_on<F: RowForm>(
     alloc: Global,
     at: u64,
@@ -54,6 +58,7 @@ fn read_on<F: RowForm>(
     requires { at + length bytes.now < 2 ^ 64 }
     ensures reads { ReadsOn F.IsRow F.R.value at bytes.now rows.items begun.new.items result }
     ensures kept { OnErr result (begun.new.items ≡ begun.old.items) }
+    ensures asked { IsErrOf result ends.NoMemory → PieceAsks bytes.now }
 {
     rows.reserve(count_rows(bytes))?;
     let (here, left) = read_frames::<F>(alloc, at, bytes, &mut rows)?;
@@ -62,7 +67,7 @@ fn read_on<F: RowForm>(
 }
 
 // Reads the frames in front of the bytes, of which the first has this offset, where they stand. Adds their rows, and
-// answers the offset behind them and the bytes that are left.
+// answers the offset behind them and the bytes that are left. Memory is asked for only where the bytes ask as a piece.
 fn read_frames<'a, F: RowForm>(
     alloc: Global,
     at: u64,
@@ -70,7 +75,8 @@ fn read_frames<'a, F: RowForm>(
     rows: &mut Vec<F::R>,
 ) -> Result<(u64, &'a [u8]), End<StreamRefusal>>
     requires { at + length bytes.now < 2 ^ 64 }
-    ensures { ReadsFrames F.IsRow F.R.value (λ x. x.0) (λ x. x.1.now) at bytes.now rows.old.items rows.new.items result }
+    ensures reads { ReadsFrames F.IsRow F.R.value (λ x. x.0) (λ x. x.1.now) at bytes.now rows.old.items rows.new.items result }
+    ensures asked { IsErrOf result ends.NoMemory → PieceAsks bytes.now }
 {
     let mut here = at;
     let mut left = bytes;
@@ -90,9 +96,11 @@ fn read_frames<'a, F: RowForm>(
     }
 }
 
-// How many whole frames stand in front of the bytes, up to the first that is too short for a row.
+// How many whole frames stand in front of the bytes, up to the first that is too short for a row: none where the bytes,
+// as a piece, ask for no memory.
 fn count_rows(bytes: &[u8]) -> usize
-    ensures { result ≤ length bytes.now }
+    ensures few { result ≤ length bytes.now }
+    ensures asked { 0 < result → PieceAsks bytes.now }
 {
     let mut count = 0;
     let mut left = bytes;
@@ -106,9 +114,10 @@ fn count_rows(bytes: &[u8]) -> usize
     count
 }
 
-// The row of the body of the frame at this offset.
+// The row of the body of the frame at this offset. Memory is asked for where the body asks.
 fn read_row<F: RowForm>(alloc: Global, at: u64, body: &[u8]) -> Result<F::R, End<StreamRefusal>>
-    ensures { ReadsRow F.IsRow F.R.value at body.now result }
+    ensures reads { ReadsRow F.IsRow F.R.value at body.now result }
+    ensures asked { IsErrOf result ends.NoMemory → EntryAsks body.now }
 {
     match F::read(alloc, body)? {
         Some(row) => Ok(row),

@@ -1,7 +1,9 @@
 //! The stream.
 
-ghost use Rattle.std.specs.Prelude.{◌≡◌, ◌+◌, ◌^◌, ◌<◌, length, None};
+ghost use Rattle.std.specs.Prelude.{◌≡◌, ◌+◌, ◌^◌, ◌<◌, [], length, None, IsErrOf};
+ghost use Rattle.spelling.specs.declared.ending.End.TheVariants as ends;
 ghost use Rattle.row_stream.specs.Feeding.{nothing_fed, handed, Feeds, Finishes};
+ghost use Rattle.row_stream.specs.Memory.{PieceAsks};
 
 use crate::reading::read_piece;
 use crate::refusal::StreamRefusal;
@@ -51,10 +53,12 @@ impl<F: RowForm> RowStream<F> {
     /// The rows that became whole with this piece, in order. All pieces have fewer than 2^64 bytes together. The stream
     /// is refused as soon as a length is there that is above `MAX_FRAME`, or a body is whole that is no row: then no row
     /// of this piece is handed out, and from then on every call answers the same refusal. Want of memory leaves the
-    /// stream as it was.
+    /// stream as it was. Where nothing has begun it comes of no piece whose first length is above `MAX_FRAME`, and of one
+    /// whose first body is shorter than any entry only where that body asks for memory.
     pub fn feed(&mut self, piece: &[u8]) -> Result<Vec<F::R>, End<StreamRefusal>>
         requires { self.old.refusal ≡ None → self.old.at + length self.old.begun + length piece.now < 2 ^ 64 }
-        ensures { Feeds F.IsRow self.old self.new piece.now (handed F.R.value result) }
+        ensures feeds { Feeds F.IsRow self.old self.new piece.now (handed F.R.value result) }
+        ensures asked { IsErrOf result ends.NoMemory → self.old.begun ≡ [] → PieceAsks piece.now }
     {
         if let Some(refusal) = self.refusal {
             return Err(End::Refused(refusal));
