@@ -1,5 +1,6 @@
 -- A side that has read an item.
 use Rattle.std.proofs.Common.{◌≡◌, ◌+◌, Bool, true, false, cond, List, nat_le, Option, Some, None, Result, Ok, Err, refl, sym, subst}
+use Rattle.std.specs.Prelude.{IsOk}
 use Rattle.spelling.specs.declared.ending.End.{End}
 use Rattle.spelling.specs.declared.ending.End.TheVariants as end
 use Rattle.willow_area.specs.Boxes.{Ranges}
@@ -36,11 +37,12 @@ pub next_hearing : (area : Option Ranges) (rows : List RowValue) (asks opens : L
 next_hearing area rows asks opens None item = refl
 next_hearing area rows asks opens (Some due) item = refl
 
--- what an answer says of the place that the rules give, and of the place behind; without memory the same is done
+-- what an answer says of the place that the rules give, and of the place behind; without memory the same is done, and
+-- there is such a place
 abbrev pub MatchesHeard : Result Place CoreRefusal → Place → Type 0 → Result (Unit {0}) (End CoreRefusal) → Type 0
 MatchesHeard place behind same (Ok done) = place ≡ Ok behind
 MatchesHeard place behind same (Err (end.Refused cause)) = place ≡ Err cause
-MatchesHeard place behind same (Err end.NoMemory) = same
+MatchesHeard place behind same (Err end.NoMemory) = same × IsOk place
 
 -- the place of a side that has heard an item
 abbrev pub place_then : Place → ItemValue → Doing → Place
@@ -54,6 +56,16 @@ module _ (place : Place) (item : ItemValue) where
   counted_err : (cause : CoreRefusal) (behind : Place) (same : Type 0) (b : Bool) → MatchesHeard (cond b (Err cause) (Err (TooManyItems (items_with place item)))) behind same (cond b (Err (end.Refused cause)) (Err (end.Refused (TooManyItems (items_with place item)))))
   counted_err cause behind same true = refl
   counted_err cause behind same false = refl
+
+  -- without memory nothing can be against the item but the number of items
+  wanting : (old new : Doing) (next : Result Doing CoreRefusal) → new ≡ old → IsOk next
+      → MatchesHeard (heard_within place item next) (place_then place item new) (new ≡ old) (within (Err end.NoMemory) (items_with place item) (most_items place.area place.rows))
+  wanting old new (Ok doing) same ok = by_test (nat_le (items_with place item) (most_items place.area place.rows))
+    where
+      by_test : (b : Bool) → MatchesHeard (cond b (Ok (place_then place item doing)) (Err (TooManyItems (items_with place item)))) (place_then place item new) (new ≡ old) (cond b (Err end.NoMemory) (Err (end.Refused (TooManyItems (items_with place item)))))
+      by_test true = (same, refl)
+      by_test false = refl
+  wanting old new (Err cause) same ok = absurd cc
 
   refused_by : (cause : CoreRefusal) (behind : Place) (same : Type 0) → MatchesHeard (heard_within place item (Err cause)) behind same (within (Err (end.Refused cause)) (items_with place item) (most_items place.area place.rows))
   refused_by ItemMismatch behind same = refl
@@ -70,7 +82,7 @@ module _ (place : Place) (item : ItemValue) where
   matches old new next (Err (end.Refused cause)) e =
       let P : Result Doing CoreRefusal → Type 0 = λ x. MatchesHeard (heard_within place item x) (place_then place item new) (new ≡ old) (within (Err (end.Refused cause)) (items_with place item) (most_items place.area place.rows)) in
       subst P (sym e) (refused_by cause (place_then place item new) (new ≡ old))
-  matches old new next (Err end.NoMemory) e = e
+  matches old new next (Err end.NoMemory) e = wanting old new next e.0 e.1
 
   -- the answer to an item, by what the side does then
   pub answer_matches : (new : Doing) (outcome : Result (Unit {0}) (End CoreRefusal)) → Does place.doing new (next_heard place.area place.rows place.doing item) outcome

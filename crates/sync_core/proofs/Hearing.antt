@@ -1,6 +1,6 @@
 -- What a side does that hears an item, by what it did.
 use Rattle.std.proofs.Common.{◌≡◌, List, [], map, Option, Some, None, Result, Err, refl, sym, ap, ◌∙◌, subst}
-use Rattle.std.specs.Prelude.{IsSome, is_some, false}
+use Rattle.std.specs.Prelude.{IsOk, IsSome, is_some, false}
 use Rattle.spelling.specs.declared.ending.End.{End}
 use Rattle.spelling.specs.declared.ending.End.TheVariants as end
 use Rattle.willow_area.specs.Boxes.{Ranges}
@@ -80,6 +80,6 @@ pub none_from : {A : Type 0} (o : Option A) → is_some o ≡ false → o ≡ No
 none_from None e = refl
 none_from (Some x) e = absurd cc
 
--- without memory the same is done
-pub does_no_memory : (old new : Doing) (o : Result Doing CoreRefusal) (r : Result (Unit {0}) (End CoreRefusal)) (e : End CoreRefusal) → r ≡ Err e → e ≡ end.NoMemory → new ≡ old → Does old new o r
-does_no_memory old new o r e is none same = subst (λ x. Does old new o x) (sym (is ∙ ap (λ y. Err y) none)) same
+-- without memory the same is done, where nothing is against the item
+pub does_no_memory : (old new : Doing) (o : Result Doing CoreRefusal) (r : Result (Unit {0}) (End CoreRefusal)) (e : End CoreRefusal) → r ≡ Err e → e ≡ end.NoMemory → new ≡ old → IsOk o → Does old new o r
+does_no_memory old new o r e is none same ok = subst (λ x. Does old new o x) (sym (is ∙ ap (λ y. Err y) none)) (same, ok)

@@ -2,6 +2,7 @@
 use Rattle.std.proofs.Common.{◌≡◌, ℕ, ◌+◌, ◌*◌, ◌≤◌, Bool, true, false, cond, List, length, nat_le, option_map, Option, None, Some, Result, Ok, Err, refl, sym, ap, ◌∙◌, subst, arith}
 use mir.Val.{bool_byte}
 use Rattle.std.proofs.lemmas.Bool.{leb-true}
+use Rattle.std.specs.Prelude.{IsOk}
 use Rattle.spelling.specs.declared.ending.End.{End}
 use Rattle.spelling.specs.declared.ending.End.TheVariants as end
 use Rattle.willow_area.specs.Boxes.{Ranges}
@@ -30,9 +31,9 @@ own_few (Some area) rows = rows_in-le area rows
 pub most_few : (area : Option Ranges) (rows : List RowValue) → length rows ≤ SNAPSHOT_MAX → most_items area rows ≤ 393216
 most_few area rows few = omega (arith, own_few area rows, few)
 
-never : (b : Bool) (cause : CoreRefusal) (items : ℕ) → ◌≡◌ {A = Result (Unit {0}) (End CoreRefusal)} (cond b (Err (end.Refused cause)) (Err (end.Refused (TooManyItems items)))) (Ok tt) → ⊥
-never true cause items e = cc
-never false cause items e = cc
+never : (b : Bool) (why : End CoreRefusal) (items : ℕ) → ◌≡◌ {A = Result (Unit {0}) (End CoreRefusal)} (cond b (Err why) (Err (end.Refused (TooManyItems items)))) (Ok tt) → ⊥
+never true why items e = cc
+never false why items e = cc
 
 -- an item that is taken in may come, and not too many were counted with it
 within_ok : (outcome : Result (Unit {0}) (End CoreRefusal)) (items most : ℕ) → within outcome items most ≡ Ok tt → (outcome ≡ Ok tt) × (items ≤ most)
@@ -41,12 +42,12 @@ within_ok (Ok done) items most e = by_test (nat_le items most) refl e
     by_test : (b : Bool) → nat_le items most ≡ b → ◌≡◌ {A = Result (Unit {0}) (End CoreRefusal)} (cond b (Ok done) (Err (end.Refused (TooManyItems items)))) (Ok tt) → (◌≡◌ {A = Result (Unit {0}) (End CoreRefusal)} (Ok done) (Ok tt)) × (items ≤ most)
     by_test true t h = (refl, leb-true items most t)
     by_test false t h = absurd cc
-within_ok (Err end.NoMemory) items most e = absurd cc
+within_ok (Err end.NoMemory) items most e = absurd (never (nat_le items most) end.NoMemory items e)
 within_ok (Err (end.Refused ItemMismatch)) items most e = absurd cc
-within_ok (Err (end.Refused BadCut)) items most e = absurd (never (nat_le items most) BadCut items e)
-within_ok (Err (end.Refused EntryOutside)) items most e = absurd (never (nat_le items most) EntryOutside items e)
-within_ok (Err (end.Refused RowsOutOfOrder)) items most e = absurd (never (nat_le items most) RowsOutOfOrder items e)
-within_ok (Err (end.Refused (TooManyItems n))) items most e = absurd (never (nat_le items most) (TooManyItems n) items e)
+within_ok (Err (end.Refused BadCut)) items most e = absurd (never (nat_le items most) (end.Refused BadCut) items e)
+within_ok (Err (end.Refused EntryOutside)) items most e = absurd (never (nat_le items most) (end.Refused EntryOutside) items e)
+within_ok (Err (end.Refused RowsOutOfOrder)) items most e = absurd (never (nat_le items most) (end.Refused RowsOutOfOrder) items e)
+within_ok (Err (end.Refused (TooManyItems n))) items most e = absurd (never (nat_le items most) (end.Refused (TooManyItems n)) items e)
 
 -- a boolean as a number
 pub byte_cond : (b : Bool) → bool_byte b ≡ cond b 1 0
@@ -95,10 +96,10 @@ module _ (place : Place) (most : ℕ) (work : Work) (steady : IsSteady place mos
     pub heard_refused : (cause : CoreRefusal) → told ≡ Err (end.Refused cause) → heard place item ≡ Err cause
     heard_refused cause e = subst (λ r. Matches r) e has_heard
 
-    pub heard_nothing : told ≡ Err end.NoMemory → record place { doing = doing_of place.rows new } ≡ place
+    pub heard_nothing : told ≡ Err end.NoMemory → (record place { doing = doing_of place.rows new } ≡ place) × IsOk (heard place item)
     heard_nothing e =
-        let same : doing_of place.rows new ≡ place.doing = subst (λ r. Matches r) e has_heard in
-        ap (λ d. record place { doing = d }) same
+        let same : (doing_of place.rows new ≡ place.doing) × IsOk (heard place item) = subst (λ r. Matches r) e has_heard in
+        (ap (λ d. record place { doing = d }) same.0, same.1)
 
     pub steady_heard : IsReady place.rows new → told ≡ Ok tt → IsSteady (behind count) most new
     steady_heard ready e =

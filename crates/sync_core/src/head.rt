@@ -1,7 +1,7 @@
 //! Answers to single asks, as a side hears them.
 
 ghost use Rattle.std.specs.Prelude.{◌≡◌, ◌+◌, ◌<◌, ◌≤◌, ◌++◌, List, [], ◌∷◌, map, length, drop, not, None, IsSome, IfOk, OnOk, OnErr, vec_len, vec_capacity};
-ghost use Rattle.spelling.specs.Answers.{Judges, cause_if};
+ghost use Rattle.spelling.specs.Answers.{JudgesFirst, cause_if};
 ghost use Rattle.willow_area.specs.Cuts.{can_cut, lower_part, upper_part};
 ghost use Rattle.willow_entry.specs.Row.{RowValue};
 ghost use Rattle.sync_msg.specs.Items.{item_value};
@@ -62,7 +62,7 @@ pub(crate) fn head<Q: Row>(
 
 // Both parts of a cut of an asked box.
 fn cut(area: &Box3, at: &CutAt) -> Result<(Box3, Box3), End<CoreRefusal>>
-    ensures answer { Judges result (cause_if (not (can_cut area.now at.now)) BadCut) }
+    ensures answer { JudgesFirst result (cause_if (not (can_cut area.now at.now)) BadCut) }
     ensures lower { IfOk result (λ parts. parts.0 ≡ lower_part area.now at.now) }
     ensures upper { IfOk result (λ parts. parts.1 ≡ upper_part area.now at.now) }
 {

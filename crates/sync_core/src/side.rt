@@ -135,7 +135,8 @@ impl<R: Row> SyncCore<R> {
     /// first of these causes: `ItemMismatch` where no such item may come, `TooManyItems` where with it more items count
     /// than may, `BadCut` at a cut outside the asked box, `EntryOutside` at a row outside the asked box,
     /// `RowsOutOfOrder` at a row that is not above the one before it for that box. Then the stage is Refused, and
-    /// `refusal` keeps the cause. Without memory the side stands as it did.
+    /// `refusal` keeps the cause. Without memory the side stands as it did; want of memory comes only where nothing is
+    /// against the item.
     pub fn give_item<Q: Row>(&mut self, item: Item<Q>) -> Result<Option<Q>, End<CoreRefusal>>
         requires { stage_of self.old.doing ≡ Reading }
         ensures hears { Hears self.old self.new (item_value Q.value item) result }
@@ -183,7 +184,8 @@ fn own_rows<R: Row>(snapshot: &Snapshot<R>, area: &Option<Box3>) -> u32
     }
 }
 
-// The outcome of an item that may come, where not too many were counted with it.
+// The outcome of an item that may come, where not too many were counted with it; too many are told even where memory
+// was wanting.
 fn within(
     outcome: Result<(), End<CoreRefusal>>,
     items: u32,
@@ -192,7 +194,6 @@ fn within(
     ensures { result ≡ within outcome items most }
 {
     match outcome {
-        Err(End::NoMemory) => Err(End::NoMemory),
         Err(End::Refused(CoreRefusal::ItemMismatch)) => {
             Err(End::Refused(CoreRefusal::ItemMismatch))
         }

@@ -1,4 +1,5 @@
 use Rattle.std.proofs.Common.{◌≡◌, Err, ap, sym, ◌∙◌, arith}
+use Rattle.std.specs.Prelude.{is_ok}
 use Rattle.sync_msg.specs.Items.{item_value}
 use Rattle.sync_core.specs.Steps.{count_one, heard, refused}
 use Rattle.sync_core.proofs.Steady.{byte_counts, byte_few, few_read, few_sent, heard_nothing, heard_ok, heard_refused, steady_heard}
@@ -39,5 +40,5 @@ pub returns-clause-hears : goal.returns-clause-hears
 returns-clause-hears g c =
     let value = item_value g.Q.Row.value c.args.item in
     let count : c.from-counted.result ≡ count_one value = byte_counts g.Q.Row.value c.args.item c.is_counted.result c.from-counted.result c.from-counted.ensures c.is_counted.ensures in
-    heard_nothing _ _ _ c.self.invariant value c.hear-outcome.new.work c.hear-outcome.result c.hear-outcome.ensures.does c.from-counted.result count (sym c.within.ensures ∙ c.in-Err-NoMemory.is ∙ ap (λ e. Err e) c.in-Err-NoMemory.field-0-is)
-    ∙ c.self.view_is
+    let nothing = heard_nothing _ _ _ c.self.invariant value c.hear-outcome.new.work c.hear-outcome.result c.hear-outcome.ensures.does c.from-counted.result count (sym c.within.ensures ∙ c.in-Err-NoMemory.is ∙ ap (λ e. Err e) c.in-Err-NoMemory.field-0-is) in
+    (nothing.0 ∙ c.self.view_is, ap (λ p. is_ok (heard p value)) (sym c.self.view_is) ∙ nothing.1)
