@@ -99,7 +99,7 @@ module _ {R : Type 0} where
   stored_there value log log' row (Ok (Stored at)) h = h.log_is
   stored_there value log log' row (Ok (Kept at)) h = h.log_is ∙ sym (append-nil log)
   stored_there value log log' row (Err (Refused full)) h = h.1 ∙ sym (append-nil log)
-  stored_there value log log' row (Err NoMemory) h = h ∙ sym (append-nil log)
+  stored_there value log log' row (Err NoMemory) h = h.0 ∙ sym (append-nil log)
 
   pub stored_own : (row : LogRow R) (result : Result Told (End LogFull)) → AreOf row.pass (stored row result)
   stored_own row (Ok (Stored at)) = (refl, tt)

@@ -35,18 +35,20 @@ abbrev pub IsPlaced : {R : Type 0} → (R → RowValue) → List (LogRow R) → 
 IsPlaced value log offered log' (Some at) = IsStored value log offered at log'
 IsPlaced value log offered log' None = HasCovering (values value log) (value offered.row) × (log' ≡ log)
 
--- What a log answers to the offer of a row, and which log there is then. Without memory it is the same.
+-- What a log answers to the offer of a row, and which log there is then. Want of memory comes only where the log has
+-- room, and the log is then the same.
 abbrev pub IsGrown : {R : Type 0} → (R → RowValue) → List (LogRow R) → LogRow R → List (LogRow R) → Result (Option ℕ) (End LogFull) → Type 0
 IsGrown value log offered log' (Ok at) = IsPlaced value log offered log' at
 IsGrown value log offered log' (Err (Refused full)) = IsFull value log offered.row full.front × (log' ≡ log)
-IsGrown value log offered log' (Err NoMemory) = log' ≡ log
+IsGrown value log offered log' (Err NoMemory) = (log' ≡ log) × (length log < LOG_LIMIT)
 
--- What a state answers to the offer of a row, and which log there is then. Without memory the log is the same.
+-- What a state answers to the offer of a row, and which log there is then. Want of memory comes only where the log has
+-- room, and the log is then the same.
 abbrev pub IsAnswer : {R : Type 0} → (R → RowValue) → List (LogRow R) → LogRow R → List (LogRow R) → Result Told (End LogFull) → Type 0
 IsAnswer value log offered log' (Ok (Stored at)) = IsStored value log offered at log'
 IsAnswer value log offered log' (Ok (Kept at)) = IsKept value log offered at log'
 IsAnswer value log offered log' (Err (Refused full)) = IsFull value log offered.row full.front × (log' ≡ log)
-IsAnswer value log offered log' (Err NoMemory) = log' ≡ log
+IsAnswer value log offered log' (Err NoMemory) = (log' ≡ log) × (length log < LOG_LIMIT)
 
 -- The answer tells what the machine of a log replies, but for want of memory. Which row covers the new one, where one
 -- does, the machine leaves open; `IsKept` says it of the position told.

@@ -188,7 +188,7 @@ impl<R: Row> LiveLog<R> {
     }
 
     // Adds a row to a log that has room, unless a row of the log covers it, and answers its position.
-    fn place(&mut self, pass: u32, row: R) -> Result<Option<u32>, NoMemory>
+    pub(crate) fn place(&mut self, pass: u32, row: R) -> Result<Option<u32>, NoMemory>
         requires namespace { (R.value row).entry.namespace ≡ self.old.namespace }
         requires room { length self.old.log < LOG_LIMIT }
         ensures placed { IfOk result (λ at. IsPlaced R.value self.old.log (record { pass = pass; row = row }) self.new.log at) }

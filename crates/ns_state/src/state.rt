@@ -4,9 +4,9 @@ ghost use Rattle.std.specs.Prelude.{◌≡◌, ◌<◌, ◌≤◌, [], ◌∷◌
 ghost use Rattle.willow_entry.specs.Row.{live, new, HasCovering};
 ghost use Rattle.ns_state.specs.Log.{IsLog, values, logged, plain_row};
 ghost use Rattle.ns_state.specs.Recent.{recent};
-ghost use Rattle.ns_state.specs.Answer.{IsAnswer, IsOffer};
+ghost use Rattle.ns_state.specs.Answer.{IsStored, IsAnswer, IsOffer};
 
-use crate::live_log::{LiveLog, LogFull};
+use crate::live_log::{LOG_LIMIT, LiveLog, LogFull};
 use crate::positions::{Positions, hash_of};
 use crate::ranking::gone_items;
 use block_store::Snapshot;
@@ -90,7 +90,8 @@ impl<R: Row> NsState<R> {
 
     /// Offers a row by the pass of this number. Where a row of the log equals or dominates it, nothing changes and the
     /// answer names such a row. Else, where the log is full, nothing changes. Else the row is the log's last.
-    /// All memory is taken before any change, so an error leaves the state as it was.
+    /// All memory is taken before any change, so an error leaves the state as it was. Want of memory comes only where the
+    /// log has room.
     pub fn ingest(&mut self, pass: u32, row: R) -> Result<Told, End<LogFull>>
         requires { (R.value row).entry.namespace ≡ self.old.namespace }
         ensures answer { IsAnswer R.value self.old.log (record { pass = pass; row = row }) self.new.log result }
@@ -105,14 +106,20 @@ impl<R: Row> NsState<R> {
         if let Some(at) = self.log.cover(&row, &self.positions) {
             return Ok(Told::Kept { at });
         }
-        self.append(pass, row)
+        let front = self.front();
+        if front as usize >= LOG_LIMIT {
+            return Err(End::Refused(LogFull { front }));
+        }
+        let at = self.append(pass, row)?;
+        Ok(Told::Stored { at })
     }
 
-    // Stores a row that no row of the log covers.
-    fn append(&mut self, pass: u32, row: R) -> Result<Told, End<LogFull>>
+    // Stores a row that no row of the log covers, in a log that has room, and answers its position.
+    fn append(&mut self, pass: u32, row: R) -> Result<u32, NoMemory>
         requires namespace { (R.value row).entry.namespace ≡ self.old.namespace }
         requires uncovered { HasCovering (values R.value self.old.log) (R.value row) → ⊥ }
-        ensures answer { IsAnswer R.value self.old.log (record { pass = pass; row = row }) self.new.log result }
+        requires room { length self.old.log < LOG_LIMIT }
+        ensures stored { IfOk result (λ at. IsStored R.value self.old.log (record { pass = pass; row = row }) at self.new.log) }
         ensures namespace { self.new.namespace ≡ self.old.namespace }
         ensures log { IsLog R.value self.new.namespace self.new.log }
         ensures err { OnErr result (self.new ≡ self.old) }
@@ -122,11 +129,11 @@ impl<R: Row> NsState<R> {
         self.recency.reserve(1)?;
         self.positions.reserve()?;
         let hash = hash_of(&row);
-        match self.log.offer(pass, row)? {
+        match self.log.place(pass, row)? {
             Some(at) => {
                 self.recency.replace(&gone, item);
                 self.positions.put(hash, at);
-                Ok(Told::Stored { at })
+                Ok(at)
             }
             None => unreachable!(),
         }

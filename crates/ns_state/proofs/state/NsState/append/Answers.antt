@@ -55,7 +55,7 @@ invariant_of-self-in-Some g c =
     let item_is : item ≡ ranked_of r.entry = c.in_ok-item.ensures ∙ ap ranked_of c.entry.ensures.entry in
     let here : r.entry.namespace ≡ inside.log.namespace = c.requires.namespace ∙ sym (ap (λ s. s.namespace) c.self.view_is) in
     let uncovered = subst (λ l. HasCovering (values value l) r → ⊥) (sym (ap (λ s. s.log) c.self.view_is)) c.requires.uncovered in
-    let stored = rw c.in-Some.is at c.in_ok-at.ensures.answer in
+    let stored = rw c.in-Some.is at c.in_ok-at.ensures.placed in
     c.replace.ensures.items ∙ ap (λ l. newest (item ∷ without gone l)) c.in_ok-reserve.ensures.items
     ∙ recent_more value inside.log.namespace inside.log.log store inside.recency.items (c.store.ensures.log, c.store.ensures.live, c.self.invariant) r here uncovered gone gone_is item item_is
-    c.offer.new.self.log (record { pass = c.args.pass; row = c.args.row }) refl stored.log_is
+    c.place.new.self.log (record { pass = c.args.pass; row = c.args.row }) refl stored.log_is
