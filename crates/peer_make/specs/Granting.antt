@@ -1,12 +1,13 @@
 -- What `grant` does: a capability without delegations.
-use Rattle.std.specs.Prelude.{◌≡◌, ℕ, ◌<◌, List, [], length, Option, Some, None, Result, Ok, Err}
+use Rattle.std.specs.Prelude.{◌≡◌, ℕ, ◌<◌, ◌≤◌, List, [], length, Option, Some, None, Result, Ok, Err}
 use Rattle.willow_outside.specs.Facts.{ShelfFacts}
 use Rattle.lms_core.specs.Use.{peer_rules}
 use Rattle.mc_cap.specs.Forms.{IsCapability, capability_spelling}
 use Rattle.mc_cap.specs.Messages.{initial_message}
-use Rattle.mc_cap.specs.Valid.{beginning_refusal, chain_refusal}
+use Rattle.mc_cap.specs.Valid.{chain_refusal}
 use Rattle.mc_cap.specs.declared.capability.Capability.{Capability}
 use Rattle.mc_cap.specs.declared.capability.Mode.{Mode}
+use Rattle.mc_cap.specs.declared.check.TheConstants.{MAX_DELEGATIONS}
 use Rattle.mc_cap.specs.declared.refusal.RowRefusal.TheVariants.{Chain}
 use Rattle.peer_words.specs.declared.command.SignerWord.{SignerWord}
 use Rattle.peer_stage.specs.Steps.{Step, Then, Inside, OnShelf, OnOutput}
@@ -39,12 +40,12 @@ abbrev pub BeginsBy : Option SignerWord → List ℕ → ShelfFacts → ShelfFac
 BeginsBy key message old new (Ok initial) = Begins key old new message initial
 BeginsBy key message old new (Err e) = StopsBeginning key old new e
 
--- How a capability that is made is checked, which is within its grammar. Memory is asked for with a delegation, where the
--- beginning is not refused.
+-- How a capability that is made is checked, which is within its grammar. Without delegations no memory is asked for, nor
+-- where they are too many.
 abbrev pub Checks : Capability → Result (Unit {0}) Stop → Type 0
 Checks c (Ok valid) = IsCapability c × (chain_refusal peer_rules c ≡ None)
 Checks c (Err (stop.Refused (Chain r))) = chain_refusal peer_rules c ≡ Some r
-Checks c (Err stop.NoMemory) = (beginning_refusal peer_rules c ≡ None) × (0 < length c.chain)
+Checks c (Err stop.NoMemory) = (length c.chain ≤ MAX_DELEGATIONS) × (0 < length c.chain)
 Checks c (Err e) = ⊥
 
 -- It checks a capability, and writes its spelling.

@@ -7,7 +7,7 @@ use Rattle.mc_cap.specs.Grant.{receiver_of}
 use Rattle.mc_cap.specs.declared.capability.Capability.{Capability}
 use Rattle.mc_cap.specs.declared.refusal.RowRefusal.{RowRefusal}
 use Rattle.cap_codec.specs.Rows.{RawValue, FitsFrame, frame}
-use Rattle.auth_entry.specs.Authorised.{CheckAsks, early_refusal, row_refusal}
+use Rattle.auth_entry.specs.Authorised.{row_refusal}
 use Rattle.willow_entry.specs.Message.{entry_message}
 use Rattle.peer_words.specs.declared.command.SignerWord.{SignerWord}
 use Rattle.peer_stage.specs.Steps.{Step, Then, Inside, OnInput, OnShelf, OnOutput}
@@ -47,12 +47,11 @@ row_under words c signature = record { entry = entry_under words c; token = reco
 abbrev pub own_refusal : RawValue → Option RowRefusal
 own_refusal r = row_refusal peer_rules r.token.capability.namespace r
 
--- How a row that is made is authorised, which a frame can carry. Memory is asked for where it is not refused early, to
--- check a delegation or the entry's signature.
+-- how a row that is made is authorised, which a frame can carry; making it asked for memory before
 abbrev pub Authorises : RawValue → Result (Unit {0}) Stop → Type 0
 Authorises r (Ok fine) = FitsFrame r × (own_refusal r ≡ None)
 Authorises r (Err (stop.Refused refusal)) = own_refusal r ≡ Some refusal
-Authorises r (Err stop.NoMemory) = (early_refusal peer_rules r.token.capability.namespace r ≡ None) × CheckAsks r
+Authorises r (Err stop.NoMemory) = Unit {0}
 Authorises r (Err e) = ⊥
 
 -- It authorises a row in the namespace of its capability, and writes its frame.
