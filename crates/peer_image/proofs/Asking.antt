@@ -1,5 +1,5 @@
 -- Where an image asks for memory.
-use Rattle.std.proofs.Common.{◌≡◌, ◌⊎◌, inl, inr, List, [], ◌∷◌, ◌++◌, ℕ, length, refl, sym, ap, subst, ◌∙◌, append_assoc, arith}
+use Rattle.std.proofs.Common.{◌≡◌, ◌<◌, List, [], ◌∷◌, ◌++◌, ℕ, length, refl, sym, ap, subst, ◌∙◌, append_assoc, arith}
 use Rattle.std.specs.List.{flat_map, AllByRecursion}
 use Rattle.std.proofs.lemmas.List.{length-append, take_at}
 use Rattle.willow_path.specs.Key.{IsKey}
@@ -11,17 +11,17 @@ use Rattle.peer_image.specs.ImageReading.{header_at, ImageAsks, IsImage}
 use Rattle.peer_image.proofs.Stops.{header-reads, front_of_image}
 
 -- behind a header, as the frames do
-pub header_asks : (bytes n rest : List ℕ) → IsKey n → bytes ≡ (magic ++ n) ++ rest → FrameAsks rest ⊎ (rest ≡ trailer 0) → ImageAsks bytes
+pub header_asks : (bytes n rest : List ℕ) → IsKey n → bytes ≡ (magic ++ n) ++ rest → FrameAsks rest → ImageAsks bytes
 header_asks bytes n rest key parts asks = rw (ap header_at parts ∙ header-reads.again n rest key) asks
 
 framed_asks : (r : RawValue) (rest : List ℕ) → FitsFrame r → FrameAsks (frame r ++ rest)
 framed_asks r rest fits = read_asks (frame r ++ rest) r (length (frame r)) (fits, omega (arith, length-append (frame r) rest), take_at (frame r) rest (length (frame r)) refl)
 
-rows_ask : (rows : List RawValue) (end : List ℕ) → AllByRecursion FitsFrame rows → end ≡ trailer (length rows) → FrameAsks (flat_map frame rows ++ end) ⊎ (flat_map frame rows ++ end ≡ trailer 0)
-rows_ask [] end fit is = inr is
-rows_ask (r ∷ rows) end fit is = inl (subst FrameAsks (sym (append_assoc (frame r) (flat_map frame rows) end)) (framed_asks r (flat_map frame rows ++ end) fit.0))
+rows_ask : (rows : List RawValue) (end : List ℕ) → AllByRecursion FitsFrame rows → 0 < length rows → FrameAsks (flat_map frame rows ++ end)
+rows_ask [] end fit some = absurd (omega (arith, some))
+rows_ask (r ∷ rows) end fit some = subst FrameAsks (sym (append_assoc (frame r) (flat_map frame rows) end)) (framed_asks r (flat_map frame rows ++ end) fit.0)
 
--- bytes that are an image did
-pub whole_asks : (bytes n : List ℕ) (rows : List RawValue) → IsImage bytes n rows → ImageAsks bytes
-whole_asks bytes n rows i =
-    header_asks bytes n (flat_map frame rows ++ trailer (length rows)) i.key (front_of_image bytes n rows i).parts (rows_ask rows (trailer (length rows)) i.fit refl)
+-- bytes that are an image with rows did
+pub whole_asks : (bytes n : List ℕ) (rows : List RawValue) → IsImage bytes n rows → 0 < length rows → ImageAsks bytes
+whole_asks bytes n rows i some =
+    header_asks bytes n (flat_map frame rows ++ trailer (length rows)) i.key (front_of_image bytes n rows i).parts (rows_ask rows (trailer (length rows)) i.fit some)

@@ -31,9 +31,9 @@ header_at bytes = do
   text ← exactly_at magic bytes
   key_at text.1
 
--- an image asks for memory behind its header, where the first frame does, or where it has no rows
+-- an image asks for memory behind its header, where the first frame does
 abbrev pub ImageAsks : List ℕ → Type 0
-ImageAsks bytes = Behind (header_at bytes) (λ key rest. FrameAsks rest ⊎ (rest ≡ trailer 0))
+ImageAsks bytes = Behind (header_at bytes) (λ key rest. FrameAsks rest)
 
 -- the bytes are the image of rows that frames may carry, fewer than a count of four bytes can tell
 pub record IsImage (bytes n : List ℕ) (rows : List RawValue) : Type 0 where

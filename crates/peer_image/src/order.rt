@@ -18,7 +18,8 @@ pub(crate) fn order_refusal<R: Row>(
     rows: &[R],
 ) -> Result<Option<ImageRefusal>, NoMemory>
     requires { length rows.now < 2 ^ 32 }
-    ensures { IfOk result (λ found. found ≡ order_refusal (map R.value rows.now)) }
+    ensures found { IfOk result (λ found. found ≡ order_refusal (map R.value rows.now)) }
+    ensures some { OnErr result (0 < length rows.now) }
 {
     match first_fall(rows) {
         Some(refusal) => Ok(Some(refusal)),
@@ -99,7 +100,8 @@ fn dominating<R: Row>(fronts: &[Front<R>], row: &R) -> Option<u32>
 fn first_pruned<R: Row>(alloc: Global, rows: &[R]) -> Result<Option<ImageRefusal>, NoMemory>
     requires count { length rows.now < 2 ^ 32 }
     requires rising { IsInnerRising (map R.value rows.now) }
-    ensures { IfOk result (λ found. found ≡ first_pruned (map R.value rows.now)) }
+    ensures found { IfOk result (λ found. found ≡ first_pruned (map R.value rows.now)) }
+    ensures some { OnErr result (0 < length rows.now) }
 {
     pruned_behind(Vec::new(alloc), 0, rows)
 }
@@ -114,8 +116,9 @@ fn pruned_behind<'a, R: Row>(
     rows: &'a [R],
 ) -> Result<Option<ImageRefusal>, NoMemory>
     requires { before + length rows.now < 2 ^ 32 }
-    ensures { (earlier : List RowValue) → StandBehind earlier (map (seen R.value) fronts.entry.items) before (map R.value rows.now)
+    ensures found { (earlier : List RowValue) → StandBehind earlier (map (seen R.value) fronts.entry.items) before (map R.value rows.now)
         → IfOk result (λ found. found ≡ pruned_after earlier (map R.value rows.now)) }
+    ensures some { OnErr result (0 < length rows.now) }
 {
     let mut at = before;
     for row in rows {

@@ -1,6 +1,6 @@
 //! Images as they are read.
 
-ghost use Rattle.std.specs.Prelude.{◌≡◌, ◌<◌, ◌^◌, ◌++◌, MatchBool, IsErrOf};
+ghost use Rattle.std.specs.Prelude.{◌≡◌, ◌<◌, ◌^◌, ◌++◌, length, MatchBool, IsErrOf};
 ghost use Rattle.spelling.specs.declared.ending.End.TheVariants as ends;
 ghost use Rattle.willow_path.specs.Key.{IsKey};
 ghost use Rattle.peer_image.specs.Image.{magic, trailer};
@@ -27,8 +27,8 @@ pub struct Image {
 /// The rows of the image that the bytes are: the text WIM1, a namespace key, frames of rows, four bytes 00,
 /// the number of rows in four bytes, and nothing else. The rows rise by subspace and then by path, and none
 /// dominates a later one. Bytes that are no image are refused first, then rows that do not rise, then pruned ones,
-/// with the places that `ImageRefusal` tells. Bytes without a header, or whose first frame is none, are refused before
-/// any memory is asked for.
+/// with the places that `ImageRefusal` tells. Memory is asked for behind the header, where the first
+/// frame asks.
 pub fn read_image(alloc: Global, bytes: &[u8]) -> Result<Image, End<ImageRefusal>>
     ensures image { ReadsImage bytes.now result }
     ensures sure { IsErrOf result ends.NoMemory → HasNoHeader bytes.now → ⊥ }
@@ -43,7 +43,8 @@ pub fn read_image(alloc: Global, bytes: &[u8]) -> Result<Image, End<ImageRefusal
 // The image, where its rows are in order.
 fn in_order(alloc: Global, bytes: &[u8], image: Image) -> Result<Image, End<ImageRefusal>>
     requires { ReadsRows bytes.now (Ok image) }
-    ensures { ReadsImage bytes.now result }
+    ensures image { ReadsImage bytes.now result }
+    ensures some { IsErrOf result ends.NoMemory → 0 < length image.rows.items }
 {
     match order_refusal(alloc, &image.rows) {
         Ok(None) => Ok(image),

@@ -20,7 +20,7 @@ abbrev pub IsNoCapability : List ℕ → Type 0
 IsNoCapability bytes = (c : Capability) → IsSpelled bytes c → ⊥
 
 -- The capability that the bytes are; that they are none is told at 0 of where they came from. Want of memory comes only
--- where the bytes so far made the reader ask for some.
+-- where a capability's reader asks for some.
 abbrev pub ReadsCapabilityFrom : Origin → List ℕ → Result Capability Stop → Type 0
 ReadsCapabilityFrom origin bytes (Ok c) = IsSpelled bytes c
 ReadsCapabilityFrom origin bytes (Err (stop.BadInput from at)) = (from ≡ origin) × (at ≡ 0) × IsNoCapability bytes

@@ -47,7 +47,7 @@ row_under words c signature = record { entry = entry_under words c; token = reco
 abbrev pub own_refusal : RawValue → Option RowRefusal
 own_refusal r = row_refusal peer_rules r.token.capability.namespace r
 
--- how a row that is made is authorised, which a frame can carry; making it asked for memory before
+-- how a row that is made is authorised, which a frame can carry; memory was asked for before, to make it
 abbrev pub Authorises : RawValue → Result (Unit {0}) Stop → Type 0
 Authorises r (Ok fine) = FitsFrame r × (own_refusal r ≡ None)
 Authorises r (Err (stop.Refused refusal)) = own_refusal r ≡ Some refusal

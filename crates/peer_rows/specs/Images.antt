@@ -22,8 +22,8 @@ pub record IsImageInOrder (bytes namespace : List ℕ) (rows : List RawValue) : 
   pub is_image : IsImage bytes namespace rows
   pub in_order : order_refusal (raw_rows rows) ≡ None
 
--- The image that the bytes are, or why they are none, told of where they came from. Want of memory comes only where the
--- bytes made the reader ask for some.
+-- The image that the bytes are, or why they are none, told of where they came from. Want of memory comes only where an
+-- image's reader asks for some.
 abbrev pub ReadsImageFrom : Origin → List ℕ → Result Image Stop → Type 0
 ReadsImageFrom origin bytes (Ok image) = IsImageInOrder bytes image.namespace image.rows.items
 ReadsImageFrom origin bytes (Err (stop.BadInput from at)) = IsWrong bytes at × (from ≡ origin)

@@ -1,9 +1,9 @@
 //! What options say of an area.
 
-ghost use Rattle.std.specs.Prelude.{◌≡◌, List, MatchBool, MatchOption, IfOk, IsErrOf, true, false};
+ghost use Rattle.std.specs.Prelude.{◌≡◌, List, MatchBool, MatchOption, IfOk, IsErrOf, OnErr, true, false};
 ghost use Rattle.spelling.specs.declared.ending.End.TheVariants as ends;
 ghost use Rattle.willow_area.specs.Times.{ends_by};
-ghost use Rattle.peer_words.specs.Areas.{HasArea, AreRising, Completes};
+ghost use Rattle.peer_words.specs.Areas.{HasArea, AreRising, Completes, completed, is_empty};
 ghost use Rattle.peer_words.specs.Memory.{AreaWordsAsk};
 ghost use Rattle.peer_words.specs.Words.{Reads};
 
@@ -15,9 +15,11 @@ use willow_path::{End, NoMemory, Path, UserKey};
 
 impl AreaWords {
     /// The area of the words, where a field without a word is that of `area`, as a capability grants it. None comes
-    /// exactly where the times that are completed so are empty.
+    /// exactly where the times that are completed so are empty. Only a path of the words needs memory, where there are
+    /// times.
     pub fn completed(&self, area: Area) -> Result<Option<Area>, NoMemory>
-        ensures { IfOk result (λ whole. Completes self.now area whole) }
+        ensures completes { IfOk result (λ whole. Completes self.now area whole) }
+        ensures times { OnErr result (is_empty (completed self.now area) ≡ false) }
     {
         let Area {
             subspace,

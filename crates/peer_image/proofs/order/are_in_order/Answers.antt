@@ -23,5 +23,5 @@ returns-clause-order g c =
     let up = c.rise_behind.ensures.0 c.if-not-rise_behind.false in
     let stand : StandBehind earlier (map (seen value) c.in_ok-kept.kept.items) (length c.args.fronts.now) rows =
     rw (c.in_ok-kept.ensures, sym (length-map c.args.fronts.now value)) (all_sufficient earlier rows up) in
-    let is : c.in_ok-pruned.pruned ≡ pruned_after earlier rows = c.in_ok-pruned.ensures earlier stand in
+    let is : c.in_ok-pruned.pruned ≡ pruned_after earlier rows = c.in_ok-pruned.ensures.found earlier stand in
     tells_as c.in_ok-pruned.pruned c.is_none.result (order_refusal (earlier ++ rows) ≡ None) c.is_none.ensures (rw is (order_behind earlier rows c.requires.in_order up))

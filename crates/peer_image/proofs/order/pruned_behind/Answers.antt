@@ -12,8 +12,8 @@ loop-row-init g c = record {
   passed = λ earlier h. passed_none earlier (map g.R.Row.value c.args.rows.now) (map (seen g.R.Row.value) c.args.fronts.items) c.args.before h;
 }
 
-pub returns-in-Some : goal.returns-in-Some
-returns-in-Some g c = λ earlier h.
+pub returns-in-Some-clause-found : goal.returns-in-Some-clause-found
+returns-in-Some-clause-found g c = λ earlier h.
     let value = g.R.Row.value in
     let rows = map value c.args.rows.now in
     let k = c.loop-row.row-index in
@@ -43,8 +43,8 @@ loop-row-preserved g c =
           (omega (arith, c.loop-row.invariant.counted)) refl (passed_is value c.args.rows.now k c.row-item.result c.loop-row-test.true c.row-item.is));
     }
 
-pub returns : goal.returns
-returns g c = λ earlier h.
+pub returns-clause-found : goal.returns-clause-found
+returns-clause-found g c = λ earlier h.
     let value = g.R.Row.value in
     let rows = map value c.args.rows.now in
     let k = c.loop-row.row-index in

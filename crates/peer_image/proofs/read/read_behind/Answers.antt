@@ -1,4 +1,4 @@
-use Rattle.std.proofs.Common.{◌≡◌, inl, length, ap, ◌∙◌, arith}
+use Rattle.std.proofs.Common.{◌≡◌, length, ap, ◌∙◌, arith}
 use Rattle.peer_image.specs.Image.{trailer}
 use Rattle.peer_image.proofs.Asking.{header_asks}
 use Rattle.peer_image.proofs.Stops.{front_behind, image_of_front}
@@ -15,4 +15,4 @@ returns-then-is_trailer-clause-rows c =
     (c.if-is_trailer.ensures.1 ∙ ap trailer n)
 
 pub returns-in-Err-clause-asked : goal.returns-in-Err-clause-asked
-returns-in-Err-clause-asked c = λ wants. header_asks c.args.bytes.now c.args.namespace c.args.behind.now c.requires.key c.requires.behind (inl (c.in-Err.ensures.asked))
+returns-in-Err-clause-asked c = λ wants. header_asks c.args.bytes.now c.args.namespace c.args.behind.now c.requires.key c.requires.behind c.in-Err.ensures.asked
