@@ -15,7 +15,7 @@ use willow_entry::{Entry, Row, RowForm, SharedRow, read_entry};
 
 /// A row with its token read out. It keeps the bytes that it was read from. A contract sees the entry and
 /// the token; nothing is said of whether it is authorised.
-#[derive(Debug, Drop)]
+#[derive(Drop)]
 pub struct RawRow {
     entry: Entry,
     token: WriteToken,
@@ -158,7 +158,7 @@ impl SharedRow for RawRow {}
 
 /// A row whose token is kept as bytes alone: the entry, and the bytes of both, once. A contract sees the entry and the
 /// token that the bytes spell, as it does of a `RawRow`.
-#[derive(Debug, Drop)]
+#[derive(Drop)]
 pub struct SpelledRow {
     entry: Entry,
     body: Vec<u8>,

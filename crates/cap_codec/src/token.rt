@@ -15,7 +15,7 @@ use spelling::{Input, NoMemory, Unread, put_bytes, put_u16};
 use std::alloc::Global;
 
 /// The authorisation of an entry (Meadowcap): a capability, and the signature of its receiver.
-#[derive(Debug, Drop)]
+#[derive(Drop)]
 pub struct WriteToken {
     /// By whose leave the entry was written.
     pub capability: Capability,

@@ -6,7 +6,7 @@ ghost use Rattle.lms_core.specs.Key.{height_at};
 
 /// How many levels a tree has above its leaves: 5 (LMS_SHA256_M32_H5, 32 leaves) or
 /// 10 (LMS_SHA256_M32_H10, 1,024 leaves).
-#[derive(Clone, Copy, Debug, PartialEq, Eq)]
+#[derive(Clone, Copy, PartialEq, Eq)]
 pub enum Height {
     H5,
     H10,

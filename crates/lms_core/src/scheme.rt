@@ -28,7 +28,7 @@ fn accepts_lms(key: &[u8; 33], message: &[u8], signature: &[u8]) -> bool
 ///
 /// A signature of an LMS key is the public key of RFC 8554 in 56 bytes, whose SHA-256 is the body of the
 /// key, and then the LMS signature: 1,348 bytes at height 5 and 1,508 at height 10.
-#[derive(Clone, Copy, Debug)]
+#[derive(Clone, Copy)]
 pub struct PeerScheme;
 
 impl Verify for PeerScheme {

@@ -12,7 +12,7 @@ use willow_area::Area;
 use willow_path::{NamespaceKey, NoMemory, Path, UserKey};
 
 /// What a capability lets its receiver do.
-#[derive(Clone, Copy, Debug, PartialEq, Eq)]
+#[derive(Clone, Copy, PartialEq, Eq)]
 pub enum Mode {
     Read,
     Write,
@@ -20,7 +20,7 @@ pub enum Mode {
 
 /// That a user may read or write an area of a namespace (Meadowcap). It is owned exactly where it has an
 /// initial signature, else communal. Contracts see the fields; whether it is valid, `check` answers.
-#[derive(Debug, Drop)]
+#[derive(Drop)]
 pub struct Capability {
     /// Whether it is for reading or for writing.
     pub mode: Mode,

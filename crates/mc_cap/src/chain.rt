@@ -13,7 +13,7 @@ use willow_path::{NoMemory, UserKey};
 pub const MAX_CHAIN: usize = 255;
 
 /// That what was granted so far is handed on, for an area, to a user.
-#[derive(Debug, Drop)]
+#[derive(Drop)]
 pub struct Delegation {
     /// The area that is handed on.
     pub area: Area,
@@ -46,7 +46,7 @@ impl Delegation {
 }
 
 /// Delegations in their order, at most `MAX_CHAIN`. A contract sees the list of them.
-#[derive(Debug, Drop)]
+#[derive(Drop)]
 pub struct Chain {
     delegations: Vec<Delegation>,
 }

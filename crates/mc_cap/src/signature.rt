@@ -8,7 +8,7 @@ use std::marker::Model;
 use willow_path::NoMemory;
 
 /// The bytes of a signature, at most `MAX_SIGNATURE`. A contract sees the list of the bytes.
-#[derive(Debug, Drop)]
+#[derive(Drop)]
 pub struct Signature {
     bytes: Vec<u8>,
 }

@@ -11,7 +11,7 @@ use scheme_core::Claim;
 use willow_path::{NoMemory, UserKey};
 
 /// A message of a capability, and a signature of it.
-#[derive(Debug, Drop)]
+#[derive(Drop)]
 pub struct SignedMessage<'a> {
     /// The key of who is said to have signed. One of a namespace has the bytes that a user's key can have.
     pub key: UserKey,

@@ -16,7 +16,7 @@ use willow_path::NamespaceKey;
 
 /// The rows of an image, by rising subspace and path, and the namespace that it is of. Nothing is said of whether the
 /// rows are of that namespace, or authorised.
-#[derive(Debug, Drop)]
+#[derive(Drop)]
 pub struct Image {
     /// The key behind the text WIM1.
     pub namespace: NamespaceKey,

@@ -8,7 +8,7 @@ use std::alloc::Global;
 
 /// The numbers of a drill: the rows that were generated, the live rows of both sides before they met and after, and
 /// the counted items and the turns of the exchange.
-#[derive(Clone, Copy, Debug, PartialEq, Eq)]
+#[derive(Clone, Copy)]
 pub struct DrillCounts {
     /// Generated rows.
     pub rows: u32,

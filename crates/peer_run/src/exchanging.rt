@@ -17,7 +17,7 @@ use sync_pair::{PairRun, meet_rows};
 use willow_area::Area;
 
 /// What became of the rows that came to a side.
-#[derive(Clone, Copy, Debug, PartialEq, Eq)]
+#[derive(Clone, Copy)]
 pub(crate) struct Came {
     pub(crate) stored: u64,
     pub(crate) kept: u64,

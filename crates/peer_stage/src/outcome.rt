@@ -10,7 +10,7 @@ use spelling::NoMemory;
 
 /// The numbers of a join: every row read, those stored when they came, those that an earlier row covered,
 /// and those that are not authorised, with the first of these.
-#[derive(Clone, Copy, Debug, PartialEq, Eq)]
+#[derive(Clone, Copy, PartialEq, Eq)]
 pub struct JoinCounts {
     /// All rows of the input.
     pub rows: u64,
@@ -25,7 +25,7 @@ pub struct JoinCounts {
 }
 
 /// The numbers of a listing: every row of the image, and those that are not authorised, with the first of these.
-#[derive(Clone, Copy, Debug, PartialEq, Eq)]
+#[derive(Clone, Copy, PartialEq, Eq)]
 pub struct ShowCounts {
     /// All rows of the image.
     pub rows: u64,
@@ -37,7 +37,7 @@ pub struct ShowCounts {
 
 /// The numbers of one side of a meeting: the authorised rows of its image, and of the rows that came to it those
 /// stored and those that an earlier row covered.
-#[derive(Clone, Copy, Debug, PartialEq, Eq)]
+#[derive(Clone, Copy)]
 pub struct SideCounts {
     /// Authorised rows of the image.
     pub rows: u64,
@@ -49,7 +49,7 @@ pub struct SideCounts {
 
 /// The numbers of a meeting: those of both sides, the counted items and the turns of the exchange, and the first row
 /// of the images that is not authorised, counted over the left image and then the right one.
-#[derive(Clone, Copy, Debug, PartialEq, Eq)]
+#[derive(Clone, Copy)]
 pub struct MeetCounts {
     /// The side that began.
     pub left: SideCounts,
@@ -64,7 +64,7 @@ pub struct MeetCounts {
 }
 
 /// The numbers of a session with the one at the other end of a link, which was done.
-#[derive(Clone, Copy, Debug, PartialEq, Eq)]
+#[derive(Clone, Copy)]
 pub struct SessionCounts {
     /// How many rows the log had as the session began.
     pub opened: u32,
@@ -83,7 +83,7 @@ pub struct SessionCounts {
 }
 
 /// What came of a call: how its session ended, which stops nothing, and whether the image was put behind it.
-#[derive(Clone, Copy, Debug, PartialEq, Eq)]
+#[derive(Clone, Copy)]
 pub struct Synced {
     /// The numbers of the session, or how else it ended.
     pub session: Result<SessionCounts, SessionEnd>,
@@ -96,7 +96,7 @@ pub struct Synced {
 
 /// What came of a server: how the session of each link ended, which stops nothing, whether all links came, and whether
 /// the image was put behind them.
-#[derive(Debug, PartialEq, Eq, Drop)]
+#[derive(Drop)]
 pub struct Served {
     /// How the session of each link ended, in the order in which the links came.
     pub sessions: Vec<Result<SessionCounts, SessionEnd>>,
@@ -111,7 +111,7 @@ pub struct Served {
 
 /// What a command did that came to its end. What it met on the way gives the status: the rows that were left out, in a
 /// call or a server how the sessions ended and whether the image was put, and in a server whether all links came.
-#[derive(Debug, PartialEq, Eq, Drop)]
+#[derive(Drop)]
 pub enum Done {
     /// Rows were joined.
     Joined(JoinCounts),

@@ -9,7 +9,7 @@ use willow_path::{Digest, NamespaceKey, Path, UserKey};
 pub struct Usage;
 
 /// Who signs: an open key, or the next index of a key file.
-#[derive(Debug, Drop)]
+#[derive(Drop)]
 pub enum SignerWord {
     /// `open:` and 64 hexadecimal digits: the key of kind 0 with that body.
     OpenKey(UserKey),
@@ -19,7 +19,7 @@ pub enum SignerWord {
 
 /// What the words say of an area. None stands where a field has no word; it is then that of the area at hand.
 /// Where both times are given and the end is a number, it is above the start.
-#[derive(Debug, Drop)]
+#[derive(Drop)]
 pub struct AreaWords {
     /// `--subspace`; the inner None is the word `any`.
     pub subspace: Option<Option<UserKey>>,
@@ -36,7 +36,7 @@ pub struct AreaWords {
 /// The name of a file has 1 to 128 letters, digits, `.`, `_` and `-` of ASCII, and begins with a letter or digit.
 /// A place has at most 255 bytes: a host of one or more bytes without `:`, a `:` and a port from 1 to 65,535 in
 /// decimal digits.
-#[derive(Debug, Drop)]
+#[derive(Drop)]
 pub enum Command {
     /// Joins the rows of the input into the image of a store of this namespace.
     Join {

@@ -13,7 +13,7 @@ use std::alloc::Global;
 use willow_path::End;
 
 /// The name of a file.
-#[derive(Debug, Drop)]
+#[derive(Drop)]
 pub(crate) struct Name(pub(crate) String);
 
 impl Word for Name {
@@ -47,7 +47,7 @@ fn is_name(word: &str) -> bool
 }
 
 /// Where a listener is, or is to be.
-#[derive(Debug, Drop)]
+#[derive(Drop)]
 pub(crate) struct Place(pub(crate) String);
 
 impl Word for Place {

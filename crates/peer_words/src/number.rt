@@ -80,7 +80,7 @@ impl Word for u32 {
 }
 
 /// A number of links.
-#[derive(Debug, Clone, Copy)]
+#[derive(Clone, Copy)]
 pub(crate) struct Links(pub(crate) u32);
 
 impl Word for Links {

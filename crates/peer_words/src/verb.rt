@@ -7,7 +7,7 @@ ghost use Rattle.peer_words.specs.Verbs.{verb_at, area_names, meet_names, names_
 ghost use Rattle.peer_words.specs.declared.verb.Verb.TheVariants as verbs;
 
 /// Which command the words ask for.
-#[derive(Clone, Copy, Debug, PartialEq, Eq)]
+#[derive(Clone, Copy)]
 pub(crate) enum Verb {
     Join,
     Show,

@@ -15,7 +15,7 @@ use willow_path::UserKey;
 pub const ENTRIES_MAX: u32 = 16;
 
 /// How the rows of a box are told.
-#[derive(Clone, Copy, Debug, PartialEq, Eq)]
+#[derive(Clone, Copy, PartialEq, Eq)]
 pub enum Choice {
     /// By all of them.
     Entries,

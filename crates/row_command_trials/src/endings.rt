@@ -4,7 +4,7 @@ use mc_cap::RefusedRow;
 use peer_stage::{Done, JoinCounts, Origin, ShowCounts, Stop};
 
 // How a command ended over the input.
-#[derive(Clone, Copy, Debug, PartialEq, Eq)]
+#[derive(Clone, Copy, PartialEq, Eq)]
 pub(crate) enum Ended {
     Joined(JoinCounts),
     Shown(ShowCounts),

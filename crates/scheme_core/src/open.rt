@@ -34,7 +34,7 @@ fn open_accepts(key: &[u8; 33], message: &[u8], signature: &[u8]) -> bool
 }
 
 /// The scheme of open keys alone: it accepts nothing for keys of another kind.
-#[derive(Clone, Copy, Debug)]
+#[derive(Clone, Copy)]
 pub struct OpenScheme;
 
 impl Verify for OpenScheme {
@@ -65,7 +65,7 @@ impl VerifyMany for OpenScheme {
 impl Scheme for OpenScheme {}
 
 /// What signs with an open key. It never fails and is never spent.
-#[derive(Clone, Copy, Debug)]
+#[derive(Clone, Copy)]
 pub struct OpenSigner {
     key: UserKey,
 }

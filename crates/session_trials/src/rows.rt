@@ -12,7 +12,7 @@ use willow_path::{Digest, NamespaceKey, Path, UserKey};
 
 // Which rows a side has: so many of the user's, at the paths of one byte from 0 on, each with 100 and its byte as its time.
 // One of them may be of time 200.
-#[derive(Clone, Copy, Debug)]
+#[derive(Clone, Copy)]
 pub(crate) struct Rows {
     pub(crate) count: u8,
     pub(crate) newer: Option<u8>,

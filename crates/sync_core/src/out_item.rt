@@ -6,7 +6,7 @@ ghost use Rattle.sync_core.specs.Held.{counts};
 use willow_area::CutAt;
 
 /// An item that a side says: an item of an exchange, in which a row is named by its position.
-#[derive(Debug, Drop)]
+#[derive(Drop)]
 pub enum OutItem {
     /// The fingerprint of the whole box.
     First {

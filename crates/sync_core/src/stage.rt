@@ -4,7 +4,7 @@
 pub const SNAPSHOT_MAX: u32 = 65_536;
 
 /// What a side of an exchange does next.
-#[derive(Clone, Copy, Debug, PartialEq, Eq)]
+#[derive(Clone, Copy, PartialEq, Eq)]
 pub enum Stage {
     /// It says an item.
     Writing,

@@ -10,7 +10,7 @@ use std::alloc::Global;
 use willow_area::Area;
 
 /// What a side of an exchange says first. Contracts see the fields; whether it is refused, `check_hello` answers.
-#[derive(Debug, Drop)]
+#[derive(Drop)]
 pub struct Hello {
     /// The highest version that the side speaks; 0 is refused.
     pub version: u8,

@@ -17,7 +17,7 @@ use willow_area::{Area, read_area};
 use willow_entry::MAX_FRAME;
 
 /// What is answered to bytes that may be the beginning of a hello.
-#[derive(Debug, Drop)]
+#[derive(Drop)]
 pub enum HelloStep {
     /// A hello stands in front.
     Whole {

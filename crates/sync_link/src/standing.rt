@@ -7,7 +7,7 @@ use spelling::NoMemory;
 use sync_core::CoreRefusal;
 
 /// How a session stands that has read some bytes.
-#[derive(Clone, Copy, Debug, PartialEq, Eq)]
+#[derive(Clone, Copy, PartialEq, Eq)]
 pub enum Standing {
     /// More is due.
     More,
