@@ -1,5 +1,5 @@
 """Makes the tables of the claims of `crates/signature_trials`: open signatures by Python's hashlib, and an LMS signature
-of those that `crates/lms_vectors` reads.
+of those that `crates/answer_cases` reads.
 
 Byte k of the message of n bytes is 5 k + n, and byte k of the open key of a line 7 k + the line's number, each modulo
 256; byte 0 of an open key is 0.
@@ -37,7 +37,9 @@ def quoted(text):
 def tables():
     """The name of each table with its lines."""
     made = [sha256(open_key(i) + message(n)).hexdigest() for i, n in enumerate(LENGTHS)]
-    public, signed, signature, answer = (CRATES / "lms_vectors" / "stdin").read_text().splitlines()[1].split(" ")
+    stored = (CRATES / "answer_cases" / "stdin").read_text().splitlines()
+    lms = [line for line in stored if line.startswith("signature ")]
+    _, public, signed, signature, answer = lms[1].split(" ")
     assert answer == "valid"
     key = bytes([1]) + sha256(bytes.fromhex(public)).digest()
     digest = sha256(key + bytes.fromhex(signed)).hexdigest()

@@ -1,4 +1,4 @@
-"""Writes the table of hellos that `crates/hello_cases` reads from its standard input. Bytes are in hexadecimal.
+"""Prints the table of hellos that `crates/answer_cases` reads; `bench/answers.py` puts it there. Bytes are in hexadecimal.
 
     read BYTES ANSWER                           what is answered to the bytes: `more`, `bad`, or of a hello its version,
                                                 the first byte of its nonce, the start of its ask, how many delegations
@@ -10,7 +10,7 @@
 The answers are those of a reader that goes over the bytes from the left (`bench/fronts.py`) and of the model of
 capabilities in `bench/cases/`. They share no code with the crates.
 
-usage: python3 bench/hellos/make.py > crates/hello_cases/stdin
+usage: python3 bench/hellos/make.py
 """
 import sys
 from dataclasses import dataclass, replace

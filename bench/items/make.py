@@ -1,4 +1,4 @@
-"""Writes the table of items that `crates/item_cases` reads from its standard input.
+"""Prints the table of items that `crates/answer_cases` reads; `bench/answers.py` puts it there.
 
 A line `item NAME BEFORE BYTES ANSWER` is a case: a reader that took the bytes BEFORE is given BYTES, both in
 hexadecimal (`-` for none). Each line `at CUT ZERO FULL NEXT FLIP` behind it is about one byte of BYTES, the first for
@@ -11,7 +11,7 @@ bytes of its fingerprints, its count, or the length of its token: `first.17:33`,
 The answers are those of a reader that goes over the bytes from the left and stops at the first that is missing or
 that nothing can begin with. It shares no code with the crates.
 
-usage: python3 bench/items/make.py > crates/item_cases/stdin
+usage: python3 bench/items/make.py
 """
 import struct
 import sys

@@ -1,9 +1,10 @@
-//! A line of the table.
+//! A line of the table of hellos.
 
 ghost use Rattle.std.specs.Prelude.{IfSome};
 ghost use Rattle.sync_hello.specs.HelloForm.{HasSpelling};
 
-use crate::answer::{refusal_word, step_word};
+use crate::bytes::bytes_of;
+use crate::hello_answer::{refusal_word, step_word};
 use hex::FromHex;
 use scheme_core::OpenScheme;
 use std::alloc::Global;
@@ -12,8 +13,7 @@ use sync_msg::Role;
 use willow_path::NamespaceKey;
 
 /// Whether the answer of a line is that of the crate; none where the line is none of the table.
-pub(crate) fn agrees(alloc: Global, line: &str) -> Option<bool> {
-    let (kind, fields) = line.split_once(' ')?;
+pub(crate) fn agrees(alloc: Global, kind: &str, fields: &str) -> Option<bool> {
     match kind {
         "read" => reads(alloc, fields),
         "check" => checks(alloc, fields),
@@ -21,14 +21,6 @@ pub(crate) fn agrees(alloc: Global, line: &str) -> Option<bool> {
         "common" => meets(alloc, fields),
         _ => None,
     }
-}
-
-// The bytes of a field; `-` is none.
-fn bytes_of(alloc: Global, field: &str) -> Option<Vec<u8>> {
-    if field == "-" {
-        return Some(Vec::new(alloc));
-    }
-    hex::decode(alloc, field).ok()
 }
 
 // The hello that all the bytes of a field spell, which spells them again.

@@ -1,4 +1,4 @@
-//! Answers, in the words of the table.
+//! Answers about hellos, in the words of the table.
 
 use mc_cap::ChainRefusal;
 use spelling::{End, NoMemory};

@@ -1,28 +1,20 @@
-//! A case of the table.
+//! A case of the table of items.
 
-use crate::answer::{answer_behind_more, answer_to};
-use hex::FromHexError;
+use crate::bytes::bytes_of;
+use crate::item_answer::{answer_behind_more, answer_to};
 use std::alloc::{AllocError, Global};
 
 /// More bytes than any case has.
 const MANY: usize = 100_000;
 
-/// The bytes that a reader took, those that it is given, and what it is to answer to all of them.
+/// The bytes that a reader took, those that it is given, what it is to answer to all of them, and how many lines about
+/// one of the bytes were read.
 #[derive(Drop)]
-pub struct Case {
-    name: String,
+pub(crate) struct ItemCase {
     before: Vec<u8>,
     bytes: Vec<u8>,
     answer: String,
-    lines: usize,
-}
-
-/// The bytes of a field; `-` is none.
-fn bytes_of(alloc: Global, field: &str) -> Result<Vec<u8>, FromHexError> {
-    if field == "-" {
-        return Ok(Vec::new(alloc));
-    }
-    hex::decode(alloc, field)
+    places: usize,
 }
 
 /// The bytes with another at the place.
@@ -34,51 +26,42 @@ fn changed(alloc: Global, bytes: &[u8], place: usize, byte: u8) -> Result<Vec<u8
     Ok(changed)
 }
 
-impl Case {
+impl ItemCase {
     /// No case.
-    pub(crate) fn none(alloc: Global) -> Case {
-        Case {
-            name: String::new(alloc),
+    pub(crate) fn none(alloc: Global) -> ItemCase {
+        ItemCase {
             before: Vec::new(alloc),
             bytes: Vec::new(alloc),
             answer: String::new(alloc),
-            lines: 0,
+            places: 0,
         }
     }
 
-    /// The name of the case.
-    pub(crate) fn name(&self) -> &str {
-        self.name.as_str()
-    }
-
-    /// How many lines of the case were read.
-    pub(crate) fn lines(&self) -> usize {
-        self.lines
-    }
-
-    /// Reads the next line of the table: whether all its answers are the reader's.
-    pub(crate) fn agrees(&mut self, alloc: Global, line: &str) -> Result<bool, FromHexError> {
-        if let Some(fields) = line.strip_prefix("item ") {
-            *self = Case::of(alloc, fields)?;
-            return Ok(self.is_answered(alloc, self.bytes.as_slice(), self.answer.as_str())?);
+    /// Reads the next line, of a new case or of a byte of the last one: whether all its answers are the reader's; none
+    /// where it is no line of the table. Where the reader asks for more behind a front of the case's bytes, it is given
+    /// all of them next, and is to answer as if it had not been asked before.
+    pub(crate) fn agrees(&mut self, alloc: Global, kind: &str, fields: &str) -> Option<bool> {
+        if kind == "item" {
+            *self = ItemCase::of(alloc, fields)?;
+            return self
+                .is_answered(alloc, &self.bytes, self.answer.as_str())
+                .ok();
         }
-        let place = self.lines;
-        self.lines = self.lines.saturating_add(1);
-        match line.strip_prefix("at ") {
-            Some(answers) => Ok(self.agrees_at(alloc, place.saturating_sub(1), answers)?),
-            None => Ok(false),
-        }
+        let place = self.places;
+        self.places = place.saturating_add(1);
+        self.agrees_at(alloc, place, fields).ok()
     }
 
     // The case of the fields.
-    fn of(alloc: Global, fields: &str) -> Result<Case, FromHexError> {
-        let mut fields = fields.split(' ');
-        Ok(Case {
-            name: String::from_str(alloc, fields.next().unwrap_or(""))?,
-            before: bytes_of(alloc, fields.next().unwrap_or(""))?,
-            bytes: bytes_of(alloc, fields.next().unwrap_or(""))?,
-            answer: String::from_str(alloc, fields.next().unwrap_or(""))?,
-            lines: 1,
+    fn of(alloc: Global, fields: &str) -> Option<ItemCase> {
+        let (_name, fields) = fields.split_once(' ')?;
+        let (before, fields) = fields.split_once(' ')?;
+        let (bytes, answer) = fields.split_once(' ')?;
+        Some(ItemCase {
+            before: bytes_of(alloc, before)?,
+            bytes: bytes_of(alloc, bytes)?,
+            answer: String::from_str(alloc, answer).ok()?,
+            places: 0,
         })
     }
 
@@ -101,6 +84,17 @@ impl Case {
         }
     }
 
+    // Whether the reader answers so to the bytes with another at the place.
+    fn is_answered_with(
+        &self,
+        alloc: Global,
+        place: usize,
+        byte: u8,
+        due: &str,
+    ) -> Result<bool, AllocError> {
+        self.is_answered(alloc, &changed(alloc, &self.bytes, place, byte)?, due)
+    }
+
     // Whether the reader answers so to the bytes in front of the place, and to the bytes with another at the place.
     fn agrees_at(&self, alloc: Global, place: usize, answers: &str) -> Result<bool, AllocError> {
         let Some(byte) = self.bytes.get(place) else {
@@ -111,8 +105,8 @@ impl Case {
         let mut agrees = self.is_answered(alloc, front, answers.next().unwrap_or(""))?
             && self.goes_on(alloc, front)?;
         for value in [0, 255, byte.wrapping_add(1), byte ^ 0x80] {
-            let changed = changed(alloc, &self.bytes, place, value)?;
-            agrees = self.is_answered(alloc, &changed, answers.next().unwrap_or(""))? && agrees;
+            let due = answers.next().unwrap_or("");
+            agrees = self.is_answered_with(alloc, place, value, due)? && agrees;
         }
         Ok(agrees)
     }
