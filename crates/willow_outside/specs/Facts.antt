@@ -44,3 +44,9 @@ pub record DoorFacts : Type 0 where
   pub out : ℕ
   pub asked : Option (List (List ℕ))
   pub back : Option (List LinkFacts)
+
+-- what a disk holds, and how many reads and writes failed
+pub record DiskFacts : Type 0 where
+  pub contents : Option (List ℕ)
+  pub read_faults : ℕ
+  pub write_faults : ℕ

@@ -1,4 +1,7 @@
 pub mod Counts
+pub mod DiskLaws
+pub mod DiskRecord
+pub mod Disks
 pub mod Draws
 pub mod Facts
 pub mod InMemory

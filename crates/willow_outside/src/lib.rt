@@ -3,9 +3,12 @@
 #![tactic(auto)]
 
 mod cabinet;
+mod disk;
+mod disk_tape;
 mod door;
 mod fault;
 mod link;
+mod mem_disk;
 mod mem_door;
 mod mem_link;
 mod mem_noise;
@@ -25,9 +28,12 @@ mod sure_source;
 mod traffic;
 mod writing;
 
+pub use disk::Disk;
+pub use disk_tape::DiskCall;
 pub use door::Door;
 pub use fault::Fault;
 pub use link::Link;
+pub use mem_disk::MemDisk;
 pub use mem_door::MemDoor;
 pub use mem_link::MemLink;
 pub use mem_noise::MemNoise;
