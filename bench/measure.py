@@ -1,5 +1,5 @@
-"""Times the executables `hash_bench`, `willow_peer` and `index_bench`, and prints tables in Markdown. With one word,
-an executable, it prints those of that one alone: of its digests and keys, or of the index of recency.
+"""Times the executables `benches` and `willow_peer`, and prints tables in Markdown. With one word, the executable
+`benches`, it prints those of that one alone: of digests and keys, and of the index of recency.
 
 Each figure is the best of ROUNDS runs; the runs of all commands take turns, so that what else the machine does
 falls on all of them alike. A hash is one block of SHA-256, that is one call of its compression function: a message
@@ -50,7 +50,7 @@ ROW = 2 + 3
 
 
 def verify_blocks():
-    """What one verification hashes of the key, the index and the message that `hash_bench verify` signs."""
+    """What one verification hashes of the key, the index and the message that the benchmark `verify` signs."""
     identifier, index = b"\x09" * 16, struct.pack(">I", 0)
     seed, message = bytes(4) + b"\x07" * 28, b"a message of the length of a sum"
     randomizer = sha256(b"\x43" + seed + index + message).digest()
@@ -102,16 +102,16 @@ def best(commands):
     return {name: min(found) for name, found in times.items()}
 
 
-def show_digests(hash_bench):
+def show_digests(benches):
     took = best({
-        "blocks": ([hash_bench, "blocks", str(BLOCKS)], None),
-        "rows": ([hash_bench, "rows", str(ROWS)], None),
-        "chains": ([hash_bench, "chains", str(LEAVES)], None),
-        "lists": ([hash_bench, "lists", str(LISTS)], None),
-        "make": ([hash_bench, "make", str(KEYS)], None),
-        "sign": ([hash_bench, "sign", str(KEYS)], None),
-        "verify": ([hash_bench, "verify", str(CHECKS)], None),
-        "verify nothing": ([hash_bench, "verify", "0"], None),
+        "blocks": ([benches, f"blocks {BLOCKS}"], None),
+        "rows": ([benches, f"rows {ROWS}"], None),
+        "chains": ([benches, f"chains {LEAVES}"], None),
+        "lists": ([benches, f"lists {LISTS}"], None),
+        "make": ([benches, f"make {KEYS}"], None),
+        "sign": ([benches, f"sign {KEYS}"], None),
+        "verify": ([benches, f"verify {CHECKS}"], None),
+        "verify nothing": ([benches, "verify 0"], None),
     })
     plain = BLOCKS / took["blocks"]
     alone = ROWS * ROW / took["rows"]
@@ -135,7 +135,7 @@ def show_digests(hash_bench):
         print(f"| {name} | {hashes:,} | {seconds / count:.5f} | {speed:,.0f} | {speed / plain:.2f} |")
 
 
-def show_rows(hash_bench, peer, folder):
+def show_rows(benches, peer, folder):
     names = ("rows", "image", "listing", "placed", "covered")
     rows, image, listing, placed, covered = (os.path.join(folder, name) for name in names)
     run([peer, "gen", "--rows", str(ROWS)], made=rows)
@@ -150,8 +150,8 @@ def show_rows(hash_bench, peer, folder):
     with open(listing, encoding="ascii") as lines:
         kept = int(lines.readline().split()[-1])
     took = best({
-        "rows": ([hash_bench, "rows", str(ROWS)], None),
-        "kept rows": ([hash_bench, "rows", str(kept)], None),
+        "rows": ([benches, f"rows {ROWS}"], None),
+        "kept rows": ([benches, f"rows {kept}"], None),
         "gen": ([peer, "gen", "--rows", str(ROWS)], None),
         "join": ([peer, "join", "--namespace", NAMESPACE], rows),
         "join by place": ([peer, "join", "--namespace", NAMESPACE], placed),
@@ -177,13 +177,13 @@ def show_rows(hash_bench, peer, folder):
     print(f"| the digest of a total | | {(40 + 72) // 64} | |")
 
 
-def show_index(index_bench):
+def show_index(benches):
     took = best({
-        "rising": ([index_bench, "rising", str(ROWS)], None),
-        "falling": ([index_bench, "falling", str(ROWS)], None),
-        "newest": ([index_bench, "newest", str(READS)], None),
-        "newest of nothing": ([index_bench, "newest", "0"], None),
-        "nothing": ([index_bench, "rising", "0"], None),
+        "rising": ([benches, f"rising {ROWS}"], None),
+        "falling": ([benches, f"falling {ROWS}"], None),
+        "newest": ([benches, f"newest {READS}"], None),
+        "newest of nothing": ([benches, "newest 0"], None),
+        "nothing": ([benches, "rising 0"], None),
     })
     print("| Index of recency | items | seconds | nanoseconds an item |")
     print("|---|---|---|---|")
@@ -196,14 +196,11 @@ def show_index(index_bench):
 
 
 if __name__ == "__main__":
-    executables = [os.path.abspath(word) for word in sys.argv[1:]]
-    if len(executables) == 1 and os.path.basename(executables[0]) == "index_bench":
-        show_index(executables[0])
-        sys.exit()
-    show_digests(executables[0])
-    if len(executables) > 2:
-        print()
+    benches, *peers = map(os.path.abspath, sys.argv[1:])
+    show_digests(benches)
+    print()
+    for peer in peers:
         with tempfile.TemporaryDirectory() as temporary:
-            show_rows(executables[0], executables[1], temporary)
+            show_rows(benches, peer, temporary)
         print()
-        show_index(executables[2])
+    show_index(benches)

@@ -1,4 +1,4 @@
-"""Times the executable `cell_workers`, and prints a table in Markdown.
+"""Times cells by the executable `benches`, and prints a table in Markdown.
 
     python3 bench/threads.py EXECUTABLE
 
@@ -13,7 +13,7 @@ import time
 ROUNDS = 9
 ROWS = 60_000
 PASSES = (1, 2, 4)
-TAKERS = ("rows", "state", "cell")
+TAKERS = ("made", "state", "cell")
 
 
 def run(command):
@@ -32,7 +32,7 @@ def best(program):
     for _ in range(ROUNDS):
         for passes in PASSES:
             for taker in TAKERS:
-                taken = run([program, taker, str(passes), str(ROWS // passes), "1"])
+                taken = run([program, f"{taker} {passes} {ROWS // passes} 1"])
                 found.setdefault((taker, passes), []).append(taken)
     return {key: tuple(min(times) for times in zip(*runs)) for key, runs in found.items()}
 
@@ -41,7 +41,7 @@ def show(program):
     took = best(program)
 
     def each(taker, passes, kind):
-        return (took[taker, passes][kind] - took["rows", passes][kind]) / ROWS * 1e6
+        return (took[taker, passes][kind] - took["made", passes][kind]) / ROWS * 1e6
 
     print("| Passes | microseconds a row, cell | state alone | times that | of the processors, cell | state alone | times that |")
     print("|---|---|---|---|---|---|---|")

@@ -1,0 +1,3 @@
+pub mod Free
+pub mod Handed
+pub mod Serving
