@@ -91,7 +91,7 @@ written_torn at bytes old within =
     record {
       before = take_at (take at old) (bytes ++ drop (at + length bytes) old) at front;
       after =
-      sym (drop-drop (length bytes) at (written at bytes old)) ∙ ap (λ (l : List ℕ). drop (length bytes) l) (drop_at (take at old) (bytes ++ drop (at + length bytes) old) at front) ∙ drop_at bytes (drop (at + length bytes) old) (length bytes) refl;
+          sym (drop-drop (length bytes) at (written at bytes old)) ∙ ap (λ (l : List ℕ). drop (length bytes) l) (drop_at (take at old) (bytes ++ drop (at + length bytes) old) at front) ∙ drop_at bytes (drop (at + length bytes) old) (length bytes) refl;
       no_shorter = omega (arith, size);
       no_longer = omega (arith, size);
     }
