@@ -7,6 +7,7 @@ use Rattle.willow_outside.specs.declared.disk_tape.DiskCall.TheVariants.{Len, Re
 use Rattle.willow_outside.specs.declared.fault.Fault.{Fault}
 use Rattle.willow_outside.specs.declared.fault.Fault.TheVariants.{Failed, NoMemory}
 use Rattle.willow_outside.specs.Disks.{written, IsTorn}
+use Rattle.willow_outside.specs.Facts.{DiskFacts}
 use Rattle.willow_outside.specs.Plan.{Plan, fails_next}
 
 -- the contents, what they were at the last sync, and the ranges written since, the last of them first
@@ -78,6 +79,10 @@ LeftSince first calls t image =
 -- the bytes that it holds
 abbrev pub contents_of : MemoryDisk → List ℕ
 contents_of d = (state_now d.first d.calls).contents
+
+-- what it tells
+abbrev pub facts_of : MemoryDisk → DiskFacts
+facts_of d = record { contents = Some (contents_of d); read_faults = d.read_faults; write_faults = d.write_faults }
 
 -- a crash now may leave the image
 abbrev pub left_by : MemoryDisk → List ℕ → Type 0

@@ -50,3 +50,12 @@ pub record DiskFacts : Type 0 where
   pub contents : Option (List ℕ)
   pub read_faults : ℕ
   pub write_faults : ℕ
+
+-- how many calls failed, how many disks are handed out and not back, the bytes with which each name opens, the names
+-- that were opened, and the disks given back
+pub record BayFacts : Type 0 where
+  pub faults : ℕ
+  pub out : ℕ
+  pub names : Option Names
+  pub asked : Option (List (List ℕ))
+  pub back : Option (List DiskFacts)

@@ -4,6 +4,7 @@ use Rattle.std.specs.declared.string.String.{String}
 use Rattle.std.specs.declared.vec.Vec.{Vec}
 use Rattle.std.specs.declared.alloc.Global.{Global}
 use Rattle.std.specs.BTreeMap.{BTreeMap}
+use Rattle.willow_outside.specs.DiskRecord.{MemoryDisk}
 use Rattle.willow_outside.specs.Plan.{Plan}
 
 -- the bytes to give, and the most of them that a call moves
@@ -54,6 +55,17 @@ pub record MemoryNoise : Type 0 where
 pub record MemoryDoor (L : Type 0) : Type 0 where
   pub to_come : List L
   pub back : List L
+  pub out : ℕ
+  pub asked : List (List ℕ)
+  pub plan : Plan
+  pub faults : ℕ
+
+-- the bytes with which each name opens, which calls of each disk are to fail, the disks that came back, how many are
+-- out, and the names that were opened
+pub record MemoryBay : Type 0 where
+  pub contents : BTreeMap (String Global) (Vec ℕ Global)
+  pub disk_fails : List ℕ
+  pub back : List MemoryDisk
   pub out : ℕ
   pub asked : List (List ℕ)
   pub plan : Plan

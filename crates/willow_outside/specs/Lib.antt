@@ -1,3 +1,5 @@
+pub mod BayCode
+pub mod Bays
 pub mod Counts
 pub mod DiskLaws
 pub mod DiskRecord

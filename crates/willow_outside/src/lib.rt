@@ -2,12 +2,14 @@
 //! A call fails only where its count rose, moves just the bytes that it says, and changes nothing else.
 #![tactic(auto)]
 
+mod bay;
 mod cabinet;
 mod disk;
 mod disk_tape;
 mod door;
 mod fault;
 mod link;
+mod mem_bay;
 mod mem_disk;
 mod mem_door;
 mod mem_link;
@@ -17,6 +19,7 @@ mod mem_sink;
 mod mem_source;
 mod noise;
 mod reading;
+mod returns;
 mod schedule;
 mod shelf;
 mod sink;
@@ -28,11 +31,13 @@ mod sure_source;
 mod traffic;
 mod writing;
 
+pub use bay::Bay;
 pub use disk::Disk;
 pub use disk_tape::DiskCall;
 pub use door::Door;
 pub use fault::Fault;
 pub use link::Link;
+pub use mem_bay::MemBay;
 pub use mem_disk::MemDisk;
 pub use mem_door::MemDoor;
 pub use mem_link::MemLink;

@@ -31,7 +31,7 @@ impl<L: Link> Model for MemDoor<L> {
 
     ghost Value = { MemoryDoor L };
 
-    ghost view = { λ s. record { to_come = s.traffic.to_come.items; back = s.traffic.back.items; out = s.traffic.out; asked = map string_bytes s.asked.items; plan = s.schedule; faults = s.faults } };
+    ghost view = { λ s. record { to_come = s.traffic.to_come.items; back = s.traffic.returns.back.items; out = s.traffic.returns.out; asked = map string_bytes s.asked.items; plan = s.schedule; faults = s.faults } };
 
     ghost invariant = { λ s. (link : L) → Contains s.traffic.to_come.items link → IsFresh (L.facts link) };
 }
@@ -57,7 +57,7 @@ impl<L: Link + Send> MemDoor<L> {
     pub fn back(&self) -> &[L]
         ensures { (⟦<MemDoor<L> as Door>⟧.facts self.now).back ≡ Some (map L.facts result.now) }
     {
-        &self.traffic.back
+        &self.traffic.returns.back
     }
 }
 
@@ -97,7 +97,7 @@ impl<L: Link + Send> Door for MemDoor<L> {
             self.faults = self.faults.saturating_add(1);
             return Err(Fault::Failed);
         }
-        self.traffic.make_room()?;
+        self.traffic.returns.make_room()?;
         Ok(self.traffic.hand_out())
     }
 
@@ -115,7 +115,7 @@ impl<L: Link + Send> Door for MemDoor<L> {
             return Err(Fault::Failed);
         }
         let place = String::from_str(self.alloc, place)?;
-        self.traffic.make_room()?;
+        self.traffic.returns.make_room()?;
         self.asked.push(place)?;
         Ok(self.traffic.hand_out())
     }
@@ -131,6 +131,6 @@ impl<L: Link + Send> Door for MemDoor<L> {
         ensures asked { self.new.asked ≡ self.old.asked }
         ensures faults { self.new.faults ≡ self.old.faults }
     {
-        self.traffic.take_back(link);
+        self.traffic.returns.take_back(link);
     }
 }

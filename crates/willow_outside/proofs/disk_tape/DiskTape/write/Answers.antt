@@ -1,4 +1,4 @@
-use Rattle.std.proofs.Common.{◌≡◌, ◌≤◌, List, ℕ, length, ◌∙◌, subst}
+use Rattle.std.proofs.Common.{◌≡◌, ◌≤◌, List, ℕ, length, subst}
 use Rattle.willow_outside.specs.declared.disk_tape.DiskCall.TheVariants.{WriteAt}
 use Rattle.willow_outside.specs.DiskRecord.{state_now, MayLeave}
 use Rattle.willow_outside.specs.Disks.{Tears}
