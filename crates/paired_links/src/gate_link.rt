@@ -103,12 +103,15 @@ impl GateLink {
 impl Link for GateLink {
     ghost facts = { gated_facts };
 
+    ghost most = { λ s. s.link.most };
+
     /// Reads as the link does, or fails at a shut gate.
     fn read(&mut self, buf: &mut [u8]) -> Result<usize, Fault>
         ensures answer { MetShut self.old self.new result ⊎ WentOn self.old self.new result buf.new }
         ensures opener { 0 < self.old.opens_at → WentOn self.old self.new result buf.new }
         ensures no_turns { self.old.opens_at ≡ 0 → self.old.turns ≡ 0 → MetShut self.old self.new result }
         ensures bound { ReadsAtMost result buf.new }
+        ensures at_most { IfOk result (λ n. n ≤ self.old.link.most) }
         ensures bytes { ReadConsumes (Some self.old.link.left) (Some self.new.link.left) result buf.new }
         ensures taken { ExtendsBy (Some self.old.link.taken) (Some self.new.link.taken) result buf.new }
         ensures cause { CountsFault (gated_facts self.old).read_faults (gated_facts self.new).read_faults result }

@@ -1,6 +1,6 @@
 //! A link between two threads.
 
-ghost use Rattle.std.specs.Prelude.{◌≡◌, ◌+◌, ◌≤◌, ◌++◌, None, Some, [], IfOk, length, vec_len, vec_capacity};
+ghost use Rattle.std.specs.Prelude.{◌≡◌, ◌+◌, ◌-◌, ◌^◌, ◌≤◌, ◌++◌, None, Some, [], IfOk, length, vec_len, vec_capacity};
 ghost use Rattle.paired_links.specs.Pairs.{new_end};
 
 use crate::channel::Channel;
@@ -90,6 +90,8 @@ impl<W: Wait + Drop + Send> PairLink<W> {
 
 impl<W: Wait + Drop + Send> Link for PairLink<W> {
     ghost facts = { λ s. record { left = None; taken = Some s.taken.items; held = Some s.held.items; read_faults = 0; write_faults = 0; ends = s.ends } };
+
+    ghost most = { λ _. 2 ^ 64 - 1 };
 
     /// Waits until the other end has written or is dropped.
     fn read(&mut self, buf: &mut [u8]) -> Result<usize, Fault> {

@@ -1,6 +1,6 @@
 //! Links over TCP.
 
-ghost use Rattle.std.specs.Prelude.{◌≡◌, None, IfOk};
+ghost use Rattle.std.specs.Prelude.{◌≡◌, ◌-◌, ◌^◌, None, IfOk};
 ghost use Rattle.willow_outside.specs.Counts.{CountsFault};
 ghost use Rattle.willow_outside.specs.Links.{HandsOutLink, IsFresh};
 
@@ -52,6 +52,8 @@ impl TcpLink {
 
 impl Link for TcpLink {
     ghost facts = { λ s. record { left = None; taken = None; held = None; read_faults = s.read_faults; write_faults = s.write_faults; ends = s.ends } };
+
+    ghost most = { λ _. 2 ^ 64 - 1 };
 
     fn read(&mut self, buf: &mut [u8]) -> Result<usize, Fault> {
         // Without room a socket would wait for bytes that it then leaves.

@@ -3,6 +3,7 @@
 #![tactic(auto)]
 
 mod bay;
+mod byte_link;
 mod cabinet;
 mod disk;
 mod disk_tape;
@@ -32,6 +33,7 @@ mod traffic;
 mod writing;
 
 pub use bay::Bay;
+pub use byte_link::ByteLink;
 pub use disk::Disk;
 pub use disk_tape::DiskCall;
 pub use door::Door;

@@ -65,12 +65,15 @@ impl MemLink {
 impl Link for MemLink {
     ghost facts = { λ s. record { left = Some s.left; taken = Some s.taken; held = Some s.held; read_faults = s.read_faults; write_faults = s.write_faults; ends = s.ends } };
 
+    ghost most = { λ s. s.most };
+
     /// Gives as many bytes as there is room for, `most` and those left allow.
     fn read(&mut self, buf: &mut [u8]) -> Result<usize, Fault>
         ensures answer { result ≡ planned self.old.plan (min (min (length buf.new) self.old.most) (length self.old.left)) }
         ensures plan { self.new.plan ≡ called self.old.plan }
         ensures most { self.new.most ≡ self.old.most }
         ensures bound { ReadsAtMost result buf.new }
+        ensures at_most { IfOk result (λ n. n ≤ self.old.most) }
         ensures bytes { ReadConsumes (Some self.old.left) (Some self.new.left) result buf.new }
         ensures taken { ExtendsBy (Some self.old.taken) (Some self.new.taken) result buf.new }
         ensures cause { CountsFault self.old.read_faults self.new.read_faults result }
