@@ -9,25 +9,38 @@ use std::test::Fail;
 use std::{env, fs, io};
 use willow_outside::{Fault, Noise, Shelf, Sink, Source};
 
-/// The folder of the test with files.
-const FOLDER: &str = "peer-real-own-folder";
-
-/// Goes into that folder, which is empty then. One that a run left which was broken off goes first.
-fn enter_folder<R: Files + Env + Alloc>(rt: &R) -> io::Result<()> {
-    let _ = fs::remove_dir_all(rt, FOLDER);
-    fs::create_dir(rt, FOLDER)?;
-    env::set_current_dir(rt, FOLDER)
+/// Goes into the test's own folder, which is empty then. One that a run left which was broken off goes first.
+fn enter_folder<R: Files + Env + Alloc>(rt: &R, folder: &str) -> io::Result<()> {
+    let _ = fs::remove_dir_all(rt, folder);
+    fs::create_dir(rt, folder)?;
+    env::set_current_dir(rt, folder)
 }
 
 /// Goes back and removes the folder.
-fn leave_folder<R: Files + Env + Alloc>(rt: &R) -> io::Result<()> {
+fn leave_folder<R: Files + Env + Alloc>(rt: &R, folder: &str) -> io::Result<()> {
     env::set_current_dir(rt, "..")?;
-    fs::remove_dir_all(rt, FOLDER)
+    fs::remove_dir_all(rt, folder)
+}
+
+/// The bits of who may read, write and run the file behind a put.
+fn mode_after_put(rt: &HostRuntime, name: &str) -> io::Result<u32> {
+    FileShelf::new(rt)
+        .put(name, &[1, 2])
+        .map_err(|_| io::ErrorKind::Other)?;
+    Ok(fs::metadata(rt, name)?.permissions().mode() & 0o777)
+}
+
+/// The modes behind the first put of a file and behind one more, before which it was opened to all readers.
+fn modes_of_puts(rt: &HostRuntime, name: &str) -> io::Result<(u32, u32)> {
+    let first = mode_after_put(rt, name)?;
+    fs::set_permissions(rt, name, Permissions::from_mode(0o644))?;
+    Ok((first, mode_after_put(rt, name)?))
 }
 
 #[test]
 fn files_are_replaced_whole(rt: HostRuntime) -> Result<(), Fail> {
-    enter_folder(&rt)?;
+    let folder = "peer-real-own-folder";
+    enter_folder(&rt, folder)?;
     let name = "file";
     let mut shelf = FileShelf::new(rt);
     assert!(rt; holds(&mut shelf, name, None));
@@ -35,19 +48,23 @@ fn files_are_replaced_whole(rt: HostRuntime) -> Result<(), Fail> {
     assert!(rt; holds(&mut shelf, name, Some(&[1, 2, 3])));
     assert!(rt; holds(&mut shelf, ".file.new", None));
     assert!(rt; shelf.get("file/below") == Err(Fault::Failed));
-    fs::set_permissions(&rt, name, Permissions::from_mode(0o600))?;
     assert!(rt; shelf.put(name, &[4]) == Ok(()));
     assert!(rt; holds(&mut shelf, name, Some(&[4])));
-    assert_eq!(rt;
-        fs::metadata(&rt, name)?.permissions().mode() & 0o777,
-        0o600
-    );
     fs::remove_file(&rt, name)?;
     fs::create_dir(&rt, name)?;
     assert!(rt; shelf.get(name) == Err(Fault::Failed));
     assert!(rt; shelf.put(name, &[5]) == Err(Fault::Failed));
     assert!(rt; holds(&mut shelf, ".file.new", None));
-    leave_folder(&rt)?;
+    leave_folder(&rt, folder)?;
+    Ok(())
+}
+
+#[test]
+fn a_new_file_is_for_its_owner_alone(rt: HostRuntime) -> Result<(), Fail> {
+    let folder = "peer-real-modes-folder";
+    enter_folder(&rt, folder)?;
+    assert_eq!(rt; modes_of_puts(&rt, "file")?, (0o600, 0o644));
+    leave_folder(&rt, folder)?;
     Ok(())
 }
 

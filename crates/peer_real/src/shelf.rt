@@ -3,14 +3,19 @@
 ghost use Rattle.std.specs.Prelude.{◌≡◌, None};
 
 use crate::faults::{counted, fault_of, raised};
-use std::fs::{File, OpenFile};
+use std::fs::{OpenFile, OpenOptions};
 use std::io::{ErrorKind, Write};
+use std::os::unix::fs::OpenOptionsExt;
 use std::rt::Files;
 use std::{fs, io};
 use willow_outside::{Fault, Shelf};
 
+/// The mode of a file that is made anew: its owner alone may read and write it, since it may hold a secret key.
+const OWNER_ALONE: u32 = 0o600;
+
 /// The files of the current folder, with counts of the faults. What they hold is not told.
-/// While a file `NAME` is put, the file `.NAME.new` stands beside it.
+/// While a file `NAME` is put, the file `.NAME.new` stands beside it. A file that is made anew can be read and written by
+/// its owner alone, and one that is replaced by those who could do so before.
 #[derive(Drop)]
 pub struct FileShelf<R> {
     machine: R,
@@ -32,12 +37,18 @@ impl<R: Files + AllocGlobal + Drop> FileShelf<R> {
 }
 
 // Writes all bytes to a new file `beside`, and on to the disk, and then renames it to `name`.
-// One that a crash left there goes first. A file that is replaced passes on who may read and write it.
+// One that a crash left there goes first. Nobody but its owner can ever open the new file, unless it takes the place of a
+// file that passes on who may read and write it.
 fn write_beside<R: Files>(machine: &R, beside: &str, name: &str, bytes: &[u8]) -> io::Result<()> {
     let _ = fs::remove_file(machine, beside);
-    let mut file = File::create_new(machine, beside)?;
-    if let Ok(replaced) = fs::metadata(machine, name) {
-        file.set_permissions(replaced.permissions())?;
+    let mut file = OpenOptions::new()
+        .write(true)
+        .create_new(true)
+        .mode(OWNER_ALONE)
+        .open(machine, beside)?;
+    match fs::metadata(machine, name) {
+        Ok(replaced) if replaced.is_file() => file.set_permissions(replaced.permissions())?,
+        _ => {}
     }
     file.write_all(bytes)?;
     file.sync_all()?;

@@ -5,8 +5,9 @@ ghost use Rattle.willow_outside.specs.Counts.{CountsFault};
 ghost use Rattle.willow_outside.specs.Links.{HandsOutLink, IsFresh};
 
 use crate::faults::{counted, raised};
+use std::alloc::Global;
 use std::io;
-use std::io::{ErrorKind, Read, Write};
+use std::io::{BufReader, ErrorKind, Read, Write};
 use std::net::{Net, TcpListener, TcpStream};
 use std::time::Duration;
 use willow_outside::{Door, Fault, Link};
@@ -16,33 +17,34 @@ const PATIENCE: u64 = 60;
 
 /// A connection over TCP, with counts of its faults and of its ends. A write of nothing counts as a fault, and so does a
 /// read or a write that waited for 60 seconds, as for a peer that went away without closing the connection.
-/// What it gives and takes is not told.
+/// What it gives and takes is not told. A read takes what an earlier one left over of the bytes that had come, and only
+/// where that is nothing waits for more.
 #[derive(Drop)]
 pub struct TcpLink {
-    stream: TcpStream,
+    stream: BufReader<TcpStream>,
     read_faults: u64,
     write_faults: u64,
     ends: u64,
 }
 
 impl TcpLink {
-    /// A link over the connection, with counts 0, where the machine sets its limits of time. What is written goes out at
-    /// once, where the machine offers that.
-    pub fn new(stream: TcpStream) -> io::Result<TcpLink>
+    /// A link over the connection, with counts 0, where the machine sets its limits of time and has memory for the bytes
+    /// that come before they are asked for. What is written goes out at once, where the machine offers that.
+    pub fn new(alloc: Global, stream: TcpStream) -> io::Result<TcpLink>
         ensures { IfOk result (λ link. ⟦<TcpLink as Link>⟧.facts link ≡ record { left = None; taken = None; held = None; read_faults = 0; write_faults = 0; ends = 0 }) }
     {
-        TcpLink::within(stream, Duration::from_secs(PATIENCE))
+        TcpLink::within(alloc, stream, Duration::from_secs(PATIENCE))
     }
 
     // A link that waits for so long.
-    fn within(stream: TcpStream, limit: Duration) -> io::Result<TcpLink>
+    fn within(alloc: Global, stream: TcpStream, limit: Duration) -> io::Result<TcpLink>
         ensures { IfOk result (λ link. ⟦<TcpLink as Link>⟧.facts link ≡ record { left = None; taken = None; held = None; read_faults = 0; write_faults = 0; ends = 0 }) }
     {
         stream.set_read_timeout(Some(limit))?;
         stream.set_write_timeout(Some(limit))?;
         let _ = stream.set_nodelay(true);
         Ok(TcpLink {
-            stream,
+            stream: BufReader::new(alloc, stream)?,
             read_faults: 0,
             write_faults: 0,
             ends: 0,
@@ -56,7 +58,7 @@ impl Link for TcpLink {
     ghost most = { λ _. 2 ^ 64 - 1 };
 
     fn read(&mut self, buf: &mut [u8]) -> Result<usize, Fault> {
-        // Without room a socket would wait for bytes that it then leaves.
+        // Without room a socket would wait for bytes, of which none could be given.
         if buf.is_empty() {
             return Ok(0);
         }
@@ -74,7 +76,8 @@ impl Link for TcpLink {
         if piece.is_empty() {
             return Ok(0);
         }
-        match self.stream.write(piece) {
+        let mut stream = self.stream.get_ref();
+        match stream.write(piece) {
             Ok(0) => {
                 self.write_faults = raised(self.write_faults);
                 Err(Fault::Failed)
@@ -95,7 +98,7 @@ pub struct TcpDoor<N> {
     out: u64,
 }
 
-impl<N: Net<Listener = TcpListener, Stream = TcpStream> + Drop> TcpDoor<N> {
+impl<N: Net<Listener = TcpListener, Stream = TcpStream> + AllocGlobal + Drop> TcpDoor<N> {
     /// The network `net`, with counts 0, which listens at no place yet.
     pub fn new(net: N) -> TcpDoor<N>
         ensures { ⟦<TcpDoor<N> as Door>⟧.facts result ≡ record { faults = 0; out = 0; asked = None; back = None } }
@@ -114,7 +117,11 @@ impl<N: Net<Listener = TcpListener, Stream = TcpStream> + Drop> TcpDoor<N> {
         ensures out { HandsOutLink self.old.out self.new.out result }
         ensures cause { CountsFault self.old.faults self.new.faults result }
     {
-        match (stream.and_then(TcpLink::new), self.out.checked_add(1)) {
+        let link = match stream {
+            Ok(stream) => TcpLink::new(self.net.alloc(), stream),
+            Err(error) => Err(error),
+        };
+        match (link, self.out.checked_add(1)) {
             (Ok(link), Some(out)) => {
                 self.out = out;
                 Ok(link)
@@ -128,7 +135,7 @@ impl<N: Net<Listener = TcpListener, Stream = TcpStream> + Drop> TcpDoor<N> {
     }
 }
 
-impl<N: Net<Listener = TcpListener, Stream = TcpStream> + Drop> Door for TcpDoor<N> {
+impl<N: Net<Listener = TcpListener, Stream = TcpStream> + AllocGlobal + Drop> Door for TcpDoor<N> {
     type L = TcpLink;
 
     ghost facts = { λ s. record { faults = s.faults; out = s.out; asked = None; back = None } };

@@ -11,11 +11,14 @@ use willow_outside::{Door, Fault, Link};
 /// How many bytes go each way.
 const COUNT: usize = 300_000;
 
+/// How many bytes are written before the first is read.
+const AT_ONCE: usize = 20_000;
+
 /// How many bytes go one way before as many come.
 const PIECE: usize = 10_000;
 
 /// Listens at a place of this machine that is free, and tells which.
-fn listen_somewhere<N: Net<Listener = TcpListener, Stream = TcpStream> + Drop>(
+fn listen_somewhere<N: Net<Listener = TcpListener, Stream = TcpStream> + AllocGlobal + Drop>(
     alloc: Global,
     door: &mut TcpDoor<N>,
 ) -> Result<String, Fault> {
@@ -53,10 +56,23 @@ fn reads(link: &mut TcpLink, wanted: &[u8]) -> Result<bool, Fault> {
     Ok(rest.is_empty())
 }
 
+/// Whether these bytes come one at a time, and then the end, and whether some waited in the link meanwhile.
+fn come_by_one(link: &mut TcpLink, wanted: &[u8]) -> Result<bool, Fault> {
+    let mut byte = [0u8];
+    let mut waited = false;
+    for want in wanted {
+        if link.read(&mut byte)? != 1 || byte[0] != *want {
+            return Ok(false);
+        }
+        waited |= !link.stream.buffer().is_empty();
+    }
+    Ok(waited && link.read(&mut byte)? == 0)
+}
+
 /// Bytes that rest on the side that sends them.
-fn bytes_of(alloc: Global, side: u8) -> Result<Vec<u8>, Fault> {
+fn bytes_of(alloc: Global, side: u8, count: usize) -> Result<Vec<u8>, Fault> {
     let mut bytes = Vec::new(alloc);
-    for at in 0..COUNT {
+    for at in 0..count {
         bytes.push((at % 251) as u8 ^ (at / 251 % 256) as u8 ^ side)?;
     }
     Ok(bytes)
@@ -80,8 +96,8 @@ fn counts(link: &TcpLink) -> (u64, u64, u64) {
 
 #[test]
 fn many_bytes_go_both_ways(rt: HostRuntime) -> Result<(), Fail> {
-    let near = bytes_of(rt.alloc(), 0x00)?;
-    let far = bytes_of(rt.alloc(), 0xff)?;
+    let near = bytes_of(rt.alloc(), 0x00, COUNT)?;
+    let far = bytes_of(rt.alloc(), 0xff, COUNT)?;
     let mut door = TcpDoor::new(&rt);
     let place = listen_somewhere(rt.alloc(), &mut door)?;
     let answers = || -> Result<(bool, (u64, u64, u64)), Fault> {
@@ -118,6 +134,19 @@ fn a_link_ends_where_the_other_side_goes(rt: HostRuntime) -> Result<(), Fail> {
 }
 
 #[test]
+fn bytes_are_read_one_at_a_time(rt: HostRuntime) -> Result<(), Fail> {
+    let bytes = bytes_of(rt.alloc(), 0x00, AT_ONCE)?;
+    let mut door = TcpDoor::new(&rt);
+    let place = listen_somewhere(rt.alloc(), &mut door)?;
+    let mut near = TcpDoor::new(&rt).connect(place.as_str())?;
+    let mut far = door.accept()?;
+    write_all(&mut near, &bytes)?;
+    drop(near);
+    assert!(rt; come_by_one(&mut far, &bytes) == Ok(true));
+    Ok(())
+}
+
+#[test]
 fn a_closed_port_is_a_fault(rt: HostRuntime) {
     let mut door = TcpDoor::new(&rt);
     assert!(rt; matches!(door.connect("127.0.0.1:1"), Err(Fault::Failed)));
@@ -129,13 +158,14 @@ fn a_silent_peer_is_a_fault(rt: HostRuntime) -> Result<(), Fail> {
     let mut door = TcpDoor::new(&rt);
     let place = listen_somewhere(rt.alloc(), &mut door)?;
     let stream = TcpStream::connect(&rt, place.as_str())?;
-    let mut near = TcpLink::within(stream, Duration::from_millis(50))?;
+    let mut near = TcpLink::within(rt.alloc(), stream, Duration::from_millis(50))?;
     let far = door.accept()?;
     assert_eq!(rt; near.read(&mut [0; 3]), Err(Fault::Failed));
     let piece = [0u8; 65_536];
     assert!(rt; (0..10_000).any(|_| near.write(&piece) == Err(Fault::Failed)));
     assert_eq!(rt; counts(&near), (1, 1, 0));
-    for limit in [far.stream.read_timeout()?, far.stream.write_timeout()?] {
+    let stream = far.stream.get_ref();
+    for limit in [stream.read_timeout()?, stream.write_timeout()?] {
         assert!(rt; limit == Some(Duration::from_secs(PATIENCE)));
     }
     Ok(())
