@@ -4,8 +4,12 @@
 
 It prints each word of a definition that is used by a `requires` or `ensures` of a call which a crate hands out, or by a
 fact that a trait tells, and that no row lists; each word of a row that stands no more in the files that the row names; and
-each file that is not there. It exits with 0 where there is none. A row says of itself by `..` that its files have further
-words of the kind: those count as listed. Words that only definitions use are not asked for.
+each file that is not there. A row says of itself by `..` that its files have further words of the kind: those count as
+listed. Words that only definitions use are not asked for.
+
+It prints too each word that stands for two things: two files have a definition of that name, or one has and another crate a
+public type, of the crates that others stand on. bench/double_names.txt lists the words of which this is still so. It only
+shrinks: a word in it that stands for one thing is printed as well. It exits with 0 where nothing is printed but numbers.
 """
 import re
 import sys
@@ -14,6 +18,7 @@ from pathlib import Path
 TOP = Path(__file__).resolve().parents[1]
 CRATES = TOP / "crates"
 DEFINITIONS = TOP / "docs" / "DEFINITIONS.md"
+DOUBLE_NAMES = TOP / "bench" / "double_names.txt"
 
 NAME = r"[A-Za-z_][A-Za-z_0-9]*"
 IMPORT = re.compile(r"ghost use Rattle\.(\w+)\.specs\.([\w.]+)\.\{([^}]*)\};")
@@ -21,6 +26,8 @@ CALL = re.compile(r"(\bpub\s+)?\b(?:const\s+|unsafe\s+)*fn\s+(" + NAME + ")")
 BLOCK = re.compile(r"^\s*(?:pub\s+trait\s+(" + NAME + r")|impl\b([^{]*))", re.MULTILINE)
 CLAUSE = re.compile(r"\b(?:requires|ensures)\b")
 FACT = re.compile(r"\bghost\s+(" + NAME + r")\s*:\s*(?=\{)")
+DEFINED = re.compile(r"^( *)((?:\w+ )*)pub (record |data )?(?!mod\b)(" + NAME + r")(?=[ \n:({])", re.MULTILINE)
+TYPE = re.compile(r"^pub (?:struct|enum|trait) (" + NAME + ")", re.MULTILINE)
 
 
 def without_comments(text: str) -> str:
@@ -134,6 +141,42 @@ def defines(file: str, word: str) -> bool:
     return re.search(rf"^ *(?:\w+ )*pub (?:record |data |fn )?{word}\b{constructor}", text, re.MULTILINE) is not None
 
 
+def crates_below() -> list:
+    """The crates that others stand on, and the program: all but the trials."""
+    lines = [line.partition("#")[0].partition(":") for line in (TOP / "crates.txt").read_text().splitlines()]
+    below = {head.split()[0]: names.split() for head, colon, names in lines if colon}
+    return [crate for crate in below if crate == "willow_peer" or any(crate in names for names in below.values())]
+
+
+def defined_in(text: str) -> set:
+    """The words that a file of definitions hands out; a line inside a record is a field, and no word of its own."""
+    return {match[4] for match in DEFINED.finditer(text) if not match[1] or match[2].strip() or match[3]}
+
+
+def meanings() -> dict:
+    """Of each word the files that define it: those with definitions, and those of other crates with a public type so named."""
+    found, types = {}, {}
+    for crate in crates_below():
+        for file in sorted((CRATES / crate / "specs").glob("**/*.antt")):
+            for word in defined_in(file.read_text()):
+                found.setdefault(word, {})[f"{crate}/specs/{file.stem}"] = crate
+        for file in sorted((CRATES / crate / "src").glob("**/*.rt")):
+            for word in TYPE.findall(without_comments(file.read_text())):
+                types.setdefault(word, {})[f"{crate}/src/{file.stem}"] = crate
+    for word, files in found.items():
+        others = {file: crate for file, crate in types.get(word, {}).items() if crate not in files.values()}
+        found[word] = sorted(files) + sorted(others)
+    return found
+
+
+def double_names() -> list:
+    """A line for each word that stands for two things and is not known to, and for each that is and does not."""
+    known = {line for line in DOUBLE_NAMES.read_text().splitlines() if not line.startswith("#")}
+    double = {word: files for word, files in meanings().items() if len(files) > 1}
+    return [f"two things: {word} of {', '.join(files)}" for word, files in sorted(double.items()) if word not in known] \
+        + [f"one thing, so no line of {DOUBLE_NAMES.name}: {word}" for word in sorted(known - double.keys())]
+
+
 def main() -> int:
     listed, open_files, wrong = set(), set(), []
     for words, files, more in listed_rows():
@@ -148,9 +191,11 @@ def main() -> int:
         if (word, file) not in listed and file not in open_files:
             some = sorted(calls)
             wrong.append(f"not listed: {word} of {file}, used by {', '.join(some[:3])}{' ..' if len(some) > 3 else ''}")
+    wrong += double_names()
     for line in wrong:
         print(line)
-    print(f"{len(used)} words in public clauses, {len(wrong)} lines to mend")
+    known = sum(not line.startswith("#") for line in DOUBLE_NAMES.read_text().splitlines())
+    print(f"{len(used)} words in public clauses, {known} that stand for two things, {len(wrong)} lines to mend")
     return 1 if wrong else 0
 
 

@@ -1,5 +1,5 @@
 """Makes the cases that crates/run_cases runs, what crates/loopback reads and prints, and the files of samples/, by a model
-of the program that shares no code with it and knows only the rules that docs/FORMATS.md tells.
+of the program that shares no code with it and knows only the rules that docs/FORMATS.md and docs/USAGE.md tell.
 
     python3 bench/cases/make.py             writes them
     python3 bench/cases/make.py --check     compares them with what is stored, and exits with 0 where nothing differs
