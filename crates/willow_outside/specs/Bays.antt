@@ -7,6 +7,6 @@ abbrev pub bytes_under : Names → List ℕ → List ℕ
 bytes_under names name = unwrap_or (names name) []
 
 -- nothing failed, and where the names are told the disk has its name's bytes
-abbrev pub IsOpened : Option Names → List ℕ → DiskFacts → Type 0
-IsOpened names name f =
+abbrev pub OpensDisk : Option Names → List ℕ → DiskFacts → Type 0
+OpensDisk names name f =
     (f.read_faults ≡ 0) × (f.write_faults ≡ 0) × IfSome names (λ names. f.contents ≡ Some (bytes_under names name))

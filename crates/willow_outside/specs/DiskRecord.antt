@@ -81,8 +81,8 @@ abbrev pub contents_of : MemoryDisk → List ℕ
 contents_of d = (state_now d.first d.calls).contents
 
 -- what it tells
-abbrev pub facts_of : MemoryDisk → DiskFacts
-facts_of d = record { contents = Some (contents_of d); read_faults = d.read_faults; write_faults = d.write_faults }
+abbrev pub disk_facts_of : MemoryDisk → DiskFacts
+disk_facts_of d = record { contents = Some (contents_of d); read_faults = d.read_faults; write_faults = d.write_faults }
 
 -- a crash now may leave the image
 abbrev pub left_by : MemoryDisk → List ℕ → Type 0

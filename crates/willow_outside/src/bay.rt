@@ -1,7 +1,7 @@
 //! Where disks come from.
 
 ghost use Rattle.std.specs.Prelude.{◌≡◌, ◌-◌, ◌≤◌, IfOk};
-ghost use Rattle.willow_outside.specs.Bays.{IsOpened};
+ghost use Rattle.willow_outside.specs.Bays.{OpensDisk};
 ghost use Rattle.willow_outside.specs.Counts.{CountsFault};
 ghost use Rattle.willow_outside.specs.Disks.{LeavesContents};
 ghost use Rattle.willow_outside.specs.Facts.{BayFacts};
@@ -17,7 +17,7 @@ pub trait Bay {
 
     /// The disk of `name`, where a new name has an empty one. `Failed` comes only where `faults` rose.
     fn open(&mut self, name: &str) -> Result<Self::D, Fault>
-        ensures disk { IfOk result (λ disk. IsOpened (facts self.old).names name.now (Self.D.facts disk)) }
+        ensures disk { IfOk result (λ disk. OpensDisk (facts self.old).names name.now (Self.D.facts disk)) }
         ensures images { IfOk result (λ disk. LeavesContents (Self.D.facts disk).contents (Self.D.may_leave disk)) }
         ensures out { HandsOutDisk (facts self.old).out (facts self.new).out result }
         ensures asked { AsksName (facts self.old).asked (facts self.new).asked name.now result }

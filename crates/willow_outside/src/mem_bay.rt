@@ -3,7 +3,7 @@
 ghost use Rattle.std.specs.Prelude.{◌≡◌, ◌-◌, ◌≤◌, ◌++◌, ◌∷◌, Some, [], IfOk, map};
 ghost use Rattle.willow_outside.specs.Bays.{bytes_under};
 ghost use Rattle.willow_outside.specs.Counts.{CountsFault};
-ghost use Rattle.willow_outside.specs.DiskRecord.{MemoryDisk, facts_of, left_by, contents_of};
+ghost use Rattle.willow_outside.specs.DiskRecord.{MemoryDisk, disk_facts_of, left_by, contents_of};
 ghost use Rattle.willow_outside.specs.Disks.{LeavesContents};
 ghost use Rattle.willow_outside.specs.Links.{AsksPlace as AsksName, HandsOutLink as HandsOutDisk, list_with};
 ghost use Rattle.willow_outside.specs.Names.{names_in};
@@ -90,7 +90,7 @@ impl MemBay {
 impl Bay for MemBay {
     type D = MemDisk;
 
-    ghost facts = { λ s. record { faults = s.faults; out = s.out; names = Some (names_in s.contents); asked = Some s.asked; back = Some (map facts_of s.back) } };
+    ghost facts = { λ s. record { faults = s.faults; out = s.out; names = Some (names_in s.contents); asked = Some s.asked; back = Some (map disk_facts_of s.back) } };
 
     fn open(&mut self, name: &str) -> Result<MemDisk, Fault>
         ensures planned { IsPlanned self.old.plan result }
@@ -123,7 +123,7 @@ impl Bay for MemBay {
         ensures contents { self.new.contents ≡ self.old.contents }
         ensures disk_fails { self.new.disk_fails ≡ self.old.disk_fails }
         ensures disks { self.new.back ≡ self.old.back ++ disk ∷ [] }
-        ensures back { Some (map facts_of self.new.back) ≡ list_with (facts_of disk) (Some (map facts_of self.old.back)) }
+        ensures back { Some (map disk_facts_of self.new.back) ≡ list_with (disk_facts_of disk) (Some (map disk_facts_of self.old.back)) }
         ensures out { self.new.out ≡ self.old.out - 1 }
         ensures asked { self.new.asked ≡ self.old.asked }
         ensures faults { self.new.faults ≡ self.old.faults }

@@ -5,7 +5,7 @@ ghost use Rattle.willow_outside.specs.declared.disk_tape.DiskCall.TheVariants as
 ghost use Rattle.willow_outside.specs.declared.fault.Fault.TheVariants as faults;
 ghost use Rattle.willow_outside.specs.Counts.{CountsFault};
 ghost use Rattle.willow_outside.specs.DiskLaws.{contents_left, told_always, counts_now, only_now};
-ghost use Rattle.willow_outside.specs.DiskRecord.{RecordsPlanned, WritesPlanned, contents_of, facts_of, left_by, left_by_since};
+ghost use Rattle.willow_outside.specs.DiskRecord.{RecordsPlanned, WritesPlanned, contents_of, disk_facts_of, left_by, left_by_since};
 ghost use Rattle.willow_outside.specs.Disks.{written, ReadsAt, Tears, LeavesNoMore, LeavesContents, Elapses};
 ghost use Rattle.willow_outside.specs.Plan.{plan_of, called, fails_next, IsPlanned};
 
@@ -71,7 +71,7 @@ impl MemDisk {
 }
 
 impl Disk for MemDisk {
-    ghost facts = { λ d. facts_of d };
+    ghost facts = { λ d. disk_facts_of d };
 
     ghost may_leave = { λ d c. left_by d c };
 
