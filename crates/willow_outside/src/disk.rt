@@ -57,9 +57,11 @@ pub trait Disk: Drop {
         ensures read_faults { (facts self.new).read_faults ≡ (facts self.old).read_faults };
 
     /// After `Ok` a crash leaves the contents alone. `Failed` comes only where `write_faults` rose, and `NoMemory` never.
+    /// After `Failed` the contents are any image that a crash may leave.
     fn sync(&mut self) -> Result<(), Fault>
         ensures synced { OnOk result (LeavesContents (facts self.old).contents (may_leave self.new)) }
-        ensures contents { (facts self.new).contents ≡ (facts self.old).contents }
+        ensures contents { OnOk result ((facts self.new).contents ≡ (facts self.old).contents) }
+        ensures told { is_some (facts self.new).contents ≡ is_some (facts self.old).contents }
         ensures images { LeavesNoMore (may_leave self.old) (may_leave self.new) }
         ensures time { Elapses (moment self.old) (moment self.new) (left_since self.old) (left_since self.new) (may_leave self.new) }
         ensures cause { CountsFault (facts self.old).write_faults (facts self.new).write_faults result }
