@@ -1,7 +1,9 @@
-//! Tries the outside as a program sees it, in memory and as it is: sources, sinks, shelves, noise and links, links that a
-//! host visits, and links between threads. It has tests alone.
+//! Tries the outside as a program sees it, in memory and as it is: sources, sinks, shelves, noise, links and disks, links
+//! that a host visits, and links between threads. It has tests alone.
 #![tactic(auto)]
 
+#[cfg(test)]
+mod disks;
 #[cfg(test)]
 mod hosts;
 #[cfg(test)]

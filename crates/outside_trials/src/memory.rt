@@ -4,8 +4,8 @@ use crate::shelves::holds;
 use spelling::End;
 use std::collections::BTreeMap;
 use willow_outside::{
-    Door, Fault, Link, MemDoor, MemLink, MemNoise, MemShelf, MemSink, MemSource, Noise, ReadEnd,
-    Shelf, Sink, Source, SureShelf, SureSink, SureSource, read_all, write_whole,
+    ByteLink, Door, Fault, Link, MemDoor, MemLink, MemNoise, MemShelf, MemSink, MemSource, Noise,
+    ReadEnd, Shelf, Sink, Source, SureShelf, SureSink, SureSource, read_all, write_whole,
 };
 
 #[test]
@@ -117,5 +117,21 @@ fn links_go_out_and_come_back(rt: HostRuntime) -> Result<(), Fault> {
     assert!(rt; door.accept().is_err());
     assert!(rt; door.back().len() == 2);
     assert!(rt; door.back()[0].held() == [7, 8].as_slice());
+    Ok(())
+}
+
+#[test]
+fn a_link_gives_a_byte_at_a_time(rt: HostRuntime) -> Result<(), Fault> {
+    let alloc = rt.alloc();
+    let mut buf = [0u8; 4];
+    let link = MemLink::new(alloc, vec![in alloc; 1, 2, 3]?, vec![in alloc]?, 9);
+    let mut link = ByteLink::new(link);
+    assert!(rt; link.read(&mut buf[..0]) == Ok(0));
+    assert!(rt; link.read(&mut buf) == Ok(1));
+    assert!(rt; link.write(&[7, 8]) == Ok(2));
+    let mut link = link.into_inner();
+    assert!(rt; link.read(&mut buf[1..]) == Ok(2));
+    assert!(rt; buf == [1, 2, 3, 0]);
+    assert!(rt; link.held() == [7, 8].as_slice());
     Ok(())
 }
