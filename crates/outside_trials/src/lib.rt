@@ -5,6 +5,10 @@
 #[cfg(test)]
 mod disks;
 #[cfg(test)]
+mod file_disks;
+#[cfg(test)]
+mod folders;
+#[cfg(test)]
 mod hosts;
 #[cfg(test)]
 mod memory;

@@ -1,33 +1,20 @@
 //! What no clause says: that calls on real files, noise and streams succeed, and what comes back.
 
+use crate::folders::{enter_folder, leave_folder, mode_of};
 use crate::shelves::holds;
 use peer_real::{FileShelf, RandomNoise, StdReport, StdSink, StdSource};
 use std::fs::Permissions;
 use std::os::unix::fs::PermissionsExt;
-use std::rt::{Env, Files};
 use std::test::Fail;
-use std::{env, fs, io};
+use std::{fs, io};
 use willow_outside::{Fault, Noise, Shelf, Sink, Source};
 
-/// Goes into the test's own folder, which is empty then. One that a run left which was broken off goes first.
-fn enter_folder<R: Files + Env + Alloc>(rt: &R, folder: &str) -> io::Result<()> {
-    let _ = fs::remove_dir_all(rt, folder);
-    fs::create_dir(rt, folder)?;
-    env::set_current_dir(rt, folder)
-}
-
-/// Goes back and removes the folder.
-fn leave_folder<R: Files + Env + Alloc>(rt: &R, folder: &str) -> io::Result<()> {
-    env::set_current_dir(rt, "..")?;
-    fs::remove_dir_all(rt, folder)
-}
-
-/// The bits of who may read, write and run the file behind a put.
+/// The mode of the file behind a put.
 fn mode_after_put(rt: &HostRuntime, name: &str) -> io::Result<u32> {
     FileShelf::new(rt)
         .put(name, &[1, 2])
         .map_err(|_| io::ErrorKind::Other)?;
-    Ok(fs::metadata(rt, name)?.permissions().mode() & 0o777)
+    mode_of(rt, name)
 }
 
 /// The modes behind the first put of a file and behind one more, before which it was opened to all readers.

@@ -3,12 +3,17 @@
 //! writer tells; files, connections, noise and the process's own standard streams tell none.
 #![tactic(auto)]
 
+mod bay;
+mod disk;
 mod faults;
+mod files;
 mod noise;
 mod shelf;
 mod streams;
 mod tcp;
 
+pub use bay::FileBay;
+pub use disk::FileDisk;
 pub use noise::RandomNoise;
 pub use shelf::FileShelf;
 pub use streams::{StdReport, StdSink, StdSource};

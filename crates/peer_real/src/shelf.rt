@@ -3,15 +3,12 @@
 ghost use Rattle.std.specs.Prelude.{◌≡◌, None};
 
 use crate::faults::{counted, fault_of, raised};
-use std::fs::{OpenFile, OpenOptions};
+use crate::files::{make_new, sync_folder};
+use std::fs::OpenFile;
 use std::io::{ErrorKind, Write};
-use std::os::unix::fs::OpenOptionsExt;
 use std::rt::Files;
 use std::{fs, io};
 use willow_outside::{Fault, Shelf};
-
-/// The mode of a file that is made anew: its owner alone may read and write it, since it may hold a secret key.
-const OWNER_ALONE: u32 = 0o600;
 
 /// The files of the current folder, with counts of the faults. What they hold is not told.
 /// While a file `NAME` is put, the file `.NAME.new` stands beside it. A file that is made anew can be read and written by
@@ -41,11 +38,7 @@ impl<R: Files + AllocGlobal + Drop> FileShelf<R> {
 // file that passes on who may read and write it.
 fn write_beside<R: Files>(machine: &R, beside: &str, name: &str, bytes: &[u8]) -> io::Result<()> {
     let _ = fs::remove_file(machine, beside);
-    let mut file = OpenOptions::new()
-        .write(true)
-        .create_new(true)
-        .mode(OWNER_ALONE)
-        .open(machine, beside)?;
+    let mut file = make_new(machine, beside)?;
     match fs::metadata(machine, name) {
         Ok(replaced) if replaced.is_file() => file.set_permissions(replaced.permissions())?,
         _ => {}
@@ -66,11 +59,6 @@ fn replace<R: Files + AllocGlobal>(machine: &R, name: &str, bytes: &[u8]) -> Res
         Ok(()) => Ok(()),
         Err(_) => Err(Fault::Failed),
     }
-}
-
-// Writes the names of the current folder to the disk.
-fn sync_folder<R: Files>(machine: &R) -> io::Result<()> {
-    fs::open(machine, ".")?.sync_all()
 }
 
 impl<R: Files + AllocGlobal + Drop> Shelf for FileShelf<R> {
