@@ -1,0 +1,5 @@
+pub mod Hearing
+pub mod Meaning
+pub mod Pumps
+pub mod Keys
+pub mod Slots
