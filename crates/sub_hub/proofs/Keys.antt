@@ -6,8 +6,8 @@ use Rattle.willow_entry.specs.Row.{RowValue}
 use Rattle.willow_area.specs.declared.area.Area.{Area}
 use Rattle.sub_hub.specs.Heard.{Note}
 use Rattle.sub_hub.specs.Watchers.{WatcherFacts, IsToldOf}
-use Rattle.sub_hub.specs.Hubs.{MemberValue, HubValue, slot_at, numbered, member_at, new_member, begun, IsSlotSet, IsAdded, IsTakenOut, Removes, IsSlotTold}
-use Rattle.sub_hub.specs.Calls.{Call, Add, Remove, Begin, Pump, Makes, MakeAll, Spares, heard_in}
+use Rattle.sub_hub.specs.Hubs.{MemberValue, HubValue, hub_slot, numbered, member_at, new_member, begun_at, IsSlotSet, IsWatcherAdded, IsTakenOut, Removes, IsSlotTold}
+use Rattle.sub_hub.specs.Calls.{Call, Add, Remove, Begin, Pump, MakesCall, MakeAll, Spares, heard_in}
 use Rattle.sub_hub.specs.declared.key.HubKey.{HubKey}
 use Rattle.sub_hub.proofs.Hearing.{told_nothing, told_both}
 use Rattle.sub_hub.proofs.Pumps.{some_is}
@@ -37,14 +37,14 @@ found_in number (Some x) m is =
       | inr differs ↦ absurd (cc (sym (numbered_other number x differs) ∙ is))
     ]
 
-stands_under : (hub : HubValue) (key : HubKey) (m : MemberValue) → slot_at hub.members key.slot ≡ Some m → m.number ≡ key.number → member_at hub key ≡ Some m
+stands_under : (hub : HubValue) (key : HubKey) (m : MemberValue) → hub_slot hub.members key.slot ≡ Some m → m.number ≡ key.number → member_at hub key ≡ Some m
 stands_under hub key m here number = ap (numbered key.number) here ∙ subst (λ (n : ℕ). numbered n (Some m) ≡ Some m) number (numbered_is m)
 
 same_key : (key other : HubKey) → key.slot ≡ other.slot → key.number ≡ other.number → key ≡ other
 same_key key other slot number = ap (λ (s : ℕ). record { slot = s; number = key.number }) slot ∙ ap (λ (n : ℕ). record { slot = other.slot; number = n }) number
 
 -- who was added stands under its key
-pub added_stands : (old new : HubValue) (key : HubKey) (area : Area) (facts : WatcherFacts) → IsAdded old new key area facts → member_at new key ≡ Some (new_member old.added area facts)
+pub added_stands : (old new : HubValue) (key : HubKey) (area : Area) (facts : WatcherFacts) → IsWatcherAdded old new key area facts → member_at new key ≡ Some (new_member old.added area facts)
 added_stands old new key area facts p = stands_under new key (new_member old.added area facts) p.members.changed (sym p.number)
 
 -- ---- a watcher over calls that spare it
@@ -57,18 +57,18 @@ IsStillThere key m new notes = (m' : MemberValue) × (member_at new key ≡ Some
 kept_by_set : (old new : HubValue) (key : HubKey) (m : MemberValue) (slot : ℕ) (member : Option MemberValue) → IsSlotSet old.members new.members slot member → key.slot ≢ slot → member_at old key ≡ Some m → member_at new key ≡ Some m
 kept_by_set old new key m slot member set differs here = ap (numbered key.number) (set.others key.slot differs) ∙ here
 
-kept_by_add : (old new : HubValue) (key other : HubKey) (area : Area) (facts : WatcherFacts) (m : MemberValue) → IsAdded old new other area facts → member_at old key ≡ Some m → member_at new key ≡ Some m
+kept_by_add : (old new : HubValue) (key other : HubKey) (area : Area) (facts : WatcherFacts) (m : MemberValue) → IsWatcherAdded old new other area facts → member_at old key ≡ Some m → member_at new key ≡ Some m
 kept_by_add old new key other area facts m p here =
-    let stands : slot_at old.members key.slot ≡ Some m = (found_in key.number (slot_at old.members key.slot) m here).0 in
-    kept_by_set old new key m other.slot _ p.members (λ e. absurd (cc (sym stands ∙ ap (slot_at old.members) e ∙ p.vacant))) here
+    let stands : hub_slot old.members key.slot ≡ Some m = (found_in key.number (hub_slot old.members key.slot) m here).0 in
+    kept_by_set old new key m other.slot _ p.members (λ e. absurd (cc (sym stands ∙ ap (hub_slot old.members) e ∙ p.vacant))) here
 
 kept_by_removal : (old new : HubValue) (key other : HubKey) (taken m : MemberValue) (facts : WatcherFacts) → IsTakenOut old new other taken facts → other ≢ key → member_at old key ≡ Some m → member_at new key ≡ Some m
 kept_by_removal old new key other taken m facts p differ here =
-    let mine = found_in key.number (slot_at old.members key.slot) m here in
-    let its = found_in other.number (slot_at old.members other.slot) taken p.found in
+    let mine = found_in key.number (hub_slot old.members key.slot) m here in
+    let its = found_in other.number (hub_slot old.members other.slot) taken p.found in
     kept_by_set old new key m other.slot _ p.members
     (λ e.
-    let it : taken ≡ m = some_is (sym its.0 ∙ ap (slot_at old.members) (sym e) ∙ mine.0) in
+    let it : taken ≡ m = some_is (sym its.0 ∙ ap (hub_slot old.members) (sym e) ∙ mine.0) in
     differ (same_key other key (sym e) (sym its.1 ∙ ap (λ (v : MemberValue). v.number) it ∙ mine.1)))
     here
 
@@ -94,14 +94,14 @@ watchers_hear old new (Remove other (Some facts) ∷ calls) key m made here spar
     told_from key m old made.0 new calls out.front out.same_area
     (watchers_hear made.0 new calls key m made.2 (kept_by_removal old made.0 key other made.1.0 m facts out (All-head (Spares key) _ calls spares) here) (All-tail (Spares key) _ calls spares))
 watchers_hear old new (Begin front area ∷ calls) key m made here spares =
-    let same : made.0 ≡ begun old front area = made.1 in
-    told_from key m (begun old front area) made.0 new calls (ap (λ (h : HubValue). h.front) same) (ap (λ (h : HubValue). h.area) same)
+    let same : made.0 ≡ begun_at old front area = made.1 in
+    told_from key m (begun_at old front area) made.0 new calls (ap (λ (h : HubValue). h.front) same) (ap (λ (h : HubValue). h.area) same)
     (watchers_hear made.0 new calls key m made.2 (subst (λ (h : HubValue). member_at h key ≡ Some m) (sym same) here) (All-tail (Spares key) _ calls spares))
 watchers_hear old new (Pump rows left ∷ calls) key m made here spares =
     let between = made.0 in
     let pump = made.1 in
-    let mine = found_in key.number (slot_at old.members key.slot) m here in
-    let told = subst (λ (o : Option MemberValue). IsSlotTold old.area old.front rows o (slot_at between.members key.slot)) mine.0 (pump.told key.slot) in
+    let mine = found_in key.number (hub_slot old.members key.slot) m here in
+    let told = subst (λ (o : Option MemberValue). IsSlotTold old.area old.front rows o (hub_slot between.members key.slot)) mine.0 (pump.told key.slot) in
     let next = told.0 in
     let rest = watchers_hear between new calls key next made.2 (stands_under between key next told.1 (told.2.number ∙ mine.1)) (All-tail (Spares key) _ calls spares) in
     let notes : heard_in next.area between.area between.front calls ≡ heard_in m.area old.area (old.front + length rows) calls =
@@ -122,7 +122,7 @@ IsSpent hub key = (member_at hub key ≡ None) × (key.number < hub.added)
 spent_by_set : (old new : HubValue) (key : HubKey) (slot : ℕ) (member : Option MemberValue) → IsSlotSet old.members new.members slot member → numbered key.number member ≡ None → member_at old key ≡ None → member_at new key ≡ None
 spent_by_set old new key slot member set other none =
     elim (cases_eq key.slot slot) [
-      | inl same ↦ ap (numbered key.number) (ap (slot_at new.members) same ∙ set.changed) ∙ other
+      | inl same ↦ ap (numbered key.number) (ap (hub_slot new.members) same ∙ set.changed) ∙ other
       | inr differs ↦ ap (numbered key.number) (set.others key.slot differs) ∙ none
     ]
 
@@ -132,7 +132,7 @@ spent_by_pump served front rows number (Some m) o' told none =
     ap (numbered number) told.1
     ∙ numbered_other number told.0 (λ e. absurd (cc (sym (subst (λ (n : ℕ). numbered n (Some m) ≡ Some m) (sym told.2.number ∙ e) (numbered_is m)) ∙ none)))
 
-spent_by : (old new : HubValue) (call : Call) (key : HubKey) → Makes old call new → IsSpent old key → IsSpent new key
+spent_by : (old new : HubValue) (call : Call) (key : HubKey) → MakesCall old call new → IsSpent old key → IsSpent new key
 spent_by old new (Add other area facts) key made spent = (
   spent_by_set old new key other.slot _ made.members (numbered_other key.number (new_member old.added area facts) (λ e. omega (arith, e, spent.1))) spent.0,
   omega (arith, made.added, spent.1),
@@ -152,7 +152,7 @@ spent_by_removal old new key (Some facts) made given = (ap (numbered key.number)
 
 -- ---- no number comes twice
 
-added_by : (old new : HubValue) (call : Call) → Makes old call new → old.added ≤ new.added
+added_by : (old new : HubValue) (call : Call) → MakesCall old call new → old.added ≤ new.added
 added_by old new (Add key area facts) made = omega (arith, made.added)
 added_by old new (Remove key None) made = omega (arith, ap {B = ℕ} (λ (h : HubValue). h.added) made.1)
 added_by old new (Remove key (Some facts)) made = omega (arith, made.1.added)
@@ -164,10 +164,10 @@ never_fewer old new [] made = omega (arith, ap {B = ℕ} (λ (h : HubValue). h.a
 never_fewer old new (call ∷ calls) made = omega (arith, added_by old made.0 call made.1, never_fewer made.0 new calls made.2)
 
 pub keys_differ : (a b c d : HubValue) (key other : HubKey) (area area' : Area) (facts facts' : WatcherFacts) (calls : List Call)
-    → IsAdded a b key area facts → MakeAll b calls c → IsAdded c d other area' facts' → other ≢ key
+    → IsWatcherAdded a b key area facts → MakeAll b calls c → IsWatcherAdded c d other area' facts' → other ≢ key
 keys_differ a b c d key other area area' facts facts' calls p made q e = absurd (omega (arith, p.number, p.added, never_fewer b c calls made, q.number, ap {B = ℕ} (λ (k : HubKey). k.number) e))
 
 pub gone_for_good : (a b c d e : HubValue) (key : HubKey) (area : Area) (facts : WatcherFacts) (calls later : List Call) (answer : Option WatcherFacts)
-    → IsAdded a b key area facts → MakeAll b calls c → Removes c d key answer → MakeAll d later e → member_at e key ≡ None
+    → IsWatcherAdded a b key area facts → MakeAll b calls c → Removes c d key answer → MakeAll d later e → member_at e key ≡ None
 gone_for_good a b c d e key area facts calls later answer p made removed after =
     (stays_spent d e later key after (spent_by_removal c d key answer removed (omega (arith, p.number, p.added, never_fewer b c calls made)))).0

@@ -7,7 +7,7 @@ use Rattle.std.proofs.lemmas.List.Kept.{AllPairs-cons}
 use Rattle.willow_entry.specs.declared.entry.Entry.{Entry}
 use Rattle.willow_entry.specs.Row.{RowValue}
 use Rattle.willow_area.specs.declared.area.Area.{Area}
-use Rattle.sub_hub.specs.Heard.{Note, in_both, note_of, heard_from, rows_between, heard, IsHeardOf}
+use Rattle.sub_hub.specs.Heard.{Note, in_both, note_of, notes_from, rows_between, heard, IsHeardOf}
 use Rattle.sub_hub.proofs.Hearing.{heard_behind}
 
 -- ---- a row of a part of a log
@@ -62,10 +62,10 @@ module _ (own served : Area) where
   of_one true x note h = (only_one x note h.0 h.1 h.2, refl)
   of_one false x note h = absurd (omega (arith, h.1))
 
-  heard_stands : (rows : List RowValue) (at : ℕ) (note : Note) → Contains (heard_from own served at rows) note → StandsFrom rows at note
+  heard_stands : (rows : List RowValue) (at : ℕ) (note : Note) → Contains (notes_from own served at rows) note → StandsFrom rows at note
   heard_stands [] at note h = absurd (omega (arith, h.1))
   heard_stands (r ∷ rows) at note h =
-      elim (Contains-append_cases (note_of own served at r.entry) (heard_from own served (at + 1) rows) note h) [
+      elim (Contains-append_cases (note_of own served at r.entry) (notes_from own served (at + 1) rows) note h) [
         | inl here ↦
             let one = of_one (in_both own served r.entry) (record { at = at; entry = r.entry }) note here in
             record {
@@ -81,27 +81,27 @@ module _ (own served : Area) where
             record { place = suc rest.place; position = omega (arith, rest.position); row = rest.row; stands = rest.stands; entry = rest.entry; included = rest.included }
       ]
 
-  stands_heard : (rows : List RowValue) (at k : ℕ) (row : RowValue) → slice_get rows k ≡ Some row → in_both own served row.entry ≡ true → Contains (heard_from own served at rows) (record { at = at + k; entry = row.entry })
+  stands_heard : (rows : List RowValue) (at k : ℕ) (row : RowValue) → slice_get rows k ≡ Some row → in_both own served row.entry ≡ true → Contains (notes_from own served at rows) (record { at = at + k; entry = row.entry })
   stands_heard [] at k row is included = absurd (cc is)
   stands_heard (r ∷ rows) at zero row is included =
       let one : note_of own served at row.entry ≡ record { at = at; entry = row.entry } ∷ [] = ap (λ (b : Bool). cond b (record { at = at; entry = row.entry } ∷ []) []) included in
       let position : at ≡ at + 0 = omega arith in
       let first : Contains (record { at = at; entry = row.entry } ∷ []) (record { at = at + 0; entry = row.entry }) = (0, omega arith, ap (λ (n : ℕ). record { at = n; entry = row.entry }) position) in
-      subst (λ (x : RowValue). Contains (heard_from own served at (x ∷ rows)) (record { at = at + 0; entry = row.entry })) (sym (row_is is))
-      (Contains-append_left (note_of own served at row.entry) (heard_from own served (at + 1) rows) _ (subst (λ (l : List Note). Contains l (record { at = at + 0; entry = row.entry })) (sym one) first))
+      subst (λ (x : RowValue). Contains (notes_from own served at (x ∷ rows)) (record { at = at + 0; entry = row.entry })) (sym (row_is is))
+      (Contains-append_left (note_of own served at row.entry) (notes_from own served (at + 1) rows) _ (subst (λ (l : List Note). Contains l (record { at = at + 0; entry = row.entry })) (sym one) first))
   stands_heard (r ∷ rows) at (suc k) row is included =
       let position : at + 1 + k ≡ at + suc k = omega arith in
-      Contains-append_right (note_of own served at r.entry) (heard_from own served (at + 1) rows) _
-      (subst (λ (n : ℕ). Contains (heard_from own served (at + 1) rows) (record { at = n; entry = row.entry })) position (stands_heard rows (at + 1) k row is included))
+      Contains-append_right (note_of own served at r.entry) (notes_from own served (at + 1) rows) _
+      (subst (λ (n : ℕ). Contains (notes_from own served (at + 1) rows) (record { at = n; entry = row.entry })) position (stands_heard rows (at + 1) k row is included))
 
   rises_behind : (b : Bool) (x : Note) (rest : List Note) → ((note : Note) → Contains rest note → x.at < note.at) → AllPairs (λ n m. n.at < m.at) rest → AllPairs (λ n m. n.at < m.at) (cond b (x ∷ []) [] ++ rest)
   rises_behind true x rest above rises = AllPairs-cons (λ n m. n.at < m.at) x rest (λ k d within. above (get_or rest k d) (Contains-get_or rest k d within)) rises
   rises_behind false x rest above rises = rises
 
-  rises_from : (rows : List RowValue) (at : ℕ) → AllPairs (λ n m. n.at < m.at) (heard_from own served at rows)
+  rises_from : (rows : List RowValue) (at : ℕ) → AllPairs (λ n m. n.at < m.at) (notes_from own served at rows)
   rises_from [] at = λ i j d below within. absurd (omega (arith, within))
   rises_from (r ∷ rows) at =
-      rises_behind (in_both own served r.entry) (record { at = at; entry = r.entry }) (heard_from own served (at + 1) rows) (λ note h. omega (arith, (heard_stands rows (at + 1) note h).position)) (rises_from rows (at + 1))
+      rises_behind (in_both own served r.entry) (record { at = at; entry = r.entry }) (notes_from own served (at + 1) rows) (λ note h. omega (arith, (heard_stands rows (at + 1) note h).position)) (rises_from rows (at + 1))
 
 -- ---- a part of a log
 
@@ -148,23 +148,23 @@ rows_in_pieces log from n m =
     ∙ ap (λ (l : List RowValue). take n (drop from log) ++ l) (drop-take n m (drop from log) ∙ ap (take m) (drop-drop n from log))
 
 -- where the log ends before a position, it has no rows from there on; else as many as are between two positions
-from_middle : (log : List RowValue) (own served : Area) (from n m : ℕ) → heard_from own served (from + length (take n (drop from log))) (take m (drop (from + n) log)) ≡ heard_from own served (from + n) (take m (drop (from + n) log))
+from_middle : (log : List RowValue) (own served : Area) (from n m : ℕ) → notes_from own served (from + length (take n (drop from log))) (take m (drop (from + n) log)) ≡ notes_from own served (from + n) (take m (drop (from + n) log))
 from_middle log own served from n m =
     elim (cases_lt (length log) (from + n)) [
       | inl short ↦
           let none : take m (drop (from + n) log) ≡ [] = ap (take m) (drop_all (from + n) log (omega (arith, short))) ∙ take_all m [] (omega arith) in
-          ap (heard_from own served (from + length (take n (drop from log)))) none ∙ sym (ap (heard_from own served (from + n)) none)
+          ap (notes_from own served (from + length (take n (drop from log)))) none ∙ sym (ap (notes_from own served (from + n)) none)
       | inr long ↦
           let many : from + length (take n (drop from log)) ≡ from + n = omega (arith, long, length-take n (drop from log), length-drop from log) in
-          ap (λ (k : ℕ). heard_from own served k (take m (drop (from + n) log))) many
+          ap (λ (k : ℕ). notes_from own served k (take m (drop (from + n) log))) many
     ]
 
 pub heard_in_pieces : (log : List RowValue) (own served : Area) (from middle to : ℕ) → from ≤ middle → middle ≤ to → heard log own served from to ≡ heard log own served from middle ++ heard log own served middle to
 heard_in_pieces log own served from middle to before after =
     let whole : to - from ≡ middle - from + (to - middle) = omega (arith, before, after) in
     let there : from + (middle - from) ≡ middle = omega (arith, before) in
-    ap (λ (n : ℕ). heard_from own served from (take n (drop from log))) whole
-    ∙ ap (heard_from own served from) (rows_in_pieces log from (middle - from) (to - middle))
+    ap (λ (n : ℕ). notes_from own served from (take n (drop from log))) whole
+    ∙ ap (notes_from own served from) (rows_in_pieces log from (middle - from) (to - middle))
     ∙ heard_behind own served from (take (middle - from) (drop from log)) (take (to - middle) (drop (from + (middle - from)) log))
     ∙ ap (λ (l : List Note). heard log own served from middle ++ l) (from_middle log own served from (middle - from) (to - middle))
-    ∙ ap (λ (k : ℕ). heard log own served from middle ++ heard_from own served k (take (to - middle) (drop k log))) there
+    ∙ ap (λ (k : ℕ). heard log own served from middle ++ notes_from own served k (take (to - middle) (drop k log))) there

@@ -12,7 +12,7 @@ use Rattle.slab.proofs.SlabLemmas.{ContainsKey-within, Updates-with_value}
 use Rattle.willow_entry.specs.Row.{RowValue}
 use Rattle.willow_area.specs.declared.area.Area.{Area}
 use Rattle.sub_hub.specs.Watchers.{WatcherFacts}
-use Rattle.sub_hub.specs.Hubs.{MemberValue, slot_at, numbered, IsSlotSet, IsAdded, IsTakenOut, IsTold, IsSlotTold, has_left, count_left, IsPumped, new_member, member_value, slots_seen, slot_seen}
+use Rattle.sub_hub.specs.Hubs.{MemberValue, hub_slot, numbered, IsSlotSet, IsWatcherAdded, IsTakenOut, IsTold, IsSlotTold, has_left, count_left, IsPumped, new_member, member_value, slots_seen, slot_seen}
 use Rattle.sub_hub.specs.declared.key.HubKey.{HubKey}
 use Rattle.sub_hub.specs.declared.member.Member.{Member}
 
@@ -32,7 +32,7 @@ at_most_one true = omega arith
 at_most_one false = omega arith
 
 module _ {X : Type 0} {F : X → Type 0} (told : DynBox X Global F → WatcherFacts) where
-  seen_at : (slots : List (Option (Member X F))) (k : ℕ) → slot_at (slots_seen told slots) k ≡ option_map (member_value told) (get_or slots k None)
+  seen_at : (slots : List (Option (Member X F))) (k : ℕ) → hub_slot (slots_seen told slots) k ≡ option_map (member_value told) (get_or slots k None)
   seen_at [] k = refl
   seen_at (s ∷ ss) zero = refl
   seen_at (s ∷ ss) (suc k) = seen_at ss k
@@ -47,7 +47,7 @@ module _ {X : Type 0} {F : X → Type 0} (told : DynBox X Global F → WatcherFa
   -- ---- a watcher more, and one less
 
   pub added_one : (old new : Slab (Member X F)) (front added : ℕ) (served : Area) (key : HubKey) (m : Member X F) → get old key.slot ≡ None → Updates old new key.slot (Some m) → key.number ≡ added → m.number ≡ added → m.has_left ≡ false
-      → IsAdded (record { members = slots_seen told old.slots; front = front; area = served; added = added }) (record { members = slots_seen told new.slots; front = front; area = served; added = added + 1 }) key m.area (told m.watcher)
+      → IsWatcherAdded (record { members = slots_seen told old.slots; front = front; area = served; added = added }) (record { members = slots_seen told new.slots; front = front; area = served; added = added + 1 }) key m.area (told m.watcher)
   added_one old new front added served key m vacant up number numbered stays =
       let set = set_seen old new key.slot (Some m) up in
       let is : member_value told m ≡ new_member added m.area (told m.watcher) =
@@ -160,7 +160,7 @@ module _ {X : Type 0} {F : X → Type 0} (told : DynBox X Global F → WatcherFa
         → IsPumped (record { members = slots_seen told s0.slots; front = front; area = served; added = added }) (record { members = slots_seen told s.slots; front = front'; area = served'; added = added' }) rows left
     told_all s n left added len front' added' served' p past many front_is area_is added_is =
         record {
-          told = λ slot. subst (λ (o : Option MemberValue). IsSlotTold served front rows o (slot_at (slots_seen told s.slots) slot)) (sym (seen_at s0.slots slot)) (subst (λ (o : Option MemberValue). IsSlotTold served front rows (slot_seen told s0 slot) o) (sym (seen_at s.slots slot)) (at slot));
+          told = λ slot. subst (λ (o : Option MemberValue). IsSlotTold served front rows o (hub_slot (slots_seen told s.slots) slot)) (sym (seen_at s0.slots slot)) (subst (λ (o : Option MemberValue). IsSlotTold served front rows (slot_seen told s0 slot) o) (sym (seen_at s.slots slot)) (at slot));
           counted = p.counted;
           front = front_is ∙ ap (λ k. front + k) many;
           same_area = area_is;

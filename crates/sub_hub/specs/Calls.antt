@@ -3,9 +3,9 @@ use Rattle.std.specs.Prelude.{◌≡◌, ◌≢◌, ℕ, ◌+◌, List, [], ◌�
 use Rattle.std.specs.declared.option.Option.{Option}
 use Rattle.willow_entry.specs.Row.{RowValue}
 use Rattle.willow_area.specs.declared.area.Area.{Area}
-use Rattle.sub_hub.specs.Heard.{Note, heard_from}
+use Rattle.sub_hub.specs.Heard.{Note, notes_from}
 use Rattle.sub_hub.specs.Watchers.{WatcherFacts}
-use Rattle.sub_hub.specs.Hubs.{HubValue, begun, IsAdded, Removes, IsPumped}
+use Rattle.sub_hub.specs.Hubs.{HubValue, begun_at, IsWatcherAdded, Removes, IsPumped}
 use Rattle.sub_hub.specs.declared.key.HubKey.{HubKey}
 
 -- what is done with a hub, with what is given and answered: a watcher that tells this is added for an area and got a key; one is
@@ -17,16 +17,16 @@ pub data Call : Type 0 where
   Pump : List RowValue → ℕ → Call
 
 -- the call made this of the hub
-abbrev pub Makes : HubValue → Call → HubValue → Type 0
-Makes old (Add key area facts) new = IsAdded old new key area facts
-Makes old (Remove key answer) new = Removes old new key answer
-Makes old (Begin front area) new = new ≡ begun old front area
-Makes old (Pump rows left) new = IsPumped old new rows left
+abbrev pub MakesCall : HubValue → Call → HubValue → Type 0
+MakesCall old (Add key area facts) new = IsWatcherAdded old new key area facts
+MakesCall old (Remove key answer) new = Removes old new key answer
+MakesCall old (Begin front area) new = new ≡ begun_at old front area
+MakesCall old (Pump rows left) new = IsPumped old new rows left
 
 -- the calls made this of it, each of what the one before had left
 abbrev pub MakeAll : HubValue → List Call → HubValue → Type 0
 MakeAll old [] new = new ≡ old
-MakeAll old (call ∷ calls) new = (between : HubValue) × Makes old call between × MakeAll between calls new
+MakeAll old (call ∷ calls) new = (between : HubValue) × MakesCall old call between × MakeAll between calls new
 
 -- the call is not the removal of this key
 abbrev pub Spares : HubKey → Call → Type 0
@@ -41,4 +41,4 @@ heard_in own served front [] = []
 heard_in own served front (Add key area facts ∷ calls) = heard_in own served front calls
 heard_in own served front (Remove key answer ∷ calls) = heard_in own served front calls
 heard_in own served front (Begin start area ∷ calls) = heard_in own area start calls
-heard_in own served front (Pump rows left ∷ calls) = heard_from own served front rows ++ heard_in own served (front + length rows) calls
+heard_in own served front (Pump rows left ∷ calls) = notes_from own served front rows ++ heard_in own served (front + length rows) calls

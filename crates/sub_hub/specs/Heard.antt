@@ -20,9 +20,9 @@ abbrev pub note_of : Area → Area → ℕ → Entry → List Note
 note_of own served at e = if in_both own served e then record { at = at; entry = e } ∷ [] else []
 
 -- the notes of these rows, of which the first stands at this position
-abbrev pub heard_from : Area → Area → ℕ → List RowValue → List Note
-heard_from own served at [] = []
-heard_from own served at (r ∷ rows) = note_of own served at r.entry ++ heard_from own served (at + 1) rows
+abbrev pub notes_from : Area → Area → ℕ → List RowValue → List Note
+notes_from own served at [] = []
+notes_from own served at (r ∷ rows) = note_of own served at r.entry ++ notes_from own served (at + 1) rows
 
 -- the rows of a log at the positions from one up to but not including another
 abbrev pub rows_between : List RowValue → ℕ → ℕ → List RowValue
@@ -30,7 +30,7 @@ rows_between log from to = take (to - from) (drop from log)
 
 -- the notes of a log, from one position up to but not including another
 abbrev pub heard : List RowValue → Area → Area → ℕ → ℕ → List Note
-heard log own served from to = heard_from own served from (rows_between log from to)
+heard log own served from to = notes_from own served from (rows_between log from to)
 
 -- what contracts see of the rows of a slice of a log
 abbrev pub slice_rows : {R : Type 0} → (R → RowValue) → List (LogRow R) → List RowValue

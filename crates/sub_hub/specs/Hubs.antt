@@ -6,7 +6,7 @@ use Rattle.std.specs.declared.dyn_box.DynBox.{DynBox}
 use Rattle.slab.specs.Slab.{Slab, get}
 use Rattle.willow_entry.specs.Row.{RowValue}
 use Rattle.willow_area.specs.declared.area.Area.{Area}
-use Rattle.sub_hub.specs.Heard.{heard_from}
+use Rattle.sub_hub.specs.Heard.{notes_from}
 use Rattle.sub_hub.specs.Watchers.{WatcherFacts, IsToldOf}
 use Rattle.sub_hub.specs.declared.key.HubKey.{HubKey}
 use Rattle.sub_hub.specs.declared.member.Member.{Member}
@@ -42,8 +42,8 @@ module _ {X : Type 0} {F : X → Type 0} (told : DynBox X Global F → WatcherFa
 -- ---- what a slot has
 
 -- the watcher in a slot, if there is one
-abbrev pub slot_at : List (Option MemberValue) → ℕ → Option MemberValue
-slot_at members slot = slice_index_or members slot None
+abbrev pub hub_slot : List (Option MemberValue) → ℕ → Option MemberValue
+hub_slot members slot = slice_index_or members slot None
 
 -- the watcher, where its number is this
 abbrev pub numbered : ℕ → Option MemberValue → Option MemberValue
@@ -52,12 +52,12 @@ numbered number (Some m) = if m.number == number then Some m else None
 
 -- the watcher that was added under a key, if the hub has it
 abbrev pub member_at : HubValue → HubKey → Option MemberValue
-member_at hub key = numbered key.number (slot_at hub.members key.slot)
+member_at hub key = numbered key.number (hub_slot hub.members key.slot)
 
 -- a slot has this now, and each other what it had
 pub record IsSlotSet (old new : List (Option MemberValue)) (slot : ℕ) (member : Option MemberValue) : Type 0 where
-  pub changed : slot_at new slot ≡ member
-  pub others : (other : ℕ) → other ≢ slot → slot_at new other ≡ slot_at old other
+  pub changed : hub_slot new slot ≡ member
+  pub others : (other : ℕ) → other ≢ slot → hub_slot new other ≡ hub_slot old other
 
 -- ---- the calls
 
@@ -66,17 +66,17 @@ abbrev pub new_hub : HubValue
 new_hub = record { members = []; front = 0; area = record { subspace = None; path = []; times = record { start = 0; end = None } }; added = 0 }
 
 -- the hub with this front and this area
-abbrev pub begun : HubValue → ℕ → Area → HubValue
-begun hub front area = record hub { front = front; area = area }
+abbrev pub begun_at : HubValue → ℕ → Area → HubValue
+begun_at hub front area = record hub { front = front; area = area }
 
 -- a watcher with the number of its add, who has not left
 abbrev pub new_member : ℕ → Area → WatcherFacts → MemberValue
 new_member number area facts = record { number = number; area = area; has_left = false; facts = facts }
 
 -- A watcher was added. Its slot was vacant, and its key has that and the number of adds before, so no earlier add gave it.
-pub record IsAdded (old new : HubValue) (key : HubKey) (area : Area) (facts : WatcherFacts) : Type 0 where
+pub record IsWatcherAdded (old new : HubValue) (key : HubKey) (area : Area) (facts : WatcherFacts) : Type 0 where
   pub number : key.number ≡ old.added
-  pub vacant : slot_at old.members key.slot ≡ None
+  pub vacant : hub_slot old.members key.slot ≡ None
   pub members : IsSlotSet old.members new.members key.slot (Some (new_member old.added area facts))
   pub front : new.front ≡ old.front
   pub same_area : new.area ≡ old.area
@@ -103,7 +103,7 @@ Removes old new key (Some facts) = (m : MemberValue) × IsTakenOut old new key m
 pub record IsTold (served : Area) (front : ℕ) (rows : List RowValue) (m m' : MemberValue) : Type 0 where
   pub number : m'.number ≡ m.number
   pub same_area : m'.area ≡ m.area
-  pub told : IsToldOf m.has_left m'.has_left m.facts m'.facts (heard_from m.area served front rows)
+  pub told : IsToldOf m.has_left m'.has_left m.facts m'.facts (notes_from m.area served front rows)
 
 -- the same of what a slot has: a vacant one stays so
 abbrev pub IsSlotTold : Area → ℕ → List RowValue → Option MemberValue → Option MemberValue → Type 0
@@ -121,7 +121,7 @@ count_left = count_by has_left
 
 -- All watchers were told of the rows, which stand at the front, and so many of them left: that many more are gone than before.
 pub record IsPumped (old new : HubValue) (rows : List RowValue) (left : ℕ) : Type 0 where
-  pub told : (slot : ℕ) → IsSlotTold old.area old.front rows (slot_at old.members slot) (slot_at new.members slot)
+  pub told : (slot : ℕ) → IsSlotTold old.area old.front rows (hub_slot old.members slot) (hub_slot new.members slot)
   pub counted : count_left new.members ≡ count_left old.members + left
   pub front : new.front ≡ old.front + length rows
   pub same_area : new.area ≡ old.area

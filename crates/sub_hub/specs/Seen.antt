@@ -9,8 +9,8 @@ use Rattle.sub_hub.specs.declared.hub.Hub.{Hub}
 use Rattle.sub_hub.specs.declared.member.Member.{Member}
 
 -- a hub, where this is told of a watcher
-abbrev pub seen : {X : Type 0} {F : X → Type 0} → (DynBox X Global F → WatcherFacts) → Hub X F → HubValue
-seen told hub = record { members = slots_seen told hub.members.slots; front = hub.front; area = hub.area; added = hub.added }
+abbrev pub hub_seen : {X : Type 0} {F : X → Type 0} → (DynBox X Global F → WatcherFacts) → Hub X F → HubValue
+hub_seen told hub = record { members = slots_seen told hub.members.slots; front = hub.front; area = hub.area; added = hub.added }
 
 -- the very watcher that stands in a slot, whatever it tells
 abbrev pub IsWatcherIn : {X : Type 0} {F : X → Type 0} → Hub X F → ℕ → DynBox X Global F → Type 0

@@ -29,7 +29,7 @@ CountsLeave before now Leave = HasRisen before now
 -- ---- several notes, one after the other
 
 -- it was given all of these, and stays
-pub record HearsAll (old new : WatcherFacts) (notes : List Note) : Type 0 where
+pub record HearsEach (old new : WatcherFacts) (notes : List Note) : Type 0 where
   pub kept : new.heard ≡ with_notes notes old.heard
   pub stays : new.leaves ≡ old.leaves
 
@@ -43,13 +43,13 @@ pub record HearsUntil (old new : WatcherFacts) (notes : List Note) : Type 0 wher
   pub leaves : HasRisen old.leaves new.leaves
 
 -- by how it answered last
-abbrev pub Hears : WatcherFacts → WatcherFacts → List Note → Wish → Type 0
-Hears old new notes Stay = HearsAll old new notes
-Hears old new notes Leave = HearsUntil old new notes
+abbrev pub HearsNotes : WatcherFacts → WatcherFacts → List Note → Wish → Type 0
+HearsNotes old new notes Stay = HearsEach old new notes
+HearsNotes old new notes Leave = HearsUntil old new notes
 
 -- By whether it had left before, and whether it has left now: one that had left hears nothing and stays away; any other hears
 -- all of these and stays, or leaves at one of them.
 abbrev pub IsToldOf : Bool → Bool → WatcherFacts → WatcherFacts → List Note → Type 0
 IsToldOf true has_left old new notes = (has_left ≡ true) × (new ≡ old)
-IsToldOf false false old new notes = HearsAll old new notes
+IsToldOf false false old new notes = HearsEach old new notes
 IsToldOf false true old new notes = HearsUntil old new notes

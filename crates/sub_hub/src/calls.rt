@@ -3,8 +3,8 @@
 ghost use Rattle.std.specs.Prelude.{◌≡◌, ◌+◌, ◌-◌, ◌^◌, ◌<◌, ◌≤◌, IfOk, IfErr, IfSome, length};
 ghost use Rattle.std.specs.Option.{option_map};
 ghost use Rattle.sub_hub.specs.Heard.{slice_rows};
-ghost use Rattle.sub_hub.specs.Hubs.{IsAdded, Removes, IsPumped, new_hub, begun, count_left};
-ghost use Rattle.sub_hub.specs.Seen.{seen, IsWatcherIn};
+ghost use Rattle.sub_hub.specs.Hubs.{IsWatcherAdded, Removes, IsPumped, new_hub, begun_at, count_left};
+ghost use Rattle.sub_hub.specs.Seen.{hub_seen, IsWatcherIn};
 
 use crate::hub::Hub;
 use crate::key::HubKey;
@@ -19,7 +19,7 @@ use willow_path::NoMemory;
 impl Hub {
     /// A hub without watchers, of front 0 and the full area.
     pub fn new(alloc: Global) -> Hub
-        ensures { seen (λ w. told w) result ≡ new_hub }
+        ensures { hub_seen (λ w. told w) result ≡ new_hub }
     {
         Hub {
             members: Slab::new(alloc),
@@ -37,8 +37,8 @@ impl Hub {
         watcher: Box<dyn Watcher>,
     ) -> Result<HubKey, (NoMemory, Box<dyn Watcher>)>
         requires { self.old.added < 2 ^ 32 - 1 }
-        ensures added { IfOk result (λ key. IsAdded (seen (λ w. told w) self.old) (seen (λ w. told w) self.new) key area (told watcher)) }
-        ensures same { IfErr result (λ e. seen (λ w. told w) self.new ≡ seen (λ w. told w) self.old) }
+        ensures added { IfOk result (λ key. IsWatcherAdded (hub_seen (λ w. told w) self.old) (hub_seen (λ w. told w) self.new) key area (told watcher)) }
+        ensures same { IfErr result (λ e. hub_seen (λ w. told w) self.new ≡ hub_seen (λ w. told w) self.old) }
         ensures handed_back { IfErr result (λ e. e.1 ≡ watcher) }
     {
         let number = self.added;
@@ -70,7 +70,7 @@ impl Hub {
     /// Hands back the watcher that was added under the key, also one that left. None exactly where the hub has none under it:
     /// it was removed before. Takes no memory.
     pub fn remove(&mut self, key: HubKey) -> Option<Box<dyn Watcher>>
-        ensures removed { Removes (seen (λ w. told w) self.old) (seen (λ w. told w) self.new) key (option_map (λ w. told w) result) }
+        ensures removed { Removes (hub_seen (λ w. told w) self.old) (hub_seen (λ w. told w) self.new) key (option_map (λ w. told w) result) }
         // of watchers that tell nothing too: it is the box that stood in the slot
         ensures itself { IfSome result (IsWatcherIn self.old key.slot) }
     {
@@ -87,7 +87,7 @@ impl Hub {
     /// Sets the front, the position in the log of the first row that is pumped next, and the area, of which alone the watchers
     /// are told. Takes no memory.
     pub fn begin(&mut self, front: u32, area: Area)
-        ensures { seen (λ w. told w) self.new ≡ begun (seen (λ w. told w) self.old) front area }
+        ensures { hub_seen (λ w. told w) self.new ≡ begun_at (hub_seen (λ w. told w) self.old) front area }
     {
         self.front = front;
         self.area = area;
@@ -107,9 +107,9 @@ impl Hub {
     #[tactic(auto, using(crate::proofs::Slots::none_told, crate::proofs::Slots::told_more))]
     pub fn pump<R: Row>(&mut self, slice: &[LogRow<R>]) -> u32
         requires { self.old.front + length slice.now < 2 ^ 32 }
-        ensures pumped { IsPumped (seen (λ w. told w) self.old) (seen (λ w. told w) self.new) (slice_rows R.value slice.now) result }
+        ensures pumped { IsPumped (hub_seen (λ w. told w) self.old) (hub_seen (λ w. told w) self.new) (slice_rows R.value slice.now) result }
         // so the answers of all pumps of a hub can be added up
-        ensures few { count_left (seen (λ w. told w) self.new).members ≤ self.new.added }
+        ensures few { count_left (hub_seen (λ w. told w) self.new).members ≤ self.new.added }
     {
         // no more leave than were added: read, so that this is known to fit a u32
         let _added = self.added;

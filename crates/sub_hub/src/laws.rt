@@ -5,8 +5,8 @@ ghost use Rattle.willow_entry.specs.Row.{RowValue};
 ghost use Rattle.willow_area.specs.declared.area.Area.{Area};
 ghost use Rattle.sub_hub.specs.declared.key.HubKey.{HubKey};
 ghost use Rattle.sub_hub.specs.Heard.{Note, heard, rows_between, IsHeardOf};
-ghost use Rattle.sub_hub.specs.Watchers.{WatcherFacts, HearsAll, HearsUntil, IsToldOf};
-ghost use Rattle.sub_hub.specs.Hubs.{HubValue, MemberValue, IsAdded, Removes, IsPumped, slot_at, member_at, new_member};
+ghost use Rattle.sub_hub.specs.Watchers.{WatcherFacts, HearsEach, HearsUntil, IsToldOf};
+ghost use Rattle.sub_hub.specs.Hubs.{HubValue, MemberValue, IsWatcherAdded, Removes, IsPumped, hub_slot, member_at, new_member};
 ghost use Rattle.sub_hub.specs.Calls.{Call, MakeAll, Spares, heard_in};
 
 /// What is heard of a log has a note for just those rows at the positions from one up to but not including another whose entries
@@ -24,7 +24,7 @@ pub fn heard_rows()
 pub fn pumps_in_turn()
     ensures twice { (a b c : HubValue) (xs ys : List RowValue) (n m : ℕ) → IsPumped a b xs n → IsPumped b c ys m → IsPumped a c (xs ++ ys) (n + m) }
     ensures nothing { (a : HubValue) → IsPumped a a [] 0 }
-    ensures nobody { (a b : HubValue) (xs : List RowValue) (n : ℕ) → IsPumped a b xs n → ((slot : ℕ) → slot_at a.members slot ≡ None) → n ≡ 0 }
+    ensures nobody { (a b : HubValue) (xs : List RowValue) (n : ℕ) → IsPumped a b xs n → ((slot : ℕ) → hub_slot a.members slot ≡ None) → n ≡ 0 }
 {}
 
 /// What a pump of a log from the front up to a position tells a watcher: all that it is to hear of, where it stays; up to a
@@ -32,15 +32,15 @@ pub fn pumps_in_turn()
 pub fn pumps_of_a_log()
     ensures stays { (old new : HubValue) (log : List RowValue) (to left slot : ℕ) (m m' : MemberValue)
         → IsPumped old new (rows_between log old.front to) left
-        → slot_at old.members slot ≡ Some m → slot_at new.members slot ≡ Some m'
-        → m.has_left ≡ false → m'.has_left ≡ false → HearsAll m.facts m'.facts (heard log m.area old.area old.front to) }
+        → hub_slot old.members slot ≡ Some m → hub_slot new.members slot ≡ Some m'
+        → m.has_left ≡ false → m'.has_left ≡ false → HearsEach m.facts m'.facts (heard log m.area old.area old.front to) }
     ensures leaves { (old new : HubValue) (log : List RowValue) (to left slot : ℕ) (m m' : MemberValue)
         → IsPumped old new (rows_between log old.front to) left
-        → slot_at old.members slot ≡ Some m → slot_at new.members slot ≡ Some m'
+        → hub_slot old.members slot ≡ Some m → hub_slot new.members slot ≡ Some m'
         → m.has_left ≡ false → m'.has_left ≡ true → HearsUntil m.facts m'.facts (heard log m.area old.area old.front to) }
     ensures gone { (old new : HubValue) (log : List RowValue) (to left slot : ℕ) (m m' : MemberValue)
         → IsPumped old new (rows_between log old.front to) left
-        → slot_at old.members slot ≡ Some m → slot_at new.members slot ≡ Some m'
+        → hub_slot old.members slot ≡ Some m → hub_slot new.members slot ≡ Some m'
         → m.has_left ≡ true → (m'.has_left ≡ true) × (m'.facts ≡ m.facts) }
 {}
 
@@ -57,9 +57,9 @@ pub fn watchers_hear_in_order()
 /// back nobody stands under it any more.
 pub fn keys_are_given_once()
     ensures found { (old new : HubValue) (key : HubKey) (area : Area) (facts : WatcherFacts)
-        → IsAdded old new key area facts → member_at new key ≡ Some (new_member old.added area facts) }
+        → IsWatcherAdded old new key area facts → member_at new key ≡ Some (new_member old.added area facts) }
     ensures differ { (a b c d : HubValue) (key other : HubKey) (area area' : Area) (facts facts' : WatcherFacts) (calls : List Call)
-        → IsAdded a b key area facts → MakeAll b calls c → IsAdded c d other area' facts' → other ≢ key }
+        → IsWatcherAdded a b key area facts → MakeAll b calls c → IsWatcherAdded c d other area' facts' → other ≢ key }
     ensures for_good { (a b c d e : HubValue) (key : HubKey) (area : Area) (facts : WatcherFacts) (calls later : List Call) (answer : Option WatcherFacts)
-        → IsAdded a b key area facts → MakeAll b calls c → Removes c d key answer → MakeAll d later e → member_at e key ≡ None }
+        → IsWatcherAdded a b key area facts → MakeAll b calls c → Removes c d key answer → MakeAll d later e → member_at e key ≡ None }
 {}

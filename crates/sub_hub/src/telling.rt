@@ -1,8 +1,8 @@
 //! What one watcher is told of a slice.
 
 ghost use Rattle.std.specs.Prelude.{◌≡◌, ◌+◌, ◌^◌, ◌<◌, length};
-ghost use Rattle.sub_hub.specs.Heard.{in_both, note_of, heard_from, slice_rows};
-ghost use Rattle.sub_hub.specs.Watchers.{Hears};
+ghost use Rattle.sub_hub.specs.Heard.{in_both, note_of, notes_from, slice_rows};
+ghost use Rattle.sub_hub.specs.Watchers.{HearsNotes};
 
 use crate::watcher::{Watcher, Wish};
 use willow_area::Area;
@@ -18,7 +18,7 @@ pub(crate) fn tell<R: Row>(
     slice: &[LogRow<R>],
 ) -> Wish
     requires { front + length slice.now < 2 ^ 32 }
-    ensures { Hears (told watcher.old) (told watcher.new) (heard_from own.now served.now front (slice_rows R.value slice.now)) result }
+    ensures { HearsNotes (told watcher.old) (told watcher.new) (notes_from own.now served.now front (slice_rows R.value slice.now)) result }
 {
     for i in 0..slice.len() {
         let entry = slice[i].row.entry();
@@ -38,7 +38,7 @@ pub(crate) fn tell_entry(
     at: u32,
     entry: &Entry,
 ) -> Wish
-    ensures { Hears (told watcher.old) (told watcher.new) (note_of own.now served.now at entry.now) result }
+    ensures { HearsNotes (told watcher.old) (told watcher.new) (note_of own.now served.now at entry.now) result }
 {
     if in_both(own, served, entry) {
         watcher.note(at, entry)
