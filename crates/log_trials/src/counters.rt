@@ -22,5 +22,5 @@ fn three_steps<L: Ledger>(blank: Blank) -> bool
 
 #[test]
 fn counts(rt: HostRuntime) {
-    assert_eq!(rt; three_steps::<Brand>(Blank::new(1)), true);
+    assert!(rt; three_steps::<Brand>(Blank::new(1)));
 }

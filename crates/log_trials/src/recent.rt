@@ -3,29 +3,19 @@
 ghost use Rattle.std.specs.Prelude.{◌≡◌, ◌∷◌, OnOk};
 ghost use Rattle.recency_index.specs.Recency.{ranked_of, newest, without_at};
 
-use crate::keys::key;
+use crate::keys::{Rank, entry_at, number_path, path_of, place};
 use recency_index::{Ranked, Recency};
 use std::alloc::Global;
 use std::test::*;
 use willow_entry::Entry;
-use willow_path::{Digest, NamespaceKey, NoMemory, Path, UserKey};
+use willow_path::NoMemory;
 
 // An entry by the byte of its subspace, the one-byte components of its path, its timestamp, its digest's byte and its length.
 #[derive(Clone, Copy)]
 struct Spot {
     subspace: u8,
     path: &'static [u8],
-    rank: (u64, u8, u64),
-}
-
-impl Spot {
-    fn new(subspace: u8, path: &'static [u8], time: u64, digest: u8, length: u64) -> Spot {
-        Spot {
-            subspace,
-            path,
-            rank: (time, digest, length),
-        }
-    }
+    rank: Rank,
 }
 
 const LATE: Spot = Spot {
@@ -52,19 +42,8 @@ enum Step {
 }
 
 fn entry(alloc: Global, spot: Spot) -> Option<Entry> {
-    let mut path = Path::empty(alloc);
-    for part in spot.path {
-        path.push(&[*part]).ok()?;
-    }
-    let (timestamp, digest, length) = spot.rank;
-    Some(Entry {
-        namespace: NamespaceKey::from_bytes(key(0x4e))?,
-        subspace: UserKey::from_bytes(key(spot.subspace))?,
-        path,
-        timestamp,
-        length,
-        digest: Digest([digest; 32]),
-    })
+    let path = path_of(alloc, spot.path)?;
+    Some(entry_at(place(spot.subspace)?, path, spot.rank))
 }
 
 // Puts the item of an entry in, in place of one at its path.
@@ -92,18 +71,35 @@ fn swap(alloc: Global, index: &mut Recency, old: &Entry, new: &Entry) -> Result<
     Ok(())
 }
 
+// Takes the item at the path of an entry out.
+fn take(index: &mut Recency, old: &Entry) -> Option<bool> {
+    index.remove(&old.subspace, &old.path).ok()
+}
+
+// Does a swap of entries that could be made.
+fn swap_made(
+    alloc: Global,
+    index: &mut Recency,
+    old: Option<&Entry>,
+    new: Option<&Entry>,
+) -> Option<()> {
+    swap(alloc, index, old?, new?).ok()
+}
+
+// Does a step; None where an item that is taken out is there and should not be, or the other way round.
 fn run(alloc: Global, index: &mut Recency, step: Step) -> Option<()> {
     match step {
         Step::Put(new) => put(index, &entry(alloc, new)?).ok(),
         Step::Take(old, wanted) => {
-            let old = entry(alloc, old)?;
-            let was = index.remove(&old.subspace, &old.path).ok()?;
-            (was == wanted).then_some(())
+            let was = take(index, &entry(alloc, old)?);
+            (was == Some(wanted)).then_some(())
         }
-        Step::Swap(old, new) => {
-            let (old, new) = (entry(alloc, old)?, entry(alloc, new)?);
-            swap(alloc, index, &old, &new).ok()
-        }
+        Step::Swap(old, new) => swap_made(
+            alloc,
+            index,
+            entry(alloc, old).as_ref(),
+            entry(alloc, new).as_ref(),
+        ),
     }
 }
 
@@ -116,121 +112,177 @@ fn is_of(item: &Ranked, entry: &Entry) -> bool {
         && item.path == entry.path
 }
 
+// Whether the item of this number is that of the entry.
+fn stands_at(index: &Recency, n: u32, entry: Option<&Entry>) -> bool {
+    match (index.nth_newest(n), entry) {
+        (Some(item), Some(entry)) => is_of(item, entry),
+        _ => false,
+    }
+}
+
 // Whether the index has just the items of these entries, in this order.
 fn has_just(alloc: Global, index: &Recency, wanted: &[Spot]) -> Option<bool> {
-    let mut n = 0;
+    let mut n = 0u32;
     for spot in wanted {
-        let entry = entry(alloc, *spot)?;
-        match index.nth_newest(n) {
-            Some(item) if is_of(item, &entry) => n = n.checked_add(1)?,
-            _ => return Some(false),
+        if !stands_at(index, n, entry(alloc, *spot).as_ref()) {
+            return Some(false);
         }
+        n = n.checked_add(1)?;
     }
     Some(index.nth_newest(n).is_none())
 }
 
-fn leaves(alloc: Global, steps: &[Step], wanted: &[Spot]) -> Option<bool> {
-    let mut index = Recency::new(alloc);
+// Whether the steps leave just the items of these entries of an index.
+fn leaves_of(
+    alloc: Global,
+    index: &mut Recency,
+    steps: &[Step],
+    wanted: &[Spot],
+) -> Option<bool> {
     for step in steps {
-        run(alloc, &mut index, *step)?;
+        run(alloc, index, *step)?;
     }
-    has_just(alloc, &index, wanted)
+    has_just(alloc, index, wanted)
 }
+
+// The same of a new index.
+fn leaves(alloc: Global, steps: &[Step], wanted: &[Spot]) -> Option<bool> {
+    leaves_of(alloc, &mut Recency::new(alloc), steps, wanted)
+}
+
+const NEWER: Spot = Spot {
+    subspace: 0x55,
+    path: b"a",
+    rank: (7, 0x11, 1),
+};
+
+const OTHER: Spot = Spot {
+    subspace: 0x56,
+    path: b"a",
+    rank: (4, 0x11, 1),
+};
+
+// Steps, and what they leave.
+const LEFT: &[(&[Step], &[Spot])] = &[
+    (&[], &[]),
+    (&[Step::Put(LATE), Step::Put(EARLY)], &[LATE, EARLY]),
+    (&[Step::Put(EARLY), Step::Put(LATE)], &[LATE, EARLY]),
+];
 
 #[test]
-fn the_order(rt: HostRuntime) -> Result<(), Fail> {
+fn put_in(rt: HostRuntime) {
     let alloc = rt.alloc();
-    // Items in the order of recency: by timestamp, digest, length, and then by rising subspace and path.
-    let sorted = [
-        Spot::new(0x55, b"z", 9, 0x00, 0),
-        Spot::new(0x55, b"y", 8, 0x12, 0),
-        Spot::new(0x55, b"x", 8, 0x11, 3),
-        Spot::new(0x54, b"c", 8, 0x11, 2),
-        Spot::new(0x55, b"", 8, 0x11, 2),
-        Spot::new(0x55, b"a", 8, 0x11, 2),
-        Spot::new(0x55, b"ab", 8, 0x11, 2),
-        Spot::new(0x55, b"b", 8, 0x11, 2),
-        Spot::new(0x56, b"a", 8, 0x11, 2),
-        Spot::new(0x53, b"a", 7, 0xff, 9),
-    ];
-    assert_eq!(rt; leaves(alloc, &[], &[]), Some(true));
-    assert_eq!(rt;
-        leaves(alloc, &[Step::Put(LATE), Step::Put(EARLY)], &[LATE, EARLY]),
-        Some(true)
-    );
-    assert_eq!(rt;
-        leaves(alloc, &[Step::Put(EARLY), Step::Put(LATE)], &[LATE, EARLY]),
-        Some(true)
-    );
-    // The oldest first, the newest first, and neither.
-    for order in [
-        [9, 8, 7, 6, 5, 4, 3, 2, 1, 0],
-        [0, 1, 2, 3, 4, 5, 6, 7, 8, 9],
-        [4, 9, 0, 7, 2, 5, 1, 8, 3, 6],
-    ] {
-        let mut index = Recency::new(alloc);
-        for at in order {
-            let spot = sorted.get(at).ok_or("an item")?;
-            run(alloc, &mut index, Step::Put(*spot)).ok_or("memory")?;
-        }
-        assert_eq!(rt; has_just(alloc, &index, &sorted), Some(true));
+    for (steps, wanted) in LEFT {
+        assert!(rt; leaves(alloc, steps, wanted) == Some(true));
     }
-    Ok(())
 }
 
-// Whether two items, put in by rising age and then changed by a step, are just these.
-fn changed(alloc: Global, step: Step, wanted: &[Spot]) -> Option<bool> {
-    let put_in = [Step::Put(LATE), Step::Put(EARLY), step];
-    leaves(alloc, &put_in, wanted)
-}
-
-#[test]
-fn taken_out_and_replaced(rt: HostRuntime) -> Result<(), Fail> {
-    let alloc = rt.alloc();
-    let newer = Spot {
-        rank: (7, 0x11, 1),
-        ..EARLY
-    };
-    let other = Spot {
+// Items in the order of recency: by timestamp, digest, length, and then by rising subspace and path. Of each the byte of
+// the subspace, the path and the rank.
+static SORTED: [Spot; 10] = [
+    Spot {
+        subspace: 0x55,
+        path: b"z",
+        rank: (9, 0x00, 0),
+    },
+    Spot {
+        subspace: 0x55,
+        path: b"y",
+        rank: (8, 0x12, 0),
+    },
+    Spot {
+        subspace: 0x55,
+        path: b"x",
+        rank: (8, 0x11, 3),
+    },
+    Spot {
+        subspace: 0x54,
+        path: b"c",
+        rank: (8, 0x11, 2),
+    },
+    Spot {
+        subspace: 0x55,
+        path: b"",
+        rank: (8, 0x11, 2),
+    },
+    Spot {
+        subspace: 0x55,
+        path: b"a",
+        rank: (8, 0x11, 2),
+    },
+    Spot {
+        subspace: 0x55,
+        path: b"ab",
+        rank: (8, 0x11, 2),
+    },
+    Spot {
+        subspace: 0x55,
+        path: b"b",
+        rank: (8, 0x11, 2),
+    },
+    Spot {
         subspace: 0x56,
-        ..EARLY
-    };
-    assert_eq!(rt;
-        changed(alloc, Step::Take(EARLY, true), &[LATE]),
-        Some(true)
-    );
-    assert_eq!(rt;
-        changed(alloc, Step::Take(newer, true), &[LATE]),
-        Some(true)
-    );
-    assert_eq!(rt;
-        changed(alloc, Step::Take(other, false), &[LATE, EARLY]),
-        Some(true)
-    );
-    assert_eq!(rt;
-        changed(alloc, Step::Swap(EARLY, newer), &[newer, LATE]),
-        Some(true)
-    );
-    assert_eq!(rt;
-        changed(alloc, Step::Swap(EARLY, other), &[LATE, other]),
-        Some(true)
-    );
-    assert_eq!(rt;
-        changed(alloc, Step::Swap(LATE, EARLY), &[EARLY]),
-        Some(true)
-    );
-    Ok(())
+        path: b"a",
+        rank: (8, 0x11, 2),
+    },
+    Spot {
+        subspace: 0x53,
+        path: b"a",
+        rank: (7, 0xff, 9),
+    },
+];
+
+// The oldest first, the newest first, and neither.
+static ORDERS: [[usize; 10]; 3] = [
+    [9, 8, 7, 6, 5, 4, 3, 2, 1, 0],
+    [0, 1, 2, 3, 4, 5, 6, 7, 8, 9],
+    [4, 9, 0, 7, 2, 5, 1, 8, 3, 6],
+];
+
+// Whether an index has those items in their order once they are put in, in this one.
+fn sorts_of(alloc: Global, index: &mut Recency, order: &[usize]) -> Option<bool> {
+    for at in order {
+        run(alloc, index, Step::Put(*SORTED.get(*at)?))?;
+    }
+    has_just(alloc, index, &SORTED)
 }
 
-// The entry at the path of one component that spells the number, of that time.
+// The same of a new index.
+fn sorts(alloc: Global, order: &[usize]) -> Option<bool> {
+    sorts_of(alloc, &mut Recency::new(alloc), order)
+}
+
+#[test]
+fn the_order(rt: HostRuntime) {
+    let alloc = rt.alloc();
+    for order in &ORDERS {
+        assert!(rt; sorts(alloc, order) == Some(true));
+    }
+}
+
+// What is done to two items that are put in by rising age, and what it leaves.
+const CHANGED: &[(Step, &[Spot])] = &[
+    (Step::Take(EARLY, true), &[LATE]),
+    (Step::Take(NEWER, true), &[LATE]),
+    (Step::Take(OTHER, false), &[LATE, EARLY]),
+    (Step::Swap(EARLY, NEWER), &[NEWER, LATE]),
+    (Step::Swap(EARLY, OTHER), &[LATE, OTHER]),
+    (Step::Swap(LATE, EARLY), &[EARLY]),
+];
+
+#[test]
+fn taken_out_and_replaced(rt: HostRuntime) {
+    let alloc = rt.alloc();
+    for (step, wanted) in CHANGED {
+        let steps = [Step::Put(LATE), Step::Put(EARLY), *step];
+        assert!(rt; leaves(alloc, &steps, wanted) == Some(true));
+    }
+}
+
+// The entry at the path that spells the number, of that time.
 fn numbered(alloc: Global, number: u16, timestamp: u64) -> Option<Entry> {
-    let mut path = Path::empty(alloc);
-    path.push(&number.to_be_bytes()).ok()?;
-    Some(Entry {
-        path,
-        timestamp,
-        ..entry(alloc, EARLY)?
-    })
+    let path = number_path(alloc, number)?;
+    Some(entry_at(place(0x55)?, path, (timestamp, 0x11, 1)))
 }
 
 // The number and the time of one of a thousand entries: no two numbers are the same, some times are, and each round has
@@ -241,65 +293,91 @@ fn sample(i: u32, round: u32) -> (u16, u64) {
     (number as u16, u64::from(time))
 }
 
-// Puts the item of a sample in.
-fn put_sample(alloc: Global, index: &mut Recency, i: u32, round: u32) -> Option<()> {
+// The entry of a sample.
+fn sample_entry(alloc: Global, i: u32, round: u32) -> Option<Entry> {
     let (number, time) = sample(i, round);
-    put(index, &numbered(alloc, number, time)?).ok()
+    numbered(alloc, number, time)
 }
 
-// Takes the item of a sample out, which is there.
-fn take_sample(alloc: Global, index: &mut Recency, i: u32, round: u32) -> Option<()> {
-    let (number, time) = sample(i, round);
-    let old = numbered(alloc, number, time)?;
-    let was = index.remove(&old.subspace, &old.path).ok()?;
-    was.then_some(())
+// Puts the items of samples of one round in.
+fn put_samples(alloc: Global, index: &mut Recency, from: u32, to: u32, round: u32) -> Option<()> {
+    for i in from..to {
+        put(index, &sample_entry(alloc, i, round)?).ok()?;
+    }
+    Some(())
 }
 
-// Whether the index has just the items of these samples of one round, in the order of a sorted vector: by falling time,
-// and of one time by rising path.
-fn agrees(alloc: Global, index: &Recency, from: u32, to: u32, round: u32) -> Option<bool> {
+// Takes the item of a sample of the first round out, which is there.
+fn take_sample(alloc: Global, index: &mut Recency, i: u32) -> Option<()> {
+    take(index, &sample_entry(alloc, i, 0)?)?.then_some(())
+}
+
+// The ages and the numbers of samples of one round, sorted: by falling time, and of one time by rising path.
+fn sorted(alloc: Global, from: u32, to: u32, round: u32) -> Option<Vec<(u64, u16)>> {
     let mut sorted = Vec::new(alloc);
     for i in from..to {
         let (number, time) = sample(i, round);
         sorted.push((u64::MAX.wrapping_sub(time), number)).ok()?;
     }
     sorted.sort().ok()?;
+    Some(sorted)
+}
+
+// Whether the index has just the items of these ages and numbers, in this order.
+fn lists(alloc: Global, index: &Recency, wanted: &[(u64, u16)]) -> Option<bool> {
     let mut n = 0u32;
-    for (age, number) in &sorted {
-        let wanted = numbered(alloc, *number, u64::MAX.wrapping_sub(*age))?;
-        match index.nth_newest(n) {
-            Some(item) if is_of(item, &wanted) => n = n.checked_add(1)?,
-            _ => return Some(false),
+    for (age, number) in wanted {
+        let entry = numbered(alloc, *number, u64::MAX.wrapping_sub(*age));
+        if !stands_at(index, n, entry.as_ref()) {
+            return Some(false);
         }
+        n = n.checked_add(1)?;
     }
     Some(index.nth_newest(n).is_none())
 }
 
-// Whether the index agrees with sorted vectors after a thousand are put in, after half is taken out, while these come
+// Whether it has just those of some samples of one round.
+fn agrees(alloc: Global, index: &Recency, from: u32, to: u32, round: u32) -> Option<bool> {
+    lists(alloc, index, &sorted(alloc, from, to, round)?)
+}
+
+// Takes the first half of a thousand samples out.
+fn take_half(alloc: Global, index: &mut Recency) -> Option<()> {
+    for i in 0..500u32 {
+        take_sample(alloc, index, i)?;
+    }
+    Some(())
+}
+
+// Puts each of that half in again, with another time, and takes one of the other half out.
+fn trade_halves(alloc: Global, index: &mut Recency) -> Option<()> {
+    for i in 0..500u32 {
+        put(index, &sample_entry(alloc, i, 1)?).ok()?;
+        take_sample(alloc, index, i.wrapping_add(500))?;
+    }
+    Some(())
+}
+
+// Whether an index agrees with sorted vectors after a thousand are put in, after half is taken out, while these come
 // back with other times and the others go, and after all are in again.
-fn comes_and_goes(alloc: Global) -> Option<[bool; 4]> {
-    let mut index = Recency::new(alloc);
-    for i in 0..1000u32 {
-        put_sample(alloc, &mut index, i, 0)?;
-    }
-    let full = agrees(alloc, &index, 0, 1000, 0)?;
-    for i in 0..500u32 {
-        take_sample(alloc, &mut index, i, 0)?;
-    }
-    let half = agrees(alloc, &index, 500, 1000, 0)?;
-    for i in 0..500u32 {
-        put_sample(alloc, &mut index, i, 1)?;
-        take_sample(alloc, &mut index, i.wrapping_add(500), 0)?;
-    }
-    let other = agrees(alloc, &index, 0, 500, 1)?;
-    for i in 500..1000u32 {
-        put_sample(alloc, &mut index, i, 1)?;
-    }
-    let again = agrees(alloc, &index, 0, 1000, 1)?;
+fn comes_and_goes(alloc: Global, index: &mut Recency) -> Option<[bool; 4]> {
+    put_samples(alloc, index, 0, 1000, 0)?;
+    let full = agrees(alloc, index, 0, 1000, 0)?;
+    take_half(alloc, index)?;
+    let half = agrees(alloc, index, 500, 1000, 0)?;
+    trade_halves(alloc, index)?;
+    let other = agrees(alloc, index, 0, 500, 1)?;
+    put_samples(alloc, index, 500, 1000, 1)?;
+    let again = agrees(alloc, index, 0, 1000, 1)?;
     Some([full, half, other, again])
+}
+
+// The same of a new index.
+fn new_comes_and_goes(alloc: Global) -> Option<[bool; 4]> {
+    comes_and_goes(alloc, &mut Recency::new(alloc))
 }
 
 #[test]
 fn a_thousand_slots(rt: HostRuntime) {
-    assert_eq!(rt; comes_and_goes(rt.alloc()), Some([true; 4]));
+    assert!(rt; new_comes_and_goes(rt.alloc()) == Some([true; 4]));
 }

@@ -1,14 +1,14 @@
 //! What becomes of rows that are offered, as a table, and a log that is full.
 
-use crate::keys::key;
+use crate::keys::{entry_at, namespace, number_path, path_of, place};
 use ns_state::{LiveLog, LogFull, NsState, Told};
 use std::alloc::Global;
 use std::test::*;
-use willow_entry::{BareRow, Entry, Row, SharedRow, same};
-use willow_path::{Digest, End, NamespaceKey, Path, UserKey};
+use willow_entry::{BareRow, Row, SharedRow, same};
+use willow_path::{End, Path};
 
 // Rows offered one after the other: the pass, the one-byte components of the path, the timestamp, and what becomes of it.
-const OFFERS: [(u32, &'static [u8], u64, Told); 6] = [
+static OFFERS: [(u32, &[u8], u64, Told); 6] = [
     (0, b"ab", 5, Told::Stored { at: 0 }),
     // at a prefix, but older: both stay
     (1, b"a", 4, Told::Stored { at: 1 }),
@@ -24,31 +24,18 @@ const OFFERS: [(u32, &'static [u8], u64, Told); 6] = [
 
 // A row at this path.
 fn row(alloc: Global, path: Path, time: u64) -> Option<BareRow> {
-    let entry = Entry {
-        namespace: NamespaceKey::from_bytes(key(0x4e))?,
-        subspace: UserKey::from_bytes(key(0x55))?,
-        path,
-        timestamp: time,
-        length: 1,
-        digest: Digest([0x11; 32]),
-    };
+    let entry = entry_at(place(0x55)?, path, (time, 0x11, 1));
     BareRow::new(alloc, entry, Vec::from_slice(alloc, &[0]).ok()?).ok()
 }
 
 // A row at a path of one-byte components.
 fn row_at(alloc: Global, parts: &[u8], time: u64) -> Option<BareRow> {
-    let mut path = Path::empty(alloc);
-    for part in parts {
-        path.push(&[*part]).ok()?;
-    }
-    row(alloc, path, time)
+    row(alloc, path_of(alloc, parts)?, time)
 }
 
-// The row of this number, at a path of one component of two bytes, at that time.
+// The row of this number, at the path that spells it, at that time.
 fn numbered(alloc: Global, number: u16) -> Option<BareRow> {
-    let mut path = Path::empty(alloc);
-    path.push(&number.to_be_bytes()).ok()?;
-    row(alloc, path, u64::from(number))
+    row(alloc, number_path(alloc, number)?, u64::from(number))
 }
 
 // A value that a thread may hand on to another.
@@ -63,8 +50,7 @@ fn shared<R: SharedRow>(state: NsState<R>) -> NsState<R> {
 
 // The state of the rows' namespace.
 fn state(alloc: Global) -> Option<NsState<BareRow>> {
-    let namespace = NamespaceKey::from_bytes(key(0x4e))?;
-    Some(shared(NsState::new(alloc, namespace)))
+    Some(shared(NsState::new(alloc, namespace()?)))
 }
 
 // Offers a row; one of another namespace counts as want of memory.
@@ -75,16 +61,14 @@ fn offer(state: &mut NsState<BareRow>, pass: u32, row: BareRow) -> Result<Told, 
     state.ingest(pass, row)
 }
 
-// The state after these offers; None where something else became of one.
-fn after_offers(alloc: Global) -> Option<NsState<BareRow>> {
-    let mut state = state(alloc)?;
-    for (pass, parts, time, wanted) in OFFERS {
-        let told = offer(&mut state, pass, row_at(alloc, parts, time)?).ok()?;
-        if told != wanted {
-            return None;
+// Whether the rows of the table are offered, and what the table says becomes of each.
+fn are_told(alloc: Global, state: &mut NsState<BareRow>) -> Option<bool> {
+    for (pass, parts, time, wanted) in &OFFERS {
+        if offer(state, *pass, row_at(alloc, parts, *time)?) != Ok(*wanted) {
+            return Some(false);
         }
     }
-    Some(state)
+    Some(true)
 }
 
 // The pass and the timestamp of a row of the log.
@@ -104,27 +88,52 @@ fn newest(state: &NsState<BareRow>) -> (Option<u64>, Option<u64>) {
     (time(0), time(1))
 }
 
+// How many rows are live.
+fn live(state: &NsState<BareRow>) -> Option<u32> {
+    Some(state.snapshot().ok()?.len())
+}
+
+// Whether a state is one without rows.
+fn is_empty(state: &NsState<BareRow>) -> bool {
+    (state.front(), newest(state)) == (0, (None, None))
+}
+
+// Whether the log of a state is that of the offers, by its front, its rows, and how many rows are read.
+fn is_log(state: &NsState<BareRow>) -> bool {
+    let rows = [log_row(state, 1), log_row(state, 2), log_row(state, 3)];
+    let counts = [read(state, 1, 1), read(state, 1, 5), read(state, 4, 1)];
+    let due = (3, [Some((1, 4)), Some((3, 6)), None]);
+    (state.front(), rows) == due && counts == [Some(1), Some(2), Some(0)]
+}
+
+// Whether what is live of a state is what is live after the offers.
+fn is_live(state: &NsState<BareRow>) -> bool {
+    (newest(state), live(state)) == ((Some(6), None), Some(1))
+}
+
+// Whether a state is empty, and the offers lead from it to what they should.
+fn comes_out(alloc: Global, state: &mut NsState<BareRow>) -> bool {
+    is_empty(state) && are_told(alloc, state) == Some(true) && is_log(state) && is_live(state)
+}
+
+// The same of a new state.
+fn offers_come_out(alloc: Global) -> Option<bool> {
+    Some(comes_out(alloc, &mut state(alloc)?))
+}
+
 #[test]
-fn offers(rt: HostRuntime) -> Result<(), Fail> {
-    let alloc = rt.alloc();
-    let empty = state(alloc).ok_or("a state")?;
-    assert_eq!(rt; empty.front(), 0);
-    assert_eq!(rt; newest(&empty), (None, None));
-    let state = after_offers(alloc).ok_or("another answer")?;
-    assert_eq!(rt; state.front(), 3);
-    assert_eq!(rt; log_row(&state, 1), Some((1, 4)));
-    assert_eq!(rt; log_row(&state, 2), Some((3, 6)));
-    assert_eq!(rt; log_row(&state, 3), None);
-    assert_eq!(rt; read(&state, 1, 1), Some(1));
-    assert_eq!(rt; read(&state, 1, 5), Some(2));
-    assert_eq!(rt; read(&state, 4, 1), Some(0));
-    assert_eq!(rt; newest(&state), (Some(6), None));
-    assert_eq!(rt; state.snapshot().ok().map(|rows| rows.len()), Some(1));
-    Ok(())
+fn offers(rt: HostRuntime) {
+    assert!(rt; offers_come_out(rt.alloc()) == Some(true));
 }
 
 // Rows by recency: the one-byte components of the path, and the timestamp. All have one digest and one length.
-const NEWEST: [(&'static [u8], u64); 4] = [(b"d", 9), (b"a", 7), (b"b", 7), (b"c", 3)];
+static NEWEST: [(&[u8], u64); 4] = [(b"d", 9), (b"a", 7), (b"b", 7), (b"c", 3)];
+
+// The row of this number.
+fn newest_row(alloc: Global, at: usize) -> Option<BareRow> {
+    let (parts, time) = *NEWEST.get(at)?;
+    row_at(alloc, parts, time)
+}
 
 // Offers a row to a log; one of another namespace counts as want of memory.
 fn offer_to(log: &mut LiveLog<BareRow>, row: BareRow) -> Result<Option<u32>, End<LogFull>> {
@@ -134,61 +143,91 @@ fn offer_to(log: &mut LiveLog<BareRow>, row: BareRow) -> Result<Option<u32>, End
     log.offer(0, row)
 }
 
-// The log of the rows, the last one first, and of one that the newest dominates.
-fn written(alloc: Global) -> Option<LiveLog<BareRow>> {
-    let mut log = LiveLog::new(alloc, NamespaceKey::from_bytes(key(0x4e))?);
-    offer_to(&mut log, row_at(alloc, b"de", 8)?).ok()?;
+// Writes the rows into a log, the last one first, and one that the newest dominates.
+fn write(alloc: Global, log: &mut LiveLog<BareRow>) -> Option<()> {
+    offer_to(log, row_at(alloc, b"de", 8)?).ok()?;
     for at in [3, 1, 0, 2] {
-        let (parts, time) = NEWEST[at];
-        offer_to(&mut log, row_at(alloc, parts, time)?).ok()?;
+        offer_to(log, newest_row(alloc, at)?).ok()?;
     }
-    Some(log)
+    Some(())
+}
+
+// Whether a row is that of this number.
+fn is_newest(alloc: Global, row: &BareRow, at: usize) -> Option<bool> {
+    Some(same(row, &newest_row(alloc, at)?))
+}
+
+// Whether these are the newest rows, and so many.
+fn are_rows(alloc: Global, rows: &[&BareRow], count: usize) -> bool {
+    for at in 0..rows.len() {
+        if is_newest(alloc, rows[at], at) != Some(true) {
+            return false;
+        }
+    }
+    rows.len() == count
 }
 
 // Whether so many are the newest rows where `most` are asked for.
-fn are_newest(alloc: Global, log: &LiveLog<BareRow>, most: u32, count: usize) -> Option<bool> {
-    let rows = log.newest(most).ok()?;
-    for at in 0..rows.len() {
-        let (parts, time) = *NEWEST.get(at)?;
-        if !same(rows[at], &row_at(alloc, parts, time)?) {
+fn are_newest(alloc: Global, log: &LiveLog<BareRow>, most: u32, count: usize) -> bool {
+    match log.newest(most) {
+        Ok(rows) => are_rows(alloc, &rows, count),
+        Err(_) => false,
+    }
+}
+
+static MOST: [(u32, usize); 4] = [(0, 0), (3, 3), (4, 4), (9, 4)];
+
+// Whether a log into which the rows are written tells the newest of them.
+fn tells_newest(alloc: Global, log: &mut LiveLog<BareRow>) -> Option<bool> {
+    write(alloc, log)?;
+    for (most, count) in &MOST {
+        if !are_newest(alloc, log, *most, *count) {
             return Some(false);
         }
     }
-    Some(rows.len() == count)
+    Some(true)
+}
+
+// The same of a new log.
+fn new_log_tells_newest(alloc: Global) -> Option<bool> {
+    tells_newest(alloc, &mut LiveLog::new(alloc, namespace()?))
 }
 
 #[test]
-fn newest_rows(rt: HostRuntime) -> Result<(), Fail> {
-    let alloc = rt.alloc();
-    let log = written(alloc).ok_or("a log")?;
-    for (most, count) in [(0, 0), (3, 3), (4, 4), (9, 4)] {
-        assert_eq!(rt; are_newest(alloc, &log, most, count), Some(true));
-    }
-    Ok(())
+fn newest_rows(rt: HostRuntime) {
+    assert!(rt; new_log_tells_newest(rt.alloc()) == Some(true));
 }
 
-// The state of a full log.
-fn full(alloc: Global) -> Option<NsState<BareRow>> {
-    let mut state = state(alloc)?;
+// Whether as many rows as the log has room for are stored, one after the other.
+fn fills(alloc: Global, state: &mut NsState<BareRow>) -> Option<bool> {
     for number in 0..=u16::MAX {
-        let told = offer(&mut state, 0, numbered(alloc, number)?).ok()?;
         let at = u32::from(number);
-        if told != (Told::Stored { at }) {
-            return None;
+        if offer(state, 0, numbered(alloc, number)?) != Ok(Told::Stored { at }) {
+            return Some(false);
         }
     }
-    Some(state)
+    Some(true)
+}
+
+// What becomes of a row.
+type Outcome = Result<Told, End<LogFull>>;
+
+// What a full log answers to a new row and to its first one, and its front then.
+fn full_answers(alloc: Global, state: &mut NsState<BareRow>) -> Option<(Outcome, Outcome, u32)> {
+    let new = offer(state, 0, row_at(alloc, b"a", 5)?);
+    let first = offer(state, 0, numbered(alloc, 0)?);
+    Some((new, first, state.front()))
+}
+
+// The same of a new log that is filled, and whether it is.
+fn filled_answers(alloc: Global) -> Option<(Option<bool>, Option<(Outcome, Outcome, u32)>)> {
+    let mut state = state(alloc)?;
+    Some((fills(alloc, &mut state), full_answers(alloc, &mut state)))
 }
 
 #[test]
-fn a_full_log(rt: HostRuntime) -> Result<(), Fail> {
-    let alloc = rt.alloc();
-    let mut state = full(alloc).ok_or("a full log")?;
-    let new = row_at(alloc, b"a", 5).ok_or("a row")?;
-    let refused = offer(&mut state, 0, new);
-    assert_eq!(rt; refused, Err(End::Refused(LogFull { front: 65_536 })));
-    let first = numbered(alloc, 0).ok_or("a row")?;
-    assert_eq!(rt; offer(&mut state, 0, first), Ok(Told::Kept { at: 0 }));
-    assert_eq!(rt; state.front(), 65_536);
-    Ok(())
+fn a_full_log(rt: HostRuntime) {
+    let refused = Err(End::Refused(LogFull { front: 65_536 }));
+    let due = (refused, Ok(Told::Kept { at: 0 }), 65_536);
+    assert!(rt; filled_answers(rt.alloc()) == Some((Some(true), Some(due))));
 }

@@ -4,11 +4,10 @@
 use hex::FromHex;
 use sha_lanes::{Chain, Message, run_chains, sha256_all, sha256_four};
 use sha2::{Digest, Sha256};
-use std::process::Abort;
-use std::test::Fail;
+use std::test::*;
 
 // Lengths of messages and their digests. Each four of them take equally many blocks.
-const DIGESTS: [(usize, &str); 16] = [
+static DIGESTS: [(usize, &str); 16] = [
     (
         0,
         "e3b0c44298fc1c149afbf4c8996fb92427ae41e4649b934ca495991b7852b855",
@@ -79,7 +78,7 @@ const DIGESTS: [(usize, &str); 16] = [
 const DIGEST_OF_MANY: &str = "32ee7bab07336b3a846d8adbae77db5913a2bb11a41f3aeba0795e089d58e0f7";
 
 // The numbers of the next step and of the one before which a chain ends, and its end.
-const ENDS: [(u8, u8, &str); 9] = [
+static ENDS: [(u8, u8, &str); 9] = [
     (
         0,
         255,
@@ -160,87 +159,132 @@ fn four(messages: &[Message<'_>; 4]) -> Option<[[u8; 32]; 4]> {
     }
 }
 
-// The length and the digest of a line of the table.
-fn line(number: usize) -> Result<(usize, [u8; 32]), Fail> {
-    let (length, digest) = DIGESTS[number % 16];
-    Ok((length, <[u8; 32] as FromHex>::from_hex(digest)?))
+// The bytes that these characters spell.
+fn bytes_of(characters: &str) -> Option<[u8; 32]> {
+    <[u8; 32] as FromHex>::from_hex(characters).ok()
 }
 
-// The digests of the four messages of a group of the table are right, wherever they are cut and in whichever lane
-// each of them stands.
-fn check_group(rt: &impl Abort, group: usize, lane: usize, cut: usize) -> Result<(), Fail> {
-    let mut bytes = [[0; 256]; 4];
-    let mut wanted = [[0; 32]; 4];
-    let mut lengths = [0; 4];
-    for l in 0..4 {
-        let (length, digest) = line(4 * (group % 4) + (lane % 4 + l) % 4)?;
-        bytes[l] = filled(length);
-        wanted[l] = digest;
-        lengths[l] = length;
+// The length of the message of a line of the table.
+fn length_of(number: usize) -> usize {
+    DIGESTS[number % 16].0
+}
+
+// Whether this is the digest of a line of the table.
+fn is_digest(number: usize, digest: &[u8; 32]) -> bool {
+    bytes_of(DIGESTS[number % 16].1) == Some(*digest)
+}
+
+// Whether these are the digests of four lines of the table.
+fn are_digests(lines: &[usize; 4], digests: &[[u8; 32]; 4]) -> bool {
+    for k in 0..4 {
+        if !is_digest(lines[k], &digests[k]) {
+            return false;
+        }
     }
+    true
+}
+
+// Whether the digests of the messages of four lines of the table are right, and that of the first alone, where they are
+// cut there.
+fn are_right(lines: &[usize; 4], bytes: &[[u8; 256]; 4], cut: usize) -> bool {
     let messages = [
-        message(&bytes[0], lengths[0], cut),
-        message(&bytes[1], lengths[1], cut),
-        message(&bytes[2], lengths[2], cut),
-        message(&bytes[3], lengths[3], cut),
+        message(&bytes[0], length_of(lines[0]), cut),
+        message(&bytes[1], length_of(lines[1]), cut),
+        message(&bytes[2], length_of(lines[2]), cut),
+        message(&bytes[3], length_of(lines[3]), cut),
     ];
-    assert_eq!(rt; four(&messages), Some(wanted));
-    assert_eq!(rt; messages[0].digest(), wanted[0]);
-    Ok(())
+    let is_first_right = is_digest(lines[0], &messages[0].digest());
+    match four(&messages) {
+        Some(digests) => is_first_right && are_digests(lines, &digests),
+        None => false,
+    }
+}
+
+// The lines of a group of the table, in whichever lane each of them stands.
+fn group_lines(group: usize, lane: usize) -> [usize; 4] {
+    let first = 4 * (group % 4);
+    [
+        first + lane % 4,
+        first + (lane % 4 + 1) % 4,
+        first + (lane % 4 + 2) % 4,
+        first + (lane % 4 + 3) % 4,
+    ]
+}
+
+// Whether the digests of such a group are right.
+fn is_group_right(group: usize, lane: usize, cut: usize) -> bool {
+    let lines = group_lines(group, lane);
+    let bytes = [
+        filled(length_of(lines[0])),
+        filled(length_of(lines[1])),
+        filled(length_of(lines[2])),
+        filled(length_of(lines[3])),
+    ];
+    are_right(&lines, &bytes, cut)
 }
 
 #[test]
-fn digests_of_four(rt: HostRuntime) -> Result<(), Fail> {
+fn digests_of_four(rt: HostRuntime) {
     for group in 0..4 {
         for lane in 0..4 {
             for cut in [0, 1, 22, 64, 100, 247] {
-                check_group(&rt, group, lane, cut)?;
+                assert!(rt; is_group_right(group, lane, cut));
             }
         }
     }
-    Ok(())
 }
 
-// The digests of the first messages of a list are right.
-fn check_list(rt: &impl Abort, count: usize) -> Result<(), Fail> {
-    let lines = [3, 8, 0, 7, 4, 5, 1, 6, 15];
-    let mut bytes = [[0; 256]; 9];
-    let mut lengths = [0; 9];
-    let mut wanted = [[0; 32]; 9];
-    for k in 0..9 {
-        let (length, digest) = line(lines[k])?;
-        bytes[k] = filled(length);
-        lengths[k] = length;
-        wanted[k] = digest;
-    }
+// The lines of the table of which a list is made.
+static LIST: [usize; 9] = [3, 8, 0, 7, 4, 5, 1, 6, 15];
+
+// The digests of the first messages of a list.
+fn list_digests(bytes: &[[u8; 256]; 9], count: usize) -> [[u8; 32]; 9] {
     let mut messages = [Message {
         front: &[],
         rest: &[],
     }; 9];
     for k in 0..9 {
-        messages[k] = message(&bytes[k], lengths[k], 22);
+        messages[k] = message(&bytes[k], length_of(LIST[k]), 22);
     }
     let mut digests = [[0; 32]; 9];
     let end = count.min(9);
     sha256_all(&messages[..end], &mut digests[..end]);
-    assert_eq!(rt; digests[..end], wanted[..end]);
-    Ok(())
+    digests
 }
 
-#[test]
-fn digests_of_lists(rt: HostRuntime) -> Result<(), Fail> {
-    for count in 0..=9 {
-        check_list(&rt, count)?;
+// Whether the digests of the first messages of the list are right.
+fn is_list_right(count: usize) -> bool {
+    let mut bytes = [[0; 256]; 9];
+    for k in 0..9 {
+        bytes[k] = filled(length_of(LIST[k]));
     }
-    Ok(())
+    let digests = list_digests(&bytes, count);
+    for k in 0..count.min(9) {
+        if !is_digest(LIST[k], &digests[k]) {
+            return false;
+        }
+    }
+    true
 }
 
 #[test]
-fn digests_of_many(rt: HostRuntime) -> Result<(), Fail> {
+fn digests_of_lists(rt: HostRuntime) {
+    for count in 0..=9 {
+        assert!(rt; is_list_right(count));
+    }
+}
+
+// The bytes of 150 messages.
+fn many_filled() -> [[u8; 256]; 150] {
     let mut bytes = [[0; 256]; 150];
     for i in 0..150 {
         bytes[i] = filled(37 * i % 248);
     }
+    bytes
+}
+
+// Their digests.
+fn many_digests(bytes: &[[u8; 256]; 150]) -> [[u8; 32]; 150] {
     let mut messages = [Message {
         front: &[],
         rest: &[],
@@ -250,19 +294,26 @@ fn digests_of_many(rt: HostRuntime) -> Result<(), Fail> {
     }
     let mut digests = [[0; 32]; 150];
     sha256_all(&messages, &mut digests);
+    digests
+}
+
+// The digest of these.
+fn digest_of_many(digests: &[[u8; 32]; 150]) -> [u8; 32] {
     let mut hasher = Sha256::new();
-    for digest in &digests {
+    for digest in digests {
         hasher.update(digest);
     }
-    assert_eq!(rt;
-        hasher.finalize(),
-        <[u8; 32] as FromHex>::from_hex(DIGEST_OF_MANY)?
-    );
-    Ok(())
+    hasher.finalize()
+}
+
+#[test]
+fn digests_of_many(rt: HostRuntime) {
+    let digest = digest_of_many(&many_digests(&many_filled()));
+    assert!(rt; bytes_of(DIGEST_OF_MANY) == Some(digest));
 }
 
 // A chain of the table.
-fn chain(number: usize, at: u8, to: u8) -> Chain {
+fn chain(number: usize) -> Chain {
     let mut front = [0; 22];
     for k in 0..22 {
         front[k] = ((11 * k + number % 256) % 256) as u8;
@@ -271,6 +322,7 @@ fn chain(number: usize, at: u8, to: u8) -> Chain {
     for k in 0..32 {
         value[k] = ((7 * k + number % 256) % 256) as u8;
     }
+    let (at, to, _) = ENDS[number % 9];
     Chain {
         front,
         at,
@@ -279,29 +331,31 @@ fn chain(number: usize, at: u8, to: u8) -> Chain {
     }
 }
 
-// The first chains of the table come to their ends.
-fn check_chains(rt: &impl Abort, count: usize) -> Result<(), Fail> {
-    let mut chains = [chain(0, 0, 0); 9];
-    let mut wanted = [[0; 32]; 9];
+// Whether a chain is at the end that the table says.
+fn is_at_end(number: usize, chain: &Chain) -> bool {
+    let (at, to, end) = ENDS[number % 9];
+    chain.at == at.max(to) && bytes_of(end) == Some(chain.value)
+}
+
+// Whether the first chains of the table come to their ends.
+fn come_to_their_ends(count: usize) -> bool {
+    let mut chains = [chain(0); 9];
     for k in 0..9 {
-        let (at, to, end) = ENDS[k];
-        chains[k] = chain(k, at, to);
-        wanted[k] = <[u8; 32] as FromHex>::from_hex(end)?;
+        chains[k] = chain(k);
     }
     let end = count.min(9);
     run_chains(&mut chains[..end]);
     for k in 0..end {
-        let (at, to, _) = ENDS[k];
-        assert_eq!(rt; chains[k].value, wanted[k]);
-        assert_eq!(rt; chains[k].at, at.max(to));
+        if !is_at_end(k, &chains[k]) {
+            return false;
+        }
     }
-    Ok(())
+    true
 }
 
 #[test]
-fn ends_of_chains(rt: HostRuntime) -> Result<(), Fail> {
+fn ends_of_chains(rt: HostRuntime) {
     for count in 0..=9 {
-        check_chains(&rt, count)?;
+        assert!(rt; come_to_their_ends(count));
     }
-    Ok(())
 }

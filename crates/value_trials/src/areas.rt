@@ -70,36 +70,62 @@ fn area_named(alloc: Global, name: Sample) -> Option<Area> {
     }
 }
 
-// Whether these areas meet in the third, or not at all.
-fn meet_in(alloc: Global, one: Sample, two: Sample, both: Option<Sample>) -> Option<bool> {
-    let one = area_named(alloc, one)?;
-    let two = area_named(alloc, two)?;
-    let found = one.intersect(&two).ok()?;
-    match both {
-        None => Some(found.is_none()),
-        Some(both) => Some(found == area_named(alloc, both)),
-    }
+// Whether two areas meet in the third.
+fn meet(one: Option<&Area>, two: Option<&Area>, both: Option<&Area>) -> Option<bool> {
+    Some(one?.intersect(two?).ok()?.as_ref() == Some(both?))
 }
 
-// Whether the first of these areas includes the second.
-fn lies_within(alloc: Global, outer: Sample, inner: Sample) -> Option<bool> {
-    let outer = area_named(alloc, outer)?;
-    let inner = area_named(alloc, inner)?;
-    Some(outer.includes_area(&inner))
+// The same of areas by name.
+fn meet_in(alloc: Global, (one, two, both): &(Sample, Sample, Sample)) -> Option<bool> {
+    meet(
+        area_named(alloc, *one).as_ref(),
+        area_named(alloc, *two).as_ref(),
+        area_named(alloc, *both).as_ref(),
+    )
 }
 
-const MEETINGS: &[(Sample, Sample, Option<Sample>)] = &[
-    (Sample::Early, Sample::Deep, Some(Sample::EarlyDeep)),
-    (Sample::Early, Sample::Late, None),
-    (Sample::Full, Sample::Late, Some(Sample::Late)),
+const MEETINGS: &[(Sample, Sample, Sample)] = &[
+    (Sample::Early, Sample::Deep, Sample::EarlyDeep),
+    (Sample::Full, Sample::Late, Sample::Late),
 ];
 
 #[test]
 fn areas_meet(rt: HostRuntime) {
     let alloc = rt.alloc();
-    for (one, two, both) in MEETINGS {
-        assert!(rt; meet_in(alloc, *one, *two, *both) == Some(true));
+    for names in MEETINGS {
+        assert!(rt; meet_in(alloc, names) == Some(true));
     }
+}
+
+// Whether two areas do not meet.
+fn are_apart(one: Option<&Area>, two: Option<&Area>) -> Option<bool> {
+    Some(one?.intersect(two?).ok()?.is_none())
+}
+
+// Whether these do not.
+fn early_and_late_are_apart(alloc: Global) -> Option<bool> {
+    are_apart(
+        area_named(alloc, Sample::Early).as_ref(),
+        area_named(alloc, Sample::Late).as_ref(),
+    )
+}
+
+#[test]
+fn areas_do_not_meet(rt: HostRuntime) {
+    assert!(rt; early_and_late_are_apart(rt.alloc()) == Some(true));
+}
+
+// Whether the first of two areas includes the second.
+fn includes(outer: Option<&Area>, inner: Option<&Area>) -> Option<bool> {
+    Some(outer?.includes_area(inner?))
+}
+
+// The same of areas by name.
+fn lies_within(alloc: Global, outer: Sample, inner: Sample) -> Option<bool> {
+    includes(
+        area_named(alloc, outer).as_ref(),
+        area_named(alloc, inner).as_ref(),
+    )
 }
 
 const WITHIN: &[(Sample, Sample, bool)] = &[
@@ -118,11 +144,19 @@ fn areas_lie_within(rt: HostRuntime) {
     }
 }
 
-// Whether the area of one user, two components and times includes this place.
-fn early_deep_includes(alloc: Global, kind: u8, parts: &[&[u8]], time: u64) -> Option<bool> {
-    let area = area_named(alloc, Sample::EarlyDeep)?;
-    let path = path_of(alloc, parts)?;
-    Some(area.includes(&key_of(kind, 7)?, &path, time))
+// Whether an area includes this place.
+fn has(area: Option<&Area>, key: Option<UserKey>, path: Option<&Path>, time: u64) -> Option<bool> {
+    Some(area?.includes(&key?, path?, time))
+}
+
+// Whether the area of one user, two components and times includes a place.
+fn early_deep_has(alloc: Global, kind: u8, parts: &[&[u8]], time: u64) -> Option<bool> {
+    has(
+        area_named(alloc, Sample::EarlyDeep).as_ref(),
+        key_of(kind, 7),
+        path_of(alloc, parts).as_ref(),
+        time,
+    )
 }
 
 const PLACES: &[(u8, Parts, u64, bool)] = &[
@@ -136,15 +170,27 @@ const PLACES: &[(u8, Parts, u64, bool)] = &[
 fn areas_include_places(rt: HostRuntime) {
     let alloc = rt.alloc();
     for (kind, parts, time, due) in PLACES {
-        assert!(rt; early_deep_includes(alloc, *kind, parts, *time) == Some(*due));
+        assert!(rt; early_deep_has(alloc, *kind, parts, *time) == Some(*due));
     }
 }
 
-// Whether the keys of the box of the last user of this kind end at this key, where it is given.
-fn ends_at(alloc: Global, kind: u8, end: Option<UserKey>) -> Option<bool> {
-    let last = key_of(kind, 0xff)?;
-    let area = area_of(Some(last), Path::empty(alloc), 0, None)?;
-    Some(box_of(alloc, &area).ok()?.key_end() == end.as_ref())
+// The box of an area.
+fn box_at(alloc: Global, area: Option<&Area>) -> Option<Box3> {
+    box_of(alloc, area?).ok()
+}
+
+// The box of the last user of this kind.
+fn last_box(alloc: Global, kind: u8) -> Option<Box3> {
+    let area = area_of(Some(key_of(kind, 0xff)?), Path::empty(alloc), 0, None);
+    box_at(alloc, area.as_ref())
+}
+
+// Whether its keys end at this key, where it is given.
+fn ends_at(alloc: Global, kind: u8, end: Option<UserKey>) -> bool {
+    match &last_box(alloc, kind) {
+        Some(b) => b.key_end() == end.as_ref(),
+        None => false,
+    }
 }
 
 #[test]
@@ -153,33 +199,51 @@ fn boxes_of_areas(rt: HostRuntime) {
         ends_at(rt.alloc(), 1, None),
         ends_at(rt.alloc(), 0, key_of(1, 0)),
     ];
-    assert!(rt; found == [Some(true); 2]);
+    assert!(rt; found == [true; 2]);
 }
 
 // The box of one user's area, its paths unbounded and its times below 10.
 fn whole_box(alloc: Global) -> Option<Box3> {
-    let area = area_of(key_of(0, 7), Path::empty(alloc), 0, Some(10))?;
-    box_of(alloc, &area).ok()
+    let area = area_of(key_of(0, 7), Path::empty(alloc), 0, Some(10));
+    box_at(alloc, area.as_ref())
 }
 
-// The halves of that box, cut there.
-fn halves(alloc: Global, at: CutAt) -> Option<(Box3, Box3)> {
-    whole_box(alloc)?.cut(&at).ok()
+// The halves of a box, cut there.
+fn cut(whole: Option<&Box3>, at: &CutAt) -> Option<(Box3, Box3)> {
+    whole?.cut(at).ok()
 }
 
-// Whether the halves of that box, cut at a path of one component, include this path.
-fn halves_include(alloc: Global, parts: &[&[u8]]) -> Option<(bool, bool)> {
-    let (user, path) = (key_of(0, 7)?, path_of(alloc, parts)?);
-    let (lower, upper) = halves(alloc, CutAt::Path(path_of(alloc, &[b"\x14"])?))?;
+// The halves of that box, cut at a path of one component.
+fn path_halves(alloc: Global) -> Option<(Box3, Box3)> {
+    let at = CutAt::Path(path_of(alloc, &[b"\x14"])?);
+    cut(whole_box(alloc).as_ref(), &at)
+}
+
+// Whether each of two halves includes a path of the user.
+fn include(
+    halves: Option<&(Box3, Box3)>,
+    user: Option<UserKey>,
+    path: Option<&Path>,
+) -> Option<(bool, bool)> {
+    let ((lower, upper), user, path) = (halves?, user?, path?);
     Some((
-        lower.includes(&user, &path, 9),
-        upper.includes(&user, &path, 9),
+        lower.includes(&user, path, 9),
+        upper.includes(&user, path, 9),
     ))
+}
+
+// Whether those halves include this path.
+fn halves_include(alloc: Global, parts: &[&[u8]]) -> Option<(bool, bool)> {
+    include(
+        path_halves(alloc).as_ref(),
+        key_of(0, 7),
+        path_of(alloc, parts).as_ref(),
+    )
 }
 
 // The ends and starts of the times of that box's halves, cut at this time.
 fn halves_times(alloc: Global, at: u64) -> Option<(Option<u64>, u64)> {
-    let (lower, upper) = halves(alloc, CutAt::Time(at))?;
+    let (lower, upper) = &cut(whole_box(alloc).as_ref(), &CutAt::Time(at))?;
     Some((lower.times().end(), upper.times().start()))
 }
 
@@ -202,38 +266,50 @@ fn boxes_are_cut_at_times(rt: HostRuntime) {
     assert!(rt; halves_times(rt.alloc(), 4) == Some((Some(4), 4)));
 }
 
-// Whether that box cannot be cut there.
-fn is_outside(alloc: Global, at: CutAt) -> Option<bool> {
-    Some(whole_box(alloc)?.cut(&at).err() == Some(End::Refused(CutOutside)))
+// Whether a box cannot be cut there.
+fn is_refused(whole: Option<&Box3>, at: &CutAt) -> bool {
+    match whole {
+        Some(whole) => whole.cut(at).err() == Some(End::Refused(CutOutside)),
+        None => false,
+    }
 }
 
-// Whether that box cannot be cut at the empty path, nor at its user.
-fn starts_are_outside(alloc: Global) -> Option<(bool, bool)> {
-    let path = is_outside(alloc, CutAt::Path(Path::empty(alloc)))?;
-    Some((path, is_outside(alloc, CutAt::Subspace(key_of(0, 7)?))?))
+// Whether that box cannot.
+fn is_outside(alloc: Global, at: &CutAt) -> bool {
+    is_refused(whole_box(alloc).as_ref(), at)
+}
+
+// Whether it cannot be cut at its user.
+fn start_is_outside(alloc: Global) -> Option<bool> {
+    Some(is_outside(alloc, &CutAt::Subspace(key_of(0, 7)?)))
 }
 
 #[test]
 fn boxes_are_not_cut_outside(rt: HostRuntime) {
-    let starts = starts_are_outside(rt.alloc());
-    let first = is_outside(rt.alloc(), CutAt::Time(0));
-    let end = is_outside(rt.alloc(), CutAt::Time(10));
-    assert!(rt; (starts, first, end) == (Some((true, true)), Some(true), Some(true)));
+    let alloc = rt.alloc();
+    let user = start_is_outside(alloc);
+    let path = is_outside(alloc, &CutAt::Path(Path::empty(alloc)));
+    let first = is_outside(alloc, &CutAt::Time(0));
+    let end = is_outside(alloc, &CutAt::Time(10));
+    assert!(rt; (user, path, first, end) == (Some(true), true, true, true));
 }
 
-// Whether the paths of a box start at this one and end at that one, where it is given.
-fn has_paths(alloc: Global, b: &Box3, start: &[&[u8]], end: Option<Parts>) -> Option<bool> {
-    let start = path_of(alloc, start)?;
-    let end = match end {
-        None => None,
-        Some(parts) => Some(path_of(alloc, parts)?),
-    };
-    Some(*b.path_start() == start && b.path_end() == end.as_ref())
+// Whether the paths of a box start at the path of these components.
+fn starts_at_path(alloc: Global, b: &Box3, parts: &[&[u8]]) -> Option<bool> {
+    Some(*b.path_start() == path_of(alloc, parts)?)
+}
+
+// Whether they end at that of those, where they are given.
+fn ends_at_path(alloc: Global, b: &Box3, parts: Option<Parts>) -> Option<bool> {
+    match parts {
+        None => Some(b.path_end().is_none()),
+        Some(parts) => Some(*b.path_end()? == path_of(alloc, parts)?),
+    }
 }
 
 // Whether the keys of a box start at this one and end at that one, where it is given.
-fn has_keys(b: &Box3, start: &UserKey, end: Option<&UserKey>) -> bool {
-    b.key_start() == start && b.key_end() == end
+fn has_keys(b: &Box3, start: Option<UserKey>, end: Option<&UserKey>) -> bool {
+    Some(b.key_start()) == start.as_ref() && b.key_end() == end
 }
 
 // The least key above that of kind 0 whose body is 32 times the byte 07.
@@ -244,18 +320,33 @@ fn key_after() -> Option<UserKey> {
     UserKey::from_bytes(bytes)
 }
 
-// A copy of the box of one user's area at a path.
-fn copied_box(alloc: Global, parts: &[&[u8]]) -> Option<Box3> {
-    let area = area_of(key_of(0, 7), path_of(alloc, parts)?, 3, Some(10))?;
-    box_of(alloc, &area).ok()?.copy().ok()
+// The box of one user's area at a path.
+fn user_box(alloc: Global, parts: &[&[u8]]) -> Option<Box3> {
+    let area = area_of(key_of(0, 7), path_of(alloc, parts)?, 3, Some(10));
+    box_at(alloc, area.as_ref())
 }
 
-// Whether such a copy tells its keys, this path, this end and its times.
-fn copy_tells(alloc: Global, parts: &[&[u8]], end: Option<Parts>) -> Option<(bool, bool, bool)> {
-    let copy = copied_box(alloc, parts)?;
-    let keys = has_keys(&copy, &key_of(0, 7)?, key_after().as_ref());
-    let times = *copy.times() == TimeRange::new(3, Some(10))?;
-    Some((keys, times, has_paths(alloc, &copy, parts, end)?))
+// A copy of a box.
+fn copied(b: Option<&Box3>) -> Option<Box3> {
+    b?.copy().ok()
+}
+
+// Whether a box tells that user's keys, this path, this end and its times.
+fn tells(alloc: Global, b: &Box3, parts: &[&[u8]], end: Option<Parts>) -> Option<[bool; 4]> {
+    Some([
+        has_keys(b, key_of(0, 7), key_after().as_ref()),
+        *b.times() == TimeRange::new(3, Some(10))?,
+        starts_at_path(alloc, b, parts)?,
+        ends_at_path(alloc, b, end)?,
+    ])
+}
+
+// Whether a copy of that user's box does.
+fn copy_tells(alloc: Global, parts: &[&[u8]], end: Option<Parts>) -> bool {
+    match &copied(user_box(alloc, parts).as_ref()) {
+        Some(copy) => tells(alloc, copy, parts, end) == Some([true; 4]),
+        None => false,
+    }
 }
 
 const COPIES: &[(Parts, Option<Parts>)] = &[
@@ -268,29 +359,36 @@ const COPIES: &[(Parts, Option<Parts>)] = &[
 fn boxes_tell_their_ranges(rt: HostRuntime) {
     let alloc = rt.alloc();
     for (parts, end) in COPIES {
-        assert!(rt; copy_tells(alloc, parts, *end) == Some((true, true, true)));
+        assert!(rt; copy_tells(alloc, parts, *end));
     }
 }
 
 // The box of everything, cut at a key.
 fn cut_at_key(alloc: Global, key: UserKey) -> Option<(Box3, Box3)> {
-    let whole = box_of(alloc, &Area::full(alloc)).ok()?;
-    whole.cut(&CutAt::Subspace(key)).ok()
+    let whole = box_at(alloc, Some(&Area::full(alloc)));
+    cut(whole.as_ref(), &CutAt::Subspace(key))
 }
 
-// Whether its halves have the keys below and those from it on, and whether each has every path.
-fn is_cut_at_key(alloc: Global, kind: u8, byte: u8) -> Option<((bool, bool), (bool, bool))> {
-    let (least, key) = (key_of(0, 0)?, key_of(kind, byte)?);
-    let (lower, upper) = cut_at_key(alloc, key)?;
-    let below = has_keys(&lower, &least, Some(&key));
-    let above = has_keys(&upper, &key, None);
-    let paths = (has_every_path(alloc, &lower), has_every_path(alloc, &upper));
-    Some(((below, above), paths))
+// Whether a box has every path from the empty one on.
+fn has_every_path(b: &Box3) -> bool {
+    b.path_start().count() == 0 && b.path_end().is_none()
 }
 
-// Whether the paths of a box start at the empty one and have no end.
-fn has_every_path(alloc: Global, b: &Box3) -> bool {
-    *b.path_start() == Path::empty(alloc) && b.path_end().is_none()
+// Whether two halves have the keys below and those from this one on, and whether each has every path.
+fn are_cut_at(lower: &Box3, upper: &Box3, key: UserKey) -> [bool; 4] {
+    [
+        has_keys(lower, key_of(0, 0), Some(&key)),
+        has_keys(upper, Some(key), None),
+        has_every_path(lower),
+        has_every_path(upper),
+    ]
+}
+
+// The same of the halves of that box; None where it is not cut.
+fn is_cut_at_key(alloc: Global, kind: u8, byte: u8) -> Option<[bool; 4]> {
+    let key = key_of(kind, byte)?;
+    let (lower, upper) = &cut_at_key(alloc, key)?;
+    Some(are_cut_at(lower, upper, key))
 }
 
 const KEYS: &[(u8, u8)] = &[(0, 1), (0, 7), (1, 0xff)];
@@ -299,7 +397,7 @@ const KEYS: &[(u8, u8)] = &[(0, 1), (0, 7), (1, 0xff)];
 fn boxes_are_cut_at_keys(rt: HostRuntime) {
     let alloc = rt.alloc();
     for (kind, byte) in KEYS {
-        assert!(rt; is_cut_at_key(alloc, *kind, *byte) == Some(((true, true), (true, true))));
+        assert!(rt; is_cut_at_key(alloc, *kind, *byte) == Some([true; 4]));
     }
 }
 

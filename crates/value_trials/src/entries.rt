@@ -11,7 +11,7 @@ use willow_entry::{
     by_place, by_rank, by_subspace_path, cover, covers, dominates, encode_row_frame, entry_message,
     newer, put_row_message, read_entry, row_message, same,
 };
-use willow_path::{Digest, NamespaceKey, NoMemory, UserKey};
+use willow_path::{Digest, NamespaceKey, NoMemory, Path, UserKey};
 
 // A timestamp, the bytes of a digest, and a length.
 type Numbers = (u64, u8, u64);
@@ -34,14 +34,26 @@ fn row(alloc: Global, parts: &[&[u8]], time: u64, token: u8) -> Option<BareRow> 
     BareRow::new(alloc, entry, token).ok()
 }
 
-// Whether an entry of the first numbers is newer than one of the second, and its rank above.
-fn is_newer(alloc: Global, e: Numbers, f: Numbers) -> Option<(bool, bool)> {
-    let above = by_rank(
+// Whether a rank of the first numbers is above one of the second.
+fn is_above(e: Numbers, f: Numbers) -> bool {
+    by_rank(
         &Rank::new(e.0, &Digest([e.1; 32]), e.2),
         &Rank::new(f.0, &Digest([f.1; 32]), f.2),
-    );
-    let (e, f) = (entry(alloc, &[b"a"], e)?, entry(alloc, &[b"b"], f)?);
-    Some((newer(&e, &f), above.is_gt()))
+    )
+    .is_gt()
+}
+
+// Whether the first entry is newer than the second.
+fn comes_later(e: Option<&Entry>, f: Option<&Entry>) -> Option<bool> {
+    Some(newer(e?, f?))
+}
+
+// Whether an entry of the first numbers is newer than one of the second.
+fn is_newer(alloc: Global, e: Numbers, f: Numbers) -> Option<bool> {
+    comes_later(
+        entry(alloc, &[b"a"], e).as_ref(),
+        entry(alloc, &[b"b"], f).as_ref(),
+    )
 }
 
 const NEWER: &[(Numbers, Numbers, bool)] = &[
@@ -56,18 +68,24 @@ const NEWER: &[(Numbers, Numbers, bool)] = &[
 fn newer_by_timestamp_then_digest_then_length(rt: HostRuntime) {
     let alloc = rt.alloc();
     for (e, f, due) in NEWER {
-        assert!(rt; is_newer(alloc, *e, *f) == Some((*due, *due)));
+        assert!(rt; (is_newer(alloc, *e, *f), is_above(*e, *f)) == (Some(*due), *due));
     }
 }
 
 // A row's path, timestamp and token.
 type Place = (Parts, u64, u8);
 
+// Whether the first row dominates the second.
+fn is_over(r: Option<&BareRow>, s: Option<&BareRow>) -> Option<bool> {
+    Some(dominates(r?, s?))
+}
+
 // Whether a row at the first path dominates one at the second.
 fn prunes(alloc: Global, r: Place, s: Place) -> Option<bool> {
-    let r = row(alloc, r.0, r.1, r.2)?;
-    let s = row(alloc, s.0, s.1, s.2)?;
-    Some(dominates(&r, &s))
+    is_over(
+        row(alloc, r.0, r.1, r.2).as_ref(),
+        row(alloc, s.0, s.1, s.2).as_ref(),
+    )
 }
 
 const PRUNED: &[(Place, Place, bool)] = &[
@@ -89,13 +107,25 @@ fn domination(rt: HostRuntime) {
 // Three rows, of which the second covers what stands at its extensions.
 const THREE: &[(Parts, u64)] = &[(&[b"b"], 9), (&[b"a"], 6), (&[b"a", b"b"], 7)];
 
-// The place of the first of the three rows that covers one at this path.
-fn cover_of(alloc: Global, parts: &[&[u8]]) -> Option<Option<usize>> {
+fn three_rows(alloc: Global) -> Option<Vec<BareRow>> {
     let mut rows = Vec::new(alloc);
     for (parts, time) in THREE {
         rows.push(row(alloc, parts, *time, 0)?).ok()?;
     }
-    Some(cover(&rows, &row(alloc, parts, 5, 0)?))
+    Some(rows)
+}
+
+// The place of the first of some rows that covers this one.
+fn cover_in(rows: Option<&Vec<BareRow>>, row: Option<&BareRow>) -> Option<Option<usize>> {
+    Some(cover(rows?, row?))
+}
+
+// The place of the first of the three rows that covers one at this path.
+fn cover_of(alloc: Global, parts: &[&[u8]]) -> Option<Option<usize>> {
+    cover_in(
+        three_rows(alloc).as_ref(),
+        row(alloc, parts, 5, 0).as_ref(),
+    )
 }
 
 #[test]
@@ -141,28 +171,39 @@ fn shared_timestamp<R: SharedRow>(row: &R) -> u64 {
 }
 
 // Whether a row and its copy are the same and cover each other, how their places are ordered, and the copy's timestamp.
-fn copied(alloc: Global) -> Option<(bool, bool, Ordering, u64)> {
-    let made = row(alloc, &[b"a"], 6, 0)?;
-    let copy = made.copy().ok()?;
-    Some((
-        same(&made, &copy),
-        covers(&made, &copy),
-        by_place(&made, &copy),
-        shared_timestamp(&copy),
-    ))
+type Copied = (bool, bool, Ordering, u64);
+
+fn beside(made: &BareRow, copy: &BareRow) -> Copied {
+    (
+        same(made, copy),
+        covers(made, copy),
+        by_place(made, copy),
+        shared_timestamp(copy),
+    )
+}
+
+// What is told of a row and its copy.
+fn copied(made: &BareRow) -> Option<Copied> {
+    Some(beside(made, &made.copy().ok()?))
 }
 
 // The pass and the timestamp of a copy of a logged row.
-fn copied_log(alloc: Global) -> Option<(u32, u64)> {
-    let row = row(alloc, &[b"a"], 6, 0)?;
-    let again = LogRow { pass: 3, row }.copy().ok()?;
+fn copied_log(held: &LogRow<BareRow>) -> Option<(u32, u64)> {
+    let again = held.copy().ok()?;
     Some((again.pass, again.row.entry().timestamp))
+}
+
+// What is told of the copies of a row, alone and in a log.
+fn row_copied(alloc: Global) -> Option<(Option<Copied>, Option<(u32, u64)>)> {
+    let row = row(alloc, &[b"a"], 6, 0)?;
+    let held = LogRow { pass: 3, row };
+    Some((copied(&held.row), copied_log(&held)))
 }
 
 #[test]
 fn copies(rt: HostRuntime) {
-    let found = (copied(rt.alloc()), copied_log(rt.alloc()));
-    assert!(rt; found == (Some((true, true, Ordering::Equal, 6)), Some((3, 6))));
+    let due = (Some((true, true, Ordering::Equal, 6)), Some((3, 6)));
+    assert!(rt; row_copied(rt.alloc()) == Some(due));
 }
 
 // A copy of a row that is kept once.
@@ -172,19 +213,27 @@ fn kept_copy(alloc: Global, row: &BareRow) -> Option<OnceKept> {
 }
 
 // Whether a row is the same as one of another type, how their places are ordered, and the other's timestamp.
-fn in_two_types(alloc: Global) -> Option<(bool, Ordering, u64)> {
-    let made = row(alloc, &[b"a"], 6, 0)?;
-    let kept = kept_copy(alloc, &made)?;
-    Some((
-        same(&made, &kept),
-        by_inner_place(&kept, &made),
-        shared_timestamp(&kept),
-    ))
+fn across(made: &BareRow, kept: &OnceKept) -> (bool, Ordering, u64) {
+    (
+        same(made, kept),
+        by_inner_place(kept, made),
+        shared_timestamp(kept),
+    )
+}
+
+// What is told of a row and its copy that is kept once.
+fn in_two_types(alloc: Global, made: &BareRow) -> Option<(bool, Ordering, u64)> {
+    Some(across(made, &kept_copy(alloc, made)?))
+}
+
+// The same of a row that is made.
+fn row_in_two_types(alloc: Global) -> Option<(bool, Ordering, u64)> {
+    in_two_types(alloc, &row(alloc, &[b"a"], 6, 0)?)
 }
 
 #[test]
 fn rows_of_two_types(rt: HostRuntime) {
-    let found = in_two_types(rt.alloc());
+    let found = row_in_two_types(rt.alloc());
     let differ = Placed::Kept { by: 1 } != Placed::Stored { pruned: 1 };
     assert!(rt; (found, differ) == (Some((true, Ordering::Equal, 6)), true));
 }
@@ -192,11 +241,18 @@ fn rows_of_two_types(rt: HostRuntime) {
 // The byte of a key, and the component of a path.
 type Inner = (u8, &'static [u8]);
 
+// How a place of the first key and path is ordered against one of the second.
+fn ordered(keys: (UserKey, UserKey), p: Option<&Path>, q: Option<&Path>) -> Option<Ordering> {
+    Some(by_subspace_path((&keys.0, p?), (&keys.1, q?)))
+}
+
 // How two places of keys and paths are ordered.
 fn places_compared(alloc: Global, p: Inner, q: Inner) -> Option<Ordering> {
-    let p = (key_of(0, p.0)?, path_of(alloc, &[p.1])?);
-    let q = (key_of(0, q.0)?, path_of(alloc, &[q.1])?);
-    Some(by_subspace_path((&p.0, &p.1), (&q.0, &q.1)))
+    ordered(
+        (key_of(0, p.0)?, key_of(0, q.0)?),
+        path_of(alloc, &[p.1]).as_ref(),
+        path_of(alloc, &[q.1]).as_ref(),
+    )
 }
 
 const PLACES: &[(Inner, Inner, Ordering)] = &[
@@ -231,19 +287,29 @@ const TEXT: Parts = &[
     &[9],
 ];
 
-// Whether an entry is spelled so, and the length of the text of a longer one's copy.
-fn spelled(alloc: Global) -> Option<(bool, usize)> {
-    let text = text_of(alloc, &entry(alloc, &[b"a"], (0x0102, 0x11, 0x0304))?)?;
-    let longer = entry(alloc, &[b"a", b"b"], (5, 0x11, 1))?.copy().ok()?;
-    Some((
-        is_spelled(alloc, &text, TEXT)?,
-        text_of(alloc, &longer)?.len(),
-    ))
+// Whether an entry is spelled so.
+fn is_text(alloc: Global, entry: &Entry) -> Option<bool> {
+    is_spelled(alloc, &text_of(alloc, entry)?, TEXT)
+}
+
+// Whether one of these numbers is.
+fn spelled(alloc: Global) -> Option<bool> {
+    is_text(alloc, &entry(alloc, &[b"a"], (0x0102, 0x11, 0x0304))?)
+}
+
+// The length of the text of an entry's copy.
+fn copy_len(alloc: Global, entry: &Entry) -> Option<usize> {
+    Some(text_of(alloc, &entry.copy().ok()?)?.len())
+}
+
+// That length of a longer entry.
+fn longer_len(alloc: Global) -> Option<usize> {
+    copy_len(alloc, &entry(alloc, &[b"a", b"b"], (5, 0x11, 1))?)
 }
 
 #[test]
 fn spellings(rt: HostRuntime) {
-    assert!(rt; spelled(rt.alloc()) == Some((true, 120)));
+    assert!(rt; (spelled(rt.alloc()), longer_len(rt.alloc())) == (Some(true), Some(120)));
 }
 
 // The frame of a short row.
@@ -257,26 +323,28 @@ fn frame_of(alloc: Global, row: &BareRow) -> Option<Vec<u8>> {
 }
 
 // The lengths of the message and of the spelling of a row's entry, and whether the one is `E` and the other.
-fn message(alloc: Global) -> Option<(usize, usize, bool)> {
-    let row = row(alloc, &[b"a"], 5, 9)?;
+fn message(alloc: Global, row: &BareRow) -> Option<(usize, usize, bool)> {
     let message = entry_message(alloc, row.entry()).ok()?;
     let is_due = is_spelled(alloc, &message, &[b"E", row.entry_bytes()])?;
     Some((message.len(), row.entry().spelled_len(), is_due))
 }
 
-// Whether a row's message is its entry's, and is so behind another.
-fn row_messages(alloc: Global) -> Option<(bool, bool)> {
-    let row = row(alloc, &[b"a"], 5, 9)?;
+// A row's message, twice.
+fn twice(alloc: Global, row: &BareRow) -> Option<Vec<u8>> {
+    let mut text = row_message(alloc, row).ok()?;
+    put_row_message(row, &mut text).ok()?;
+    Some(text)
+}
+
+// Whether it is its entry's, twice.
+fn is_twice(alloc: Global, row: &BareRow) -> Option<bool> {
     let message = entry_message(alloc, row.entry()).ok()?;
-    let mut text = row_message(alloc, &row).ok()?;
-    let is_entry = text.as_slice() == message.as_slice();
-    put_row_message(&row, &mut text).ok()?;
-    Some((is_entry, is_spelled(alloc, &text, &[&message, &message])?))
+    is_spelled(alloc, &twice(alloc, row)?, &[&message, &message])
 }
 
 // The length of a row's frame, and whether it begins and ends so.
-fn framed(alloc: Global) -> Option<(usize, bool, bool)> {
-    let frame = frame_of(alloc, &row(alloc, &[b"a"], 5, 9)?)?;
+fn framed(alloc: Global, row: &BareRow) -> Option<(usize, bool, bool)> {
+    let frame = frame_of(alloc, row)?;
     Some((
         frame.len(),
         frame.starts_with(&[0, 0, 0, 118]),
@@ -284,54 +352,101 @@ fn framed(alloc: Global) -> Option<(usize, bool, bool)> {
     ))
 }
 
+// What is told of a row's messages and of its frame.
+type Written = (
+    Option<(usize, usize, bool)>,
+    Option<bool>,
+    Option<(usize, bool, bool)>,
+);
+
+fn written(alloc: Global) -> Option<Written> {
+    let row = row(alloc, &[b"a"], 5, 9)?;
+    Some((
+        message(alloc, &row),
+        is_twice(alloc, &row),
+        framed(alloc, &row),
+    ))
+}
+
 #[test]
 fn messages_and_frames(rt: HostRuntime) {
-    let messages = (message(rt.alloc()), row_messages(rt.alloc()));
-    let frame = framed(rt.alloc());
-    let due = (Some((118, 117, true)), Some((true, true)));
-    assert!(rt; (messages, frame) == (due, Some((122, true, true))));
+    let due = (
+        Some((118, 117, true)),
+        Some(true),
+        Some((122, true, true)),
+    );
+    assert!(rt; written(rt.alloc()) == Some(due));
 }
 
 // How many bytes of an entry's text are taken, and whether what is read has its path.
-fn decoded(alloc: Global) -> Option<(usize, bool)> {
-    let made = entry(alloc, &[b"a"], (5, 0x11, 1))?;
-    let (back, taken) = Entry::decode(alloc, &text_of(alloc, &made)?).ok()?;
+fn decoded(alloc: Global, made: &Entry, text: &[u8]) -> Option<(usize, bool)> {
+    let (back, taken) = Entry::decode(alloc, text).ok()?;
     Some((taken, back.path == made.path))
 }
 
 // Whether the entry that is read is newer than what was spelled, or the other way round.
-fn read_again(alloc: Global) -> Option<(bool, bool)> {
-    let made = entry(alloc, &[b"a"], (5, 0x11, 1))?;
-    let again = read_entry(alloc, &mut Input::new(&text_of(alloc, &made)?)).ok()?;
-    Some((newer(&again, &made), newer(&made, &again)))
+fn read_again(alloc: Global, made: &Entry, text: &[u8]) -> Option<(bool, bool)> {
+    let again = read_entry(alloc, &mut Input::new(text)).ok()?;
+    Some((newer(&again, made), newer(made, &again)))
 }
 
-// Whether a text that is cut is refused, and one of wrong bytes.
-fn refused(alloc: Global) -> Option<(bool, bool)> {
-    let text = text_of(alloc, &entry(alloc, &[b"a"], (5, 0x11, 1))?)?;
-    let is_cut_refused = Entry::decode(alloc, text.get(..116)?).is_err();
-    Some((is_cut_refused, Entry::decode(alloc, &[2; 117]).is_err()))
+// Whether a text that is cut is refused.
+fn is_cut_refused(alloc: Global, text: &[u8]) -> Option<bool> {
+    Some(Entry::decode(alloc, text.get(..116)?).is_err())
+}
+
+// What is told of an entry and its text.
+type Told = (Option<(usize, bool)>, Option<(bool, bool)>, Option<bool>);
+
+fn told(alloc: Global, made: &Entry, text: &[u8]) -> Told {
+    (
+        decoded(alloc, made, text),
+        read_again(alloc, made, text),
+        is_cut_refused(alloc, text),
+    )
+}
+
+// The same of an entry that is made.
+fn entry_told(alloc: Global) -> Option<Told> {
+    let made = entry(alloc, &[b"a"], (5, 0x11, 1))?;
+    Some(told(alloc, &made, &text_of(alloc, &made)?))
 }
 
 #[test]
 fn reading(rt: HostRuntime) {
-    let alloc = rt.alloc();
-    let found = (decoded(alloc), read_again(alloc), refused(alloc));
-    let due = (Some((117, true)), Some((false, false)), Some((true, true)));
-    assert!(rt; found == due);
+    let found = entry_told(rt.alloc());
+    let is_wrong_refused = Entry::decode(rt.alloc(), &[2; 117]).is_err();
+    let due = (Some((117, true)), Some((false, false)), Some(true));
+    assert!(rt; (found, is_wrong_refused) == (Some(due), true));
 }
 
-// Whether a row is read from its body, and whether one is read from other bytes.
-fn read_bodies(alloc: Global) -> Option<(bool, bool)> {
-    let made = row(alloc, &[b"a"], 5, 9)?;
-    let read = BareRows::read(alloc, &text_of(alloc, made.entry())?).ok()??;
-    let other = BareRows::read(alloc, &[2; 117]).ok()?;
-    Some((same(&read, &made), other.is_some()))
+// Whether a row that is read from these bytes is this one.
+fn is_body_of(alloc: Global, bytes: &[u8], made: &BareRow) -> bool {
+    match BareRows::read(alloc, bytes) {
+        Ok(Some(read)) => same(&read, made),
+        _ => false,
+    }
+}
+
+// Whether no row is read from these bytes.
+fn is_no_body(alloc: Global, bytes: &[u8]) -> bool {
+    matches!(BareRows::read(alloc, bytes), Ok(None))
+}
+
+// Whether a row is read from its body.
+fn is_read(alloc: Global, made: &BareRow) -> Option<bool> {
+    Some(is_body_of(alloc, &text_of(alloc, made.entry())?, made))
+}
+
+// The same of a row that is made.
+fn row_is_read(alloc: Global) -> Option<bool> {
+    is_read(alloc, &row(alloc, &[b"a"], 5, 9)?)
 }
 
 #[test]
 fn bodies(rt: HostRuntime) {
-    assert!(rt; read_bodies(rt.alloc()) == Some((true, false)));
+    let found = (row_is_read(rt.alloc()), is_no_body(rt.alloc(), &[2; 117]));
+    assert!(rt; found == (Some(true), true));
 }
 
 #[test]

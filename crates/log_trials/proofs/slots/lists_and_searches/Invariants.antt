@@ -1,5 +1,0 @@
--- The ledger that the counter names is the blank's.
-use Rattle.log_trials.proofs.slots.lists_and_searches.Given as goal
-
-abbrev pub ghosts-comes_out : goal.ghosts-comes_out
-ghosts-comes_out g a = record { name = a.blank.name; parts = a.blank.parts }
