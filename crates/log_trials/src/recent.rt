@@ -133,12 +133,7 @@ fn has_just(alloc: Global, index: &Recency, wanted: &[Spot]) -> Option<bool> {
 }
 
 // Whether the steps leave just the items of these entries of an index.
-fn leaves_of(
-    alloc: Global,
-    index: &mut Recency,
-    steps: &[Step],
-    wanted: &[Spot],
-) -> Option<bool> {
+fn leaves_of(alloc: Global, index: &mut Recency, steps: &[Step], wanted: &[Spot]) -> Option<bool> {
     for step in steps {
         run(alloc, index, *step)?;
     }

@@ -120,13 +120,7 @@ fn samples(alloc: Global, from: u32, to: u32, round: u32) -> Option<Vec<Item>> {
 }
 
 // Whether both lists of the arena are those of some samples of one round.
-fn has_samples(
-    alloc: Global,
-    arena: &Arena<Item>,
-    from: u32,
-    to: u32,
-    round: u32,
-) -> Option<bool> {
+fn has_samples(alloc: Global, arena: &Arena<Item>, from: u32, to: u32, round: u32) -> Option<bool> {
     agrees(alloc, arena, &samples(alloc, from, to, round)?)
 }
 

@@ -122,10 +122,7 @@ fn cover_in(rows: Option<&Vec<BareRow>>, row: Option<&BareRow>) -> Option<Option
 
 // The place of the first of the three rows that covers one at this path.
 fn cover_of(alloc: Global, parts: &[&[u8]]) -> Option<Option<usize>> {
-    cover_in(
-        three_rows(alloc).as_ref(),
-        row(alloc, parts, 5, 0).as_ref(),
-    )
+    cover_in(three_rows(alloc).as_ref(), row(alloc, parts, 5, 0).as_ref())
 }
 
 #[test]
@@ -370,11 +367,7 @@ fn written(alloc: Global) -> Option<Written> {
 
 #[test]
 fn messages_and_frames(rt: HostRuntime) {
-    let due = (
-        Some((118, 117, true)),
-        Some(true),
-        Some((122, true, true)),
-    );
+    let due = (Some((118, 117, true)), Some(true), Some((122, true, true)));
     assert!(rt; written(rt.alloc()) == Some(due));
 }
 
