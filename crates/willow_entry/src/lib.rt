@@ -12,7 +12,6 @@ mod placed;
 mod rank;
 mod row;
 mod row_form;
-mod shared_row;
 
 pub use bare_row::{BareRow, BareRows};
 pub use entry::{Entry, newer};
