@@ -229,7 +229,7 @@ def main():
     if sys.argv[1:] != ["--check"]:
         print(",\n".join(lines))
         return 0
-    table = re.search(r"const MADE: .*?= \[(.*?)\n\];", TESTS.read_text(), re.S)
+    table = re.search(r"(?:const|static) MADE: .*?= \[(.*?)\n\];", TESTS.read_text(), re.S)
     same = table is not None and words(table.group(1)) == words(" ".join(lines))
     print("the table is the same" if same else "the table differs")
     return 0 if same else 1

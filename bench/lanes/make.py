@@ -53,7 +53,7 @@ def main():
         if sys.argv[1:] != ["--check"]:
             print(name, ",\n".join(lines), sep="\n")
             continue
-        found = re.search(rf"const {name}: .*?=(.*?);\n", TESTS.read_text(), re.S)
+        found = re.search(rf"(?:const|static) {name}: .*?=(.*?);\n", TESTS.read_text(), re.S)
         if found is None or words(found.group(1)) != words(" ".join(lines)):
             print(f"{name} differs")
             wrong += 1

@@ -73,7 +73,7 @@ def main():
         text = tests.read()
     wrong = 0
     for name, rows in tables.items():
-        stored = re.search(rf"const {name}: .*? = \[(.*?)\];", text, re.S).group(1)
+        stored = re.search(rf"(?:const|static) {name}: .*? = \[(.*?)\];", text, re.S).group(1)
         found = [tuple(map(int, row.split(","))) for row in re.findall(r"\(([^)]*)\)", stored)]
         wrong += found != rows
         print(name, "as stored" if found == rows else "DIFFERENT")

@@ -26,7 +26,7 @@ fn choice(wanted: &Wanted) -> Option<Choice> {
 const ALL: Place = (None, 0, None);
 
 // The rows of some runs, an area, and what is chosen for the rows in its box.
-const CHOICES: [(&'static [Run], Place, Wanted); 17] = [
+static CHOICES: [(&[Run], Place, Wanted); 17] = [
     // few rows are told by all of them
     (&[], ALL, Wanted::Entries),
     (&[(b'N', b'U', 0, 16)], ALL, Wanted::Entries),
@@ -107,8 +107,9 @@ const CHOICES: [(&'static [Run], Place, Wanted); 17] = [
 
 #[test]
 fn choices(rt: HostRuntime) {
+    let alloc = rt.alloc();
     for (runs, place, wanted) in &CHOICES {
-        assert!(rt; chosen(rt.alloc(), runs, place) == choice(wanted));
+        assert!(rt; chosen(alloc, runs, place) == choice(wanted));
     }
 }
 

@@ -1,6 +1,7 @@
 //! Meetings item by item, and items that are refused, as tables.
 
-use crate::sides::{Meeting, Told, meeting, refusal, side};
+use crate::rows::Bytes;
+use crate::sides::{Side, Told, refusal, say_just, side};
 use std::alloc::Global;
 use std::test::*;
 use sync_core::{CoreRefusal, Role};
@@ -70,60 +71,50 @@ const EMPTY: [Told; 5] = [(1, 0), (6, 0), (2, 0), (7, 0), (7, 0)];
 
 const BYES: [Told; 2] = [(7, 0), (7, 0)];
 
-// All that a caller and an answerer say, by their rows, a newer row of the answerer, and whether they have an area.
-fn said(
+// The rows of two sides, whether they have an area, what is said, and how many counted items the caller sends and reads.
+type Case = (Bytes, Bytes, bool, &'static [Told], (u32, u32));
+
+static CASES: [Case; 4] = [
+    ((0, 40, None), (0, 40, Some(25)), true, &FORTY, (4, 3)),
+    ((0, 0, None), (0, 17, None), true, &SEVENTEEN, (3, 3)),
+    ((0, 0, None), (0, 0, None), true, &EMPTY, (1, 1)),
+    ((0, 40, None), (0, 40, None), false, &BYES, (0, 0)),
+];
+
+// Whether two sides, where they could be made, say what the case says.
+fn say_so(
     alloc: Global,
-    caller: (u8, u8),
-    answerer: (u8, u8),
-    newer: Option<u8>,
-    has_area: bool,
-) -> Option<Meeting> {
-    let left = side(alloc, Role::Caller, caller, None, has_area)?;
-    let right = side(alloc, Role::Answerer, answerer, newer, has_area)?;
-    meeting(left, right, alloc)
+    left: Option<&mut Side>,
+    right: Option<&mut Side>,
+    case: &Case,
+) -> Option<bool> {
+    let (_, _, _, wanted, items) = case;
+    Some(say_just(alloc, left?, right?, wanted, *items))
 }
 
-// The rows of two sides, a newer row of the answerer, whether they have an area, what is said, and how many counted
-// items the caller sends and reads.
-type Case = (
-    (u8, u8),
-    (u8, u8),
-    Option<u8>,
-    bool,
-    &'static [Told],
-    (u32, u32),
-);
-
-const CASES: [Case; 4] = [
-    ((0, 40), (0, 40), Some(25), true, &FORTY, (4, 3)),
-    ((0, 0), (0, 17), None, true, &SEVENTEEN, (3, 3)),
-    ((0, 0), (0, 0), None, true, &EMPTY, (1, 1)),
-    ((0, 40), (0, 40), None, false, &BYES, (0, 0)),
-];
+// Whether the sides of a case do.
+fn meet_so(alloc: Global, case: &Case) -> Option<bool> {
+    let (caller, answerer, has_area, _, _) = case;
+    say_so(
+        alloc,
+        side(alloc, Role::Caller, caller, *has_area).as_mut(),
+        side(alloc, Role::Answerer, answerer, *has_area).as_mut(),
+        case,
+    )
+}
 
 #[test]
 fn meetings(rt: HostRuntime) {
-    for (caller, answerer, newer, has_area, wanted, items) in &CASES {
-        let all = said(rt.alloc(), *caller, *answerer, *newer, *has_area);
-        assert!(rt; all.is_some_and(|all| all.0.as_slice() == *wanted && all.1 == *items));
+    let alloc = rt.alloc();
+    for case in &CASES {
+        assert!(rt; meet_so(alloc, case) == Some(true));
     }
-}
-
-// Why a side with forty rows refuses the last of some items, and how many it heard before.
-fn refused(
-    alloc: Global,
-    role: Role,
-    has_area: bool,
-    items: &[Told],
-) -> Option<(u32, CoreRefusal)> {
-    let side = side(alloc, role, (0, 40), None, has_area)?;
-    refusal(alloc, side, items)
 }
 
 // A side, whether it has an area, what it hears, and why it refuses the last item.
 type Refusal = (Role, bool, &'static [Told], CoreRefusal);
 
-const REFUSALS: [Refusal; 20] = [
+static REFUSALS: [Refusal; 20] = [
     // a cut at the empty path, of all paths
     (Role::Caller, true, &[(3, 255)], CoreRefusal::BadCut),
     // and at the path of the cut before it
@@ -215,15 +206,29 @@ const REFUSALS: [Refusal; 20] = [
     ),
 ];
 
+// Why a side with forty rows refuses the last of some items, and how many it heard before.
+fn refused(alloc: Global, line: &Refusal) -> Option<(u32, CoreRefusal)> {
+    let (role, has_area, items, _) = line;
+    refusal(
+        alloc,
+        &mut side(alloc, *role, &(0, 40, None), *has_area)?,
+        items,
+    )
+}
+
+// Whether it is the last of the items, refused so.
+fn is_refused_last(alloc: Global, line: &Refusal) -> bool {
+    let (_, _, items, wanted) = line;
+    match refused(alloc, line) {
+        Some((heard, cause)) => items.len() as u64 == u64::from(heard) + 1 && cause == *wanted,
+        None => false,
+    }
+}
+
 #[test]
 fn refusals(rt: HostRuntime) {
-    for (role, has_area, items, wanted) in &REFUSALS {
-        let was = refused(rt.alloc(), *role, *has_area, items);
-        assert!(rt;
-            was.is_some_and(|(heard, cause)| {
-                usize::try_from(heard).is_ok_and(|heard| items.len() == heard + 1)
-                    && cause == *wanted
-            })
-        );
+    let alloc = rt.alloc();
+    for refusal in &REFUSALS {
+        assert!(rt; is_refused_last(alloc, refusal));
     }
 }

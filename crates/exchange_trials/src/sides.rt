@@ -1,14 +1,13 @@
 //! Sides over rows of one subspace, and what they say and hear, told in numbers.
 
 use crate::areas::area;
-use crate::keys::{key, user};
-use block_store::{BlockStore, Snapshot};
+use crate::rows::{Bytes, path_of, place, row, rows_of};
 use spelling::End;
 use std::alloc::Global;
 use sync_core::{CoreRefusal, Item, OutItem, Role, SNAPSHOT_MAX, Stage, SyncCore};
-use willow_area::CutAt;
-use willow_entry::{BareRow, Entry, Row};
-use willow_path::{Digest, NamespaceKey, Path};
+use willow_area::{Area, CutAt};
+use willow_entry::{BareRow, Row};
+use willow_path::Path;
 
 // A side of BareRows.
 pub(crate) type Side = SyncCore<BareRow>;
@@ -17,64 +16,29 @@ pub(crate) type Side = SyncCore<BareRow>;
 // number of rows, or the byte of the path of the row.
 pub(crate) type Told = (u8, u32);
 
-// All that was said, and how many counted items the caller sent and read.
-pub(crate) type Meeting = (Vec<Told>, (u32, u32));
-
-// A path of this byte.
-fn path(alloc: Global, byte: u8) -> Option<Path> {
-    let mut path = Path::empty(alloc);
-    path.push(&[byte]).ok()?;
-    Some(path)
+// The row at a path of this byte, of time 100.
+fn row_at(alloc: Global, byte: u8) -> Option<BareRow> {
+    let (place, path) = (place(b'N', b'U')?, path_of(alloc, &[byte])?);
+    row(alloc, place, path, 100, Vec::new(alloc))
 }
 
-// The row at a path of this byte, of a time.
-fn row(alloc: Global, byte: u8, time: u64) -> Option<BareRow> {
-    let entry = Entry {
-        namespace: NamespaceKey::from_bytes(key(b'N'))?,
-        subspace: user(b'U')?,
-        path: path(alloc, byte)?,
-        timestamp: time,
-        length: 1,
-        digest: Digest([0x11; 32]),
-    };
-    BareRow::new(alloc, entry, Vec::new(alloc)).ok()
-}
-
-// The rows of these bytes, each with its byte and 100 as its time; one of them may be of time 200.
-fn snapshot(alloc: Global, rows: (u8, u8), newer: Option<u8>) -> Option<Snapshot<BareRow>> {
-    let mut store = BlockStore::new(alloc);
-    for byte in rows.0..rows.1 {
-        let time = if newer == Some(byte) {
-            200
-        } else {
-            100 + u64::from(byte)
-        };
-        if store.is_full() {
-            return None;
-        }
-        let _placed = store.ingest(row(alloc, byte, time)?).ok()?;
-    }
-    store.snapshot().ok()
-}
-
-// A side with these rows over the area of the subspace, or without an area.
-pub(crate) fn side(
-    alloc: Global,
-    role: Role,
-    rows: (u8, u8),
-    newer: Option<u8>,
-    has_area: bool,
-) -> Option<Side> {
-    let rows = snapshot(alloc, rows, newer)?;
+// A side with these rows over the area, or without one.
+fn side_over(alloc: Global, role: Role, rows: &Bytes, area: Option<Area>) -> Option<Side> {
+    let rows = rows_of(alloc, rows, 0)?;
     if rows.len() > SNAPSHOT_MAX {
         return None;
     }
-    let area = if has_area {
-        Some(area(alloc, &(Some(b'U'), 0, None))?)
-    } else {
-        None
-    };
     SyncCore::begin(alloc, role, rows, area).ok()
+}
+
+// A side with these rows over the area of the subspace, or without an area.
+pub(crate) fn side(alloc: Global, role: Role, rows: &Bytes, has_area: bool) -> Option<Side> {
+    if has_area {
+        let area = area(alloc, &(Some(b'U'), 0, None))?;
+        side_over(alloc, role, rows, Some(area))
+    } else {
+        side_over(alloc, role, rows, None)
+    }
 }
 
 // The first byte of a path, or 255.
@@ -150,29 +114,36 @@ fn pass(from: &mut Side, to: &mut Side, all: &mut Vec<Told>) -> Option<()> {
     }
 }
 
-// All that two sides say to each other, in order, and how many counted items the left one sent and read, where the right
-// one read and sent as many.
-pub(crate) fn meeting(mut left: Side, mut right: Side, alloc: Global) -> Option<Meeting> {
-    let mut all = Vec::new(alloc);
+// How many counted items the left side sent and read, where the right one read and sent as many.
+fn counted(left: &Side, right: &Side) -> Option<(u32, u32)> {
+    let (sent, read) = left.items();
+    (right.items() == (read, sent)).then_some((sent, read))
+}
+
+// Lets two sides say all to each other, told in order, and counts.
+fn talk(left: &mut Side, right: &mut Side, all: &mut Vec<Told>) -> Option<(u32, u32)> {
     for _ in 0..400 {
         match (left.stage(), right.stage()) {
-            (Stage::Writing, _) => pass(&mut left, &mut right, &mut all)?,
-            (_, Stage::Writing) => pass(&mut right, &mut left, &mut all)?,
-            (Stage::Done, Stage::Done) => return counted(&left, &right, all),
+            (Stage::Writing, _) => pass(left, right, all)?,
+            (_, Stage::Writing) => pass(right, left, all)?,
+            (Stage::Done, Stage::Done) => return counted(left, right),
             _ => return None,
         }
     }
     None
 }
 
-// What was said, with the counted items of both sides.
-fn counted(left: &Side, right: &Side, all: Vec<Told>) -> Option<Meeting> {
-    let (sent, read) = left.items();
-    if right.items() == (read, sent) {
-        Some((all, (sent, read)))
-    } else {
-        None
-    }
+// Whether two sides say just this to each other, in order, and the left one sends and reads so many counted items, the
+// right one the other way round.
+pub(crate) fn say_just(
+    alloc: Global,
+    left: &mut Side,
+    right: &mut Side,
+    wanted: &[Told],
+    items: (u32, u32),
+) -> bool {
+    let mut all = Vec::new(alloc);
+    talk(left, right, &mut all) == Some(items) && all.as_slice() == wanted
 }
 
 // The point of this path, or of the empty one.
@@ -180,7 +151,7 @@ fn point(alloc: Global, byte: u32) -> Option<CutAt> {
     if byte == 255 {
         return Some(CutAt::Path(Path::empty(alloc)));
     }
-    Some(CutAt::Path(path(alloc, u8::try_from(byte).ok()?)?))
+    Some(CutAt::Path(path_of(alloc, &[u8::try_from(byte).ok()?])?))
 }
 
 // The item of these two numbers, with fingerprints of nothing.
@@ -200,7 +171,7 @@ fn item(alloc: Global, told: Told) -> Option<Item<BareRow>> {
         5 => Some(Item::Rest { count: told.1 }),
         6 => Some(Item::EndTurn),
         7 => Some(Item::Bye),
-        _ => Some(Item::Row(row(alloc, u8::try_from(told.1).ok()?, 100)?)),
+        _ => Some(Item::Row(row_at(alloc, u8::try_from(told.1).ok()?)?)),
     }
 }
 
@@ -217,13 +188,17 @@ fn say_turn(side: &mut Side) -> Option<()> {
 
 // The refusal that a side keeps which hears these items, each as soon as it reads, with the number of those that were not
 // refused.
-pub(crate) fn refusal(alloc: Global, mut side: Side, items: &[Told]) -> Option<(u32, CoreRefusal)> {
+pub(crate) fn refusal(
+    alloc: Global,
+    side: &mut Side,
+    items: &[Told],
+) -> Option<(u32, CoreRefusal)> {
     let mut heard = 0u32;
     for told in items {
-        say_turn(&mut side)?;
-        match hear(&mut side, item(alloc, *told)?)? {
+        say_turn(side)?;
+        match hear(side, item(alloc, *told)?)? {
             None => heard = heard.wrapping_add(1),
-            Some(cause) => return kept(&side, heard, cause),
+            Some(cause) => return kept(side, heard, cause),
         }
     }
     None

@@ -2,16 +2,14 @@
 
 use crate::areas::{Place, area};
 use crate::checks::can_meet;
-use crate::keys::{key, user};
+use crate::keys::key;
+use crate::rows::{Bytes, offer, path_of, place, row, rows_of};
 use block_store::{BlockStore, Snapshot};
 use std::alloc::Global;
 use sync_pair::{PairRun, meet_rows};
 use willow_area::Area;
-use willow_entry::{BareRow, Entry, Row};
-use willow_path::{Digest, NamespaceKey, Path};
-
-// Rows of these bytes, from one on and below another, and one of them that is newer than elsewhere.
-pub(crate) type Bytes = (u8, u8, Option<u8>);
+use willow_entry::{BareRow, Row};
+use willow_path::{NamespaceKey, Path};
 
 // So many rows that look random, made from a number on: two in so many are offered to one store alone.
 pub(crate) type Made = (u32, u64, u64);
@@ -20,51 +18,27 @@ pub(crate) type Made = (u32, u64, u64);
 pub(crate) type Got = (u8, usize, u64);
 
 // The row of a subspace at a path, of a time, with a token of 102 times a byte.
-fn row(alloc: Global, subspace: u8, parts: &[u8], time: u64, token: u8) -> Option<BareRow> {
-    let mut path = Path::empty(alloc);
-    for part in parts {
-        path.push(&[*part]).ok()?;
-    }
-    let entry = Entry {
-        namespace: NamespaceKey::from_bytes(key(b'N'))?,
-        subspace: user(subspace)?,
-        path,
-        timestamp: time,
-        length: 1,
-        digest: Digest([0x11; 32]),
-    };
+fn row_at(alloc: Global, subspace: u8, parts: &[u8], time: u64, token: u8) -> Option<BareRow> {
     let token = Vec::from_slice(alloc, &[token; 102]).ok()?;
-    BareRow::new(alloc, entry, token).ok()
+    row(
+        alloc,
+        place(b'N', subspace)?,
+        path_of(alloc, parts)?,
+        time,
+        token,
+    )
 }
 
-// Offers the row to the store.
-fn offer(store: &mut BlockStore<BareRow>, row: BareRow) -> Option<()> {
-    if store.is_full() {
-        return None;
-    }
-    let _placed = store.ingest(row).ok()?;
-    Some(())
+// The row made of a number.
+fn row_of(alloc: Global, high: u64) -> Option<BareRow> {
+    let subspace = if high % 2 == 0 { b'U' } else { b'V' };
+    let both = [(high / 2 % 64) as u8, (high / 128 % 16) as u8];
+    let count = if high / 2048 % 32 == 0 { 1 } else { 2 };
+    let (time, token) = (100 + high / 65_536 % 64, (high / 4_194_304 % 2) as u8);
+    row_at(alloc, subspace, &both[..count], time, token)
 }
 
-// The rows of these bytes in U's subspace, each with 100 and its byte as its time, or 200 where it is newer.
-fn rows_of(alloc: Global, bytes: &Bytes) -> Option<Snapshot<BareRow>> {
-    let (start, end, newer) = *bytes;
-    let mut store = BlockStore::new(alloc);
-    for byte in start..end {
-        let time = if newer == Some(byte) {
-            200
-        } else {
-            100 + u64::from(byte)
-        };
-        offer(&mut store, row(alloc, b'U', &[byte], time, 0)?)?;
-    }
-    store.snapshot().ok()
-}
-
-// Two stores that meet.
-type Pair = (Snapshot<BareRow>, Snapshot<BareRow>);
-
-// Offers a row made of a number to both stores, or but to one of them.
+// Offers that row to both stores, or but to one of them.
 fn offer_made(
     alloc: Global,
     high: u64,
@@ -72,45 +46,92 @@ fn offer_made(
     left: &mut BlockStore<BareRow>,
     right: &mut BlockStore<BareRow>,
 ) -> Option<()> {
-    let subspace = if high % 2 == 0 { b'U' } else { b'V' };
-    let (first, second) = ((high / 2 % 64) as u8, (high / 128 % 16) as u8);
-    let one = [first];
-    let both = [first, second];
-    let parts: &[u8] = if high / 2048 % 32 == 0 { &one } else { &both };
-    let (time, token) = (100 + high / 65_536 % 64, (high / 4_194_304 % 2) as u8);
     let side = (high / 8_388_608).checked_rem(spread);
     if side != Some(0) {
-        offer(left, row(alloc, subspace, parts, time, token)?)?;
+        offer(left, row_of(alloc, high)?)?;
     }
     if side != Some(1) {
-        offer(right, row(alloc, subspace, parts, time, token)?)?;
+        offer(right, row_of(alloc, high)?)?;
     }
     Some(())
 }
 
-// The stores of such rows.
-fn made(alloc: Global, rows: &Made) -> Option<Pair> {
+// Offers such rows to two stores.
+fn offer_all(
+    alloc: Global,
+    rows: &Made,
+    left: &mut BlockStore<BareRow>,
+    right: &mut BlockStore<BareRow>,
+) -> Option<()> {
     let (count, seed, spread) = *rows;
-    let mut left = BlockStore::new(alloc);
-    let mut right = BlockStore::new(alloc);
     let mut at = seed;
     for _ in 0..count {
         at = at
             .wrapping_mul(6_364_136_223_846_793_005)
             .wrapping_add(1_442_695_040_888_963_407);
-        offer_made(alloc, at >> 32, spread, &mut left, &mut right)?;
+        offer_made(alloc, at >> 32, spread, left, right)?;
     }
-    Some((left.snapshot().ok()?, right.snapshot().ok()?))
+    Some(())
 }
 
 // What comes of it where two stores meet.
-fn met(alloc: Global, pair: &Pair, area: Option<&Area>) -> Option<PairRun<BareRow>> {
+fn met(
+    alloc: Global,
+    left: Option<&Snapshot<BareRow>>,
+    right: Option<&Snapshot<BareRow>>,
+    area: Option<&Area>,
+) -> Option<PairRun<BareRow>> {
+    let (left, right) = (left?, right?);
     let namespace = NamespaceKey::from_bytes(key(b'N'))?;
-    if can_meet(&pair.0, &namespace) && can_meet(&pair.1, &namespace) {
-        meet_rows(alloc, &pair.0, &pair.1, area).ok()
+    if can_meet(left, &namespace) && can_meet(right, &namespace) {
+        meet_rows(alloc, left, right, area).ok()
     } else {
         None
     }
+}
+
+// What comes of it where two stores meet that these rows are offered to.
+fn met_stores(
+    alloc: Global,
+    rows: &Made,
+    area: &Area,
+    left: &mut BlockStore<BareRow>,
+    right: &mut BlockStore<BareRow>,
+) -> Option<PairRun<BareRow>> {
+    offer_all(alloc, rows, left, right)?;
+    met(
+        alloc,
+        left.snapshot().ok().as_ref(),
+        right.snapshot().ok().as_ref(),
+        Some(area),
+    )
+}
+
+// What comes of it where generated rows meet in an area.
+pub(crate) fn met_made(alloc: Global, rows: &Made, place: &Place) -> Option<PairRun<BareRow>> {
+    let area = area(alloc, place)?;
+    met_stores(
+        alloc,
+        rows,
+        &area,
+        &mut BlockStore::new(alloc),
+        &mut BlockStore::new(alloc),
+    )
+}
+
+// What comes of it where these rows, with tokens of 102 bytes, meet over an area or without one.
+fn met_over(
+    alloc: Global,
+    left: &Bytes,
+    right: &Bytes,
+    area: Option<&Area>,
+) -> Option<PairRun<BareRow>> {
+    met(
+        alloc,
+        rows_of(alloc, left, 102).as_ref(),
+        rows_of(alloc, right, 102).as_ref(),
+        area,
+    )
 }
 
 // What comes of it where these rows meet, over the area of U or without one.
@@ -120,20 +141,12 @@ pub(crate) fn met_bytes(
     right: &Bytes,
     has_area: bool,
 ) -> Option<PairRun<BareRow>> {
-    let pair = (rows_of(alloc, left)?, rows_of(alloc, right)?);
     if has_area {
         let area = area(alloc, &(Some(b'U'), 0, None))?;
-        met(alloc, &pair, Some(&area))
+        met_over(alloc, left, right, Some(&area))
     } else {
-        met(alloc, &pair, None)
+        met_over(alloc, left, right, None)
     }
-}
-
-// What comes of it where generated rows meet in an area.
-pub(crate) fn met_made(alloc: Global, rows: &Made, place: &Place) -> Option<PairRun<BareRow>> {
-    let pair = made(alloc, rows)?;
-    let area = area(alloc, place)?;
-    met(alloc, &pair, Some(&area))
 }
 
 // The first byte of a path, or 255.

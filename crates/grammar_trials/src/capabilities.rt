@@ -95,14 +95,20 @@ fn hand_on(alloc: Global, capability: &mut Capability, giver: u8, end: u64) -> O
     )
 }
 
-// The communal capability of the first user, handed on from each user to the next for times below an end.
-fn handed_on(alloc: Global, ends: &str) -> Option<Capability> {
-    let mut capability = first(alloc, 0x4e, None)?;
+// Hands the capability on from the first user and from each user to the next, for times below these ends.
+fn hand_on_all(alloc: Global, capability: &mut Capability, ends: &str) -> Option<()> {
     let mut giver = 0x55u8;
     for end in ends.split_whitespace() {
-        hand_on(alloc, &mut capability, giver, end.parse::<u64>().ok()?)?;
+        hand_on(alloc, capability, giver, end.parse::<u64>().ok()?)?;
         giver = giver.wrapping_add(1);
     }
+    Some(())
+}
+
+// The communal capability of the first user, handed on so.
+fn handed_on(alloc: Global, ends: &str) -> Option<Capability> {
+    let mut capability = first(alloc, 0x4e, None)?;
+    hand_on_all(alloc, &mut capability, ends)?;
     Some(capability)
 }
 
@@ -153,18 +159,22 @@ fn chains(rt: HostRuntime) {
     }
 }
 
-// Why a capability is refused that is handed on, and once more with an empty signature.
-fn refused_forged(alloc: Global) -> Option<Option<ChainRefusal>> {
-    let mut capability = handed_on(alloc, "20")?;
+// Why a capability is refused that is handed on with an empty signature.
+fn refused_forged(alloc: Global, capability: &mut Capability) -> Option<Option<ChainRefusal>> {
     let area = until(alloc, Some(5))?;
-    append(&mut capability, delegation(area, 0x60, Vec::new(alloc))?)?;
-    refused(&capability)
+    append(capability, delegation(area, 0x60, Vec::new(alloc))?)?;
+    refused(capability)
+}
+
+// The same of a capability that is handed on before.
+fn refused_later(alloc: Global) -> Option<Option<ChainRefusal>> {
+    refused_forged(alloc, &mut handed_on(alloc, "20")?)
 }
 
 #[test]
 fn an_empty_signature(rt: HostRuntime) {
     let refusal = ChainRefusal::BadSignature { at: 2 };
-    assert_eq!(rt; refused_forged(rt.alloc()), Some(Some(refusal)));
+    assert_eq!(rt; refused_later(rt.alloc()), Some(Some(refusal)));
 }
 
 // Whether the words spell a copy of the capability.
@@ -282,23 +292,22 @@ fn initial_signatures(rt: HostRuntime) {
     assert_eq!(rt; initial_is_spelled(rt.alloc()), Some(true));
 }
 
-// The communal capability of the first user, handed on to 56 with its check.
-fn delegated(alloc: Global) -> Option<Capability> {
-    let receiver = UserKey::from_bytes(key(0x56))?;
-    let mut capability = first(alloc, 0x4e, None)?;
+// Hands the first user's capability on to the receiver with its check.
+fn delegate(alloc: Global, capability: &mut Capability, receiver: UserKey) -> Option<()> {
     capability.check(&OpenScheme).ok()?;
     let area = until(alloc, Some(20))?;
-    let signature = handover(alloc, &capability, &area, 0x55)?;
+    let signature = handover(alloc, capability, &area, 0x55)?;
     capability
         .delegate(&OpenScheme, area, receiver, signature)
-        .ok()?;
-    Some(capability)
+        .ok()
 }
 
-// Whether the capability is then that of 56, and its delegations are a chain.
+// Whether the first user's communal capability, handed on so, is that of 56, and its delegations are a chain.
 fn is_delegated(alloc: Global) -> Option<bool> {
-    let capability = delegated(alloc)?;
-    let is_receiver = capability.receiver() == UserKey::from_bytes(key(0x56))?;
+    let receiver = UserKey::from_bytes(key(0x56))?;
+    let mut capability = first(alloc, 0x4e, None)?;
+    delegate(alloc, &mut capability, receiver)?;
+    let is_receiver = capability.receiver() == receiver;
     Some(is_receiver && Chain::new(capability.chain.into_vec()).is_some())
 }
 

@@ -69,38 +69,50 @@ const KEY_55: &str = "0055555555555555555555555555555555555555555555555555555555
 
 const KEY_56: &str = "005656565656565656565656565656565656565656565656565656565656565656";
 
+// The pieces, by their names.
+static PIECES: [(&str, &str); 19] = [
+    ("HEAD", HEAD),
+    ("FIRST", FIRST),
+    ("BELOW", BELOW),
+    ("NEWER", NEWER),
+    ("ELSEWHERE", ELSEWHERE),
+    ("BETWEEN", BETWEEN),
+    ("DELEGATED", DELEGATED),
+    ("ROW", ROW),
+    ("OWNED_ON", OWNED_ON),
+    ("ROW_0", ROW_0),
+    ("ROW_49", ROW_49),
+    ("ROW_12345", ROW_12345),
+    ("INITIAL", INITIAL),
+    ("HANDED_COMMUNAL", HANDED_COMMUNAL),
+    ("HANDED_OWNED", HANDED_OWNED),
+    ("KEY_4E", KEY_4E),
+    ("KEY_4F", KEY_4F),
+    ("KEY_55", KEY_55),
+    ("KEY_56", KEY_56),
+];
+
 // The digits that a word stands for: those of a piece of this name, or its own.
 fn digits_of(word: &str) -> &str {
-    match word {
-        "HEAD" => HEAD,
-        "FIRST" => FIRST,
-        "BELOW" => BELOW,
-        "NEWER" => NEWER,
-        "ELSEWHERE" => ELSEWHERE,
-        "BETWEEN" => BETWEEN,
-        "DELEGATED" => DELEGATED,
-        "ROW" => ROW,
-        "OWNED_ON" => OWNED_ON,
-        "ROW_0" => ROW_0,
-        "ROW_49" => ROW_49,
-        "ROW_12345" => ROW_12345,
-        "INITIAL" => INITIAL,
-        "HANDED_COMMUNAL" => HANDED_COMMUNAL,
-        "HANDED_OWNED" => HANDED_OWNED,
-        "KEY_4E" => KEY_4E,
-        "KEY_4F" => KEY_4F,
-        "KEY_55" => KEY_55,
-        "KEY_56" => KEY_56,
-        _ => word,
+    for (name, digits) in &PIECES {
+        if *name == word {
+            return digits;
+        }
     }
+    word
+}
+
+// Adds the bytes that a word spells.
+fn add_word(alloc: Global, bytes: &mut Vec<u8>, word: &str) -> Option<()> {
+    let piece = hex::decode(alloc, digits_of(word)).ok()?;
+    bytes.extend_from_slice(&piece).ok()
 }
 
 // The bytes that the words spell, one behind the other.
 pub(crate) fn joined(alloc: Global, words: &str) -> Option<Vec<u8>> {
     let mut bytes = Vec::new(alloc);
     for word in words.split_whitespace() {
-        let piece = hex::decode(alloc, digits_of(word)).ok()?;
-        bytes.extend_from_slice(&piece).ok()?;
+        add_word(alloc, &mut bytes, word)?;
     }
     Some(bytes)
 }

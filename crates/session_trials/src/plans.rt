@@ -23,7 +23,18 @@ pub(crate) fn nonce(role: Role) -> [u8; 16] {
     }
 }
 
-// The plan of a side that asks for the user's subspace, where its hello passes.
+// The plan of a side that asks for the user's subspace.
+fn made(alloc: Global, role: Role) -> Option<SessionPlan<OpenScheme>> {
+    let capability = capability(alloc, Mode::Read)?;
+    Some(SessionPlan {
+        scheme: OpenScheme,
+        role,
+        capability,
+        ask: ask(alloc)?,
+    })
+}
+
+// That plan, where its hello passes.
 pub(crate) fn plan(
     alloc: Global,
     namespace: &NamespaceKey,
@@ -32,17 +43,22 @@ pub(crate) fn plan(
 ) -> Option<SessionPlan<OpenScheme>>
     ensures { IfSome result (λ plan. hello_refusal open_rules namespace.now (own_hello plan nonce) ≡ None) }
 {
-    let plan = SessionPlan {
-        scheme: OpenScheme,
-        role,
-        capability: capability(alloc, Mode::Read)?,
-        ask: ask(alloc)?,
-    };
-    let hello = hello_of(&plan, nonce).ok()?;
-    if !passes(namespace, &hello) {
-        return None;
+    let plan = made(alloc, role)?;
+    if is_good(namespace, &plan, nonce) {
+        Some(plan)
+    } else {
+        None
     }
-    Some(plan)
+}
+
+// Whether the hello of a side with this plan passes.
+fn is_good(namespace: &NamespaceKey, plan: &SessionPlan<OpenScheme>, nonce: [u8; 16]) -> bool
+    ensures { IsTrue result → hello_refusal open_rules namespace.now (own_hello plan.now nonce) ≡ None }
+{
+    match hello_of(plan, nonce) {
+        Ok(hello) => passes(namespace, &hello),
+        Err(_) => false,
+    }
 }
 
 // The hello of a side with this plan.

@@ -28,8 +28,31 @@ fn unrun(alloc: Global) -> Ran {
     }
 }
 
-// Runs a side with these rows anew, on all that the other has written, of which it reads at most so many bytes at a time.
-// It writes again what it wrote before, and what it writes behind that is the next turn.
+// What comes of a side with these rows on all that the other has written, of which it reads at most so many bytes at a time.
+fn ran_on<R: Wait + Threads + Sync>(
+    rt: &R,
+    alloc: Global,
+    role: Role,
+    which: Rows,
+    heard: &[u8],
+    most: usize,
+) -> Option<Ran> {
+    let (signer, heard) = (signer()?, Vec::from_slice(alloc, heard).ok()?);
+    let link = MemLink::new(alloc, heard, Vec::new(alloc), most.max(1));
+    run_with(rt, alloc, role, which, signer, link)
+}
+
+// Adds what a side has written behind what it wrote before, where that is something.
+fn add_turn(alloc: Global, ran: &Ran, before: &Ran, turns: &mut Vec<Vec<u8>>) -> Option<()> {
+    let turn = ran.written.strip_prefix(before.written.as_slice())?;
+    if turn.is_empty() {
+        return Some(());
+    }
+    turns.push(Vec::from_slice(alloc, turn).ok()?).ok()
+}
+
+// Runs a side anew on all that the other has written. It writes again what it wrote before, and what it writes behind that
+// is the next turn.
 fn run_again<R: Wait + Threads + Sync>(
     rt: &R,
     alloc: Global,
@@ -40,14 +63,43 @@ fn run_again<R: Wait + Threads + Sync>(
     side: &mut Ran,
     turns: &mut Vec<Vec<u8>>,
 ) -> Option<()> {
-    let heard = Vec::from_slice(alloc, heard).ok()?;
-    let link = MemLink::new(alloc, heard, Vec::new(alloc), most.max(1));
-    let ran = run_with(rt, alloc, role, which, signer()?, link)?;
-    let turn = ran.written.strip_prefix(side.written.as_slice())?;
-    if !turn.is_empty() {
-        turns.push(Vec::from_slice(alloc, turn).ok()?).ok()?;
-    }
+    let ran = ran_on(rt, alloc, role, which, heard, most)?;
+    add_turn(alloc, &ran, side, turns)?;
     *side = ran;
+    Some(())
+}
+
+// Runs the sides of a meeting in turn, six times each.
+fn run_in_turn<R: Wait + Threads + Sync>(
+    rt: &R,
+    alloc: Global,
+    callers: Rows,
+    answerers: Rows,
+    most: usize,
+    met: &mut Met,
+) -> Option<()> {
+    for _ in 0..6 {
+        run_again(
+            rt,
+            alloc,
+            Role::Caller,
+            callers,
+            &met.answerer.written,
+            most,
+            &mut met.caller,
+            &mut met.turns,
+        )?;
+        run_again(
+            rt,
+            alloc,
+            Role::Answerer,
+            answerers,
+            &met.caller.written,
+            most,
+            &mut met.answerer,
+            &mut met.turns,
+        )?;
+    }
     Some(())
 }
 
@@ -59,44 +111,20 @@ pub(crate) fn meeting<R: Wait + Threads + Sync>(
     answerers: Rows,
     most: usize,
 ) -> Option<Met> {
-    let mut turns = Vec::new(alloc);
-    let (mut caller, mut answerer) = (unrun(alloc), unrun(alloc));
-    for _ in 0..6 {
-        let heard = &answerer.written;
-        run_again(
-            rt,
-            alloc,
-            Role::Caller,
-            callers,
-            heard,
-            most,
-            &mut caller,
-            &mut turns,
-        )?;
-        let heard = &caller.written;
-        run_again(
-            rt,
-            alloc,
-            Role::Answerer,
-            answerers,
-            heard,
-            most,
-            &mut answerer,
-            &mut turns,
-        )?;
-    }
-    Some(Met {
-        turns,
-        caller,
-        answerer,
-    })
+    let mut met = Met {
+        turns: Vec::new(alloc),
+        caller: unrun(alloc),
+        answerer: unrun(alloc),
+    };
+    run_in_turn(rt, alloc, callers, answerers, most, &mut met)?;
+    Some(met)
 }
 
-// How many bytes each turn has.
-pub(crate) fn lengths(alloc: Global, turns: &[Vec<u8>]) -> Option<Vec<usize>> {
-    let mut lengths = Vec::new(alloc);
-    for turn in turns {
-        lengths.push(turn.len()).ok()?;
-    }
-    Some(lengths)
+// Whether the turns have so many bytes each.
+pub(crate) fn have_lengths(turns: &[Vec<u8>], lengths: &[usize]) -> bool {
+    turns.len() == lengths.len()
+        && turns
+            .iter()
+            .zip(lengths)
+            .all(|(turn, length)| turn.len() == *length)
 }

@@ -89,12 +89,24 @@ pub(crate) fn signature_at(alloc: Global, byte: u8) -> Option<Vec<u8>> {
     signature(alloc, &entry(alloc, byte, 100 + u64::from(byte))?)
 }
 
-// The row of the entry.
-fn row(alloc: Global, entry: Entry) -> Option<RawRow> {
-    let token = WriteToken {
+// The user's token of an entry.
+fn token(alloc: Global, entry: &Entry) -> Option<WriteToken> {
+    let signature = Signature::new(signature(alloc, entry)?)?;
+    Some(WriteToken {
         capability: capability(alloc, Mode::Write)?,
-        signature: Signature::new(signature(alloc, &entry)?)?,
+        signature,
+    })
+}
+
+// The row at the path of this byte.
+fn row(alloc: Global, which: Rows, byte: u8) -> Option<RawRow> {
+    let time = if which.newer == Some(byte) {
+        200
+    } else {
+        100 + u64::from(byte)
     };
+    let entry = entry(alloc, byte, time)?;
+    let token = token(alloc, &entry)?;
     RawRow::new(alloc, entry, token).ok()
 }
 
@@ -102,12 +114,7 @@ fn row(alloc: Global, entry: Entry) -> Option<RawRow> {
 pub(crate) fn rows_of(alloc: Global, which: Rows) -> Option<Vec<RawRow>> {
     let mut rows = Vec::new(alloc);
     for byte in 0..which.count {
-        let time = if which.newer == Some(byte) {
-            200
-        } else {
-            100 + u64::from(byte)
-        };
-        rows.push(row(alloc, entry(alloc, byte, time)?)?).ok()?;
+        rows.push(row(alloc, which, byte)?).ok()?;
     }
     Some(rows)
 }

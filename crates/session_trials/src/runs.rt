@@ -14,11 +14,11 @@ use cap_codec::RawRow;
 use ns_cell::{NsCell, NsState, Pass};
 use scheme_core::{OpenScheme, Signer};
 use std::alloc::Global;
-use std::sync::Wait;
+use std::sync::{Arc, Wait};
 use std::thread::Threads;
 use sync_link::{SessionEnd, SessionPlan, SessionReport, run_session};
 use sync_msg::Role;
-use willow_entry::Row;
+use willow_entry::{LogRow, Row};
 use willow_outside::MemLink;
 use willow_path::NamespaceKey;
 
@@ -85,8 +85,13 @@ fn times<W: Wait>(
 ) -> Option<Vec<u64>>
     requires { IsPassOf cell.now pass.old }
 {
+    times_of(alloc, &cell.read_log(rt, pass, 0, 100).ok()?)
+}
+
+// The times of these rows, in their order.
+fn times_of(alloc: Global, rows: &[LogRow<Arc<Entry>>]) -> Option<Vec<u64>> {
     let mut times = Vec::new(alloc);
-    for held in cell.read_log(rt, pass, 0, 100).ok()? {
+    for held in rows {
         times.push(held.row.entry().timestamp).ok()?;
     }
     Some(times)
@@ -118,6 +123,79 @@ fn run_over<R: Wait + Threads + Sync, K: Signer>(
     })
 }
 
+// The session of a pass of a cell, to which these rows are offered before.
+fn run_in<R: Wait + Threads + Sync, K: Signer>(
+    rt: &R,
+    alloc: Global,
+    cell: &NsCell<Entry>,
+    pass: &mut Pass<Entry>,
+    namespace: &NamespaceKey,
+    which: Rows,
+    plan: &SessionPlan<OpenScheme>,
+    nonce: [u8; 16],
+    signer: &mut K,
+    link: &mut MemLink,
+) -> Option<Ran>
+    requires pass { IsPassOf cell.now pass.old }
+    requires namespace { namespace.now ≡ cell.now.namespace }
+    requires hello { hello_refusal open_rules namespace.now (own_hello plan.now nonce) ≡ None }
+{
+    fill(rt, alloc, namespace, cell, pass, rows_of(alloc, which)?)?;
+    if signer.left() < 1 {
+        return None;
+    }
+    let mut checker = CountingChecker {
+        namespace: *namespace,
+        handed: 0,
+    };
+    run_over(
+        rt,
+        alloc,
+        cell,
+        pass,
+        &mut checker,
+        plan,
+        nonce,
+        signer,
+        link,
+    )
+}
+
+// The session of a new cell of one pass, with this plan.
+fn run_planned<R: Wait + Threads + Sync, K: Signer>(
+    rt: &R,
+    alloc: Global,
+    namespace: &NamespaceKey,
+    which: Rows,
+    plan: &SessionPlan<OpenScheme>,
+    nonce: [u8; 16],
+    signer: &mut K,
+    link: &mut MemLink,
+) -> Option<Ran>
+    requires hello { hello_refusal open_rules namespace.now (own_hello plan.now nonce) ≡ None }
+{
+    let (cell, mut passes) = NsCell::new(alloc, NsState::new(alloc, *namespace), 1).ok()?;
+    let mut pass = passes.pop()?;
+    run_in(
+        rt, alloc, &cell, &mut pass, namespace, which, plan, nonce, signer, link,
+    )
+}
+
+// The same with the plan of this role.
+fn run_as<R: Wait + Threads + Sync, K: Signer>(
+    rt: &R,
+    alloc: Global,
+    role: Role,
+    which: Rows,
+    signer: &mut K,
+    link: &mut MemLink,
+) -> Option<Ran> {
+    let namespace = namespace()?;
+    let nonce = nonce(role);
+    let plan = plan(alloc, &namespace, role, nonce)?;
+    run_planned(rt, alloc, &namespace, which, &plan, nonce, signer, link)
+}
+
 // A session of a store with these rows, in this role, over the link.
 pub(crate) fn run_with<R: Wait + Threads + Sync, K: Signer>(
     rt: &R,
@@ -127,35 +205,5 @@ pub(crate) fn run_with<R: Wait + Threads + Sync, K: Signer>(
     mut signer: K,
     mut link: MemLink,
 ) -> Option<Ran> {
-    let namespace = namespace()?;
-    let nonce = nonce(role);
-    let plan = plan(alloc, &namespace, role, nonce)?;
-    let (cell, mut passes) = NsCell::new(alloc, NsState::new(alloc, namespace), 1).ok()?;
-    let mut pass = passes.pop()?;
-    let mut checker = CountingChecker {
-        namespace,
-        handed: 0,
-    };
-    fill(
-        rt,
-        alloc,
-        &namespace,
-        &cell,
-        &mut pass,
-        rows_of(alloc, which)?,
-    )?;
-    if signer.left() < 1 {
-        return None;
-    }
-    run_over(
-        rt,
-        alloc,
-        &cell,
-        &mut pass,
-        &mut checker,
-        &plan,
-        nonce,
-        &mut signer,
-        &mut link,
-    )
+    run_as(rt, alloc, role, which, &mut signer, &mut link)
 }

@@ -1,9 +1,9 @@
 //! Sessions over links in memory: two that meet, and ones whose other side, link or signer fails.
 
 use crate::fakes::FailingSigner;
-use crate::rounds::{Met, lengths, meeting};
+use crate::rounds::{Met, have_lengths, meeting};
 use crate::rows::{Rows, signature_at, signer};
-use crate::runs::run_with;
+use crate::runs::{Ran, run_with};
 use mc_cap::RowRefusal;
 use session_end::HelloRefusal;
 use std::alloc::Global;
@@ -45,7 +45,7 @@ type Numbers = (u32, u32, u64, u32, u32);
 type Case = (u8, Option<u8>, &'static [usize], Numbers, Numbers);
 
 // A hello has 136 bytes and a proof 34; the caller's proof comes with its first turn.
-const CASES: [Case; 2] = [
+static CASES: [Case; 2] = [
     (
         40,
         Some(25),
@@ -77,19 +77,34 @@ fn reported(numbers: Numbers) -> SessionReport {
     }
 }
 
+// Whether two sides met as the case says.
+fn is_as_told(met: &Met, case: &Case) -> bool {
+    let (_, _, turns, caller, answerer) = case;
+    have_lengths(&met.turns, turns)
+        && met.caller.answer == Ok(reported(*caller))
+        && met.answerer.answer == Ok(reported(*answerer))
+}
+
+// Whether the sides of a case meet so, which read at most so many bytes at a time.
+fn meet_so<R: Wait + Threads + Sync>(
+    rt: &R,
+    alloc: Global,
+    case: &Case,
+    most: usize,
+) -> Option<bool> {
+    let (count, newer, _, _, _) = case;
+    let (one, other) = (rows(*count, None), rows(*count, *newer));
+    Some(is_as_told(&meeting(rt, alloc, one, other, most)?, case))
+}
+
 #[test]
-fn meetings(rt: HostRuntime) -> Result<(), Fail> {
+fn meetings(rt: HostRuntime) {
     let alloc = rt.alloc();
-    for (count, newer, turns, caller, answerer) in &CASES {
+    for case in &CASES {
         for most in [1, 7, 1_000_000] {
-            let (one, other) = (rows(*count, None), rows(*count, *newer));
-            let met = meeting(&rt, alloc, one, other, most).ok_or("a meeting")?;
-            assert_eq!(rt; &*lengths(alloc, &met.turns).ok_or("lengths")?, *turns);
-            assert_eq!(rt; met.caller.answer, Ok(reported(*caller)));
-            assert_eq!(rt; met.answerer.answer, Ok(reported(*answerer)));
+            assert!(rt; meet_so(&rt, alloc, case, most) == Some(true));
         }
     }
-    Ok(())
 }
 
 // The own rows, and those of the other side: it has a newer row at the path of 1, and one more at the path of 3.
@@ -123,27 +138,45 @@ fn without_signature(alloc: Global, bytes: &[u8]) -> Option<Vec<u8>> {
     Some(spoiled)
 }
 
-// What the own side writes that has this role, and what the other does, whose row at the path of 3 is not signed.
-fn both<R: Wait + Threads + Sync>(rt: &R, alloc: Global, role: Role) -> Option<(Vec<u8>, Vec<u8>)> {
-    let (own, other) = match role {
-        Role::Caller => {
-            let Met {
-                caller,
-                answerer,
-                ..
-            } = meeting(rt, alloc, OWN, OTHERS, 1_000_000)?;
-            (caller.written, answerer.written)
-        }
-        Role::Answerer => {
-            let Met {
-                caller,
-                answerer,
-                ..
-            } = meeting(rt, alloc, OTHERS, OWN, 1_000_000)?;
-            (answerer.written, caller.written)
-        }
-    };
-    Some((own, without_signature(alloc, &other)?))
+// The meeting of the own side in this role with the other.
+fn met<R: Wait + Threads + Sync>(rt: &R, alloc: Global, role: Role) -> Option<Met> {
+    match role {
+        Role::Caller => meeting(rt, alloc, OWN, OTHERS, 1_000_000),
+        Role::Answerer => meeting(rt, alloc, OTHERS, OWN, 1_000_000),
+    }
+}
+
+// What both wrote, the own side and then the other.
+fn written(met: &Met, role: Role) -> (&[u8], &[u8]) {
+    match role {
+        Role::Caller => (&met.caller.written, &met.answerer.written),
+        Role::Answerer => (&met.answerer.written, &met.caller.written),
+    }
+}
+
+// The own side in this role on these bytes, read at most so many at a time, over a link of which these calls fail.
+fn run_own<R: Wait + Threads + Sync>(
+    rt: &R,
+    alloc: Global,
+    role: Role,
+    heard: Vec<u8>,
+    fails: Vec<u64>,
+    most: usize,
+) -> Option<Ran> {
+    let signer = signer()?;
+    let link = MemLink::new(alloc, heard, fails, most);
+    run_with(rt, alloc, role, OWN, signer, link)
+}
+
+// The same over a link without failing calls.
+fn run_on<R: Wait + Threads + Sync>(
+    rt: &R,
+    alloc: Global,
+    role: Role,
+    heard: Vec<u8>,
+    most: usize,
+) -> Option<Ran> {
+    run_own(rt, alloc, role, heard, Vec::new(alloc), most)
 }
 
 // The answerer tells its four rows, and the caller its row that was not among them; or it tells its three, and the caller
@@ -168,25 +201,60 @@ fn report(role: Role) -> SessionReport {
     }
 }
 
+// Whether the own side in this role reported so, wrote these bytes, has the rows that it should, and judged the other's in
+// so many calls.
+fn is_session(ran: &Ran, role: Role, own: &[u8], calls: u64) -> bool {
+    ran.answer == Ok(report(role))
+        && ran.written.as_slice() == own
+        && ran.times.as_slice() == [100, 101, 102, 200].as_slice()
+        && ran.calls == calls
+}
+
+// Whether it does on what the other wrote, without the signature of the row at the path of 3.
+fn comes_out<R: Wait + Threads + Sync>(
+    rt: &R,
+    alloc: Global,
+    role: Role,
+    (own, other): (&[u8], &[u8]),
+    most: usize,
+    calls: u64,
+) -> Option<bool> {
+    let heard = without_signature(alloc, other)?;
+    let ran = run_on(rt, alloc, role, heard, most)?;
+    Some(is_session(&ran, role, own, calls))
+}
+
+// The same in the meeting of that role.
+fn session_comes_out<R: Wait + Threads + Sync>(
+    rt: &R,
+    alloc: Global,
+    role: Role,
+    most: usize,
+    calls: u64,
+) -> Option<bool> {
+    let met = met(rt, alloc, role)?;
+    comes_out(rt, alloc, role, written(&met, role), most, calls)
+}
+
+// The role, how many bytes are read at a time at most, and in how many calls rows are judged.
+static SESSIONS: [(Role, usize, u64); 4] = [
+    (Role::Caller, 7, 4),
+    (Role::Caller, 1_000_000, 1),
+    (Role::Answerer, 7, 2),
+    (Role::Answerer, 1_000_000, 1),
+];
+
 #[test]
-fn sessions(rt: HostRuntime) -> Result<(), Fail> {
+fn sessions(rt: HostRuntime) {
     let alloc = rt.alloc();
-    for (role, most, calls) in [
-        (Role::Caller, 7, 4),
-        (Role::Caller, 1_000_000, 1),
-        (Role::Answerer, 7, 2),
-        (Role::Answerer, 1_000_000, 1),
-    ] {
-        let (own, other) = both(&rt, alloc, role).ok_or("a meeting")?;
-        let link = MemLink::new(alloc, other, Vec::new(alloc), most);
-        let signer = signer().ok_or("a signer")?;
-        let ran = run_with(&rt, alloc, role, OWN, signer, link).ok_or("a session")?;
-        assert_eq!(rt; ran.answer, Ok(report(role)));
-        assert_eq!(rt; &*ran.written, &*own);
-        assert_eq!(rt; &*ran.times, &[100, 101, 102, 200][..]);
-        assert_eq!(rt; ran.calls, calls);
+    for (role, most, calls) in &SESSIONS {
+        assert!(rt; session_comes_out(&rt, alloc, *role, *most, *calls) == Some(true));
     }
-    Ok(())
+}
+
+// What the other side says to the own caller; its row at the path of 3 is not signed.
+fn said<R: Wait + Threads + Sync>(rt: &R, alloc: Global) -> Option<Vec<u8>> {
+    without_signature(alloc, &met(rt, alloc, Role::Caller)?.answerer.written)
 }
 
 // A cut of the asked area that begins, one at the empty path, and what is no item.
@@ -205,86 +273,173 @@ fn greeting(alloc: Global, said: &[u8], version: u8, behind: &[u8]) -> Option<Ve
     Some(bytes)
 }
 
+// The version of the answerer's hello, the bytes behind its greeting, how the session ends, and how many bytes are written.
+type Ending = (u8, &'static [u8], SessionEnd, usize);
+
 // A caller that says its hello, its proof and its first item reads that greeting and these bytes, and the link ends.
-#[test]
-fn endings(rt: HostRuntime) -> Result<(), Fail> {
-    let cases: [(u8, &[u8], SessionEnd, usize); 5] = [
-        (1, b"", SessionEnd::ClosedEarly { at: 170 }, 204),
-        (1, BEGUN, SessionEnd::ClosedEarly { at: 172 }, 204),
-        (1, AT_NO_PATH, SessionEnd::Core(CoreRefusal::BadCut), 204),
-        (1, NO_ITEM, SessionEnd::BadMessage { at: 170 }, 204),
-        (0, b"", SessionEnd::Hello(HelloRefusal::VersionUnknown), 136),
-    ];
-    let alloc = rt.alloc();
-    let (_, other) = both(&rt, alloc, Role::Caller).ok_or("a meeting")?;
-    for (version, behind, end, written) in &cases {
+static ENDINGS: [Ending; 5] = [
+    (1, b"", SessionEnd::ClosedEarly { at: 170 }, 204),
+    (1, BEGUN, SessionEnd::ClosedEarly { at: 172 }, 204),
+    (1, AT_NO_PATH, SessionEnd::Core(CoreRefusal::BadCut), 204),
+    (1, NO_ITEM, SessionEnd::BadMessage { at: 170 }, 204),
+    (0, b"", SessionEnd::Hello(HelloRefusal::VersionUnknown), 136),
+];
+
+// Whether the caller ends so.
+fn ends_so<R: Wait + Threads + Sync>(
+    rt: &R,
+    alloc: Global,
+    said: &[u8],
+    ending: &Ending,
+    most: usize,
+) -> Option<bool> {
+    let (version, behind, end, written) = ending;
+    let heard = greeting(alloc, said, *version, behind)?;
+    let ran = run_on(rt, alloc, Role::Caller, heard, most)?;
+    Some(ran.answer == Err(*end) && ran.written.len() == *written)
+}
+
+// Whether it ends as the table says, however many bytes it reads at a time.
+fn all_end_so<R: Wait + Threads + Sync>(rt: &R, alloc: Global, said: &[u8]) -> bool {
+    for ending in &ENDINGS {
         for most in [1, 1_000_000] {
-            let bytes = greeting(alloc, &other, *version, behind).ok_or("a greeting")?;
-            let link = MemLink::new(alloc, bytes, Vec::new(alloc), most);
-            let signer = signer().ok_or("a signer")?;
-            let ran = run_with(&rt, alloc, Role::Caller, OWN, signer, link).ok_or("a session")?;
-            assert_eq!(rt; ran.answer, Err(*end));
-            assert_eq!(rt; ran.written.len(), *written);
+            if ends_so(rt, alloc, said, ending, most) != Some(true) {
+                return false;
+            }
         }
     }
-    Ok(())
+    true
 }
+
+// The same of what the other side says.
+fn endings_come_out<R: Wait + Threads + Sync>(rt: &R, alloc: Global) -> Option<bool> {
+    Some(all_end_so(rt, alloc, &said(rt, alloc)?))
+}
+
+#[test]
+fn endings(rt: HostRuntime) {
+    assert!(rt; endings_come_out(&rt, rt.alloc()) == Some(true));
+}
+
+// The call of the link that fails, how the session ends, how many bytes are written, and the times of the rows then.
+type Failure = (u64, SessionEnd, usize, &'static [u64]);
 
 // The first call of the link writes the hello, the second reads all that the answerer says, and the third writes all that
 // is due to it. By then the rows are stored.
-#[test]
-fn failing_links(rt: HostRuntime) -> Result<(), Fail> {
-    let cases: [(u64, SessionEnd, usize, &[u64]); 3] = [
-        (1, SessionEnd::LinkWrite, 0, &[100, 101, 102]),
-        (2, SessionEnd::LinkRead, 136, &[100, 101, 102]),
-        (3, SessionEnd::LinkWrite, 136, &[100, 101, 102, 200]),
-    ];
-    let alloc = rt.alloc();
-    for (call, end, written, times) in &cases {
-        let (_, other) = both(&rt, alloc, Role::Caller).ok_or("a meeting")?;
-        let fails = vec![in alloc; *call]?;
-        let link = MemLink::new(alloc, other, fails, 1_000_000);
-        let signer = signer().ok_or("a signer")?;
-        let ran = run_with(&rt, alloc, Role::Caller, OWN, signer, link).ok_or("a session")?;
-        assert_eq!(rt; ran.answer, Err(*end));
-        assert_eq!(rt; ran.written.len(), *written);
-        assert_eq!(rt; &*ran.times, *times);
+static FAILURES: [Failure; 3] = [
+    (1, SessionEnd::LinkWrite, 0, &[100, 101, 102]),
+    (2, SessionEnd::LinkRead, 136, &[100, 101, 102]),
+    (3, SessionEnd::LinkWrite, 136, &[100, 101, 102, 200]),
+];
+
+// What comes of the caller where this call of the link fails.
+fn run_failing<R: Wait + Threads + Sync>(
+    rt: &R,
+    alloc: Global,
+    said: &[u8],
+    call: u64,
+) -> Option<Ran> {
+    let fails = Vec::from_slice(alloc, &[call]).ok()?;
+    let heard = Vec::from_slice(alloc, said).ok()?;
+    run_own(rt, alloc, Role::Caller, heard, fails, 1_000_000)
+}
+
+// Whether that is what the table says.
+fn fails_so<R: Wait + Threads + Sync>(
+    rt: &R,
+    alloc: Global,
+    said: &[u8],
+    failure: &Failure,
+) -> Option<bool> {
+    let (call, end, written, times) = failure;
+    let ran = run_failing(rt, alloc, said, *call)?;
+    let has_ended = ran.answer == Err(*end) && ran.written.len() == *written;
+    Some(has_ended && ran.times.as_slice() == *times)
+}
+
+// Whether it is for each call.
+fn all_fail_so<R: Wait + Threads + Sync>(rt: &R, alloc: Global, said: &[u8]) -> bool {
+    for failure in &FAILURES {
+        if fails_so(rt, alloc, said, failure) != Some(true) {
+            return false;
+        }
     }
-    Ok(())
+    true
+}
+
+// The same on what the other side says.
+fn failures_come_out<R: Wait + Threads + Sync>(rt: &R, alloc: Global) -> Option<bool> {
+    Some(all_fail_so(rt, alloc, &said(rt, alloc)?))
+}
+
+#[test]
+fn failing_links(rt: HostRuntime) {
+    assert!(rt; failures_come_out(&rt, rt.alloc()) == Some(true));
+}
+
+// Whether a session that the link ended there, within a list, stored the rows that had come, judged in so many calls.
+fn is_broken_off(ran: &Ran, at: usize, calls: u64) -> bool {
+    ran.answer == Err(SessionEnd::ClosedEarly { at: at as u64 })
+        && ran.written.len() == 204
+        && ran.times.as_slice() == [100, 101, 102, 200].as_slice()
+        && ran.calls == calls
+}
+
+// Whether the caller does so on the bytes in front of a part of them.
+fn breaks_off<R: Wait + Threads + Sync>(
+    rt: &R,
+    alloc: Global,
+    said: &[u8],
+    part: &[u8],
+    (most, calls): (usize, u64),
+) -> Option<bool> {
+    let at = place_of(said, part)?;
+    let came = Vec::from_slice(alloc, said.get(..at)?).ok()?;
+    let ran = run_on(rt, alloc, Role::Caller, came, most)?;
+    Some(is_broken_off(&ran, at, calls))
 }
 
 // The link ends within the third of the four rows that the answerer tells. By then the two that came of the list are
 // stored, or kept where the log has them.
-#[test]
-fn a_broken_list(rt: HostRuntime) -> Result<(), Fail> {
-    let alloc = rt.alloc();
-    let (_, other) = both(&rt, alloc, Role::Caller).ok_or("a meeting")?;
-    let third = signature_at(alloc, 2).ok_or("a signature")?;
-    let at = place_of(&other, &third).ok_or("a third row")?;
-    for (most, calls) in [(7, 2), (1_000_000, 1)] {
-        let came = Vec::from_slice(alloc, other.get(..at).ok_or("a front")?)?;
-        let link = MemLink::new(alloc, came, Vec::new(alloc), most);
-        let signer = signer().ok_or("a signer")?;
-        let ran = run_with(&rt, alloc, Role::Caller, OWN, signer, link).ok_or("a session")?;
-        assert_eq!(rt; ran.answer, Err(SessionEnd::ClosedEarly { at: at as u64 }));
-        assert_eq!(rt; ran.written.len(), 204);
-        assert_eq!(rt; &*ran.times, &[100, 101, 102, 200][..]);
-        assert_eq!(rt; ran.calls, calls);
-    }
-    Ok(())
+fn third_is_broken_off<R: Wait + Threads + Sync>(
+    rt: &R,
+    alloc: Global,
+    said: &[u8],
+) -> Option<[bool; 2]> {
+    let third = signature_at(alloc, 2)?;
+    Some([
+        breaks_off(rt, alloc, said, &third, (7, 2)) == Some(true),
+        breaks_off(rt, alloc, said, &third, (1_000_000, 1)) == Some(true),
+    ])
+}
+
+// The same of what the other side says.
+fn list_is_broken_off<R: Wait + Threads + Sync>(rt: &R, alloc: Global) -> Option<[bool; 2]> {
+    third_is_broken_off(rt, alloc, &said(rt, alloc)?)
 }
 
 #[test]
-fn a_failing_signer(rt: HostRuntime) -> Result<(), Fail> {
-    let alloc = rt.alloc();
-    let (_, other) = both(&rt, alloc, Role::Caller).ok_or("a meeting")?;
-    let link = MemLink::new(alloc, other, Vec::new(alloc), 1_000_000);
+fn a_broken_list(rt: HostRuntime) {
+    assert!(rt; list_is_broken_off(&rt, rt.alloc()) == Some([true; 2]));
+}
+
+// What comes of the caller where its signer fails.
+fn run_unsigned<R: Wait + Threads + Sync>(rt: &R, alloc: Global, heard: Vec<u8>) -> Option<Ran> {
     let signer = FailingSigner {
-        signer: signer().ok_or("a signer")?,
+        signer: signer()?,
         failed: 0,
     };
-    let ran = run_with(&rt, alloc, Role::Caller, OWN, signer, link).ok_or("a session")?;
-    assert_eq!(rt; ran.answer, Err(SessionEnd::SignFault));
-    assert_eq!(rt; ran.written.len(), 136);
-    Ok(())
+    let link = MemLink::new(alloc, heard, Vec::new(alloc), 1_000_000);
+    run_with(rt, alloc, Role::Caller, OWN, signer, link)
+}
+
+// Whether it then ends for that reason, behind its hello.
+fn fails_to_sign<R: Wait + Threads + Sync>(rt: &R, alloc: Global) -> Option<bool> {
+    let ran = run_unsigned(rt, alloc, said(rt, alloc)?)?;
+    Some(ran.answer == Err(SessionEnd::SignFault) && ran.written.len() == 136)
+}
+
+#[test]
+fn a_failing_signer(rt: HostRuntime) {
+    assert!(rt; fails_to_sign(&rt, rt.alloc()) == Some(true));
 }

@@ -1,7 +1,7 @@
 //! The tables of the claims, which `bench/claims/make.py` makes.
 
 /// How many bytes a message has, and its signature under the open key of the line.
-pub(crate) const OPEN: [(usize, &str); 9] = [
+pub(crate) static OPEN: [(usize, &str); 9] = [
     (
         0,
         "e2d7e89e458eeddd8ccf6d1fec1db8ebc6a2e3436fffec5de731ebe0b6b5c889",
@@ -52,7 +52,7 @@ pub(crate) const LMS_DIGEST: &str =
     "52afceb72c1ecc39430e82b22eddb9f9ddb4779395f1e09812ab65740f2b9245";
 
 /// The pieces of a signature of the message under that key.
-pub(crate) const LMS_SIGNATURE: [&str; 36] = [
+pub(crate) static LMS_SIGNATURE: [&str; 36] = [
     "00000005000000044deab2abe2511881239ee979e07ac464bc68e1f3b4f9d48d7dfab3e37305",
     "b9f70650d77e1af426ee6e5a4b7464545f310000000200000004a4891806cab496addad7435c",
     "327e70d4777e3f6159a1a4868ef6c82566f1552fefc580f7a248a32119c334f17c79d27646f9",

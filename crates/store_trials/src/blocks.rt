@@ -3,8 +3,8 @@
 ghost use Rattle.std.specs.Prelude.{◌≡◌};
 
 use crate::boxes::area_box;
-use crate::rows::{Rank, path_of_bytes, row_of};
-use block_store::BlockStore;
+use crate::rows::{Rank, offer, path_of_bytes, row_of};
+use block_store::{BlockStore, Snapshot};
 use std::alloc::Global;
 use std::marker::Brand;
 use std::sync::Arc;
@@ -38,32 +38,28 @@ fn deep_row(alloc: Global, number: u16) -> Option<BareRow> {
     row_of(alloc, 1, path, EARLY, 0)
 }
 
-// Offers a row to the store.
-fn offer<R: Row>(store: &mut BlockStore<R>, row: R) -> Option<Placed> {
-    if store.is_full() {
-        return None;
-    }
-    store.ingest(row).ok()
-}
-
-// The store of 130 rows below one path; None where one of them pruned or was kept out.
-fn below_one(alloc: Global) -> Option<BlockStore<BareRow>> {
-    let mut store = BlockStore::new(alloc);
+// Offers 130 rows below one path; None where one of them pruned or was kept out.
+fn fill_below(alloc: Global, store: &mut BlockStore<BareRow>) -> Option<()> {
     for i in 0..130u8 {
-        let placed = offer(&mut store, row(alloc, &[b'a', i], EARLY)?)?;
+        let placed = offer(store, row(alloc, &[b'a', i], EARLY)?)?;
         if placed != (Placed::Stored { pruned: 0 }) {
             return None;
         }
     }
-    Some(store)
+    Some(())
 }
 
 // What becomes of a later row at that path, how many rows are left, and how many a snapshot taken before still has.
-pub(crate) fn pruned_below(alloc: Global) -> Option<(Placed, u32, u32)> {
-    let mut store = below_one(alloc)?;
+fn prunes_all(alloc: Global, store: &mut BlockStore<BareRow>) -> Option<(Placed, u32, u32)> {
+    fill_below(alloc, store)?;
     let before = store.snapshot().ok()?;
-    let placed = offer(&mut store, row(alloc, b"a", LATE)?)?;
+    let placed = offer(store, row(alloc, b"a", LATE)?)?;
     Some((placed, store.len(), before.len()))
+}
+
+// The same in a new store.
+pub(crate) fn pruned_below(alloc: Global) -> Option<(Placed, u32, u32)> {
+    prunes_all(alloc, &mut BlockStore::new(alloc))
 }
 
 // How often rows were copied, and how often their entry's bytes were read.
@@ -104,15 +100,18 @@ impl Row for CountedRow {
     }
 }
 
-// The store of a thousand rows below one path.
-fn thousand(alloc: Global, calls: &Arc<Calls>) -> Option<BlockStore<CountedRow>> {
-    let mut store = BlockStore::new(alloc);
+// A row with these calls.
+fn counting(row: BareRow, calls: &Arc<Calls>) -> Option<CountedRow> {
+    let calls = calls.clone().ok()?;
+    Some(CountedRow { row, calls })
+}
+
+// Offers a thousand rows below one path.
+fn fill(alloc: Global, store: &mut BlockStore<CountedRow>, calls: &Arc<Calls>) -> Option<()> {
     for i in 0..1000u16 {
-        let row = deep_row(alloc, i)?;
-        let calls = calls.clone().ok()?;
-        let _placed = offer(&mut store, CountedRow { row, calls })?;
+        let _placed = offer(store, counting(deep_row(alloc, i)?, calls)?)?;
     }
-    Some(store)
+    Some(())
 }
 
 // How often rows are copied for a snapshot and for sharing it, and then for a row that is offered beside it, and how
@@ -129,38 +128,71 @@ pub(crate) fn calls_of_thousand(alloc: Global) -> Option<Counts> {
     counted::<Brand>(alloc, Blank::new(1))
 }
 
-// The same, with a ledger of the steps.
+// How often rows were copied so far.
+fn copies(calls: &Calls) -> u64 {
+    calls.copies.load(Ordering::SeqCst)
+}
+
+// How often a row's bytes are read for a fingerprint of all rows.
+fn reads<L: Ledger>(
+    alloc: Global,
+    calls: &Calls,
+    rows: &Snapshot<CountedRow>,
+    steps: &mut Steps<L>,
+) -> Option<u64> {
+    let area = area_box(alloc, Some(1), b"", 0, None)?;
+    let before = calls.reads.load(Ordering::SeqCst);
+    let _fingerprint = rows.fingerprint(&area, steps);
+    Some(calls.reads.load(Ordering::SeqCst).saturating_sub(before))
+}
+
+// The counts for a shared snapshot of the store's rows.
+fn counted_beside<L: Ledger>(
+    alloc: Global,
+    calls: &Arc<Calls>,
+    store: &mut BlockStore<CountedRow>,
+    shared: &Snapshot<CountedRow>,
+    steps: &mut Steps<L>,
+) -> Option<Counts> {
+    let copies_to_share = copies(calls);
+    let _placed = offer(store, counting(row(alloc, b"b", EARLY)?, calls)?)?;
+    let copies_to_ingest = copies(calls);
+    Some(Counts {
+        copies_to_share,
+        copies_to_ingest,
+        reads: reads(alloc, calls, shared, steps)?,
+    })
+}
+
+// The counts for a snapshot of the store's rows, which is shared.
+fn counted_in<L: Ledger>(
+    alloc: Global,
+    calls: &Arc<Calls>,
+    store: &mut BlockStore<CountedRow>,
+    steps: &mut Steps<L>,
+) -> Option<Counts> {
+    fill(alloc, store, calls)?;
+    let snapshot = store.snapshot().ok()?;
+    let shared = snapshot.share().ok()?;
+    counted_beside(alloc, calls, store, &shared, steps)
+}
+
+// Counters of no call.
+fn no_calls(alloc: Global) -> Option<Arc<Calls>> {
+    let calls = Calls {
+        copies: AtomicU64::new(0),
+        reads: AtomicU64::new(0),
+    };
+    Arc::new(alloc, calls).ok()
+}
+
+// The same of a new store, with a ledger of the steps.
 fn counted<L: Ledger>(alloc: Global, blank: Blank) -> Option<Counts>
     requires name { blank.name ≡ L.name }
     requires parts { blank.parts ≡ L.parts }
     requires one { blank.parts ≡ 1 }
 {
-    let calls = Arc::new(
-        alloc,
-        Calls {
-            copies: AtomicU64::new(0),
-            reads: AtomicU64::new(0),
-        },
-    )
-    .ok()?;
-    let mut store = thousand(alloc, &calls)?;
-    let snapshot = store.snapshot().ok()?;
-    let again = snapshot.share().ok()?;
-    let copies_to_share = calls.copies.load(Ordering::SeqCst);
-    let last = CountedRow {
-        row: row(alloc, b"b", EARLY)?,
-        calls: calls.clone().ok()?,
-    };
-    let _placed = offer(&mut store, last)?;
-    let copies_to_ingest = calls.copies.load(Ordering::SeqCst);
-    let before = calls.reads.load(Ordering::SeqCst);
-    let area = area_box(alloc, Some(1), b"", 0, None)?;
     let mut steps = Steps::<L>::new(blank);
-    let _fingerprint = again.fingerprint(&area, &mut steps);
-    let reads = calls.reads.load(Ordering::SeqCst).saturating_sub(before);
-    Some(Counts {
-        copies_to_share,
-        copies_to_ingest,
-        reads,
-    })
+    let calls = no_calls(alloc)?;
+    counted_in(alloc, &calls, &mut BlockStore::new(alloc), &mut steps)
 }

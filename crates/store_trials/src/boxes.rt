@@ -2,7 +2,7 @@
 
 ghost use Rattle.std.specs.Prelude.{◌≡◌};
 
-use crate::rows::{Rank, path_of_bytes, row_of, user};
+use crate::rows::{Rank, offer, path_of_bytes, row_of, user};
 use block_store::{BlockStore, Snapshot};
 use std::alloc::Global;
 use std::sync::ledger::{Blank, Ledger};
@@ -11,7 +11,7 @@ use willow_area::{Area, Box3, TimeRange, box_of};
 use willow_entry::{BareRow, same};
 
 // Offers a row of this subspace, path and time to the store.
-fn offer(
+fn offer_at(
     alloc: Global,
     store: &mut BlockStore<BareRow>,
     subspace: u8,
@@ -23,21 +23,23 @@ fn offer(
         length: 1,
         digest: 0x11,
     };
-    let row = row_of(alloc, subspace, path_of_bytes(alloc, parts)?, rank, 0)?;
-    if store.is_full() {
-        return None;
-    }
-    let _placed = store.ingest(row).ok()?;
+    let path = path_of_bytes(alloc, parts)?;
+    let _placed = offer(store, row_of(alloc, subspace, path, rank, 0)?)?;
     Some(())
 }
 
-// The snapshot of rows at /a, /a/b and /b of one subspace, and at /a of the next, in this order.
+// Offers rows at /a, /a/b and /b of one subspace, and at /a of the next, not in this order.
+fn fill(alloc: Global, store: &mut BlockStore<BareRow>) -> Option<()> {
+    offer_at(alloc, store, 2, b"a", 6)?;
+    offer_at(alloc, store, 1, b"b", 7)?;
+    offer_at(alloc, store, 1, b"a", 5)?;
+    offer_at(alloc, store, 1, b"ab", 5)
+}
+
+// The snapshot of those rows, in that order.
 fn snapshot(alloc: Global) -> Option<Snapshot<BareRow>> {
     let mut store = BlockStore::new(alloc);
-    offer(alloc, &mut store, 2, b"a", 6)?;
-    offer(alloc, &mut store, 1, b"b", 7)?;
-    offer(alloc, &mut store, 1, b"a", 5)?;
-    offer(alloc, &mut store, 1, b"ab", 5)?;
+    fill(alloc, &mut store)?;
     store.snapshot().ok()
 }
 
@@ -78,21 +80,45 @@ fn positions(rows: &Snapshot<BareRow>, area: &Box3) -> (u32, [Option<u32>; 5]) {
 // An area: its subspace, its path, the start and the end of its times.
 pub(crate) type Place<'a> = (Option<u8>, &'a [u8], u64, Option<u64>);
 
-// The same for the box of an area.
-pub(crate) fn found(alloc: Global, place: &Place) -> Option<(u32, [Option<u32>; 5])> {
-    let area = area_box(alloc, place.0, place.1, place.2, place.3)?;
-    Some(positions(&snapshot(alloc)?, &area))
+// The box of an area.
+fn place_box(alloc: Global, place: &Place) -> Option<Box3> {
+    area_box(alloc, place.0, place.1, place.2, place.3)
 }
 
-// The fingerprint of the rows that the box of an area includes.
+// How many of some rows the box includes, and which, where both could be made.
+fn found_in(
+    rows: Option<&Snapshot<BareRow>>,
+    area: Option<&Box3>,
+) -> Option<(u32, [Option<u32>; 5])> {
+    Some(positions(rows?, area?))
+}
+
+// The same of the four rows and the box of an area.
+pub(crate) fn found(alloc: Global, place: &Place) -> Option<(u32, [Option<u32>; 5])> {
+    found_in(snapshot(alloc).as_ref(), place_box(alloc, place).as_ref())
+}
+
+// The fingerprint of those of some rows that the box includes, where both could be made.
+fn fingerprint_in<L: Ledger>(
+    rows: Option<&Snapshot<BareRow>>,
+    area: Option<&Box3>,
+    steps: &mut Steps<L>,
+) -> Option<[u8; 32]> {
+    Some(rows?.fingerprint(area?, steps))
+}
+
+// The fingerprint of those of the four rows that the box of an area includes.
 pub(crate) fn fingerprint<L: Ledger>(alloc: Global, place: &Place, blank: Blank) -> Option<[u8; 32]>
     requires name { blank.name ≡ L.name }
     requires parts { blank.parts ≡ L.parts }
     requires one { blank.parts ≡ 1 }
 {
-    let area = area_box(alloc, place.0, place.1, place.2, place.3)?;
     let mut steps = Steps::<L>::new(blank);
-    Some(snapshot(alloc)?.fingerprint(&area, &mut steps))
+    fingerprint_in(
+        snapshot(alloc).as_ref(),
+        place_box(alloc, place).as_ref(),
+        &mut steps,
+    )
 }
 
 // Whether two snapshots have the same rows in the same order.
@@ -106,9 +132,13 @@ fn have_the_same(one: &Snapshot<BareRow>, other: &Snapshot<BareRow>) -> bool {
     one.len() == other.len()
 }
 
-// How many rows the shared snapshot has where it is equal to the first.
-pub(crate) fn shared(alloc: Global) -> Option<u32> {
-    let rows = snapshot(alloc)?;
+// How many rows a shared snapshot has where it is equal to the first.
+fn shared_of(rows: &Snapshot<BareRow>) -> Option<u32> {
     let again = rows.share().ok()?;
-    have_the_same(&rows, &again).then_some(again.len())
+    have_the_same(rows, &again).then_some(again.len())
+}
+
+// The same of the four rows.
+pub(crate) fn shared(alloc: Global) -> Option<u32> {
+    shared_of(&snapshot(alloc)?)
 }

@@ -1,6 +1,6 @@
 //! Lists of rows that look random, and what both stores make of them.
 
-use crate::rows::{Rank, path_of, path_of_bytes, row_of};
+use crate::rows::{Rank, offer, offer_flat, path_of, path_of_bytes, row_of};
 use block_store::BlockStore;
 use flat_store::FlatStore;
 use std::alloc::Global;
@@ -12,7 +12,7 @@ const LENGTH: usize = 40;
 
 const WIDE: usize = 400;
 
-const PARTS: [&[u8]; 4] = [b"a", b"b", b"ab", b""];
+static PARTS: [&[u8]; 4] = [b"a", b"b", b"ab", b""];
 
 const FIRSTS: [u8; 3] = [97, 98, 99];
 
@@ -91,36 +91,6 @@ impl List {
     }
 }
 
-// Offers a list's rows to the plain store, and answers what became of each row.
-fn offer_flat(alloc: Global, store: &mut FlatStore<BareRow>, list: List) -> Option<Vec<Placed>> {
-    let mut answers = Vec::new(alloc);
-    let mut number = list.number;
-    for _ in 0..list.len() {
-        number = next(number);
-        let row = list.row(alloc, number)?;
-        if store.is_full() {
-            return None;
-        }
-        answers.push(store.ingest(row).ok()?).ok()?;
-    }
-    Some(answers)
-}
-
-// Offers a list's rows to the store of shared rows, and answers what became of each row.
-fn offer_shared(alloc: Global, store: &mut BlockStore<BareRow>, list: List) -> Option<Vec<Placed>> {
-    let mut answers = Vec::new(alloc);
-    let mut number = list.number;
-    for _ in 0..list.len() {
-        number = next(number);
-        let row = list.row(alloc, number)?;
-        if store.is_full() {
-            return None;
-        }
-        answers.push(store.ingest(row).ok()?).ok()?;
-    }
-    Some(answers)
-}
-
 // Whether both stores hold the same rows in the same order.
 fn hold_the_same(flat: &FlatStore<BareRow>, shared: &BlockStore<BareRow>) -> bool {
     let mut at = 0u32;
@@ -143,35 +113,60 @@ pub(crate) struct Outcome {
     pub(crate) left: u32,
 }
 
-// The outcome of these answers.
-fn outcome_of(answers: &[Placed], left: u32) -> Outcome {
-    let mut outcome = Outcome {
-        kept: 0,
-        by: 0,
-        pruned: 0,
-        left,
-    };
-    for answer in answers {
-        match answer {
-            Placed::Kept { by } => {
-                outcome.kept = outcome.kept.saturating_add(1);
-                outcome.by = outcome.by.saturating_add(*by);
-            }
-            Placed::Stored { pruned } => outcome.pruned = outcome.pruned.saturating_add(*pruned),
+// The outcome with one more answer.
+fn counted(outcome: Outcome, answer: Placed) -> Outcome {
+    let mut outcome = outcome;
+    match answer {
+        Placed::Kept { by } => {
+            outcome.kept = outcome.kept.saturating_add(1);
+            outcome.by = outcome.by.saturating_add(by);
         }
+        Placed::Stored { pruned } => outcome.pruned = outcome.pruned.saturating_add(pruned),
     }
     outcome
 }
 
+// What both stores answer of the row that a number tells, where they agree.
+fn offer_both(
+    alloc: Global,
+    flat: &mut FlatStore<BareRow>,
+    shared: &mut BlockStore<BareRow>,
+    list: List,
+    number: u64,
+) -> Option<Placed> {
+    let placed = offer_flat(flat, list.row(alloc, number)?)?;
+    let other = offer(shared, list.row(alloc, number)?)?;
+    (placed == other).then_some(placed)
+}
+
+// The outcome of a list where both stores, which have no row before, agree on it.
+fn outcome_of(
+    alloc: Global,
+    flat: &mut FlatStore<BareRow>,
+    shared: &mut BlockStore<BareRow>,
+    list: List,
+) -> Option<Outcome> {
+    let mut outcome = Outcome {
+        kept: 0,
+        by: 0,
+        pruned: 0,
+        left: 0,
+    };
+    let mut number = list.number;
+    for _ in 0..list.len() {
+        number = next(number);
+        outcome = counted(outcome, offer_both(alloc, flat, shared, list, number)?);
+    }
+    outcome.left = shared.len();
+    hold_the_same(flat, shared).then_some(outcome)
+}
+
 // The outcome of a list where both stores agree on it.
 pub(crate) fn outcome_in_both(alloc: Global, list: List) -> Option<Outcome> {
-    let mut flat = FlatStore::new(alloc);
-    let mut shared = BlockStore::new(alloc);
-    let answers = offer_flat(alloc, &mut flat, list)?;
-    let others = offer_shared(alloc, &mut shared, list)?;
-    if answers.as_slice() == others.as_slice() && hold_the_same(&flat, &shared) {
-        Some(outcome_of(&answers, shared.len()))
-    } else {
-        None
-    }
+    outcome_of(
+        alloc,
+        &mut FlatStore::new(alloc),
+        &mut BlockStore::new(alloc),
+        list,
+    )
 }

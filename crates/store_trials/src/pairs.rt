@@ -1,6 +1,6 @@
 //! Two rows, offered to both stores one after the other.
 
-use crate::rows::{Rank, path_of_bytes, row_of};
+use crate::rows::{Rank, offer, offer_flat, path_of_bytes, row_of};
 use block_store::BlockStore;
 use flat_store::FlatStore;
 use std::alloc::Global;
@@ -20,32 +20,54 @@ fn row(alloc: Global, made: &Made) -> Option<BareRow> {
 }
 
 // What the plain store answers of the second row, and how many rows it has then.
-fn offer_flat(alloc: Global, first: &Made, second: &Made) -> Option<(Placed, usize)> {
-    let mut store = FlatStore::new(alloc);
-    let _first = store.ingest(row(alloc, first)?).ok()?;
-    let placed = store.ingest(row(alloc, second)?).ok()?;
+fn second_in_flat(
+    alloc: Global,
+    store: &mut FlatStore<BareRow>,
+    first: &Made,
+    second: &Made,
+) -> Option<(Placed, usize)> {
+    let _first = offer_flat(store, row(alloc, first)?)?;
+    let placed = offer_flat(store, row(alloc, second)?)?;
     Some((placed, store.rows().len()))
 }
 
-// What the store of shared rows answers of the second row, and how many rows it has then. What the row is
-// said to be covered by, or to prune, is what the answer tells.
-fn offer_shared(alloc: Global, first: &Made, second: &Made) -> Option<(Placed, u32)> {
-    let mut store = BlockStore::new(alloc);
-    let _first = store.ingest(row(alloc, first)?).ok()?;
-    let row = row(alloc, second)?;
-    let covered = store.covered_by(&row);
-    let pruned = store.pruned_by(&row).ok()?.len();
-    let placed = store.ingest(row).ok()?;
-    let told = match placed {
+// What a row is covered by in the store of shared rows, and how many rows it prunes there.
+fn told(store: &BlockStore<BareRow>, row: &BareRow) -> Option<(Option<u32>, usize)> {
+    Some((store.covered_by(row), store.pruned_by(row).ok()?.len()))
+}
+
+// Whether that is what the answer tells.
+fn is_so(told: (Option<u32>, usize), placed: Placed) -> bool {
+    let (covered, pruned) = told;
+    match placed {
         Placed::Kept { by } => covered == Some(by),
         Placed::Stored { pruned: count } => covered.is_none() && pruned == count as usize,
-    };
-    told.then_some((placed, store.len()))
+    }
+}
+
+// What the store of shared rows answers of a row. What the row is said before to be covered by, or to prune, is what the
+// answer tells.
+fn offer_told(store: &mut BlockStore<BareRow>, row: BareRow) -> Option<Placed> {
+    let told = told(store, &row)?;
+    let placed = offer(store, row)?;
+    is_so(told, placed).then_some(placed)
+}
+
+// What it answers of the second row, and how many rows it has then.
+fn second_in_shared(
+    alloc: Global,
+    store: &mut BlockStore<BareRow>,
+    first: &Made,
+    second: &Made,
+) -> Option<(Placed, u32)> {
+    let _first = offer(store, row(alloc, first)?)?;
+    let placed = offer_told(store, row(alloc, second)?)?;
+    Some((placed, store.len()))
 }
 
 // What both stores answer of the second row, and how many rows they have then, where they agree.
 pub(crate) fn offer_both(alloc: Global, first: &Made, second: &Made) -> Option<(Placed, u32)> {
-    let (placed, left) = offer_shared(alloc, first, second)?;
-    let agree = offer_flat(alloc, first, second) == Some((placed, left as usize));
-    agree.then_some((placed, left))
+    let (placed, left) = second_in_shared(alloc, &mut BlockStore::new(alloc), first, second)?;
+    let flat = second_in_flat(alloc, &mut FlatStore::new(alloc), first, second);
+    (flat == Some((placed, left as usize))).then_some((placed, left))
 }

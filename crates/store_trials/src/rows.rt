@@ -1,7 +1,9 @@
 //! Rows made of few numbers.
 
+use block_store::BlockStore;
+use flat_store::FlatStore;
 use std::alloc::Global;
-use willow_entry::{BareRow, Entry};
+use willow_entry::{BareRow, Entry, Placed, Row};
 use willow_path::{Digest, NamespaceKey, Path, UserKey};
 
 // An open key with this byte throughout its body.
@@ -64,4 +66,20 @@ pub(crate) fn row_of(
 ) -> Option<BareRow> {
     let entry = entry_of(subspace, path, rank)?;
     BareRow::new(alloc, entry, Vec::from_slice(alloc, &[token]).ok()?).ok()
+}
+
+// What the plain store answers of a row.
+pub(crate) fn offer_flat<R: Row>(store: &mut FlatStore<R>, row: R) -> Option<Placed> {
+    if store.is_full() {
+        return None;
+    }
+    store.ingest(row).ok()
+}
+
+// What the store of shared rows answers of a row.
+pub(crate) fn offer<R: Row>(store: &mut BlockStore<R>, row: R) -> Option<Placed> {
+    if store.is_full() {
+        return None;
+    }
+    store.ingest(row).ok()
 }
