@@ -2,18 +2,63 @@
 
 ghost use Rattle.std.specs.Prelude.{◌≤◌};
 
-use crate::rows::{Due, judges, namespace, row};
+use crate::rows::{Due, judges, namespace};
 use crate::schemes::Counting;
 use crate::texts;
 use auth_batch::CachedChecker;
-use auth_entry::{PlainChecker, RowRefusal};
+use auth_entry::{Checker, PlainChecker, RowRefusal};
 use mc_cap::ChainRefusal;
 use std::alloc::Global;
 use std::sync::atomic::{AtomicU64, Ordering};
 use std::thread::Threads;
 
-// How many signatures of users are asked about in each of two calls over so many rows, by a checker that remembers so many
-// capabilities, and then by a plain one. All are judged as they are due.
+// How many signatures of users a checker asks about in each of two calls over so many rows, where all are judged as they are
+// due.
+fn asks_twice<'a, C: Checker<Counting<'a>>>(
+    rt: &(impl Threads + Sync),
+    alloc: Global,
+    asked: &AtomicU64,
+    checker: &mut C,
+    table: &[(&str, Due)],
+    count: usize,
+) -> Option<[u64; 2]> {
+    let is_due = judges(rt, alloc, checker, table, count)?;
+    let first = asked.swap(0, Ordering::SeqCst);
+    let is_due_again = judges(rt, alloc, checker, table, count)?;
+    let second = asked.swap(0, Ordering::SeqCst);
+    (is_due && is_due_again).then_some([first, second])
+}
+
+// The same of a checker that remembers so many capabilities.
+fn cached_asks(
+    rt: &(impl Threads + Sync),
+    alloc: Global,
+    capacity: u32,
+    table: &[(&str, Due)],
+    count: usize,
+) -> Option<[u64; 2]>
+    requires { 1 ≤ capacity }
+{
+    let asked = AtomicU64::new(0);
+    let scheme = Counting { asked: &asked };
+    let mut checker = CachedChecker::new(alloc, scheme, namespace(b'N')?, capacity).ok()?;
+    asks_twice(rt, alloc, &asked, &mut checker, table, count)
+}
+
+// The same of a plain one.
+fn plain_asks(
+    rt: &(impl Threads + Sync),
+    alloc: Global,
+    table: &[(&str, Due)],
+    count: usize,
+) -> Option<[u64; 2]> {
+    let asked = AtomicU64::new(0);
+    let scheme = Counting { asked: &asked };
+    let mut checker = PlainChecker::new(scheme, namespace(b'N')?);
+    asks_twice(rt, alloc, &asked, &mut checker, table, count)
+}
+
+// The same of one that remembers so many capabilities, and then of a plain one.
 fn both_ask(
     rt: &(impl Threads + Sync),
     alloc: Global,
@@ -23,49 +68,48 @@ fn both_ask(
 ) -> Option<[u64; 4]>
     requires { 1 ≤ capacity }
 {
-    let asked = AtomicU64::new(0);
-    let scheme = Counting { asked: &asked };
-    let mut cached = CachedChecker::new(alloc, scheme, namespace(b'N')?, capacity).ok()?;
-    let mut plain = PlainChecker::new(scheme, namespace(b'N')?);
-    let mut due = judges(rt, alloc, &mut cached, table, count)?;
-    let first = asked.swap(0, Ordering::SeqCst);
-    due &= judges(rt, alloc, &mut cached, table, count)?;
-    let second = asked.swap(0, Ordering::SeqCst);
-    due &= judges(rt, alloc, &mut plain, table, count)?;
-    let third = asked.swap(0, Ordering::SeqCst);
-    due &= judges(rt, alloc, &mut plain, table, count)?;
-    if !due {
-        return None;
-    }
-    Some([first, second, third, asked.swap(0, Ordering::SeqCst)])
+    let [first, second] = cached_asks(rt, alloc, capacity, table, count)?;
+    let [third, fourth] = plain_asks(rt, alloc, table, count)?;
+    Some([first, second, third, fourth])
 }
+
+static VALID: [(&str, Due); 1] = [(texts::DELEGATED, Ok(117))];
 
 // A capability is checked once, however many rows carry it, and once a call where it is not remembered.
 #[test]
 fn a_valid_capability_is_checked_once(rt: HostRuntime) {
-    let rows = [(texts::DELEGATED, Ok(117))];
+    let alloc = rt.alloc();
     for (count, wanted) in [(1, [2, 1, 2, 2]), (10, [11, 10, 11, 11])] {
-        assert_eq!(rt; both_ask(&rt, rt.alloc(), 1, &rows, count), Some(wanted));
+        assert!(rt; both_ask(&rt, alloc, 1, &VALID, count) == Some(wanted));
     }
 }
 
+static REFUSED: [(&str, Due); 1] = [(
+    texts::SPOILT,
+    Err(RowRefusal::Chain(ChainRefusal::BadSignature { at: 1 })),
+)];
+
 #[test]
 fn a_refused_capability_is_checked_in_each_call(rt: HostRuntime) {
-    let refusal = RowRefusal::Chain(ChainRefusal::BadSignature { at: 1 });
-    let rows = [(texts::SPOILT, Err(refusal))];
+    let alloc = rt.alloc();
     for count in [1, 10] {
-        assert_eq!(rt; both_ask(&rt, rt.alloc(), 1, &rows, count), Some([1; 4]));
+        assert!(rt; both_ask(&rt, alloc, 1, &REFUSED, count) == Some([1; 4]));
     }
 }
+
+static FIVE: [(&str, Due); 5] = [
+    (texts::HANDED[0], Ok(117)),
+    (texts::HANDED[1], Ok(117)),
+    (texts::HANDED[2], Ok(117)),
+    (texts::HANDED[3], Ok(117)),
+    (texts::HANDED[4], Ok(117)),
+];
 
 // Five capabilities: those are remembered that were asked for last.
 #[test]
 fn as_many_are_remembered_as_there_is_room_for(rt: HostRuntime) {
-    let rows = texts::HANDED.map(|text| (text, Ok(117)));
+    let alloc = rt.alloc();
     for (capacity, again) in [(1, 9), (2, 8), (5, 5), (1_024, 5)] {
-        assert_eq!(rt;
-            both_ask(&rt, rt.alloc(), capacity, &rows, 5),
-            Some([10, again, 10, 10])
-        );
+        assert!(rt; both_ask(&rt, alloc, capacity, &FIVE, 5) == Some([10, again, 10, 10]));
     }
 }

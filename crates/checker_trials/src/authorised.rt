@@ -2,7 +2,7 @@
 
 use crate::rows::{has_bytes, namespace, row};
 use crate::texts;
-use auth_entry::{RowRefusal, authorise};
+use auth_entry::{AuthorisedEntry, RowRefusal, authorise};
 use mc_cap::ChainRefusal;
 use scheme_core::OpenScheme;
 use spelling::End;
@@ -18,35 +18,40 @@ fn refusal(alloc: Global, letter: u8, text: &str) -> Option<Option<RowRefusal>> 
     }
 }
 
+static AUTHORISED: [&str; 3] = [texts::PLAIN, texts::DELEGATED, texts::BY_RECEIVER];
+
 #[test]
 fn authorised_rows(rt: HostRuntime) {
-    for text in [texts::PLAIN, texts::DELEGATED, texts::BY_RECEIVER] {
-        assert_eq!(rt; refusal(rt.alloc(), b'N', text), Some(None));
+    let alloc = rt.alloc();
+    for text in &AUTHORISED {
+        assert!(rt; refusal(alloc, b'N', text) == Some(None));
     }
 }
 
+static REFUSED: [(u8, &str, RowRefusal); 8] = [
+    (b'O', texts::PLAIN, RowRefusal::WrongNamespace),
+    (b'N', texts::OTHER, RowRefusal::WrongNamespace),
+    (b'N', texts::READING, RowRefusal::NotWrite),
+    (
+        b'N',
+        texts::OWNED,
+        RowRefusal::Chain(ChainRefusal::NotOwned),
+    ),
+    (
+        b'O',
+        texts::IN_OWNED,
+        RowRefusal::Chain(ChainRefusal::NotCommunal),
+    ),
+    (b'N', texts::OUTSIDE, RowRefusal::OutsideGrant),
+    (b'N', texts::UNSIGNED, RowRefusal::BadEntrySignature),
+    (b'N', texts::BY_GIVER, RowRefusal::BadEntrySignature),
+];
+
 #[test]
 fn the_first_refusal_is_told(rt: HostRuntime) {
-    let table = [
-        (b'O', texts::PLAIN, RowRefusal::WrongNamespace),
-        (b'N', texts::OTHER, RowRefusal::WrongNamespace),
-        (b'N', texts::READING, RowRefusal::NotWrite),
-        (
-            b'N',
-            texts::OWNED,
-            RowRefusal::Chain(ChainRefusal::NotOwned),
-        ),
-        (
-            b'O',
-            texts::IN_OWNED,
-            RowRefusal::Chain(ChainRefusal::NotCommunal),
-        ),
-        (b'N', texts::OUTSIDE, RowRefusal::OutsideGrant),
-        (b'N', texts::UNSIGNED, RowRefusal::BadEntrySignature),
-        (b'N', texts::BY_GIVER, RowRefusal::BadEntrySignature),
-    ];
-    for (letter, text, wanted) in table {
-        assert_eq!(rt; refusal(rt.alloc(), letter, text), Some(Some(wanted)));
+    let alloc = rt.alloc();
+    for (letter, text, wanted) in &REFUSED {
+        assert!(rt; refusal(alloc, *letter, text) == Some(Some(*wanted)));
     }
 }
 
@@ -55,21 +60,37 @@ fn has_text<R: SharedRow>(alloc: Global, row: &R, text: &str) -> bool {
     has_bytes(alloc, row, text, 117)
 }
 
-// Whether an authorised row in O and its copies have its bytes, and tell its namespace.
-fn copies_have_bytes(alloc: Global, text: &str) -> Option<bool> {
-    let entry = authorise(alloc, &OpenScheme, &namespace(b'O')?, row(alloc, text)?).ok()?;
-    let copy = entry.copy().ok()?;
-    let as_row = Row::copy(&entry).ok()?;
-    Some(
-        has_text(alloc, &entry, text)
-            && has_text(alloc, &copy, text)
-            && has_text(alloc, &as_row, text)
-            && entry.namespace() == namespace(b'O')?
-            && copy.namespace() == namespace(b'O')?,
-    )
+// Whether an authorised row has those bytes, and tells its namespace O.
+fn is_of(alloc: Global, entry: &AuthorisedEntry<OpenScheme>, text: &str) -> Option<bool> {
+    Some(has_text(alloc, entry, text) && entry.namespace() == namespace(b'O')?)
+}
+
+// The same of a copy of it.
+fn copy_is_of(alloc: Global, entry: &AuthorisedEntry<OpenScheme>, text: &str) -> Option<bool> {
+    is_of(alloc, &entry.copy().ok()?, text)
+}
+
+// Whether its copy as a row has those bytes.
+fn copied_row_is_of(
+    alloc: Global,
+    entry: &AuthorisedEntry<OpenScheme>,
+    text: &str,
+) -> Option<bool> {
+    Some(has_text(alloc, &Row::copy(entry).ok()?, text))
+}
+
+// Whether an authorised row in O and its copies do so.
+fn copies_are_of(alloc: Global, text: &str) -> Option<[Option<bool>; 3]> {
+    let row = row(alloc, text)?;
+    let entry = authorise(alloc, &OpenScheme, &namespace(b'O')?, row).ok()?;
+    Some([
+        is_of(alloc, &entry, text),
+        copy_is_of(alloc, &entry, text),
+        copied_row_is_of(alloc, &entry, text),
+    ])
 }
 
 #[test]
 fn an_authorised_entry_is_copied(rt: HostRuntime) {
-    assert_eq!(rt; copies_have_bytes(rt.alloc(), texts::OWNED_ON), Some(true));
+    assert!(rt; copies_are_of(rt.alloc(), texts::OWNED_ON) == Some([Some(true); 3]));
 }

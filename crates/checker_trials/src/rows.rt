@@ -40,7 +40,7 @@ fn rows_of(alloc: Global, table: &[(&str, Due)], count: usize) -> Option<Vec<Raw
     let mut rows = Vec::new(alloc);
     for at in 0..count {
         let (text, _) = table.get(at % table.len().max(1))?;
-        rows.push(row(alloc, *text)?).ok()?;
+        rows.push(row(alloc, text)?).ok()?;
     }
     Some(rows)
 }

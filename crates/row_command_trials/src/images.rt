@@ -8,6 +8,7 @@ use auth_entry::PlainChecker;
 use lms_core::PeerScheme;
 use mc_cap::{RefusedRow, RowRefusal};
 use peer_rows::show;
+use peer_stage::ShowCounts;
 use std::alloc::Global;
 use std::thread::Threads;
 use willow_outside::{MemSink, MemSource};
@@ -31,7 +32,25 @@ const OLD_LISTED: &str =
 const BOTH_LISTED: &str =
     "namespace 004e4e4e4e4e4e4e4e4e4e4e4e4e4e4e4e4e4e4e4e4e4e4e4e4e4e4e4e4e4e4e4e rows 2\n005555555555555555555555555555555555555555555555555555555555555555 /61 5 1 1111111111111111111111111111111111111111111111111111111111111111\n005555555555555555555555555555555555555555555555555555555555555555 /61/62 5 1 1111111111111111111111111111111111111111111111111111111111111111\n";
 
-// How the showing of the image ends, where it writes this text.
+// How the showing of the input ends, where it writes this text.
+fn ends_with(
+    rt: &(impl Threads + Sync),
+    alloc: Global,
+    input: &mut MemSource,
+    output: &mut MemSink,
+    text: &str,
+) -> Option<Ended> {
+    let end = show::<PlainChecker<PeerScheme>, _, _, _>(rt, alloc, None, input, output);
+    let end = ending_of(end);
+    (output.held() == text.as_bytes()).then_some(end)
+}
+
+// A call of this number that fails, or none for 0.
+fn fault(alloc: Global, number: u64) -> Option<Vec<u64>> {
+    Vec::from_slice(alloc, &[number]).ok()
+}
+
+// How the showing of the image ends, where it writes this text, and the calls of these numbers fail.
 fn shows(
     rt: &(impl Threads + Sync),
     alloc: Global,
@@ -40,31 +59,96 @@ fn shows(
     write_fault: u64,
     text: &str,
 ) -> Option<Ended> {
-    let read_faults = Vec::from_slice(alloc, &[read_fault]).ok()?;
-    let write_faults = Vec::from_slice(alloc, &[write_fault]).ok()?;
-    let mut input = MemSource::new(alloc, image, read_faults, 100);
-    let mut output = MemSink::new(alloc, Vec::new(alloc), write_faults, 100);
-    let end = show::<PlainChecker<PeerScheme>, _, _, _>(rt, alloc, None, &mut input, &mut output);
-    if output.held() != text.as_bytes() {
-        return None;
-    }
-    Some(ending_of(end))
+    let (reads, writes) = (fault(alloc, read_fault)?, fault(alloc, write_fault)?);
+    let mut input = MemSource::new(alloc, image, reads, 100);
+    let mut output = MemSink::new(alloc, Vec::new(alloc), writes, 100);
+    ends_with(rt, alloc, &mut input, &mut output, text)
 }
 
-// The same, for the texts' bytes but the last ones.
-fn shows_cut(
-    rt: &(impl Threads + Sync),
-    alloc: Global,
-    texts: &[&str],
-    cut: usize,
-    text: &str,
-) -> Option<Ended> {
+// The texts of an image, how many of its last bytes are missing, what is written, and how the showing ends.
+type Shown = ([&'static str; 4], usize, &'static str, Ended);
+
+static SHOWN: [Shown; 8] = [
+    (
+        [HEAD, "", "", NO_ROW],
+        0,
+        NONE,
+        Ended::Shown(ShowCounts {
+            rows: 0,
+            refused: 0,
+            first: None,
+        }),
+    ),
+    (
+        [HEAD, NEW, "", ONE_ROW],
+        0,
+        NEW_LISTED,
+        Ended::Shown(ShowCounts {
+            rows: 1,
+            refused: 0,
+            first: None,
+        }),
+    ),
+    ([HEAD, NEW, "", ONE_ROW], 1, "", Ended::Bad(260)),
+    (
+        [HEAD, OLD, BELOW, TWO_ROWS],
+        0,
+        BOTH_LISTED,
+        Ended::Shown(ShowCounts {
+            rows: 2,
+            refused: 0,
+            first: None,
+        }),
+    ),
+    ([HEAD, BELOW, OLD, TWO_ROWS], 0, "", Ended::NotRising(2)),
+    ([HEAD, NEW, BELOW, TWO_ROWS], 0, "", Ended::Pruned(2, 1)),
+    (
+        [HEAD, OLD, SPOILT, TWO_ROWS],
+        0,
+        OLD_LISTED,
+        Ended::Shown(ShowCounts {
+            rows: 2,
+            refused: 1,
+            first: Some(RefusedRow {
+                row: 2,
+                refusal: RowRefusal::BadEntrySignature,
+            }),
+        }),
+    ),
+    (
+        [OTHER, OLD, BELOW, TWO_ROWS],
+        0,
+        NONE_OF_OTHER,
+        Ended::Shown(ShowCounts {
+            rows: 2,
+            refused: 2,
+            first: Some(RefusedRow {
+                row: 1,
+                refusal: RowRefusal::WrongNamespace,
+            }),
+        }),
+    ),
+];
+
+// Whether the showing ends so.
+fn is_shown(rt: &(impl Threads + Sync), alloc: Global, line: &Shown) -> Option<bool> {
+    let (texts, cut, text, due) = line;
     let mut image = joined(alloc, texts)?;
-    image.truncate(image.len().saturating_sub(cut));
-    shows(rt, alloc, image, 0, 0, text)
+    image.truncate(image.len().saturating_sub(*cut));
+    Some(shows(rt, alloc, image, 0, 0, text) == Some(*due))
 }
 
-// The same, where the call of this number fails.
+#[test]
+fn images_shown(rt: HostRuntime) {
+    let alloc = rt.alloc();
+    for line in &SHOWN {
+        assert!(rt; is_shown(&rt, alloc, line) == Some(true));
+    }
+}
+
+static FAULTY: [&str; 3] = [HEAD, NEW, ONE_ROW];
+
+// How the showing of an image ends, where it writes this text, and the call of this number fails.
 fn shows_fault(
     rt: &(impl Threads + Sync),
     alloc: Global,
@@ -72,88 +156,83 @@ fn shows_fault(
     write_fault: u64,
     text: &str,
 ) -> Option<Ended> {
-    let image = joined(alloc, &[HEAD, NEW, ONE_ROW])?;
+    let image = joined(alloc, &FAULTY)?;
     shows(rt, alloc, image, read_fault, write_fault, text)
 }
 
 #[test]
-fn images_shown(rt: HostRuntime) {
+fn faults_end_a_showing(rt: HostRuntime) {
     let alloc = rt.alloc();
-    let first = |row: u64, refusal: RowRefusal| Some(RefusedRow { row, refusal });
-    for (texts, cut, text, due) in [
-        ([HEAD, "", "", NO_ROW], 0, NONE, shown(0, 0, None)),
-        ([HEAD, NEW, "", ONE_ROW], 0, NEW_LISTED, shown(1, 0, None)),
-        ([HEAD, NEW, "", ONE_ROW], 1, "", Ended::Bad(260)),
-        (
-            [HEAD, OLD, BELOW, TWO_ROWS],
-            0,
-            BOTH_LISTED,
-            shown(2, 0, None),
-        ),
-        ([HEAD, BELOW, OLD, TWO_ROWS], 0, "", Ended::NotRising(2)),
-        ([HEAD, NEW, BELOW, TWO_ROWS], 0, "", Ended::Pruned(2, 1)),
-        (
-            [HEAD, OLD, SPOILT, TWO_ROWS],
-            0,
-            OLD_LISTED,
-            shown(2, 1, first(2, RowRefusal::BadEntrySignature)),
-        ),
-        (
-            [OTHER, OLD, BELOW, TWO_ROWS],
-            0,
-            NONE_OF_OTHER,
-            shown(2, 2, first(1, RowRefusal::WrongNamespace)),
-        ),
-    ] {
-        assert!(rt; shows_cut(&rt, alloc, &texts, cut, text) == Some(due));
-    }
-    assert!(rt; shows_fault(&rt, alloc, 2, 0, "") == Some(Ended::ReadFault));
-    assert!(rt; shows_fault(&rt, alloc, 0, 2, NEW_HEAD) == Some(Ended::WriteFault));
+    let ends = [
+        shows_fault(&rt, alloc, 2, 0, ""),
+        shows_fault(&rt, alloc, 0, 2, NEW_HEAD),
+    ];
+    assert!(rt; ends == [Some(Ended::ReadFault), Some(Ended::WriteFault)]);
 }
 
-// An image of so many rows below all others, whose signatures are of another entry, of a row at this place below /61 where
-// one is asked for, and of the rows of two frames.
-fn behind_others(
-    alloc: Global,
-    many: u16,
-    between: Option<u8>,
-    frames: [&str; 2],
-) -> Option<Vec<u8>> {
-    let mut image = joined(alloc, &[HEAD])?;
-    let mut frame = joined(alloc, &[BELOW])?;
+// Puts the frames of so many rows below all others behind the image, whose signatures are of another entry.
+fn add_many(image: &mut Vec<u8>, frame: &mut [u8], many: u16) -> Option<()> {
     for i in 0..many {
-        let [high, low] = i.to_be_bytes();
-        at_path(&mut frame, [high, low], 5)?;
-        image.extend_from_slice(&frame).ok()?;
+        at_path(frame, i.to_be_bytes(), 5)?;
+        image.extend_from_slice(frame).ok()?;
     }
-    let mut count = u64::from(many) + 2;
-    let [first, second] = frames;
-    image.extend_from_slice(&joined(alloc, &[first])?).ok()?;
-    if let Some(low) = between {
-        at_path(&mut frame, [0x61, low], 7)?;
-        image.extend_from_slice(&frame).ok()?;
-        count += 1;
-    }
-    image.extend_from_slice(&joined(alloc, &[second])?).ok()?;
-    image.extend_from_slice(&count.to_be_bytes()).ok()?;
+    Some(())
+}
+
+// Puts the frame of a row at this place below /61 behind the image, where one is asked for, and tells how many it puts.
+fn add_between(image: &mut Vec<u8>, frame: &mut [u8], between: Option<u8>) -> Option<u64> {
+    let Some(low) = between else {
+        return Some(0);
+    };
+    at_path(frame, [0x61, low], 7)?;
+    image.extend_from_slice(frame).ok()?;
+    Some(1)
+}
+
+// Puts the bytes of a text behind the image.
+fn add(alloc: Global, image: &mut Vec<u8>, text: &str) -> Option<()> {
+    image.extend_from_slice(&joined(alloc, &[text])?).ok()
+}
+
+// So many rows below all others, a row between where one is asked for, and the rows of two frames.
+type Rows = (u16, Option<u8>, [&'static str; 2]);
+
+// Puts those rows and their number behind the image's head; the frame is one of a row of two components.
+fn add_rows(alloc: Global, image: &mut Vec<u8>, frame: &mut [u8], rows: &Rows) -> Option<()> {
+    let (many, between, frames) = rows;
+    add_many(image, frame, *many)?;
+    add(alloc, image, frames[0])?;
+    let count = u64::from(*many) + 2 + add_between(image, frame, *between)?.min(1);
+    add(alloc, image, frames[1])?;
+    image.extend_from_slice(&count.to_be_bytes()).ok()
+}
+
+// The image of those rows.
+fn behind_others(alloc: Global, rows: &Rows) -> Option<Vec<u8>> {
+    let mut frame = joined(alloc, &[BELOW])?;
+    let mut image = joined(alloc, &[HEAD])?;
+    add_rows(alloc, &mut image, &mut frame, rows)?;
     Some(image)
+}
+
+// How the showing of that image ends, where it writes this text.
+fn shows_behind(
+    rt: &(impl Threads + Sync),
+    alloc: Global,
+    rows: &Rows,
+    text: &str,
+) -> Option<Ended> {
+    let image = behind_others(alloc, rows)?;
+    shows(rt, alloc, image, 0, 0, text)
 }
 
 // Images of two parts that are listed: how many rows stand in front, which row between and which frames behind them, the
 // listing, and how many rows are read and refused. The first row of a part is refused, or is the first that is not.
-const LISTED: [(u16, Option<u8>, [&str; 2], &str, u64, u64); 4] = [
-    (511, None, [OLD, BELOW], BOTH_LISTED, 513, 511),
-    (511, None, [OLD, SPOILT], OLD_LISTED, 513, 512),
-    (512, None, [OLD, SPOILT], OLD_LISTED, 514, 513),
-    (510, Some(0), [OLD, BELOW], BOTH_LISTED, 513, 511),
-];
-
-// Others that are not: the first row of the second part falls, or is dominated by the last of the part before, or by one
-// that is not the last.
-const OUT_OF_ORDER: [(u16, Option<u8>, [&str; 2], Ended); 3] = [
-    (511, None, [BELOW, OLD], Ended::NotRising(513)),
-    (511, None, [NEW, BELOW], Ended::Pruned(513, 512)),
-    (510, Some(0), [NEW, BELOW], Ended::Pruned(513, 511)),
+static LISTED: [(Rows, &str, u64, u64); 4] = [
+    ((511, None, [OLD, BELOW]), BOTH_LISTED, 513, 511),
+    ((511, None, [OLD, SPOILT]), OLD_LISTED, 513, 512),
+    ((512, None, [OLD, SPOILT]), OLD_LISTED, 514, 513),
+    ((510, Some(0), [OLD, BELOW]), BOTH_LISTED, 513, 511),
 ];
 
 // Rows are read 512 at a time.
@@ -161,17 +240,25 @@ const OUT_OF_ORDER: [(u16, Option<u8>, [&str; 2], Ended); 3] = [
 fn images_of_two_parts(rt: HostRuntime) {
     let alloc = rt.alloc();
     let refusal = RowRefusal::BadEntrySignature;
-    for (many, between, frames, text, rows, refused) in LISTED {
-        let due = shown(rows, refused, Some(RefusedRow { row: 1, refusal }));
-        let end = behind_others(alloc, many, between, frames).and_then(|image| shows(
-            &rt, alloc, image, 0, 0, text,
-        ));
-        assert!(rt; end == Some(due));
+    let first = Some(RefusedRow { row: 1, refusal });
+    for (behind, text, rows, refused) in &LISTED {
+        let due = shown(*rows, *refused, first);
+        assert!(rt; shows_behind(&rt, alloc, behind, text) == Some(due));
     }
-    for (many, between, frames, due) in OUT_OF_ORDER {
-        let end = behind_others(alloc, many, between, frames).and_then(|image| shows(
-            &rt, alloc, image, 0, 0, "",
-        ));
-        assert!(rt; end == Some(due));
+}
+
+// Others that are not: the first row of the second part falls, or is dominated by the last of the part before, or by one
+// that is not the last.
+static OUT_OF_ORDER: [(Rows, Ended); 3] = [
+    ((511, None, [BELOW, OLD]), Ended::NotRising(513)),
+    ((511, None, [NEW, BELOW]), Ended::Pruned(513, 512)),
+    ((510, Some(0), [NEW, BELOW]), Ended::Pruned(513, 511)),
+];
+
+#[test]
+fn images_of_two_parts_out_of_order(rt: HostRuntime) {
+    let alloc = rt.alloc();
+    for (behind, due) in &OUT_OF_ORDER {
+        assert!(rt; shows_behind(&rt, alloc, behind, "") == Some(*due));
     }
 }
