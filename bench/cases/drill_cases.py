@@ -14,6 +14,8 @@ DRILLED = [
     drill("of-rows-that-are-cut-by-subspace", 40),
     drill("of-rows-that-prune-each-other", 120),
     drill("of-a-thousand-rows", 1000),
+    drill("of-twenty-thousand-rows", 20_000),
+    drill("of-as-many-rows-as-a-log-takes", 65_536),
 ]
 
 DRILL_FAULTS = [

@@ -54,7 +54,7 @@ class Cut:
 def fingerprint(rows: list) -> bytes:
     sums = [0] * WORDS
     for row in rows:
-        leaf = sha256(row.entry.spelled() + row.token_bytes).digest()
+        leaf = sha256(row.body()).digest()
         for at in range(WORDS):
             sums[at] += int.from_bytes(leaf[8 * at:8 * at + 8], "big")
     return sha256(b"".join(number(8, value % 2 ** 64) for value in (len(rows), *sums))).digest()

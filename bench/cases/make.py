@@ -8,12 +8,12 @@ of the program that shares no code with it and knows only the rules that docs/FO
 The model: `octets` (bytes and readers), `entries` (paths, entries, stores), `lms` (LMS keys), `capabilities`, `rows`
 (tokens, frames, images, the generator), `exchange` (two stores that meet), `sessions` (a session over bytes), `grammar`
 (the words), `outside` (the objects), `commands`, `report`. The cases: `situations` (what they are made of) and a module
-a command; `large_cases`, `loopback` and `samples`.
+a command; `large_cases`, `full_log_cases`, `loopback` and `samples`.
 
 Two things are taken from the program, since what a run must do leaves them open: how much room each read of the input
 offers, and that a listing is written in two pieces. Only cases in which a call fails, or in which more stands behind what
-stops a join, rest on them. Not tried: input past its limit, which is 4 GB, want of memory, and of a session a full log
-and too many items.
+stops a join, rest on them. Not tried: input past its limit, which is 4 GB, want of memory, and of a session too many
+items.
 """
 import sys
 from pathlib import Path
@@ -22,6 +22,7 @@ sys.dont_write_bytecode = True
 
 import delegate_cases
 import drill_cases
+import full_log_cases
 import gen_cases
 import grant_cases
 import join_cases
@@ -50,6 +51,7 @@ COMMANDS = {
     "sync": sync_cases,
     "serve": serve_cases,
     "gen and join": large_cases,
+    "sync and serve": full_log_cases,
     "words": words_cases,
 }
 

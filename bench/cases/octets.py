@@ -17,9 +17,9 @@ def number(width: int, value: int) -> bytes:
 class Reader:
     """Bytes that are read from the front. What asks for more than there is, is not spelled."""
 
-    def __init__(self, data: bytes):
+    def __init__(self, data: bytes, taken: int = 0):
         self.data = data
-        self.taken = 0
+        self.taken = taken
 
     def take(self, count: int) -> bytes:
         if count > self.left():

@@ -4,7 +4,7 @@ A call is counted from 1, all kinds of call of one object together. A call that 
 the put of a shelf, which leaves the new bytes.
 """
 
-# The most bytes a call: of the input, the output and the links; of the input and the output of a large case; of the report.
+# The most bytes a call: of the input, the output and the links; of these in a large case; of the report.
 PIECE, LARGE_PIECE, REPORT_PIECE = 100, 1 << 20, 7
 
 # How much room each read of the input offers is not part of what a run must do: it is taken from the program. The cases
@@ -91,21 +91,25 @@ class Noise(Counted):
 class Link(Counted):
     """A link that gives known bytes; reads and writes are counted together."""
 
-    def __init__(self, data: bytes, fails=()):
+    def __init__(self, data: bytes, fails=(), most: int = PIECE):
         super().__init__(fails)
-        self.source = Source(data, (), PIECE)
+        self.data = data
+        self.taken = 0
+        self.most = most
         self.held = bytearray()
 
     def read(self) -> bytes:
         if self.call():
             raise Fault
-        return self.source.read()
+        piece = self.data[self.taken:self.taken + self.most]
+        self.taken += len(piece)
+        return piece
 
     def write_whole(self, data: bytes) -> None:
-        for begin in range(0, len(data), PIECE):
+        for begin in range(0, len(data), self.most):
             if self.call():
                 raise Fault
-            self.held += data[begin:begin + PIECE]
+            self.held += data[begin:begin + self.most]
 
 
 class Door(Counted):
@@ -148,6 +152,6 @@ class Objects:
         self.input = Source(given, fails.get("i", ()), piece)
         self.output = Sink(piece, fails.get("o", ()))
         self.report = Sink(REPORT_PIECE, fails.get("r", ()))
-        self.door = Door([Link(data, fails.get("l" if at == 1 else f"l{at}", ())) for at, data in enumerate(links, 1)],
-                         fails.get("d", ()))
+        self.door = Door([Link(data, fails.get("l" if at == 1 else f"l{at}", ()), piece)
+                          for at, data in enumerate(links, 1)], fails.get("d", ()))
         self.order = order

@@ -1,5 +1,6 @@
 """Rows with their tokens, frames, images, and the rows of the generator."""
 from dataclasses import dataclass
+from functools import cached_property
 
 from capabilities import (WRITE, Capability, accepts, entry_message, initial_message, open_signature,
                           read_capability, read_signature, signature_field)
@@ -19,12 +20,16 @@ class Row:
     capability: Capability
     signature: bytes
 
-    @property
+    @cached_property
     def token_bytes(self) -> bytes:
         return self.capability.spelled() + signature_field(self.signature)
 
-    def body(self) -> bytes:
+    @cached_property
+    def body_bytes(self) -> bytes:
         return self.entry.spelled() + self.token_bytes
+
+    def body(self) -> bytes:
+        return self.body_bytes
 
     def frame(self) -> bytes:
         return number(4, len(self.body())) + self.body()

@@ -186,6 +186,11 @@ ACCEPTING = [
     *(serve(f"puts-the-image-where-accept-{at}-of-3-fails", FIVE, *(brings_nothing(link) for link in (1, 2, 3)),
             fails=f"d{at + 1}") for at in (1, 2, 3)),
     serve("keeps-what-came-before-an-accept-failed", FIVE, CAME, b"", fails="d3"),
+    # Of the first two one brings four rows and one breaks off; both sessions are at their end before the run is.
+    serve("ends-the-sessions-that-began-before-an-accept-failed", FIVE, CAME, brings_nothing(2)[:40], brings_nothing(3),
+          fails="d4", by_hand=ByHand(3, "link 1: opened 5 closed 9 stored 4 kept 0 refused 0 sent 1 read 2\n"
+                                        "link 2: session refused: ClosedEarly 40\nread fault\n",
+                                     (170 + 3 + 5 * 223 + 1, 0))),
     serve("tells-where-fewer-come-than-it-waits-for", FIVE, brings_nothing(1), b"", count=3),
     serve("tells-where-no-one-comes", FIVE, count=2),
     serve("accepts-no-more-once-accepting-failed", FIVE, *(brings_nothing(link) for link in (1, 2, 3)), count=4,

@@ -1,6 +1,7 @@
 """A session of a caller or an answerer, as a function of the bytes that are read: hellos, proofs, and the turns of an
 exchange."""
 from dataclasses import dataclass, field
+from functools import lru_cache
 from typing import Optional
 
 from capabilities import Area, Capability, accepts, read_area, read_capability, read_signature, signature_field
@@ -55,14 +56,14 @@ class Messages:
         self.data, self.at = data, 0
 
     def next(self, read):
-        reader = Reader(self.data[self.at:])
+        reader = Reader(self.data, self.at)
         try:
             value = read(reader)
         except Short:
             raise Early from None
         except NotSpelled:
             raise Wrong(self.at) from None
-        self.at = len(self.data) - reader.left()
+        self.at = reader.taken
         return value
 
 
@@ -84,7 +85,12 @@ def read_hello(reader: Reader) -> Hello:
 
 def read_framed(reader: Reader) -> Row:
     length = reader.number(4)
-    return inner(read_frame, number(4, length) + reader.take(length))
+    return framed(number(4, length) + reader.take(length))
+
+
+@lru_cache(maxsize=1 << 17)
+def framed(data: bytes) -> Row:
+    return inner(read_frame, data)
 
 
 def read_item(reader: Reader):

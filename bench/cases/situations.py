@@ -174,7 +174,7 @@ class Case:
     fails: str = ""  # as `i1 l2 l3:4`: a letter for the object, of a further link which one, and the number of its call
     links: Optional[tuple] = None  # what the links give to which the door leads, if it leads to any
     by_hand: Optional[ByHand] = None
-    piece = PIECE  # the most bytes that a call of the input or the output moves
+    piece = PIECE  # the most bytes that a call of the input, the output or a link moves
 
     def situation(self) -> str:
         """The fields of the case's line that say what is run."""
@@ -190,6 +190,14 @@ class Case:
 
     def told_output(self, output: bytes) -> str:
         return hexadecimal(output)
+
+    def told_held(self, data: bytes) -> str:
+        """What lies under a name behind the run."""
+        return data.hex()
+
+    def told_links(self) -> str:
+        """What each link gives."""
+        return listed(map(hexadecimal, self.links))
 
     def objects(self, order) -> Objects:
         fails = {}
@@ -212,13 +220,13 @@ class Case:
         names = sorted(objects.shelf.names.items())
         return " ".join((
             self.told_output(objects.output.held), hexadecimal(objects.report.held), str(status),
-            listed(f"{name}:{data.hex()}" for name, data in names), *self.traffic(objects)))
+            listed(f"{name}:{self.told_held(data)}" for name, data in names), *self.traffic(objects)))
 
     def traffic(self, objects: Objects) -> list:
         """What each link gives, and what each that came back holds; nothing where the door leads to none."""
         if self.links is None:
             return []
-        return [listed(map(hexadecimal, self.links)), listed(hexadecimal(link.held) for link in objects.door.back)]
+        return [self.told_links(), listed(hexadecimal(link.held) for link in objects.door.back)]
 
 
 def word_of(value) -> str:

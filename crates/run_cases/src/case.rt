@@ -1,8 +1,9 @@
 //! One run with what is expected of it.
 
 use crate::fields::{bytes_of, words_of};
+use crate::made::{all_made, bytes_made};
 use crate::objects::{LARGE_PIECE, Objects, PIECE, held};
-use crate::run::{input_bytes, run};
+use crate::run::run;
 use hex::FromHexError;
 use sha2::{Digest, Sha256};
 use std::alloc::Global;
@@ -34,17 +35,28 @@ fn agrees(alloc: Global, bytes: &[u8], field: &str) -> Result<bool, FromHexError
     Ok(format!(in alloc; "{digest}:{length}")?.as_str() == told)
 }
 
-/// Whether the shelf holds under each name of the field the bytes that stand there.
+/// Whether the shelf holds under each name of the field the bytes that stand there, or those of the digest and the length.
 fn holds_all(alloc: Global, shelf: &mut MemShelf, names: &str) -> Result<bool, FromHexError> {
     let mut all = true;
     for item in names.split(',') {
         if let Some((name, bytes)) = item.split_once(':') {
-            let bytes = hex::decode(alloc, bytes)?;
-            all = all
-                && held(shelf, name).is_some_and(|found| found.as_slice() == bytes.as_slice());
+            all = holds(alloc, shelf, name, bytes)? && all;
         }
     }
     Ok(all)
+}
+
+/// Whether the shelf holds under the name what the field tells.
+fn holds(
+    alloc: Global,
+    shelf: &mut MemShelf,
+    name: &str,
+    field: &str,
+) -> Result<bool, FromHexError> {
+    match held(shelf, name) {
+        Some(found) => agrees(alloc, &found, field),
+        None => Ok(false),
+    }
 }
 
 /// Whether a name stands in the field.
@@ -125,7 +137,7 @@ fn differs_in<R: Wait + Threads + Sync>(
     let words = words_of(alloc, fields.next().unwrap_or(""))?;
     let names = fields.next().unwrap_or("");
     let draws = fields.next().unwrap_or("");
-    let input = input_bytes(rt, alloc, fields.next().unwrap_or(""))?;
+    let input = bytes_made(rt, alloc, fields.next().unwrap_or(""))?;
     let faults = fields.next().unwrap_or("");
     let expected = Expected {
         output: fields.next().unwrap_or(""),
@@ -134,12 +146,14 @@ fn differs_in<R: Wait + Threads + Sync>(
         names: fields.next().unwrap_or(""),
         held: None,
     };
-    let links = fields.next();
+    let links = all_made(rt, alloc, fields.next())?;
     let expected = Expected {
         held: fields.next(),
         ..expected
     };
-    let piece = if expected.output.starts_with(DIGEST_MARK) {
+    let piece = if expected.output.starts_with(DIGEST_MARK)
+        || expected.names.contains(DIGEST_MARK)
+    {
         LARGE_PIECE
     } else {
         PIECE

@@ -4,7 +4,7 @@ ghost use Rattle.std.specs.Prelude.{IfOk, ◌≤◌};
 ghost use Rattle.std.specs.List.{AllByRecursion};
 ghost use Rattle.willow_outside.specs.Links.{IsFresh};
 
-use crate::fields::{bytes_of, draws_of, fails_of, link_fails_of, names_of};
+use crate::fields::{draws_of, fails_of, link_fails_of, names_of};
 use hex::FromHexError;
 use std::alloc::{AllocError, Global};
 use willow_outside::{Link, MemDoor, MemLink, MemNoise, MemShelf, MemSink, MemSource, Shelf};
@@ -12,7 +12,7 @@ use willow_outside::{Link, MemDoor, MemLink, MemNoise, MemShelf, MemSink, MemSou
 /// The most bytes that a call of the input, the output or a link moves.
 pub(crate) const PIECE: usize = 100;
 
-/// The same of the input and the output where so much is moved that few calls have to do.
+/// The same where so much is moved that few calls have to do.
 pub(crate) const LARGE_PIECE: usize = 1 << 20;
 
 /// The objects outside.
@@ -62,45 +62,51 @@ fn noise_of(alloc: Global, draws: &str, faults: &str) -> Result<MemNoise, FromHe
     Ok(MemNoise::new(alloc, draws, fails))
 }
 
-// A door to the links that give the bytes of the field's items, or to none where there is no field.
+// A door to links that give these bytes.
 fn door_of(
     alloc: Global,
-    links: Option<&str>,
+    links: Vec<Vec<u8>>,
     faults: &str,
-) -> Result<MemDoor<MemLink>, FromHexError> {
-    let links = links_of(alloc, links, faults)?;
+    piece: usize,
+) -> Result<MemDoor<MemLink>, FromHexError>
+    requires { 1 ≤ piece }
+{
+    let links = links_of(alloc, links, faults, piece)?;
     Ok(MemDoor::new(alloc, links, fails_of(alloc, faults, 'd')?))
 }
 
-// The links that give the bytes of the field's items, or none where there is no field.
-fn links_of(alloc: Global, field: Option<&str>, faults: &str) -> Result<Vec<MemLink>, FromHexError>
+// Links that give these bytes.
+fn links_of(
+    alloc: Global,
+    given: Vec<Vec<u8>>,
+    faults: &str,
+    piece: usize,
+) -> Result<Vec<MemLink>, FromHexError>
+    requires { 1 ≤ piece }
     ensures { IfOk result (λ links. AllByRecursion (λ link. IsFresh (⟦<MemLink as Link>⟧.facts link)) links.items) }
 {
     let mut links = Vec::new(alloc);
-    let Some(field) = field else {
-        return Ok(links);
-    };
     let mut number = 0u64;
-    for bytes in field.split(',') {
+    for bytes in given {
         number = number.saturating_add(1);
-        let left = bytes_of(alloc, bytes)?;
         let fails = link_fails_of(alloc, faults, number)?;
         links
-            .push(MemLink::new(alloc, left, fails, PIECE))
+            .push(MemLink::new(alloc, bytes, fails, piece))
             .map_err(|unsaid| AllocError::from(unsaid))?;
     }
     Ok(links)
 }
 
 impl Objects {
-    /// The objects that the fields say, with that input; a call of input or output moves at most so large a piece.
+    /// The objects that the fields say, with that input and links that give these bytes; a call of the input, the output or
+    /// a link moves at most so large a piece.
     pub(crate) fn new(
         alloc: Global,
         names: &str,
         draws: &str,
         input: Vec<u8>,
         faults: &str,
-        links: Option<&str>,
+        links: Vec<Vec<u8>>,
         piece: usize,
     ) -> Result<Objects, FromHexError>
         requires { 1 ≤ piece }
@@ -109,7 +115,7 @@ impl Objects {
         let noise = noise_of(alloc, draws, faults)?;
         let input = input_of(alloc, input, faults, piece)?;
         let output = output_of(alloc, faults, piece)?;
-        let door = door_of(alloc, links, faults)?;
+        let door = door_of(alloc, links, faults, piece)?;
         let report = report_of(alloc, faults)?;
         Ok(Objects {
             shelf,

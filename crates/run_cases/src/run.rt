@@ -1,8 +1,6 @@
-//! A run over the objects of a case, and inputs that runs make.
+//! A run over the objects of a case.
 
-use crate::fields::{bytes_of, words_of};
-use crate::objects::{LARGE_PIECE, Objects};
-use hex::FromHexError;
+use crate::objects::Objects;
 use peer_run::peer_run;
 use std::alloc::Global;
 use std::sync::Wait;
@@ -43,34 +41,4 @@ pub(crate) fn run<R: Wait + Threads + Sync>(
         &mut objects.door,
         &mut objects.noise,
     )
-}
-
-/// What the program's `gen` puts out for so many rows.
-fn generated<R: Wait + Threads + Sync>(
-    rt: &R,
-    alloc: Global,
-    rows: &str,
-) -> Result<Vec<u8>, FromHexError> {
-    let words = words_of(alloc, format!(in alloc; "gen,--rows,{rows}")?.as_str())?;
-    let none = Vec::new(alloc);
-    let mut objects = Objects::new(alloc, "-", "-", none, "-", None, LARGE_PIECE)?;
-    let _status = run(rt, alloc, &words, &mut objects);
-    Ok(Vec::from_slice(alloc, objects.output.held())?)
-}
-
-/// The bytes of an input: its pieces are bytes, or generated rows.
-pub(crate) fn input_bytes<R: Wait + Threads + Sync>(
-    rt: &R,
-    alloc: Global,
-    field: &str,
-) -> Result<Vec<u8>, FromHexError> {
-    let mut input = Vec::new(alloc);
-    for piece in field.split('+') {
-        let bytes = match piece.strip_prefix("gen:") {
-            Some(rows) => generated(rt, alloc, rows)?,
-            None => bytes_of(alloc, piece)?,
-        };
-        input.extend_from_slice(&bytes)?;
-    }
-    Ok(input)
 }
