@@ -1,0 +1,14 @@
+pub mod Gates
+pub mod Told
+pub mod Moments
+pub mod LogCrash
+pub mod Keeping
+pub mod NewLogs
+pub mod RecordsRead
+pub mod Splits
+pub mod Counted
+pub mod FilesRead
+pub mod OneLog
+pub mod LiveKept
+pub mod Stops
+pub mod StoreStops

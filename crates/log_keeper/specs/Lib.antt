@@ -1,0 +1,11 @@
+pub mod LogFile
+pub mod BadLogs
+pub mod KeeperState
+pub mod Crashes
+pub mod Causes
+pub mod Opening
+pub mod Runs
+pub mod Slices
+pub mod Readings
+pub mod Sound
+pub mod Torn
