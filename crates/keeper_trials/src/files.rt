@@ -4,7 +4,7 @@ ghost use Rattle.std.specs.Prelude.{◌≡◌, IfSome};
 ghost use Rattle.std.specs.List.{AllByRecursion};
 ghost use Rattle.cap_codec.specs.Rows.{IsRawRow, row_of};
 ghost use Rattle.row_stream.specs.Streams.{IsStreamRow};
-ghost use Rattle.log_keeper.specs.Slices.{slice_rows};
+ghost use Rattle.log_keeper.specs.Slices.{logged_rows};
 
 use cap_codec::{MAX_FRAME, RawRow, RawRows};
 use log_keeper::laws::slices_are_short;
@@ -80,7 +80,7 @@ pub(crate) fn row(alloc: Global) -> Option<RawRow>
 // So many copies of a row.
 pub(crate) fn copies(alloc: Global, row: &RawRow, count: usize) -> Option<Vec<LogRow<RawRow>>>
     requires { IsStreamRow IsRawRow (row_of row.now) }
-    ensures { IfSome result (λ v. AllByRecursion (IsStreamRow IsRawRow) (slice_rows row_of v.items)) }
+    ensures { IfSome result (λ v. AllByRecursion (IsStreamRow IsRawRow) (logged_rows row_of v.items)) }
 {
     let mut slice = Vec::new(alloc);
     for _ in 0..count {
@@ -95,7 +95,7 @@ pub(crate) fn keep(
     keeper: &mut Keeper,
     slice: &[LogRow<RawRow>],
 ) -> Option<Result<u64, End<KeepRefusal>>>
-    requires { AllByRecursion (IsStreamRow IsRawRow) (slice_rows row_of slice.now) }
+    requires { AllByRecursion (IsStreamRow IsRawRow) (logged_rows row_of slice.now) }
 {
     slices_are_short::<RawRows>();
     if keeper.is_broken() || keeper.end() >= 1 << 62 || slice.is_empty() || slice.len() > 256 {

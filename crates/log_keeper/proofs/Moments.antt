@@ -1,6 +1,6 @@
 -- How a run of calls of a disk goes on.
-use Rattle.std.proofs.Common.{inl, inr, ⊎_elim, ℕ, List, Option, refl, arith}
-use Rattle.willow_outside.specs.Disks.{Elapses, LeavesOnly, LeavesContents, Tears, IsTorn}
+use Rattle.std.proofs.Common.{inl, inr, ⊎_elim, ℕ, List, Option, arith}
+use Rattle.willow_outside.specs.Disks.{Elapses, LeavesOnly, LeavesContents, Tears}
 use Rattle.willow_outside.proofs.DiskSteps.{untorn}
 use Rattle.log_keeper.specs.Torn.{IsTornOf}
 

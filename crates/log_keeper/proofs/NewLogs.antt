@@ -6,7 +6,7 @@ use Rattle.std.specs.Option.{option_map}
 use Rattle.willow_entry.specs.Row.{RowValue}
 use Rattle.willow_outside.specs.Disks.{written, IsTorn, IsWithin, LeavesContents, LeavesOnly}
 use Rattle.willow_outside.proofs.DiskSteps.{length-written}
-use Rattle.log_keeper.specs.LogFile.{log_mark, log_front, new_log, HoldsTo, HoldsNoLog, IsClosed}
+use Rattle.log_keeper.specs.LogFile.{log_mark, log_front, new_log, HoldsTo, HoldsNoLog, IsShut}
 use Rattle.log_keeper.specs.Crashes.{HoldsNoRow, Keeps}
 use Rattle.log_keeper.specs.Torn.{IsTornOf, IsTornAtGate, BeginsWith, HoldsNoneOr}
 use Rattle.log_keeper.proofs.Gates.{torn_behind, written_behind, torn_gate}
@@ -25,9 +25,9 @@ pub short_left : (contents : Option (List ℕ)) → IfSome contents (λ bytes. l
 short_left None short c (bytes, told, torn) = absurd (none-some bytes told)
 short_left (Some there) short c (bytes, told, torn) = inl (omega (arith, short, torn.no_longer, ap length (some-some there bytes told)))
 
-pub short_shut : (contents new : Option (List ℕ)) → new ≡ option_map (written 0 (0 ∷ [])) contents → IfSome new IsClosed
-short_shut None new is = subst (λ (o : Option (List ℕ)). IfSome o IsClosed) (sym is) tt
-short_shut (Some bytes) new is = subst (λ (o : Option (List ℕ)). IfSome o IsClosed) (sym is) (record { some = omega arith; closed = omega arith })
+pub short_shut : (contents new : Option (List ℕ)) → new ≡ option_map (written 0 (0 ∷ [])) contents → IfSome new IsShut
+short_shut None new is = subst (λ (o : Option (List ℕ)). IfSome o IsShut) (sym is) tt
+short_shut (Some bytes) new is = subst (λ (o : Option (List ℕ)). IfSome o IsShut) (sym is) (record { some = omega arith; closed = omega arith })
 
 pub short_behind : (contents new : Option (List ℕ)) → IfSome contents (λ bytes. length bytes < 39) → new ≡ option_map (written 0 (0 ∷ [])) contents → option_map (drop 39) new ≡ option_map (drop 39) contents
 short_behind None new short is = ap (option_map (drop 39)) is
@@ -35,10 +35,10 @@ short_behind (Some bytes) new short is =
     ap (option_map (drop 39)) is ∙ ap (λ (l : List ℕ). Some l) (drop_all 39 (written 0 (0 ∷ []) bytes) (omega (arith, short, length-written 0 (0 ∷ []) bytes (omega arith))) ∙ sym (drop_all 39 bytes (omega (arith, short))))
 
 -- a file that is long enough has a closed gate
-pub long_shut : (contents new : Option (List ℕ)) (size : ℕ) → IfSome contents HoldsNoLog → IfSome contents (λ bytes. size ≡ length bytes) → (size < 39 → ⊥) → new ≡ contents → IfSome new IsClosed
-long_shut None new size none is long same = subst (λ (o : Option (List ℕ)). IfSome o IsClosed) (sym same) tt
+pub long_shut : (contents new : Option (List ℕ)) (size : ℕ) → IfSome contents HoldsNoLog → IfSome contents (λ bytes. size ≡ length bytes) → (size < 39 → ⊥) → new ≡ contents → IfSome new IsShut
+long_shut None new size none is long same = subst (λ (o : Option (List ℕ)). IfSome o IsShut) (sym same) tt
 long_shut (Some bytes) new size (inl short) is long same = absurd (long (omega (arith, is, short)))
-long_shut (Some bytes) new size (inr shut) is long same = subst (λ (o : Option (List ℕ)). IfSome o IsClosed) (sym same) (record { some = omega (arith, is, long); closed = shut })
+long_shut (Some bytes) new size (inr shut) is long same = subst (λ (o : Option (List ℕ)). IfSome o IsShut) (sym same) (record { some = omega (arith, is, long); closed = shut })
 
 pub short_told : (contents new : Option (List ℕ)) (size : ℕ) → IfSome contents (λ bytes. size ≡ length bytes) → size < 39 → new ≡ contents → IfSome new (λ bytes. length bytes < 39)
 short_told None new size is short same = subst (λ (o : Option (List ℕ)). IfSome o (λ bytes. length bytes < 39)) (sym same) tt
@@ -46,7 +46,7 @@ short_told (Some bytes) new size is short same = subst (λ (o : Option (List ℕ
 
 -- ---- all behind the first gate, and then the gate
 
-pub shut_within : (contents : Option (List ℕ)) → IfSome contents IsClosed → IsWithin contents (0 + 1)
+pub shut_within : (contents : Option (List ℕ)) → IfSome contents IsShut → IsWithin contents (0 + 1)
 shut_within None shut = tt
 shut_within (Some bytes) shut = omega (arith, shut.some)
 
@@ -57,25 +57,25 @@ module _ (head : List ℕ) where
     | inr shut ↦ inl (inr shut)
   ]
 
-  behind_first : (bytes c : List ℕ) (n : ℕ) → IsClosed bytes → IsTorn (0 + 1) n bytes c → HoldsNoLog c
+  behind_first : (bytes c : List ℕ) (n : ℕ) → IsShut bytes → IsTorn (0 + 1) n bytes c → HoldsNoLog c
   behind_first [] c n shut torn = absurd (omega (arith, shut.some))
   behind_first (gate ∷ rest) c n shut torn = inr (subst (λ (l : List ℕ). get_or l 0 0 ≢ 1) (sym (torn_behind [] gate rest n c torn)) shut.closed)
 
-  over_first : (bytes c : List ℕ) → IsClosed bytes → IsTorn 0 1 (written (0 + 1) head bytes) c → HoldsNoneOr (1 ∷ head) c
+  over_first : (bytes c : List ℕ) → IsShut bytes → IsTorn 0 1 (written (0 + 1) head bytes) c → HoldsNoneOr (1 ∷ head) c
   over_first [] c shut torn = absurd (omega (arith, shut.some))
   over_first (gate ∷ rest) c shut torn =
       let staged : written (0 + 1) head (gate ∷ rest) ≡ gate ∷ (head ++ drop (length head) rest) = written_behind [] gate rest head in
       let here : IsTorn 0 1 (gate ∷ (head ++ drop (length head) rest)) c = subst (λ (b : List ℕ). IsTorn 0 1 b c) staged torn in
       subst (HoldsNoneOr (1 ∷ head)) (sym (torn_gate [] gate (head ++ drop (length head) rest) c here)) (any_first (get_or c 0 0) (drop (length head) rest))
 
-  pub either_begun : (contents : Option (List ℕ)) → IfSome contents IsClosed → (c : List ℕ) → IsTornAtGate contents 0 head c → HoldsNoneOr (1 ∷ head) c
+  pub either_begun : (contents : Option (List ℕ)) → IfSome contents IsShut → (c : List ℕ) → IsTornAtGate contents 0 head c → HoldsNoneOr (1 ∷ head) c
   either_begun None shut c (inl (bytes, told, torn)) = absurd (none-some bytes told)
   either_begun None shut c (inr (bytes, told, torn)) = absurd (none-some bytes told)
-  either_begun (Some there) shut c (inl (bytes, told, torn)) = inl (behind_first bytes c (length head) (subst IsClosed (some-some there bytes told) shut) torn)
+  either_begun (Some there) shut c (inl (bytes, told, torn)) = inl (behind_first bytes c (length head) (subst IsShut (some-some there bytes told) shut) torn)
   either_begun (Some there) shut c (inr (bytes, told, torn)) = over_first there c shut (subst (λ (b : List ℕ). IsTorn 0 1 b c) (sym (some-some (written (0 + 1) head there) bytes told)) torn)
 
 -- at each moment of the beginning, once a closed gate stands first
-pub at_each_moment : {D : Type 0} (moment : D → ℕ) (left_since : D → ℕ → List ℕ → Type 0) (old mid new : D) (contents : Option (List ℕ)) (namespace piece : List ℕ) → IfSome contents IsClosed → piece ≡ new_log namespace
+pub at_each_moment : {D : Type 0} (moment : D → ℕ) (left_since : D → ℕ → List ℕ → Type 0) (old mid new : D) (contents : Option (List ℕ)) (namespace piece : List ℕ) → IfSome contents IsShut → piece ≡ new_log namespace
     → LeavesOnly moment left_since old mid HoldsNoLog → LeavesOnly moment left_since mid new (IsTornAtGate contents 0 (drop 1 piece)) → LeavesOnly moment left_since old new (HoldsNoneOr (new_log namespace))
 at_each_moment moment left_since old mid new contents namespace piece shut is first second =
     let P = HoldsNoneOr (new_log namespace) in

@@ -7,7 +7,7 @@ use Rattle.willow_entry.specs.Row.{RowValue}
 use Rattle.row_stream.specs.Streams.{frames_of, IsStream, IsStreamRow}
 use Rattle.row_stream.specs.Pieces.{HaveOneStream}
 use Rattle.willow_path.specs.Key.{IsKey}
-use Rattle.log_keeper.specs.BadLogs.{GoesWrongBehind, HasOtherHeader, IsWrong, IsBadLog, IsReadOneWay, AreReadOneWay}
+use Rattle.log_keeper.specs.BadLogs.{HasOtherHeader, IsBadGate, IsBadLog, AreReadOneWay}
 use Rattle.log_keeper.specs.LogFile.{log_mark, log_front, record_body, open_record, IsRecord, HoldsOneWay, HoldsNoLog, HoldsTo}
 use Rattle.log_keeper.proofs.RecordsRead.{one_record}
 
@@ -26,9 +26,9 @@ module _ (IsRow : RowValue → Type 0) (one : HaveOneStream IsRow) where
   unfolding HasNoRecord
   closed_none gate rest shut r more fits e = shut (ap (λ (l : List ℕ). get_or l 0 0) e)
 
-  wrong_none : (left : List ℕ) → IsWrong IsRow left → HasNoRecord left
+  wrong_none : (left : List ℕ) → IsBadGate IsRow left → HasNoRecord left
   unfolding HasNoRecord
-  wrong_none left wrong r rest fits e = let here : IsWrong IsRow (1 ∷ (record_body r ++ rest)) = subst (IsWrong IsRow) e wrong in here.1 r rest fits refl
+  wrong_none left wrong r rest fits e = let here : IsBadGate IsRow (1 ∷ (record_body r ++ rest)) = subst (IsBadGate IsRow) e wrong in here.1 r rest fits refl
 
   same_frames : (rows others : List RowValue) → AllByRecursion (IsStreamRow IsRow) rows → AllByRecursion (IsStreamRow IsRow) others → frames_of rows ≡ frames_of others → rows ≡ others
   same_frames rows others all also e = (one 0 (frames_of rows) rows others [] [] None None (whole rows all refl) (whole others also e)).0
@@ -88,7 +88,7 @@ module _ (IsRow : RowValue → Type 0) (one : HaveOneStream IsRow) where
       log_or_bad rows end at h (inl other) = not_other h.records (h.gate ∷ h.rest) h.parts other.0
       log_or_bad rows end at h (inr w) =
           let same = same_records h.records w.records (h.gate ∷ h.rest) w.left h.fit w.fit (closed_none h.gate h.rest h.closed) (wrong_none w.left w.wrong) (behind_header bytes h.records w.records (h.gate ∷ h.rest) w.left h.parts w.parts) in
-          let here : IsWrong IsRow (h.gate ∷ h.rest) = subst (IsWrong IsRow) (sym same.1) w.wrong in
+          let here : IsBadGate IsRow (h.gate ∷ h.rest) = subst (IsBadGate IsRow) (sym same.1) w.wrong in
           h.closed here.0
 
       one_place : (at place : ℕ) → IsBadLog IsRow namespace bytes at → IsBadLog IsRow namespace bytes place → at ≡ place

@@ -1,5 +1,5 @@
 -- How the records of a log are read, one after the other.
-use Rattle.std.proofs.Common.{◌≡◌, ◌≢◌, inl, inr, ℕ, ◌+◌, ◌-◌, ◌<◌, ◌≤◌, ◌^◌, List, [], ◌∷◌, ◌++◌, length, map, get_or, take, drop, Some, None, Vec, refl, sym, ◌∙◌, ap, subst, arith, append_assoc, length-append}
+use Rattle.std.proofs.Common.{◌≡◌, inr, ℕ, ◌+◌, ◌<◌, ◌^◌, List, [], ◌∷◌, ◌++◌, length, map, get_or, take, drop, Some, None, Vec, refl, sym, ◌∙◌, ap, subst, arith, append_assoc, length-append}
 use Rattle.std.specs.declared.alloc.Global.{Global}
 use Rattle.std.specs.List.{AllByRecursion, flat_map}
 use Rattle.std.specs.Int.{w32, to_be_bytes, from_be_bytes}
@@ -9,9 +9,9 @@ use Rattle.spelling.specs.Spelling.{text_spelling}
 use Rattle.spelling.proofs.Lists.{All-append}
 use Rattle.willow_entry.specs.Row.{RowValue}
 use Rattle.row_stream.specs.Streams.{frames_of}
-use Rattle.log_keeper.specs.LogFile.{log_mark, log_front, open_record, record_body, IsClosed, IsRecord, HoldsTo, HoldsNoLog}
-use Rattle.log_keeper.specs.BadLogs.{IsNoRecord, IsWrong, IsBadLog}
-use Rattle.log_keeper.specs.Readings.{AreRecords, GoWrong, IsCutShort, IsOpen, IsSplitOff, ReadsFrames}
+use Rattle.log_keeper.specs.LogFile.{log_mark, log_front, open_record, IsShut, IsRecord, HoldsTo, HoldsNoLog}
+use Rattle.log_keeper.specs.BadLogs.{IsNoRecord, IsBadGate, IsBadLog}
+use Rattle.log_keeper.specs.Readings.{AreRecords, RecordsGoWrong, IsCutShort, IsOpenRecord, ReadsRowFrames}
 use Rattle.log_keeper.proofs.LogCrash.{records_more, rows_more}
 
 -- a record tells its frames
@@ -25,11 +25,11 @@ one_record frames others behind rest f o e =
 
 -- ---- what stands at a gate
 
-closed_parts : (left : List ℕ) → IsClosed left → left ≡ get_or left 0 0 ∷ drop 1 left
+closed_parts : (left : List ℕ) → IsShut left → left ≡ get_or left 0 0 ∷ drop 1 left
 closed_parts [] shut = absurd (omega (arith, shut.some))
 closed_parts (gate ∷ rest) shut = refl
 
-pub open_long : (left frames behind : List ℕ) → IsOpen left frames behind → length left ≡ 5 + length frames + length behind
+pub open_long : (left frames behind : List ℕ) → IsOpenRecord left frames behind → length left ≡ 5 + length frames + length behind
 open_long left frames behind o =
     omega (arith, ap length o.parts, ap length o.split.parts, length-append (text_spelling (to_be_bytes w32) frames) behind, length-append (to_be_bytes w32 (length frames)) frames, four (length frames))
   where
@@ -37,13 +37,13 @@ open_long left frames behind o =
     four n = refl
 
 module _ (IsRow : RowValue → Type 0) where
-  pub cut_wrong : (left : List ℕ) → IsCutShort left → IsWrong IsRow left
+  pub cut_wrong : (left : List ℕ) → IsCutShort left → IsBadGate IsRow left
   cut_wrong [] cut = tt
   cut_wrong (gate ∷ bytes) cut = (cut.0, λ rows rest fits e. cut.1 (frames_of rows) rest (record { parts = e; within = fits.within }))
 
   -- what may be a record and is no frames of rows
-  pub bad_wrong : {R : Type 0} (value : R → RowValue) (left frames behind : List ℕ) → IsOpen left frames behind → ReadsFrames IsRow value frames None → IsWrong IsRow left
-  bad_wrong value left frames behind o none = subst (IsWrong IsRow) (sym o.parts) (refl, no_frames)
+  pub bad_wrong : {R : Type 0} (value : R → RowValue) (left frames behind : List ℕ) → IsOpenRecord left frames behind → ReadsRowFrames IsRow value frames None → IsBadGate IsRow left
+  bad_wrong value left frames behind o none = subst (IsBadGate IsRow) (sym o.parts) (refl, no_frames)
     where
       no_frames : IsNoRecord IsRow o.after
       no_frames rows rest fits e = none rows fits.fit (one_record frames (frames_of rows) behind rest o.split.within fits.within (sym o.split.parts ∙ e))
@@ -66,7 +66,7 @@ module _ {R : Type 0} (IsRow : RowValue → Type 0) (value : R → RowValue) (fr
     pub left_short : at + length left ≡ from + length bytes
     left_short = omega (arith, so_far.place, ap length so_far.parts, length-append (flat_map open_record so_far.records) left)
 
-    pub passed_on : (frames behind : List ℕ) (more : Vec R Global) (rows' : List R) (at' : ℕ) → IsOpen left frames behind → ReadsFrames IsRow value frames (Some more) → rows' ≡ rows ++ more.items → at' ≡ at + (5 + length frames) → Passed IsRow value from bytes rows' at' behind
+    pub passed_on : (frames behind : List ℕ) (more : Vec R Global) (rows' : List R) (at' : ℕ) → IsOpenRecord left frames behind → ReadsRowFrames IsRow value frames (Some more) → rows' ≡ rows ++ more.items → at' ≡ at + (5 + length frames) → Passed IsRow value from bytes rows' at' behind
     passed_on frames behind more rows' at' o reads goes on =
         let slice = map value more.items in
         let record_is : left ≡ open_record slice ++ behind = o.parts ∙ ap (λ (l : List ℕ). 1 ∷ l) (o.split.parts ∙ ap (λ (f : List ℕ). text_spelling (to_be_bytes w32) f ++ behind) reads.1) in
@@ -79,7 +79,7 @@ module _ {R : Type 0} (IsRow : RowValue → Type 0) (value : R → RowValue) (fr
         }
 
     -- a closed gate
-    pub all_passed : IsClosed left → AreRecords IsRow from bytes (map value rows) at
+    pub all_passed : IsShut left → AreRecords IsRow from bytes (map value rows) at
     all_passed shut = record {
       records = so_far.records;
       gate = get_or left 0 0;
@@ -91,7 +91,7 @@ module _ {R : Type 0} (IsRow : RowValue → Type 0) (value : R → RowValue) (fr
       place = so_far.place;
     }
 
-    pub wrong_here : IsWrong IsRow left → GoWrong IsRow from bytes at
+    pub wrong_here : IsBadGate IsRow left → RecordsGoWrong IsRow from bytes at
     wrong_here wrong = record { records = so_far.records; left = left; parts = so_far.parts; fit = so_far.fit; wrong = wrong; place = so_far.place }
 
 -- ---- with the header in front
@@ -106,5 +106,5 @@ module _ (IsRow : RowValue → Type 0) (namespace bytes head left : List ℕ) (p
   pub holds_read : (rows : List RowValue) (end : ℕ) → AreRecords IsRow 38 left rows end → HoldsTo IsRow namespace bytes rows end
   holds_read rows end a = record { records = a.records; gate = a.gate; rest = a.rest; parts = joined (a.gate ∷ a.rest) a.records a.parts; closed = a.closed; fit = a.fit; rows_are = a.rows_are; place = omega (arith, a.place, place_is a.records) }
 
-  pub goes_wrong : (at : ℕ) → (HoldsNoLog bytes → ⊥) → GoWrong IsRow 38 left at → IsBadLog IsRow namespace bytes at
+  pub goes_wrong : (at : ℕ) → (HoldsNoLog bytes → ⊥) → RecordsGoWrong IsRow 38 left at → IsBadLog IsRow namespace bytes at
   goes_wrong at log w = inr (record { log = log; records = w.records; left = w.left; parts = joined w.left w.records w.parts; fit = w.fit; wrong = w.wrong; place = omega (arith, w.place, place_is w.records) })

@@ -8,7 +8,7 @@ use Rattle.log_keeper.specs.declared.refusal.KeepRefusal.{KeepRefusal}
 use Rattle.log_keeper.specs.Crashes.{KeepsRows}
 use Rattle.log_keeper.specs.KeeperState.{KeeperState}
 use Rattle.log_keeper.specs.LogFile.{Holds}
-use Rattle.log_keeper.specs.Runs.{Given, rows_of, all_kept, KeepsSlice, Follow, HoldsAllFromThenOn, HoldsAtAnyStop}
+use Rattle.log_keeper.specs.Runs.{GivenSlice, rows_kept, all_kept, KeepsSlice, Follow, HoldsAllFromThenOn, HoldsAtAnyStop}
 use Rattle.log_keeper.proofs.Keeping.{at_rest_left}
 use Rattle.log_keeper.proofs.Moments.{weaker}
 
@@ -17,11 +17,11 @@ module _ {D : Type 0} (IsRow : RowValue → Type 0) (facts : D → DiskFacts) (m
   Step = KeepsSlice IsRow facts may_leave moment left_since
 
   -- a broken keeper keeps nothing more
-  stays_broken : (old new : KeeperState D) (givens : List Given) → Follow Step old givens new → old.broken ≡ true → new.broken ≡ true
+  stays_broken : (old new : KeeperState D) (givens : List GivenSlice) → Follow Step old givens new → old.broken ≡ true → new.broken ≡ true
   stays_broken old new [] same broken = ap (λ (k : KeeperState D). k.broken) same ∙ broken
   stays_broken old new (given ∷ more) (mid, step, follow) broken = absurd (cc (broken, step.unbroken))
 
-  one_step : (old mid : KeeperState D) (slice : List RowValue) (answer : Result ℕ (End KeepRefusal)) (namespace : List ℕ) (before : List RowValue) → Step old mid slice answer → mid.broken ≡ false → KeepsRows IsRow facts may_leave old namespace before → KeepsRows IsRow facts may_leave mid namespace (before ++ rows_of slice answer)
+  one_step : (old mid : KeeperState D) (slice : List RowValue) (answer : Result ℕ (End KeepRefusal)) (namespace : List ℕ) (before : List RowValue) → Step old mid slice answer → mid.broken ≡ false → KeepsRows IsRow facts may_leave old namespace before → KeepsRows IsRow facts may_leave mid namespace (before ++ rows_kept slice answer)
   one_step old mid slice (Ok n) namespace before step unbroken k = step.kept namespace before k
   one_step old mid slice (Err (Refused why)) namespace before step unbroken k = absurd (cc (step.broken why refl, unbroken))
   one_step old mid slice (Err NoMemory) namespace before step unbroken k =
@@ -30,17 +30,17 @@ module _ {D : Type 0} (IsRow : RowValue → Type 0) (facts : D → DiskFacts) (m
   not_true : (b : Bool) → (b ≡ true → b ≡ false → ⊥)
   not_true b t f = cc (t, f)
 
-  was_unbroken : (old new : KeeperState D) (givens : List Given) → Follow Step old givens new → new.broken ≡ false → (b : Bool) → old.broken ≡ b → old.broken ≡ false
+  was_unbroken : (old new : KeeperState D) (givens : List GivenSlice) → Follow Step old givens new → new.broken ≡ false → (b : Bool) → old.broken ≡ b → old.broken ≡ false
   was_unbroken old new givens follow unbroken false is = is
   was_unbroken old new givens follow unbroken true is = absurd (not_true new.broken (stays_broken old new givens follow is) unbroken)
 
-  kept_on : (old new : KeeperState D) (givens : List Given) (namespace : List ℕ) (before : List RowValue) → Follow Step old givens new → new.broken ≡ false → KeepsRows IsRow facts may_leave old namespace before → KeepsRows IsRow facts may_leave new namespace (before ++ all_kept givens)
+  kept_on : (old new : KeeperState D) (givens : List GivenSlice) (namespace : List ℕ) (before : List RowValue) → Follow Step old givens new → new.broken ≡ false → KeepsRows IsRow facts may_leave old namespace before → KeepsRows IsRow facts may_leave new namespace (before ++ all_kept givens)
   kept_on old new [] namespace before same unbroken k =
       subst (λ (rows : List RowValue). KeepsRows IsRow facts may_leave new namespace rows) (sym (append-nil before)) (subst (λ (s : KeeperState D). KeepsRows IsRow facts may_leave s namespace before) (sym same) k)
   kept_on old new (given ∷ more) namespace before (mid, step, follow) unbroken k =
       let here = one_step old mid given.slice given.answer namespace before step (was_unbroken mid new more follow unbroken mid.broken refl) k in
-      let rest = kept_on mid new more namespace (before ++ rows_of given.slice given.answer) follow unbroken here in
-      subst (λ (rows : List RowValue). KeepsRows IsRow facts may_leave new namespace rows) (append_assoc before (rows_of given.slice given.answer) (all_kept more)) rest
+      let rest = kept_on mid new more namespace (before ++ rows_kept given.slice given.answer) follow unbroken here in
+      subst (λ (rows : List RowValue). KeepsRows IsRow facts may_leave new namespace rows) (append_assoc before (rows_kept given.slice given.answer) (all_kept more)) rest
 
   pub at_any_stop : HoldsAtAnyStop IsRow facts may_leave moment left_since
   at_any_stop old mid new givens slice answer namespace before k follow step = step.moments namespace (before ++ all_kept givens) (kept_on old mid givens namespace before follow step.unbroken k)

@@ -10,9 +10,9 @@ abbrev pub IsNoRecord : (RowValue → Type 0) → List ℕ → Type 0
 IsNoRecord IsRow bytes = (rows : List RowValue) (rest : List ℕ) → IsRecord IsRow rows → bytes ≡ record_body rows ++ rest → ⊥
 
 -- where a gate is due the file ends, or an open gate stands before what is no record
-abbrev pub IsWrong : (RowValue → Type 0) → List ℕ → Type 0
-IsWrong IsRow [] = Unit {0}
-IsWrong IsRow (gate ∷ bytes) = (gate ≡ 1) × IsNoRecord IsRow bytes
+abbrev pub IsBadGate : (RowValue → Type 0) → List ℕ → Type 0
+IsBadGate IsRow [] = Unit {0}
+IsBadGate IsRow (gate ∷ bytes) = (gate ≡ 1) × IsNoRecord IsRow bytes
 
 -- the file holds a log of the namespace, and behind some open records it goes wrong
 pub record GoesWrongBehind (IsRow : RowValue → Type 0) (namespace bytes : List ℕ) (at : ℕ) : Type 0 where
@@ -21,7 +21,7 @@ pub record GoesWrongBehind (IsRow : RowValue → Type 0) (namespace bytes : List
   pub left : List ℕ
   pub parts : bytes ≡ log_front namespace records ++ left
   pub fit : AllByRecursion (IsRecord IsRow) records
-  pub wrong : IsWrong IsRow left
+  pub wrong : IsBadGate IsRow left
   pub place : at ≡ length (log_front namespace records)
 
 -- the file holds a log with another header

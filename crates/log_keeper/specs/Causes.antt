@@ -8,7 +8,7 @@ use Rattle.log_keeper.specs.declared.refusal.KeepRefusal.{KeepRefusal}
 use Rattle.log_keeper.specs.declared.refusal.KeepRefusal.TheVariants.{ReadFailed, WriteFailed, BadLog}
 
 -- no count of faults rose
-pub record HasNoFault (old new : DiskFacts) : Type 0 where
+pub record CountsNoFault (old new : DiskFacts) : Type 0 where
   pub reads : new.read_faults ≡ old.read_faults
   pub writes : new.write_faults ≡ old.write_faults
 
@@ -17,7 +17,7 @@ pub record HasNoFault (old new : DiskFacts) : Type 0 where
 abbrev pub HasCause : (ℕ → Type 0) → DiskFacts → DiskFacts → End KeepRefusal → Type 0
 HasCause bad old new (Refused ReadFailed) = HasRisen old.read_faults new.read_faults × (new.write_faults ≡ old.write_faults)
 HasCause bad old new (Refused WriteFailed) = (new.read_faults ≡ old.read_faults) × HasRisen old.write_faults new.write_faults
-HasCause bad old new (Refused (BadLog at)) = bad at × HasNoFault old new
+HasCause bad old new (Refused (BadLog at)) = bad at × CountsNoFault old new
 HasCause bad old new NoMemory = (old.read_faults ≤ new.read_faults) × (old.write_faults ≤ new.write_faults)
 
 -- this holds where the refusal is no failed write
@@ -29,5 +29,5 @@ IfUnwritten NoMemory P = P
 
 -- how a call ends
 abbrev pub EndsByCause : {A : Type 0} → (ℕ → Type 0) → DiskFacts → DiskFacts → Result A (End KeepRefusal) → Type 0
-EndsByCause bad old new (Ok x) = HasNoFault old new
+EndsByCause bad old new (Ok x) = CountsNoFault old new
 EndsByCause bad old new (Err why) = HasCause bad old new why

@@ -1,5 +1,5 @@
 -- What a crash may leave while a log is begun and while slices are kept in it.
-use Rattle.std.specs.Prelude.{◌≡◌, ◌⊎◌, ℕ, List, [], ◌++◌, length, Option, IfSome, Result}
+use Rattle.std.specs.Prelude.{◌≡◌, ◌⊎◌, ℕ, List, [], ◌++◌, length, Option, IfSome}
 use Rattle.willow_entry.specs.Row.{RowValue}
 use Rattle.willow_outside.specs.Disks.{LeavesContents, LeavesOnly}
 use Rattle.willow_outside.specs.Facts.{DiskFacts}

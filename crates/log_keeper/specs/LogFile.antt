@@ -46,7 +46,7 @@ pub record Holds (IsRow : RowValue → Type 0) (namespace bytes : List ℕ) (row
   pub to : HoldsTo IsRow namespace bytes rows end
 
 -- a closed gate stands in front
-pub record IsClosed (bytes : List ℕ) : Type 0 where
+pub record IsShut (bytes : List ℕ) : Type 0 where
   pub some : 1 ≤ length bytes
   pub closed : slice_index bytes 0 ≢ 1
 

@@ -10,8 +10,8 @@ use Rattle.willow_entry.specs.Row.{RowValue}
 use Rattle.row_stream.specs.Streams.{frames_of, IsStreamRow}
 use Rattle.log_keeper.specs.declared.refusal.KeepRefusal.{KeepRefusal}
 use Rattle.log_keeper.specs.declared.refusal.KeepRefusal.TheVariants.{ReadFailed, WriteFailed, BadLog}
-use Rattle.log_keeper.specs.BadLogs.{IsWrong, IsBadLog, IsBadFile}
-use Rattle.log_keeper.specs.LogFile.{open_record, IsClosed, IsRecord, HoldsTo, HoldsNoLog}
+use Rattle.log_keeper.specs.BadLogs.{IsBadGate, IsBadLog, IsBadFile}
+use Rattle.log_keeper.specs.LogFile.{open_record, IsShut, IsRecord, HoldsTo, HoldsNoLog}
 
 -- a length and so many bytes stand in front, and these behind them
 pub record IsSplitOff (bytes frames behind : List ℕ) : Type 0 where
@@ -23,7 +23,7 @@ SplitsOff frames behind bytes (Some x) = IsSplitOff bytes (frames x) (behind x)
 SplitsOff frames behind bytes None = (front rest : List ℕ) → IsSplitOff bytes front rest → ⊥
 
 -- an open gate stands in front, and behind it what may be a record
-pub record IsOpen (bytes frames behind : List ℕ) : Type 0 where
+pub record IsOpenRecord (bytes frames behind : List ℕ) : Type 0 where
   pub after : List ℕ
   pub parts : bytes ≡ 1 ∷ after
   pub split : IsSplitOff after frames behind
@@ -35,14 +35,14 @@ IsCutShort (gate ∷ bytes) = (gate ≡ 1) × ((front rest : List ℕ) → IsSpl
 
 -- what stands where a gate is due
 abbrev pub TellsGate : {X E : Type 0} → (X → List ℕ) → (X → List ℕ) → List ℕ → Result (Option X) E → Type 0
-TellsGate frames behind bytes (Ok (Some x)) = IsOpen bytes (frames x) (behind x)
-TellsGate frames behind bytes (Ok None) = IsClosed bytes
+TellsGate frames behind bytes (Ok (Some x)) = IsOpenRecord bytes (frames x) (behind x)
+TellsGate frames behind bytes (Ok None) = IsShut bytes
 TellsGate frames behind bytes (Err e) = IsCutShort bytes
 
 -- the rows whose frames these are, or that they are none's
-abbrev pub ReadsFrames : {R : Type 0} → (RowValue → Type 0) → (R → RowValue) → List ℕ → Option (Vec R) → Type 0
-ReadsFrames IsRow value bytes (Some rows) = AllByRecursion (IsStreamRow IsRow) (map value rows.items) × (bytes ≡ frames_of (map value rows.items))
-ReadsFrames IsRow value bytes None = (rows : List RowValue) → AllByRecursion (IsStreamRow IsRow) rows → bytes ≡ frames_of rows → ⊥
+abbrev pub ReadsRowFrames : {R : Type 0} → (RowValue → Type 0) → (R → RowValue) → List ℕ → Option (Vec R) → Type 0
+ReadsRowFrames IsRow value bytes (Some rows) = AllByRecursion (IsStreamRow IsRow) (map value rows.items) × (bytes ≡ frames_of (map value rows.items))
+ReadsRowFrames IsRow value bytes None = (rows : List RowValue) → AllByRecursion (IsStreamRow IsRow) rows → bytes ≡ frames_of rows → ⊥
 
 -- the bytes are open records that hold these rows, and behind them a closed gate, at `end` counted from `from`
 pub record AreRecords (IsRow : RowValue → Type 0) (from : ℕ) (bytes : List ℕ) (rows : List RowValue) (end : ℕ) : Type 0 where
@@ -56,18 +56,18 @@ pub record AreRecords (IsRow : RowValue → Type 0) (from : ℕ) (bytes : List �
   pub place : end ≡ from + length (flat_map open_record records)
 
 -- behind some open records the bytes go wrong
-pub record GoWrong (IsRow : RowValue → Type 0) (from : ℕ) (bytes : List ℕ) (at : ℕ) : Type 0 where
+pub record RecordsGoWrong (IsRow : RowValue → Type 0) (from : ℕ) (bytes : List ℕ) (at : ℕ) : Type 0 where
   pub records : List (List RowValue)
   pub left : List ℕ
   pub parts : bytes ≡ flat_map open_record records ++ left
   pub fit : AllByRecursion (IsRecord IsRow) records
-  pub wrong : IsWrong IsRow left
+  pub wrong : IsBadGate IsRow left
   pub place : at ≡ from + length (flat_map open_record records)
 
 -- how the records of a log are read
 abbrev pub ReadsRecords : {R : Type 0} → (RowValue → Type 0) → (R → RowValue) → ℕ → List ℕ → Result (Vec R × ℕ) (End ℕ) → Type 0
 ReadsRecords IsRow value from bytes (Ok x) = AreRecords IsRow from bytes (map value x.0.items) x.1
-ReadsRecords IsRow value from bytes (Err (Refused at)) = GoWrong IsRow from bytes at
+ReadsRecords IsRow value from bytes (Err (Refused at)) = RecordsGoWrong IsRow from bytes at
 ReadsRecords IsRow value from bytes (Err NoMemory) = Unit {0}
 
 -- how bytes are read: no log, the rows of a log and the place of its closed gate, or where it goes wrong

@@ -12,18 +12,18 @@ use Rattle.log_keeper.specs.LogFile.{Holds}
 use Rattle.log_keeper.specs.KeeperState.{KeeperState}
 
 -- a slice that was given to a keeper, and its answer
-pub record Given : Type 0 where
+pub record GivenSlice : Type 0 where
   pub slice : List RowValue
   pub answer : Result ℕ (End KeepRefusal)
 
 -- the rows of a slice that was answered Ok
-abbrev pub rows_of : List RowValue → Result ℕ (End KeepRefusal) → List RowValue
-rows_of slice (Ok n) = slice
-rows_of slice (Err e) = []
+abbrev pub rows_kept : List RowValue → Result ℕ (End KeepRefusal) → List RowValue
+rows_kept slice (Ok n) = slice
+rows_kept slice (Err e) = []
 
 -- the rows of all slices that were answered Ok, one after the other
-abbrev pub all_kept : List Given → List RowValue
-all_kept = flat_map (λ given. rows_of given.slice given.answer)
+abbrev pub all_kept : List GivenSlice → List RowValue
+all_kept = flat_map (λ given. rows_kept given.slice given.answer)
 
 -- what a keep does, at each moment and when it ends
 pub record KeepsSlice {D : Type 0} (IsRow : RowValue → Type 0) (facts : D → DiskFacts) (may_leave : D → List ℕ → Type 0) (moment : D → ℕ) (left_since : D → ℕ → List ℕ → Type 0) (old new : KeeperState D) (slice : List RowValue) (answer : Result ℕ (End KeepRefusal)) : Type 0 where
@@ -34,7 +34,7 @@ pub record KeepsSlice {D : Type 0} (IsRow : RowValue → Type 0) (facts : D → 
   pub broken : (why : KeepRefusal) → IsErrOf answer (Refused why) → new.broken ≡ true
 
 -- keeps that follow one another
-abbrev pub Follow : {D : Type 0} → (KeeperState D → KeeperState D → List RowValue → Result ℕ (End KeepRefusal) → Type 0) → KeeperState D → List Given → KeeperState D → Type 0
+abbrev pub Follow : {D : Type 0} → (KeeperState D → KeeperState D → List RowValue → Result ℕ (End KeepRefusal) → Type 0) → KeeperState D → List GivenSlice → KeeperState D → Type 0
 Follow step old [] new = new ≡ old
 Follow {D} step old (given ∷ more) new = (mid : KeeperState D) × step old mid given.slice given.answer × Follow step mid more new
 
@@ -44,7 +44,7 @@ Follow {D} step old (given ∷ more) new = (mid : KeeperState D) × step old mid
 -- file held at first, those of all slices answered Ok, and maybe those of the slice.
 abbrev pub HoldsAtAnyStop : {D : Type 0} → (RowValue → Type 0) → (D → DiskFacts) → (D → List ℕ → Type 0) → (D → ℕ) → (D → ℕ → List ℕ → Type 0) → Type 0
 HoldsAtAnyStop {D} IsRow facts may_leave moment left_since =
-    (old mid new : KeeperState D) (givens : List Given) (slice : List RowValue) (answer : Result ℕ (End KeepRefusal)) (namespace : List ℕ) (before : List RowValue)
+    (old mid new : KeeperState D) (givens : List GivenSlice) (slice : List RowValue) (answer : Result ℕ (End KeepRefusal)) (namespace : List ℕ) (before : List RowValue)
     → KeepsRows IsRow facts may_leave old namespace before → Follow (KeepsSlice IsRow facts may_leave moment left_since) old givens mid → KeepsSlice IsRow facts may_leave moment left_since mid new slice answer
     → LeavesOnly moment left_since mid.disk new.disk (HoldsBeforeOrAfter IsRow namespace (before ++ all_kept givens) slice)
 
@@ -52,7 +52,7 @@ HoldsAtAnyStop {D} IsRow facts may_leave moment left_since =
 -- those of all slices answered Ok; and so does each image that a crash may leave from then on, while the disk is only read.
 abbrev pub HoldsAllFromThenOn : {D : Type 0} → (RowValue → Type 0) → (D → DiskFacts) → (D → List ℕ → Type 0) → (D → ℕ) → (D → ℕ → List ℕ → Type 0) → Type 0
 HoldsAllFromThenOn {D} IsRow facts may_leave moment left_since =
-    (old new : KeeperState D) (later : D) (givens : List Given) (namespace : List ℕ) (before : List RowValue)
+    (old new : KeeperState D) (later : D) (givens : List GivenSlice) (namespace : List ℕ) (before : List RowValue)
     → KeepsRows IsRow facts may_leave old namespace before → Follow (KeepsSlice IsRow facts may_leave moment left_since) old givens new → new.broken ≡ false → LeavesOnly moment left_since new.disk later (may_leave new.disk)
     → KeepsRows IsRow facts may_leave new namespace (before ++ all_kept givens) × LeavesOnly moment left_since new.disk later (λ image. Holds IsRow namespace image (before ++ all_kept givens))
 
@@ -71,7 +71,7 @@ pub record IsAtAFront (IsRow : RowValue → Type 0) (namespace : List ℕ) (open
 -- answered Ok, nor below the number of opening rows.
 abbrev pub IsStoreAtAnyStop : {D : Type 0} → (RowValue → Type 0) → (D → DiskFacts) → (D → List ℕ → Type 0) → (D → ℕ) → (D → ℕ → List ℕ → Type 0) → Type 0
 IsStoreAtAnyStop {D} IsRow facts may_leave moment left_since =
-    (old mid new : KeeperState D) (givens : List Given) (slice : List RowValue) (answer : Result ℕ (End KeepRefusal)) (namespace : List ℕ) (before opening rest : List RowValue)
+    (old mid new : KeeperState D) (givens : List GivenSlice) (slice : List RowValue) (answer : Result ℕ (End KeepRefusal)) (namespace : List ℕ) (before opening rest : List RowValue)
     → KeepsRows IsRow facts may_leave old namespace before → Follow (KeepsSlice IsRow facts may_leave moment left_since) old givens mid → KeepsSlice IsRow facts may_leave moment left_since mid new slice answer
     → ((r : RowValue) → Contains before r → HasCovering opening r)
     → LeavesOnly moment left_since mid.disk new.disk (IsAtAFront IsRow namespace opening (opening ++ (all_kept givens ++ (slice ++ rest))) (length opening + length (all_kept givens)))
@@ -80,7 +80,7 @@ IsStoreAtAnyStop {D} IsRow facts may_leave moment left_since =
 -- behind it.
 abbrev pub IsStoreFromThenOn : {D : Type 0} → (RowValue → Type 0) → (D → DiskFacts) → (D → List ℕ → Type 0) → (D → ℕ) → (D → ℕ → List ℕ → Type 0) → Type 0
 IsStoreFromThenOn {D} IsRow facts may_leave moment left_since =
-    (old new : KeeperState D) (later : D) (givens : List Given) (namespace : List ℕ) (before opening rest : List RowValue)
+    (old new : KeeperState D) (later : D) (givens : List GivenSlice) (namespace : List ℕ) (before opening rest : List RowValue)
     → KeepsRows IsRow facts may_leave old namespace before → Follow (KeepsSlice IsRow facts may_leave moment left_since) old givens new → new.broken ≡ false → LeavesOnly moment left_since new.disk later (may_leave new.disk)
     → ((r : RowValue) → Contains before r → HasCovering opening r)
     → LeavesOnly moment left_since new.disk later (IsAtAFront IsRow namespace opening (opening ++ (all_kept givens ++ rest)) (length opening + length (all_kept givens)))

@@ -8,8 +8,8 @@ use Rattle.row_stream.specs.Streams.{IsStreamRow}
 use Rattle.log_keeper.specs.LogFile.{record_body}
 
 -- the rows of a slice
-abbrev pub slice_rows : {R : Type 0} → (R → RowValue) → List (LogRow R) → List RowValue
-slice_rows value slice = map (λ logged. value logged.row) slice
+abbrev pub logged_rows : {R : Type 0} → (R → RowValue) → List (LogRow R) → List RowValue
+logged_rows value slice = map (λ logged. value logged.row) slice
 
 -- each body fits a frame
 abbrev pub AreFramed : List RowValue → Type 0

@@ -5,7 +5,7 @@ ghost use Rattle.std.specs.Option.{option_map};
 ghost use Rattle.willow_path.specs.Key.{IsKey};
 ghost use Rattle.willow_outside.specs.Disks.{written, LeavesContents, LeavesNoMore, LeavesOnly};
 ghost use Rattle.log_keeper.specs.Causes.{EndsByCause, IfUnwritten};
-ghost use Rattle.log_keeper.specs.LogFile.{HoldsNoLog, IsClosed, new_log};
+ghost use Rattle.log_keeper.specs.LogFile.{HoldsNoLog, IsShut, new_log};
 ghost use Rattle.log_keeper.specs.Opening.{IsUnchanged};
 ghost use Rattle.log_keeper.specs.Torn.{HoldsNoneOr};
 
@@ -40,7 +40,7 @@ fn shut_short<D: Disk>(disk: &mut D) -> Result<(), End<KeepRefusal>>
     requires short { IfSome (D.facts disk.old).contents (λ bytes. length bytes < 39) }
     ensures moments { LeavesOnly D.moment D.left_since disk.old disk.new HoldsNoLog }
     ensures settled { OnOk result (LeavesContents (D.facts disk.new).contents (D.may_leave disk.new)) }
-    ensures shut { OnOk result (IfSome (D.facts disk.new).contents IsClosed) }
+    ensures shut { OnOk result (IfSome (D.facts disk.new).contents IsShut) }
     ensures behind { OnOk result (option_map (drop 39) (D.facts disk.new).contents ≡ option_map (drop 39) (D.facts disk.old).contents) }
     ensures cause { EndsByCause (λ at. ⊥) (D.facts disk.old) (D.facts disk.new) result }
     ensures told { is_some (D.facts disk.new).contents ≡ is_some (D.facts disk.old).contents }
@@ -58,7 +58,7 @@ pub(crate) fn shut_gate<D: Disk>(disk: &mut D) -> Result<(), End<KeepRefusal>>
     requires no_log { IfSome (D.facts disk.old).contents HoldsNoLog }
     ensures moments { LeavesOnly D.moment D.left_since disk.old disk.new HoldsNoLog }
     ensures settled { OnOk result (LeavesContents (D.facts disk.new).contents (D.may_leave disk.new)) }
-    ensures shut { OnOk result (IfSome (D.facts disk.new).contents IsClosed) }
+    ensures shut { OnOk result (IfSome (D.facts disk.new).contents IsShut) }
     ensures behind { OnOk result (option_map (drop 39) (D.facts disk.new).contents ≡ option_map (drop 39) (D.facts disk.old).contents) }
     ensures cause { EndsByCause (λ at. ⊥) (D.facts disk.old) (D.facts disk.new) result }
     ensures told { is_some (D.facts disk.new).contents ≡ is_some (D.facts disk.old).contents }

@@ -9,13 +9,13 @@ ghost use Rattle.row_stream.specs.Streams.{IsStreamRow};
 ghost use Rattle.log_keeper.specs.declared.keeper.Opened.TheVariants as opened;
 ghost use Rattle.log_keeper.specs.declared.refusal.KeepRefusal.TheVariants as refusals;
 ghost use Rattle.log_keeper.specs.BadLogs.{IsBadFile};
-ghost use Rattle.log_keeper.specs.Causes.{EndsByCause, HasCause, HasNoFault, IfUnwritten};
+ghost use Rattle.log_keeper.specs.Causes.{EndsByCause, HasCause, CountsNoFault, IfUnwritten};
 ghost use Rattle.log_keeper.specs.Crashes.{HoldsNoRow, KeepsMore, KeepsRows, LeavesBeforeOrAfter};
 ghost use Rattle.log_keeper.specs.KeeperState.{disk_of};
 ghost use Rattle.log_keeper.specs.LogFile.{HoldsNoLog, last_record, new_log, record_body};
-ghost use Rattle.log_keeper.specs.Opening.{IsOnlyRead, IsReadWell, IsUnchanged};
+ghost use Rattle.log_keeper.specs.Opening.{WasOnlyRead, IsReadWell, IsUnchanged};
 ghost use Rattle.log_keeper.specs.Runs.{KeepsSlice};
-ghost use Rattle.log_keeper.specs.Slices.{slice_rows};
+ghost use Rattle.log_keeper.specs.Slices.{logged_rows};
 
 use crate::beginning::begin_log;
 use crate::opening::read_disk;
@@ -82,7 +82,7 @@ impl<F: RowForm, D: Disk> LogKeeper<F, D> {
         ensures contents { IfOk result (λ k. (D.facts k.disk).contents ≡ option_map (written 0 (new_log namespace.now)) (D.facts disk).contents) }
         ensures end { IfOk result (λ k. k.end ≡ 38) }
         ensures unbroken { IfOk result (λ k. k.broken ≡ false) }
-        ensures faults { IfOk result (λ k. HasNoFault (D.facts disk) (D.facts k.disk)) }
+        ensures faults { IfOk result (λ k. CountsNoFault (D.facts disk) (D.facts k.disk)) }
         ensures cause { IfErr result (λ back. HasCause (λ at. ⊥) (D.facts disk) (D.facts back.0) back.1) }
         ensures unwritten { IfErr result (λ back. IfUnwritten back.1 (IsUnchanged D.facts D.may_leave disk back.0)) }
         ensures told { is_some (D.facts (disk_of result)).contents ≡ is_some (D.facts disk).contents }
@@ -108,11 +108,11 @@ impl<F: RowForm, D: Disk> LogKeeper<F, D> {
         disk: D,
         namespace: &NamespaceKey,
     ) -> Result<Opened<F, D>, (D, End<KeepRefusal>)>
-        ensures absent { (back : _) → result ≡ Ok (opened.Absent back) → IsReadWell D.facts D.may_leave D.moment D.left_since disk back × IfSome (D.facts disk).contents HoldsNoLog }
+        ensures absent { (back : _) → result ≡ Ok (opened.Absent back) → IsReadWell D.facts D.may_leave D.moment D.left_since disk back × IfSome (D.facts back).contents HoldsNoLog }
         ensures read { (keeper : _) (rows : _) → result ≡ Ok (opened.Log keeper rows) → IsReadWell D.facts D.may_leave D.moment D.left_since disk keeper.disk }
         ensures keeps { (keeper : _) (rows : _) → result ≡ Ok (opened.Log keeper rows) → KeepsRows F.IsRow D.facts D.may_leave keeper namespace.now (map F.R.value rows.items) }
         ensures keeper { (keeper : _) (rows : _) → result ≡ Ok (opened.Log keeper rows) → (keeper.end < 2 ^ 62) × (keeper.broken ≡ false) }
-        ensures only_read { IfErr result (λ back. IsOnlyRead D.facts D.may_leave D.moment D.left_since disk back.0) }
+        ensures only_read { IfErr result (λ back. WasOnlyRead D.facts D.may_leave D.moment D.left_since disk back.0) }
         ensures unwritten { IfErr result (λ back. IfUnwritten back.1 ((D.facts back.0).contents ≡ (D.facts disk).contents)) }
         ensures cause { IfErr result (λ back. HasCause (λ at. IfSome (D.facts disk).contents (IsBadFile F.IsRow namespace.now at)) (D.facts disk) (D.facts back.0) back.1) }
     {
@@ -164,14 +164,14 @@ impl<F: RowForm, D: Disk> LogKeeper<F, D> {
         requires unbroken { self.old.broken ≡ false }
         requires some { 1 ≤ length slice.now }
         requires few { length slice.now ≤ 256 }
-        requires fit { AllByRecursion (IsStreamRow F.IsRow) (slice_rows R.value slice.now) }
-        requires room { self.old.end + 1 + length (record_body (slice_rows R.value slice.now)) < 2 ^ 63 - 1 }
-        ensures moments { LeavesBeforeOrAfter F.IsRow D.facts D.may_leave D.moment D.left_since self.old self.new (slice_rows R.value slice.now) }
-        ensures kept { OnOk result (KeepsMore F.IsRow D.facts D.may_leave self.old self.new (slice_rows R.value slice.now)) }
-        ensures step { KeepsSlice F.IsRow D.facts D.may_leave D.moment D.left_since self.old self.new (slice_rows R.value slice.now) result }
-        ensures contents { OnOk result ((D.facts self.new.disk).contents ≡ option_map (written self.old.end (last_record (slice_rows R.value slice.now))) (D.facts self.old.disk).contents) }
+        requires fit { AllByRecursion (IsStreamRow F.IsRow) (logged_rows R.value slice.now) }
+        requires room { self.old.end + 1 + length (record_body (logged_rows R.value slice.now)) < 2 ^ 63 - 1 }
+        ensures moments { LeavesBeforeOrAfter F.IsRow D.facts D.may_leave D.moment D.left_since self.old self.new (logged_rows R.value slice.now) }
+        ensures kept { OnOk result (KeepsMore F.IsRow D.facts D.may_leave self.old self.new (logged_rows R.value slice.now)) }
+        ensures step { KeepsSlice F.IsRow D.facts D.may_leave D.moment D.left_since self.old self.new (logged_rows R.value slice.now) result }
+        ensures contents { OnOk result ((D.facts self.new.disk).contents ≡ option_map (written self.old.end (last_record (logged_rows R.value slice.now))) (D.facts self.old.disk).contents) }
         ensures number { IfOk result (λ n. (n ≡ self.new.count) × (n ≡ self.old.count + length slice.now)) }
-        ensures end { OnOk result (self.new.end ≡ self.old.end + 1 + length (record_body (slice_rows R.value slice.now))) }
+        ensures end { OnOk result (self.new.end ≡ self.old.end + 1 + length (record_body (logged_rows R.value slice.now))) }
         ensures unbroken { OnOk result (self.new.broken ≡ false) }
         ensures broken { (why : _) → IsErrOf result (ends.Refused why) → (why ≡ refusals.WriteFailed) × (self.new.broken ≡ true) }
         ensures memory { IsErrOf result ends.NoMemory → self.new ≡ self.old }

@@ -1,7 +1,7 @@
 //! Reading the records of a log.
 
 ghost use Rattle.std.specs.Prelude.{◌≡◌, ◌+◌, ◌<◌, ◌^◌, ◌++◌, length, IfOk, IfSome, IfNone};
-ghost use Rattle.log_keeper.specs.Readings.{SplitsOff, TellsGate, ReadsFrames, ReadsRecords};
+ghost use Rattle.log_keeper.specs.Readings.{SplitsOff, TellsGate, ReadsRowFrames, ReadsRecords};
 
 use crate::header::OPEN;
 use row_stream::RowStream;
@@ -60,7 +60,7 @@ pub(crate) fn record_at(left: &[u8]) -> Result<Option<(&[u8], &[u8])>, CutShort>
 // The rows whose frames the bytes are.
 fn read_frames<F: RowForm>(alloc: Global, bytes: &[u8]) -> Result<Option<Vec<F::R>>, NoMemory>
     requires { length bytes.now < 2 ^ 63 }
-    ensures { IfOk result (ReadsFrames F.IsRow F.R.value bytes.now) }
+    ensures { IfOk result (ReadsRowFrames F.IsRow F.R.value bytes.now) }
 {
     one_reading::<F>();
     let mut stream = RowStream::<F>::new(alloc);

@@ -3,7 +3,7 @@
 ghost use Rattle.std.specs.Prelude.{◌≡◌, ◌≤◌, length, IfOk};
 ghost use Rattle.row_stream.specs.Streams.{frames_of};
 ghost use Rattle.log_keeper.specs.LogFile.{last_record};
-ghost use Rattle.log_keeper.specs.Slices.{slice_rows, AreFramed};
+ghost use Rattle.log_keeper.specs.Slices.{logged_rows, AreFramed};
 
 use crate::header::OPEN;
 use spelling::{NoMemory, put_byte, put_bytes, put_u32};
@@ -12,8 +12,8 @@ use willow_entry::{LogRow, Row, encode_row_frame};
 
 // The frames of the rows, one after the other.
 fn frames<R: Row>(alloc: Global, slice: &[LogRow<R>]) -> Result<Vec<u8>, NoMemory>
-    requires { AreFramed (slice_rows R.value slice.now) }
-    ensures { IfOk result (λ v. v.items ≡ frames_of (slice_rows R.value slice.now)) }
+    requires { AreFramed (logged_rows R.value slice.now) }
+    ensures { IfOk result (λ v. v.items ≡ frames_of (logged_rows R.value slice.now)) }
 {
     let mut out = Vec::new(alloc);
     let mut left = slice;
@@ -26,9 +26,9 @@ fn frames<R: Row>(alloc: Global, slice: &[LogRow<R>]) -> Result<Vec<u8>, NoMemor
 
 /// The bytes of a record of these rows: an open gate, the length and the frames, and a closed gate behind them.
 pub(crate) fn record_of<R: Row>(alloc: Global, slice: &[LogRow<R>]) -> Result<Vec<u8>, NoMemory>
-    requires framed { AreFramed (slice_rows R.value slice.now) }
+    requires framed { AreFramed (logged_rows R.value slice.now) }
     requires few { length slice.now ≤ 256 }
-    ensures spelled { IfOk result (λ v. v.items ≡ last_record (slice_rows R.value slice.now)) }
+    ensures spelled { IfOk result (λ v. v.items ≡ last_record (logged_rows R.value slice.now)) }
 {
     let frames = frames(alloc, slice)?;
     let mut out = Vec::new(alloc);

@@ -2,7 +2,7 @@ use Rattle.std.proofs.Common.{◌≡◌, ◌+◌, ◌-◌, ◌++◌, length, dro
 use Rattle.std.proofs.lemmas.List.{length-map}
 use Rattle.log_keeper.specs.LogFile.{record_body, last_record, IsRecord}
 use Rattle.log_keeper.specs.Crashes.{HoldsBeforeOrAfter}
-use Rattle.log_keeper.specs.Slices.{slice_rows}
+use Rattle.log_keeper.specs.Slices.{logged_rows}
 use Rattle.log_keeper.specs.Torn.{IsTornAtGate}
 use Rattle.log_keeper.proofs.Moments.{weaker}
 use Rattle.log_keeper.proofs.Keeping.{either_left, keeps_more, is_record, frames_some, framed, body_long, last_long}
@@ -11,7 +11,7 @@ use Rattle.log_keeper.proofs.keeper.LogKeeper.keep.Goals as goal
 pub returns-in-Ok-clause-moments : goal.returns-in-Ok-clause-moments
 returns-in-Ok-clause-moments g c =
     let IsRow = g.F.RowForm.IsRow in
-    let slice = slice_rows g.R.Row.value c.args.slice.now in
+    let slice = logged_rows g.R.Row.value c.args.slice.now in
     let fits : IsRecord IsRow slice = is_record IsRow slice c.requires.fit (omega (arith, c.requires.few, length-map c.args.slice.now (λ logged. g.R.Row.value logged.row))) in
     let s = c.self.inside in
     let contents = (g.D.Disk.facts s.disk).contents in
@@ -23,7 +23,7 @@ returns-in-Ok-clause-moments g c =
 pub returns-clause-moments : goal.returns-clause-moments
 returns-clause-moments g c =
     let IsRow = g.F.RowForm.IsRow in
-    let slice = slice_rows g.R.Row.value c.args.slice.now in
+    let slice = logged_rows g.R.Row.value c.args.slice.now in
     let fits : IsRecord IsRow slice = is_record IsRow slice c.requires.fit (omega (arith, c.requires.few, length-map c.args.slice.now (λ logged. g.R.Row.value logged.row))) in
     let s = c.self.inside in
     let contents = (g.D.Disk.facts s.disk).contents in
@@ -35,7 +35,7 @@ returns-clause-moments g c =
 pub returns-in-Ok-clause-kept : goal.returns-in-Ok-clause-kept
 returns-in-Ok-clause-kept g c =
     let IsRow = g.F.RowForm.IsRow in
-    let slice = slice_rows g.R.Row.value c.args.slice.now in
+    let slice = logged_rows g.R.Row.value c.args.slice.now in
     let many : length slice ≡ length c.args.slice.now = length-map c.args.slice.now (λ logged. g.R.Row.value logged.row) in
     let fits : IsRecord IsRow slice = is_record IsRow slice c.requires.fit (omega (arith, c.requires.few, many)) in
     let s = c.self.inside in
@@ -50,7 +50,7 @@ returns-in-Ok-clause-kept g c =
 pub invariant_of-self : goal.invariant_of-self
 invariant_of-self g c =
     let IsRow = g.F.RowForm.IsRow in
-    let slice = slice_rows g.R.Row.value c.args.slice.now in
+    let slice = logged_rows g.R.Row.value c.args.slice.now in
     let many : length slice ≡ length c.args.slice.now = length-map c.args.slice.now (λ logged. g.R.Row.value logged.row) in
     let fits : IsRecord IsRow slice = is_record IsRow slice c.requires.fit (omega (arith, c.requires.few, many)) in
     let s = c.self.inside in

@@ -1,4 +1,4 @@
-use Rattle.std.proofs.Common.{◌≡◌, ◌≤◌, ◌<◌, ◌^◌, length, Option, Some, IfSome, Ok, subst, arith}
+use Rattle.std.proofs.Common.{◌≡◌, ◌≤◌, ◌<◌, ◌^◌, length, Some, IfSome, Ok, subst, arith}
 use Rattle.log_keeper.specs.Readings.{ReadsFile}
 use Rattle.log_keeper.proofs.FilesRead.{opened_sound}
 use Rattle.log_keeper.proofs.keeper.LogKeeper.open.Goals as goal
