@@ -117,14 +117,11 @@ TEXTS = (
          row(exchanged(), namespace=O)),
     Text("OFTEN", "the same under one that was handed on as often as may be", row(handed_often(MOST), namespace=O)),
     Text("TOO_OFTEN", "the same under one that was handed on once more", row(handed_often(MOST + 1), namespace=O)),
+    *(Text(f"TO_{letter.upper()}", f"the first under a delegation from U to {letter}, signed by it",
+           row(handed(communal(), open_key(letter)))) for letter in "abcde"),
 )
-HANDED = tuple(row(handed(communal(), open_key(letter))) for letter in "abcde")
 
 
 if __name__ == "__main__":
     print("//! Rows under open keys, as `bench/checks/make.py` makes them: N is a communal namespace, O an owned one.\n")
-    print("\n".join(text.lines() for text in TEXTS))
-    print("// the first under delegations from U to five others, signed by these")
-    print(f"pub(crate) const HANDED: [&str; {len(HANDED)}] = [")
-    print("\n".join(f'    "{each.body().hex()}",' for each in HANDED))
-    print("];")
+    print("\n".join(text.lines() for text in TEXTS), end="")

@@ -98,11 +98,11 @@ fn a_refused_capability_is_checked_in_each_call(rt: HostRuntime) {
 }
 
 static FIVE: [(&str, Due); 5] = [
-    (texts::HANDED[0], Ok(117)),
-    (texts::HANDED[1], Ok(117)),
-    (texts::HANDED[2], Ok(117)),
-    (texts::HANDED[3], Ok(117)),
-    (texts::HANDED[4], Ok(117)),
+    (texts::TO_A, Ok(117)),
+    (texts::TO_B, Ok(117)),
+    (texts::TO_C, Ok(117)),
+    (texts::TO_D, Ok(117)),
+    (texts::TO_E, Ok(117)),
 ];
 
 // Five capabilities: those are remembered that were asked for last.
