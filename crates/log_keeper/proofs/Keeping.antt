@@ -9,8 +9,8 @@ use Rattle.willow_entry.specs.Frame.{row_frame}
 use Rattle.row_stream.specs.Streams.{frames_of, IsStreamRow}
 use Rattle.row_stream.proofs.Frames.{frame_long}
 use Rattle.willow_outside.specs.Disks.{written, IsTorn, IsWithin, LeavesContents}
-use Rattle.log_keeper.specs.LogFile.{record_body, last_record, IsRecord, HoldsTo, Holds}
-use Rattle.log_keeper.specs.Crashes.{HoldsBeforeOrAfter, Keeps}
+use Rattle.log_keeper.specs.LogFile.{record_body, last_record, IsRecord, HoldsRowsTo, HoldsRows}
+use Rattle.log_keeper.specs.Crashes.{HoldsBeforeOrAfter, KeepsFile}
 use Rattle.log_keeper.specs.Slices.{AreFramed, AreShort}
 use Rattle.log_keeper.specs.Torn.{IsTornOf, IsTornAtGate}
 use Rattle.log_keeper.proofs.LogCrash.{end_within, behind_torn, gate_torn, record_written}
@@ -18,43 +18,43 @@ use Rattle.std.proofs.lemmas.Option.{none-some}
 use Rattle.log_keeper.proofs.Told.{some-some}
 
 module _ (IsRow : RowValue → Type 0) (images : List ℕ → Type 0) (end count : ℕ) (namespace : List ℕ) (before : List RowValue) where
-  pub keeps_within : (contents : Option (List ℕ)) → Keeps IsRow contents images end count namespace before → IsWithin contents (end + 1)
+  pub keeps_within : (contents : Option (List ℕ)) → KeepsFile IsRow contents images end count namespace before → IsWithin contents (end + 1)
   keeps_within None k = tt
   keeps_within (Some bytes) k = end_within IsRow namespace bytes before end k.file
 
   -- at rest a crash leaves the rows
-  pub at_rest_left : (contents : Option (List ℕ)) → Keeps IsRow contents images end count namespace before → (c : List ℕ) → images c → Holds IsRow namespace c before
+  pub at_rest_left : (contents : Option (List ℕ)) → KeepsFile IsRow contents images end count namespace before → (c : List ℕ) → images c → HoldsRows IsRow namespace c before
   at_rest_left None k c left = absurd (none-some c (k.settled c left))
-  at_rest_left (Some bytes) k c left = record { end = end; to = subst (λ (b : List ℕ). HoldsTo IsRow namespace b before end) (some-some bytes c (k.settled c left)) k.file }
+  at_rest_left (Some bytes) k c left = record { end = end; to = subst (λ (b : List ℕ). HoldsRowsTo IsRow namespace b before end) (some-some bytes c (k.settled c left)) k.file }
 
   module _ (slice : List RowValue) (fits : IsRecord IsRow slice) (piece : List ℕ) (is : piece ≡ last_record slice) where
-    behind_left : (contents : Option (List ℕ)) → Keeps IsRow contents images end count namespace before → (n : ℕ) (c : List ℕ) → IsTornOf contents (end + 1) n c → HoldsBeforeOrAfter IsRow namespace before slice c
+    behind_left : (contents : Option (List ℕ)) → KeepsFile IsRow contents images end count namespace before → (n : ℕ) (c : List ℕ) → IsTornOf contents (end + 1) n c → HoldsBeforeOrAfter IsRow namespace before slice c
     behind_left None k n c (bytes, told, torn) = absurd (none-some bytes told)
     behind_left (Some there) k n c (bytes, told, torn) =
         inl (behind_torn IsRow namespace there before end k.file n c (subst (λ (b : List ℕ). IsTorn (end + 1) n b c) (sym (some-some there bytes told)) torn))
 
-    over_left : (contents : Option (List ℕ)) → Keeps IsRow contents images end count namespace before → (c : List ℕ) → IsTornOf (option_map (written (end + 1) (drop 1 piece)) contents) end 1 c → HoldsBeforeOrAfter IsRow namespace before slice c
+    over_left : (contents : Option (List ℕ)) → KeepsFile IsRow contents images end count namespace before → (c : List ℕ) → IsTornOf (option_map (written (end + 1) (drop 1 piece)) contents) end 1 c → HoldsBeforeOrAfter IsRow namespace before slice c
     over_left None k c (bytes, told, torn) = absurd (none-some bytes told)
     over_left (Some there) k c (bytes, told, torn) =
         let staged : bytes ≡ written (end + 1) (record_body slice ++ 0 ∷ []) there = sym (some-some (written (end + 1) (drop 1 piece) there) bytes told) ∙ ap (λ (p : List ℕ). written (end + 1) (drop 1 p) there) is in
         gate_torn IsRow namespace there before end k.file slice fits c (subst (λ (b : List ℕ). IsTorn end 1 b c) staged torn)
 
     -- at each moment of a keep
-    pub either_left : (contents : Option (List ℕ)) → Keeps IsRow contents images end count namespace before → (c : List ℕ) → IsTornAtGate contents end (drop 1 piece) c → HoldsBeforeOrAfter IsRow namespace before slice c
+    pub either_left : (contents : Option (List ℕ)) → KeepsFile IsRow contents images end count namespace before → (c : List ℕ) → IsTornAtGate contents end (drop 1 piece) c → HoldsBeforeOrAfter IsRow namespace before slice c
     either_left contents k c (inl torn) = behind_left contents k (length (drop 1 piece)) c torn
     either_left contents k c (inr torn) = over_left contents k c torn
 
-    file_after : (contents : Option (List ℕ)) → Keeps IsRow contents images end count namespace before → IfSome (option_map (written end piece) contents) (λ bytes. HoldsTo IsRow namespace bytes (before ++ slice) (end + 1 + length (record_body slice)))
+    file_after : (contents : Option (List ℕ)) → KeepsFile IsRow contents images end count namespace before → IfSome (option_map (written end piece) contents) (λ bytes. HoldsRowsTo IsRow namespace bytes (before ++ slice) (end + 1 + length (record_body slice)))
     file_after None k = tt
     file_after (Some bytes) k =
-        subst (λ (p : List ℕ). HoldsTo IsRow namespace (written end p bytes) (before ++ slice) (end + 1 + length (record_body slice))) (sym is) (record_written IsRow namespace bytes before end k.file slice fits)
+        subst (λ (p : List ℕ). HoldsRowsTo IsRow namespace (written end p bytes) (before ++ slice) (end + 1 + length (record_body slice))) (sym is) (record_written IsRow namespace bytes before end k.file slice fits)
 
     -- and after it
-    pub keeps_more : (contents new : Option (List ℕ)) (later : List ℕ → Type 0) (place number : ℕ) → Keeps IsRow contents images end count namespace before
+    pub keeps_more : (contents new : Option (List ℕ)) (later : List ℕ → Type 0) (place number : ℕ) → KeepsFile IsRow contents images end count namespace before
         → new ≡ option_map (written end piece) contents → LeavesContents new later → place ≡ end + 1 + length (record_body slice) → number ≡ count + length slice
-        → Keeps IsRow new later place number namespace (before ++ slice)
+        → KeepsFile IsRow new later place number namespace (before ++ slice)
     keeps_more contents new later place number k became settled ends counts = record {
-      file = subst (λ (n : ℕ). IfSome new (λ bytes. HoldsTo IsRow namespace bytes (before ++ slice) n)) (sym ends) (subst (λ (o : Option (List ℕ)). IfSome o (λ bytes. HoldsTo IsRow namespace bytes (before ++ slice) (end + 1 + length (record_body slice)))) (sym became) (file_after contents k));
+      file = subst (λ (n : ℕ). IfSome new (λ bytes. HoldsRowsTo IsRow namespace bytes (before ++ slice) n)) (sym ends) (subst (λ (o : Option (List ℕ)). IfSome o (λ bytes. HoldsRowsTo IsRow namespace bytes (before ++ slice) (end + 1 + length (record_body slice)))) (sym became) (file_after contents k));
       counted = omega (arith, counts, k.counted, length-append before slice);
       settled = settled;
     }

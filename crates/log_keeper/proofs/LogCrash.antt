@@ -6,7 +6,7 @@ use Rattle.std.specs.List.{flat_map}
 use Rattle.spelling.proofs.Lists.{All-append}
 use Rattle.willow_entry.specs.Row.{RowValue}
 use Rattle.willow_outside.specs.Disks.{written, IsTorn}
-use Rattle.log_keeper.specs.LogFile.{log_mark, log_front, record_body, open_record, last_record, IsRecord, HoldsTo, Holds}
+use Rattle.log_keeper.specs.LogFile.{log_mark, log_front, record_body, open_record, last_record, IsRecord, HoldsRowsTo, HoldsRows}
 use Rattle.log_keeper.specs.Crashes.{HoldsBeforeOrAfter}
 use Rattle.log_keeper.proofs.Gates.{gated_long, torn_behind, written_behind, written_over, torn_gate}
 
@@ -23,23 +23,23 @@ front_more namespace records slice =
     let head = 1 ∷ log_mark ++ namespace in
     ap (λ (l : List ℕ). head ++ l) (records_more records slice) ∙ sym (append_assoc head (flat_map open_record records) (open_record slice))
 
-module _ (IsRow : RowValue → Type 0) (namespace bytes : List ℕ) (before : List RowValue) (end : ℕ) (h : HoldsTo IsRow namespace bytes before end) where
+module _ (IsRow : RowValue → Type 0) (namespace bytes : List ℕ) (before : List RowValue) (end : ℕ) (h : HoldsRowsTo IsRow namespace bytes before end) where
   abbrev front : List ℕ
   front = log_front namespace h.records
 
   -- a closed gate ends the rows, whatever stands behind it
-  to_front : (gate : ℕ) (rest : List ℕ) → gate ≢ 1 → HoldsTo IsRow namespace (front ++ gate ∷ rest) before end
+  to_front : (gate : ℕ) (rest : List ℕ) → gate ≢ 1 → HoldsRowsTo IsRow namespace (front ++ gate ∷ rest) before end
   to_front gate rest shut = record { records = h.records; gate = gate; rest = rest; parts = refl; closed = shut; fit = h.fit; rows_are = h.rows_are; place = h.place }
 
   pub end_within : end + 1 ≤ length bytes
   end_within = omega (arith, h.place, ap length h.parts, gated_long front h.gate h.rest)
 
   -- the rows from before stand in each outcome of a write behind the gate
-  pub behind_torn : (n : ℕ) (c : List ℕ) → IsTorn (end + 1) n bytes c → Holds IsRow namespace c before
+  pub behind_torn : (n : ℕ) (c : List ℕ) → IsTorn (end + 1) n bytes c → HoldsRows IsRow namespace c before
   behind_torn n c torn =
       let here : IsTorn (length front + 1) n (front ++ h.gate ∷ h.rest) c = subst (λ (k : ℕ). IsTorn (k + 1) n (front ++ h.gate ∷ h.rest) c) h.place (subst (λ (b : List ℕ). IsTorn (end + 1) n b c) h.parts torn) in
       let is = torn_behind front h.gate h.rest n c here in
-      record { end = end; to = subst (λ (b : List ℕ). HoldsTo IsRow namespace b before end) (sym is) (to_front h.gate (drop (length front + 1) c) h.closed) }
+      record { end = end; to = subst (λ (b : List ℕ). HoldsRowsTo IsRow namespace b before end) (sym is) (to_front h.gate (drop (length front + 1) c) h.closed) }
 
   module _ (slice : List RowValue) (fits : IsRecord IsRow slice) where
     abbrev piece : List ℕ
@@ -58,7 +58,7 @@ module _ (IsRow : RowValue → Type 0) (namespace bytes : List ℕ) (before : Li
     opened_parts = sym (append_assoc front (open_record slice) tail) ∙ ap (λ (l : List ℕ). l ++ tail) (sym (front_more namespace h.records slice))
 
     -- an open gate makes it count
-    opened : HoldsTo IsRow namespace (front ++ (1 ∷ (record_body slice ++ tail))) (before ++ slice) (end + 1 + length (record_body slice))
+    opened : HoldsRowsTo IsRow namespace (front ++ (1 ∷ (record_body slice ++ tail))) (before ++ slice) (end + 1 + length (record_body slice))
     opened = record {
       records = h.records ++ slice ∷ [];
       gate = 0;
@@ -72,7 +72,7 @@ module _ (IsRow : RowValue → Type 0) (namespace bytes : List ℕ) (before : Li
 
     any_gate : (gate : ℕ) → HoldsBeforeOrAfter IsRow namespace before slice (front ++ (gate ∷ (record_body slice ++ tail)))
     any_gate gate = elim (cases_eq gate 1) [
-      | inl is_open ↦ inr (record { end = end + 1 + length (record_body slice); to = subst (λ (g : ℕ). HoldsTo IsRow namespace (front ++ (g ∷ (record_body slice ++ tail))) (before ++ slice) (end + 1 + length (record_body slice))) (sym is_open) opened })
+      | inl is_open ↦ inr (record { end = end + 1 + length (record_body slice); to = subst (λ (g : ℕ). HoldsRowsTo IsRow namespace (front ++ (g ∷ (record_body slice ++ tail))) (before ++ slice) (end + 1 + length (record_body slice))) (sym is_open) opened })
       | inr shut ↦ inl (record { end = end; to = to_front gate (record_body slice ++ tail) shut })
     ]
 
@@ -82,9 +82,9 @@ module _ (IsRow : RowValue → Type 0) (namespace bytes : List ℕ) (before : Li
         let here : IsTorn (length front) 1 (front ++ (h.gate ∷ (record_body slice ++ tail))) c = subst (λ (k : ℕ). IsTorn k 1 (front ++ (h.gate ∷ (record_body slice ++ tail))) c) h.place (subst (λ (b : List ℕ). IsTorn end 1 b c) staged_is torn) in
         subst (HoldsBeforeOrAfter IsRow namespace before slice) (sym (torn_gate front h.gate (record_body slice ++ tail) c here)) (any_gate (get_or c (length front) 0))
 
-    pub record_written : HoldsTo IsRow namespace (written end (last_record slice) bytes) (before ++ slice) (end + 1 + length (record_body slice))
+    pub record_written : HoldsRowsTo IsRow namespace (written end (last_record slice) bytes) (before ++ slice) (end + 1 + length (record_body slice))
     record_written =
         let is : written end (last_record slice) bytes ≡ front ++ (1 ∷ (record_body slice ++ tail)) =
         ap (written end (last_record slice)) h.parts ∙ ap (λ (k : ℕ). written k (last_record slice) (front ++ h.gate ∷ h.rest)) h.place ∙ written_over front (last_record slice) (h.gate ∷ h.rest)
         ∙ ap (λ (l : List ℕ). front ++ l) (append_assoc (open_record slice) (0 ∷ []) (drop (length piece) h.rest)) in
-        subst (λ (b : List ℕ). HoldsTo IsRow namespace b (before ++ slice) (end + 1 + length (record_body slice))) (sym is) opened
+        subst (λ (b : List ℕ). HoldsRowsTo IsRow namespace b (before ++ slice) (end + 1 + length (record_body slice))) (sym is) opened

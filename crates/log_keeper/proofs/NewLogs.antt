@@ -6,8 +6,8 @@ use Rattle.std.specs.Option.{option_map}
 use Rattle.willow_entry.specs.Row.{RowValue}
 use Rattle.willow_outside.specs.Disks.{written, IsTorn, IsWithin, LeavesContents, LeavesOnly}
 use Rattle.willow_outside.proofs.DiskSteps.{length-written}
-use Rattle.log_keeper.specs.LogFile.{log_mark, log_front, new_log, HoldsTo, HoldsNoLog, IsShut}
-use Rattle.log_keeper.specs.Crashes.{HoldsNoRow, Keeps}
+use Rattle.log_keeper.specs.LogFile.{log_mark, log_front, new_log, HoldsRowsTo, HoldsNoLog, IsShut}
+use Rattle.log_keeper.specs.Crashes.{HoldsNoRow, KeepsFile}
 use Rattle.log_keeper.specs.Torn.{IsTornOf, IsTornAtGate, BeginsWith, HoldsNoneOr}
 use Rattle.log_keeper.proofs.Gates.{torn_behind, written_behind, torn_gate}
 use Rattle.std.proofs.lemmas.Option.{none-some}
@@ -104,7 +104,7 @@ header_of namespace long =
     ap (λ (l : List ℕ). take 38 (l ++ 0 ∷ [])) (append-nil head) ∙ take_at head (0 ∷ []) 38 (omega (arith, length-append log_mark namespace, long))
 
 module _ (IsRow : RowValue → Type 0) (namespace : List ℕ) (long : length namespace ≡ 33) where
-  holds_begun : (bytes : List ℕ) → BeginsWith (new_log namespace) bytes → HoldsTo IsRow namespace bytes [] 38
+  holds_begun : (bytes : List ℕ) → BeginsWith (new_log namespace) bytes → HoldsRowsTo IsRow namespace bytes [] 38
   holds_begun bytes (rest, parts) =
       let front = log_front namespace [] in
       let front_is : front ≡ 1 ∷ log_mark ++ namespace = append-nil (1 ∷ log_mark ++ namespace) in
@@ -123,13 +123,13 @@ module _ (IsRow : RowValue → Type 0) (namespace : List ℕ) (long : length nam
   no_row_held c (inl none) = inl none
   no_row_held c (inr begun) = inr (record { end = 38; to = holds_begun c begun })
 
-  pub keeps_begun : (contents new : Option (List ℕ)) (images : List ℕ → Type 0) → new ≡ option_map (written 0 (new_log namespace)) contents → LeavesContents new images → Keeps IsRow new images 38 0 namespace []
+  pub keeps_begun : (contents new : Option (List ℕ)) (images : List ℕ → Type 0) → new ≡ option_map (written 0 (new_log namespace)) contents → LeavesContents new images → KeepsFile IsRow new images 38 0 namespace []
   keeps_begun contents new images is settled = record {
-    file = subst (λ (o : Option (List ℕ)). IfSome o (λ bytes. HoldsTo IsRow namespace bytes [] 38)) (sym is) (file contents);
+    file = subst (λ (o : Option (List ℕ)). IfSome o (λ bytes. HoldsRowsTo IsRow namespace bytes [] 38)) (sym is) (file contents);
     counted = refl;
     settled = settled;
   }
     where
-      file : (told : Option (List ℕ)) → IfSome (option_map (written 0 (new_log namespace)) told) (λ bytes. HoldsTo IsRow namespace bytes [] 38)
+      file : (told : Option (List ℕ)) → IfSome (option_map (written 0 (new_log namespace)) told) (λ bytes. HoldsRowsTo IsRow namespace bytes [] 38)
       file None = tt
       file (Some bytes) = holds_begun (written 0 (new_log namespace) bytes) (drop (0 + length (new_log namespace)) bytes, refl)

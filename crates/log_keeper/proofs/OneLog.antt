@@ -8,7 +8,7 @@ use Rattle.row_stream.specs.Streams.{frames_of, IsStream, IsStreamRow}
 use Rattle.row_stream.specs.Pieces.{HaveOneStream}
 use Rattle.willow_path.specs.Key.{IsKey}
 use Rattle.log_keeper.specs.BadLogs.{HasOtherHeader, IsBadGate, IsBadLog, AreReadOneWay}
-use Rattle.log_keeper.specs.LogFile.{log_mark, log_front, record_body, open_record, IsRecord, HoldsOneWay, HoldsNoLog, HoldsTo}
+use Rattle.log_keeper.specs.LogFile.{log_mark, log_front, record_body, open_record, IsRecord, HoldsOneWay, HoldsNoLog, HoldsRowsTo}
 use Rattle.log_keeper.proofs.RecordsRead.{one_record}
 
 behind_same : (front a b : List ℕ) → front ++ a ≡ front ++ b → a ≡ b
@@ -71,7 +71,7 @@ module _ (IsRow : RowValue → Type 0) (one : HaveOneStream IsRow) where
       head_long : length head ≡ 38
       head_long = omega (arith, length-append log_mark namespace, key.whole)
 
-      none_or_log : (rows : List RowValue) (end : ℕ) → HoldsNoLog bytes → HoldsTo IsRow namespace bytes rows end → ⊥
+      none_or_log : (rows : List RowValue) (end : ℕ) → HoldsNoLog bytes → HoldsRowsTo IsRow namespace bytes rows end → ⊥
       none_or_log rows end (inl short) h =
           omega (arith, short, ap length (h.parts ∙ joined h.records (h.gate ∷ h.rest)), length-append head (flat_map open_record h.records ++ h.gate ∷ h.rest), length-append (flat_map open_record h.records) (h.gate ∷ h.rest), head_long)
       none_or_log rows end (inr shut) h = shut (ap (λ (l : List ℕ). get_or l 0 0) (h.parts ∙ joined h.records (h.gate ∷ h.rest)))
@@ -84,7 +84,7 @@ module _ (IsRow : RowValue → Type 0) (one : HaveOneStream IsRow) where
       not_other : (records : List (List RowValue)) (left : List ℕ) → bytes ≡ log_front namespace records ++ left → HasOtherHeader namespace bytes → ⊥
       not_other records left e other = other.other (ap (take 38) (e ∙ joined records left) ∙ take_at head (flat_map open_record records ++ left) 38 head_long)
 
-      log_or_bad : (rows : List RowValue) (end at : ℕ) → HoldsTo IsRow namespace bytes rows end → IsBadLog IsRow namespace bytes at → ⊥
+      log_or_bad : (rows : List RowValue) (end at : ℕ) → HoldsRowsTo IsRow namespace bytes rows end → IsBadLog IsRow namespace bytes at → ⊥
       log_or_bad rows end at h (inl other) = not_other h.records (h.gate ∷ h.rest) h.parts other.0
       log_or_bad rows end at h (inr w) =
           let same = same_records h.records w.records (h.gate ∷ h.rest) w.left h.fit w.fit (closed_none h.gate h.rest h.closed) (wrong_none w.left w.wrong) (behind_header bytes h.records w.records (h.gate ∷ h.rest) w.left h.parts w.parts) in

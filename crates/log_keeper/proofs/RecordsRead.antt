@@ -9,7 +9,7 @@ use Rattle.spelling.specs.Spelling.{text_spelling}
 use Rattle.spelling.proofs.Lists.{All-append}
 use Rattle.willow_entry.specs.Row.{RowValue}
 use Rattle.row_stream.specs.Streams.{frames_of}
-use Rattle.log_keeper.specs.LogFile.{log_mark, log_front, open_record, IsShut, IsRecord, HoldsTo, HoldsNoLog}
+use Rattle.log_keeper.specs.LogFile.{log_mark, log_front, open_record, IsShut, IsRecord, HoldsRowsTo, HoldsNoLog}
 use Rattle.log_keeper.specs.BadLogs.{IsNoRecord, IsBadGate, IsBadLog}
 use Rattle.log_keeper.specs.Readings.{AreRecords, RecordsGoWrong, IsCutShort, IsOpenRecord, ReadsRowFrames}
 use Rattle.log_keeper.proofs.LogCrash.{records_more, rows_more}
@@ -103,7 +103,7 @@ module _ (IsRow : RowValue → Type 0) (namespace bytes head left : List ℕ) (p
   place_is : (records : List (List RowValue)) → length (log_front namespace records) ≡ 38 + length (flat_map open_record records)
   place_is records = omega (arith, ap length is, long, length-append (1 ∷ log_mark ++ namespace) (flat_map open_record records))
 
-  pub holds_read : (rows : List RowValue) (end : ℕ) → AreRecords IsRow 38 left rows end → HoldsTo IsRow namespace bytes rows end
+  pub holds_read : (rows : List RowValue) (end : ℕ) → AreRecords IsRow 38 left rows end → HoldsRowsTo IsRow namespace bytes rows end
   holds_read rows end a = record { records = a.records; gate = a.gate; rest = a.rest; parts = joined (a.gate ∷ a.rest) a.records a.parts; closed = a.closed; fit = a.fit; rows_are = a.rows_are; place = omega (arith, a.place, place_is a.records) }
 
   pub goes_wrong : (at : ℕ) → (HoldsNoLog bytes → ⊥) → RecordsGoWrong IsRow 38 left at → IsBadLog IsRow namespace bytes at

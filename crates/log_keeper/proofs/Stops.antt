@@ -7,7 +7,7 @@ use Rattle.willow_outside.specs.Facts.{DiskFacts}
 use Rattle.log_keeper.specs.declared.refusal.KeepRefusal.{KeepRefusal}
 use Rattle.log_keeper.specs.Crashes.{KeepsRows}
 use Rattle.log_keeper.specs.KeeperState.{KeeperState}
-use Rattle.log_keeper.specs.LogFile.{Holds}
+use Rattle.log_keeper.specs.LogFile.{HoldsRows}
 use Rattle.log_keeper.specs.Runs.{GivenSlice, rows_kept, all_kept, KeepsSlice, Follow, HoldsAllFromThenOn, HoldsAtAnyStop}
 use Rattle.log_keeper.proofs.Keeping.{at_rest_left}
 use Rattle.log_keeper.proofs.Moments.{weaker}
@@ -48,4 +48,4 @@ module _ {D : Type 0} (IsRow : RowValue → Type 0) (facts : D → DiskFacts) (m
   pub from_then_on : HoldsAllFromThenOn IsRow facts may_leave moment left_since
   from_then_on old new later givens namespace before k follow unbroken only_read =
       let all = kept_on old new givens namespace before follow unbroken k in
-      (all, weaker moment left_since new.disk later (may_leave new.disk) (λ image. Holds IsRow namespace image (before ++ all_kept givens)) (at_rest_left IsRow (may_leave new.disk) new.end new.count namespace (before ++ all_kept givens) (facts new.disk).contents all) only_read)
+      (all, weaker moment left_since new.disk later (may_leave new.disk) (λ image. HoldsRows IsRow namespace image (before ++ all_kept givens)) (at_rest_left IsRow (may_leave new.disk) new.end new.count namespace (before ++ all_kept givens) (facts new.disk).contents all) only_read)

@@ -3,14 +3,14 @@ use Rattle.std.proofs.Common.{inl, inr, ℕ, ◌+◌, List, ◌++◌, length, ta
 use Rattle.willow_entry.specs.Row.{RowValue, HasCovering, live}
 use Rattle.willow_outside.specs.Facts.{DiskFacts}
 use Rattle.log_keeper.specs.Crashes.{HoldsBeforeOrAfter}
-use Rattle.log_keeper.specs.LogFile.{Holds}
+use Rattle.log_keeper.specs.LogFile.{HoldsRows}
 use Rattle.log_keeper.specs.Runs.{all_kept, IsAtAFront, IsStoreAtAnyStop, IsStoreFromThenOn}
 use Rattle.log_keeper.proofs.LiveKept.{live_front}
 use Rattle.log_keeper.proofs.Moments.{weaker}
 use Rattle.log_keeper.proofs.Stops.{at_any_stop, from_then_on}
 
 module _ (IsRow : RowValue → Type 0) (namespace : List ℕ) (before opening kept : List RowValue) (covers : (r : RowValue) → Contains before r → HasCovering opening r) where
-  at_the_end : (rest : List RowValue) (c : List ℕ) → Holds IsRow namespace c (before ++ kept) → IsAtAFront IsRow namespace opening (opening ++ (kept ++ rest)) (length opening + length kept) c
+  at_the_end : (rest : List RowValue) (c : List ℕ) → HoldsRows IsRow namespace c (before ++ kept) → IsAtAFront IsRow namespace opening (opening ++ (kept ++ rest)) (length opening + length kept) c
   at_the_end rest c held = record { rows = before ++ kept; front = length opening + length kept; held = held; reaches = omega arith; store = live_front opening before kept rest covers }
 
   at_a_front : (slice rest : List RowValue) (c : List ℕ) → HoldsBeforeOrAfter IsRow namespace (before ++ kept) slice c → IsAtAFront IsRow namespace opening (opening ++ (kept ++ (slice ++ rest))) (length opening + length kept) c
@@ -33,5 +33,5 @@ module _ {D : Type 0} (IsRow : RowValue → Type 0) (facts : D → DiskFacts) (m
   pub store_from_then_on : IsStoreFromThenOn IsRow facts may_leave moment left_since
   store_from_then_on old new later givens namespace before opening rest k follow unbroken only_read covers =
       let kept = all_kept givens in
-      weaker moment left_since new.disk later (λ image. Holds IsRow namespace image (before ++ kept)) (IsAtAFront IsRow namespace opening (opening ++ (kept ++ rest)) (length opening + length kept))
+      weaker moment left_since new.disk later (λ image. HoldsRows IsRow namespace image (before ++ kept)) (IsAtAFront IsRow namespace opening (opening ++ (kept ++ rest)) (length opening + length kept))
       (at_the_end IsRow namespace before opening kept covers rest) (from_then_on IsRow facts may_leave moment left_since old new later givens namespace before k follow unbroken only_read).1

@@ -3,7 +3,7 @@ use Rattle.std.specs.Prelude.{◌≡◌, ◌≢◌, ◌⊎◌, ℕ, ◌<◌, ◌
 use Rattle.std.specs.List.{AllByRecursion}
 use Rattle.willow_entry.specs.Row.{RowValue}
 use Rattle.willow_path.specs.Key.{IsKey}
-use Rattle.log_keeper.specs.LogFile.{log_mark, log_front, record_body, IsRecord, HoldsTo, HoldsNoLog}
+use Rattle.log_keeper.specs.LogFile.{log_mark, log_front, record_body, IsRecord, HoldsRowsTo, HoldsNoLog}
 
 -- no record stands in front of the bytes
 abbrev pub IsNoRecord : (RowValue → Type 0) → List ℕ → Type 0
@@ -39,9 +39,9 @@ IsBadFile IsRow namespace at bytes = ((2 ^ 62 ≤ length bytes) × (at ≡ 2 ^ 6
 
 -- bytes are read in one way: they hold no log, or a log of some rows, or one that goes wrong, and that at one place
 pub record IsReadOneWay (IsRow : RowValue → Type 0) (namespace bytes : List ℕ) : Type 0 where
-  pub none_or_log : (rows : List RowValue) (end : ℕ) → HoldsNoLog bytes → HoldsTo IsRow namespace bytes rows end → ⊥
+  pub none_or_log : (rows : List RowValue) (end : ℕ) → HoldsNoLog bytes → HoldsRowsTo IsRow namespace bytes rows end → ⊥
   pub none_or_bad : (at : ℕ) → HoldsNoLog bytes → IsBadLog IsRow namespace bytes at → ⊥
-  pub log_or_bad : (rows : List RowValue) (end at : ℕ) → HoldsTo IsRow namespace bytes rows end → IsBadLog IsRow namespace bytes at → ⊥
+  pub log_or_bad : (rows : List RowValue) (end at : ℕ) → HoldsRowsTo IsRow namespace bytes rows end → IsBadLog IsRow namespace bytes at → ⊥
   pub one_place : (at place : ℕ) → IsBadLog IsRow namespace bytes at → IsBadLog IsRow namespace bytes place → at ≡ place
 
 abbrev pub AreReadOneWay : (RowValue → Type 0) → Type 0

@@ -30,7 +30,7 @@ log_front namespace records = (1 ∷ log_mark ++ namespace) ++ flat_map open_rec
 
 -- The bytes are a log of the namespace whose open records hold these rows, up to the first closed gate, which stands at
 -- `end`. What is behind it does not count.
-pub record HoldsTo (IsRow : RowValue → Type 0) (namespace bytes : List ℕ) (rows : List RowValue) (end : ℕ) : Type 0 where
+pub record HoldsRowsTo (IsRow : RowValue → Type 0) (namespace bytes : List ℕ) (rows : List RowValue) (end : ℕ) : Type 0 where
   pub records : List (List RowValue)
   pub gate : ℕ
   pub rest : List ℕ
@@ -41,9 +41,9 @@ pub record HoldsTo (IsRow : RowValue → Type 0) (namespace bytes : List ℕ) (r
   pub place : end ≡ length (log_front namespace records)
 
 -- the rows that a log holds
-pub record Holds (IsRow : RowValue → Type 0) (namespace bytes : List ℕ) (rows : List RowValue) : Type 0 where
+pub record HoldsRows (IsRow : RowValue → Type 0) (namespace bytes : List ℕ) (rows : List RowValue) : Type 0 where
   pub end : ℕ
-  pub to : HoldsTo IsRow namespace bytes rows end
+  pub to : HoldsRowsTo IsRow namespace bytes rows end
 
 -- a closed gate stands in front
 pub record IsShut (bytes : List ℕ) : Type 0 where
@@ -56,7 +56,7 @@ HoldsNoLog bytes = (length bytes < 39) ⊎ (slice_index bytes 0 ≢ 1)
 
 -- bytes hold rows in one way at most, with one place for the closed gate
 abbrev pub HoldsOneWay : (RowValue → Type 0) → Type 0
-HoldsOneWay IsRow = (namespace bytes : List ℕ) (rows others : List RowValue) (end place : ℕ) → HoldsTo IsRow namespace bytes rows end → HoldsTo IsRow namespace bytes others place → (rows ≡ others) × (end ≡ place)
+HoldsOneWay IsRow = (namespace bytes : List ℕ) (rows others : List RowValue) (end place : ℕ) → HoldsRowsTo IsRow namespace bytes rows end → HoldsRowsTo IsRow namespace bytes others place → (rows ≡ others) × (end ≡ place)
 
 -- ---- what is written
 

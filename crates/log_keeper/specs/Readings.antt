@@ -11,7 +11,7 @@ use Rattle.row_stream.specs.Streams.{frames_of, IsStreamRow}
 use Rattle.log_keeper.specs.declared.refusal.KeepRefusal.{KeepRefusal}
 use Rattle.log_keeper.specs.declared.refusal.KeepRefusal.TheVariants.{ReadFailed, WriteFailed, BadLog}
 use Rattle.log_keeper.specs.BadLogs.{IsBadGate, IsBadLog, IsBadFile}
-use Rattle.log_keeper.specs.LogFile.{open_record, IsShut, IsRecord, HoldsTo, HoldsNoLog}
+use Rattle.log_keeper.specs.LogFile.{open_record, IsShut, IsRecord, HoldsRowsTo, HoldsNoLog}
 
 -- a length and so many bytes stand in front, and these behind them
 pub record IsSplitOff (bytes frames behind : List ℕ) : Type 0 where
@@ -73,14 +73,14 @@ ReadsRecords IsRow value from bytes (Err NoMemory) = Unit {0}
 -- how bytes are read: no log, the rows of a log and the place of its closed gate, or where it goes wrong
 abbrev pub ReadsLog : {R : Type 0} → (RowValue → Type 0) → (R → RowValue) → List ℕ → List ℕ → Result (Option (Vec R × ℕ)) (End ℕ) → Type 0
 ReadsLog IsRow value namespace bytes (Ok None) = HoldsNoLog bytes
-ReadsLog IsRow value namespace bytes (Ok (Some log)) = HoldsTo IsRow namespace bytes (map value log.0.items) log.1
+ReadsLog IsRow value namespace bytes (Ok (Some log)) = HoldsRowsTo IsRow namespace bytes (map value log.0.items) log.1
 ReadsLog IsRow value namespace bytes (Err (Refused at)) = IsBadLog IsRow namespace bytes at
 ReadsLog IsRow value namespace bytes (Err NoMemory) = Unit {0}
 
 -- how a file is read, which is not too long where it holds no log or a log
 abbrev pub ReadsFile : {R : Type 0} → (RowValue → Type 0) → (R → RowValue) → List ℕ → Result (Option (Vec R × ℕ)) (End KeepRefusal) → List ℕ → Type 0
 ReadsFile IsRow value namespace (Ok None) bytes = (length bytes < 2 ^ 62) × HoldsNoLog bytes
-ReadsFile IsRow value namespace (Ok (Some log)) bytes = (length bytes < 2 ^ 62) × HoldsTo IsRow namespace bytes (map value log.0.items) log.1
+ReadsFile IsRow value namespace (Ok (Some log)) bytes = (length bytes < 2 ^ 62) × HoldsRowsTo IsRow namespace bytes (map value log.0.items) log.1
 ReadsFile IsRow value namespace (Err (Refused ReadFailed)) bytes = Unit {0}
 ReadsFile IsRow value namespace (Err (Refused WriteFailed)) bytes = Unit {0}
 ReadsFile IsRow value namespace (Err (Refused (BadLog at))) bytes = IsBadFile IsRow namespace at bytes

@@ -8,7 +8,7 @@ use Rattle.willow_outside.specs.Disks.{LeavesOnly}
 use Rattle.willow_outside.specs.Facts.{DiskFacts}
 use Rattle.log_keeper.specs.declared.refusal.KeepRefusal.{KeepRefusal}
 use Rattle.log_keeper.specs.Crashes.{HoldsBeforeOrAfter, KeepsRows, KeepsMore, LeavesBeforeOrAfter}
-use Rattle.log_keeper.specs.LogFile.{Holds}
+use Rattle.log_keeper.specs.LogFile.{HoldsRows}
 use Rattle.log_keeper.specs.KeeperState.{KeeperState}
 
 -- a slice that was given to a keeper, and its answer
@@ -54,7 +54,7 @@ abbrev pub HoldsAllFromThenOn : {D : Type 0} → (RowValue → Type 0) → (D �
 HoldsAllFromThenOn {D} IsRow facts may_leave moment left_since =
     (old new : KeeperState D) (later : D) (givens : List GivenSlice) (namespace : List ℕ) (before : List RowValue)
     → KeepsRows IsRow facts may_leave old namespace before → Follow (KeepsSlice IsRow facts may_leave moment left_since) old givens new → new.broken ≡ false → LeavesOnly moment left_since new.disk later (may_leave new.disk)
-    → KeepsRows IsRow facts may_leave new namespace (before ++ all_kept givens) × LeavesOnly moment left_since new.disk later (λ image. Holds IsRow namespace image (before ++ all_kept givens))
+    → KeepsRows IsRow facts may_leave new namespace (before ++ all_kept givens) × LeavesOnly moment left_since new.disk later (λ image. HoldsRows IsRow namespace image (before ++ all_kept givens))
 
 -- ---- which store that is
 
@@ -62,7 +62,7 @@ HoldsAllFromThenOn {D} IsRow facts may_leave moment left_since =
 pub record IsAtAFront (IsRow : RowValue → Type 0) (namespace : List ℕ) (opening log : List RowValue) (least : ℕ) (image : List ℕ) : Type 0 where
   pub rows : List RowValue
   pub front : ℕ
-  pub held : Holds IsRow namespace image rows
+  pub held : HoldsRows IsRow namespace image rows
   pub reaches : least ≤ front
   pub store : live (opening ++ rows) ≡ live (take front log)
 

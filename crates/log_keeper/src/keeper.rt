@@ -43,13 +43,13 @@ pub struct LogKeeper<F: RowForm, D: Disk> {
 
 impl<F: RowForm, D: Disk> Model for LogKeeper<F, D> {
     ghost use Rattle.log_keeper.specs.KeeperState.{KeeperState};
-    ghost use Rattle.log_keeper.specs.Sound.{IsSound};
+    ghost use Rattle.log_keeper.specs.Sound.{IsSoundKeeper};
 
     ghost Value = { KeeperState D };
 
     ghost view = { λ s. record { disk = s.disk; end = s.end; count = s.count; broken = s.broken } };
 
-    ghost invariant = { λ s. IsSound F.IsRow (D.facts s.disk).contents (D.may_leave s.disk) s.end s.count s.broken };
+    ghost invariant = { λ s. IsSoundKeeper F.IsRow (D.facts s.disk).contents (D.may_leave s.disk) s.end s.count s.broken };
 }
 
 /// What a file holds.
@@ -111,7 +111,7 @@ impl<F: RowForm, D: Disk> LogKeeper<F, D> {
         ensures absent { (back : _) → result ≡ Ok (opened.Absent back) → IsReadWell D.facts D.may_leave D.moment D.left_since disk back × IfSome (D.facts back).contents HoldsNoLog }
         ensures read { (keeper : _) (rows : _) → result ≡ Ok (opened.Log keeper rows) → IsReadWell D.facts D.may_leave D.moment D.left_since disk keeper.disk }
         ensures keeps { (keeper : _) (rows : _) → result ≡ Ok (opened.Log keeper rows) → KeepsRows F.IsRow D.facts D.may_leave keeper namespace.now (map F.R.value rows.items) }
-        ensures keeper { (keeper : _) (rows : _) → result ≡ Ok (opened.Log keeper rows) → (keeper.end < 2 ^ 62) × (keeper.broken ≡ false) }
+        ensures place { (keeper : _) (rows : _) → result ≡ Ok (opened.Log keeper rows) → (keeper.end < 2 ^ 62) × (keeper.broken ≡ false) }
         ensures only_read { IfErr result (λ back. WasOnlyRead D.facts D.may_leave D.moment D.left_since disk back.0) }
         ensures unwritten { IfErr result (λ back. IfUnwritten back.1 ((D.facts back.0).contents ≡ (D.facts disk).contents)) }
         ensures cause { IfErr result (λ back. HasCause (λ at. IfSome (D.facts disk).contents (IsBadFile F.IsRow namespace.now at)) (D.facts disk) (D.facts back.0) back.1) }

@@ -10,6 +10,9 @@ use spelling::{NoMemory, put_byte, put_bytes, put_u32};
 use std::alloc::Global;
 use willow_entry::{LogRow, Row, encode_row_frame};
 
+// How many bytes there are besides the frames: two gates and the length.
+const AROUND: usize = 6;
+
 // The frames of the rows, one after the other.
 fn frames<R: Row>(alloc: Global, slice: &[LogRow<R>]) -> Result<Vec<u8>, NoMemory>
     requires { AreFramed (logged_rows R.value slice.now) }
@@ -31,9 +34,10 @@ pub(crate) fn record_of<R: Row>(alloc: Global, slice: &[LogRow<R>]) -> Result<Ve
     ensures spelled { IfOk result (λ v. v.items ≡ last_record (logged_rows R.value slice.now)) }
 {
     let frames = frames(alloc, slice)?;
-    let mut out = Vec::new(alloc);
+    let size = frames.len();
+    let mut out = Vec::with_capacity(alloc, size.saturating_add(AROUND))?;
     put_byte(&mut out, OPEN)?;
-    put_u32(&mut out, frames.len() as u32)?;
+    put_u32(&mut out, size as u32)?;
     put_bytes(&mut out, &frames)?;
     put_byte(&mut out, 0)?;
     Ok(out)
