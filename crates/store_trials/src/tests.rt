@@ -239,18 +239,16 @@ static FINGERPRINTS: [(Place<'static>, &str); 5] = [
     ),
 ];
 
-// Whether the rows in the box of an area have the fingerprint of these characters.
-fn has_fingerprint(alloc: Global, place: &Place, characters: &str) -> bool {
-    let found = fingerprint::<Brand>(alloc, place, Blank::new(1));
-    found.is_some() && found == <[u8; 32] as FromHex>::from_hex(characters).ok()
-}
-
 #[test]
-fn fingerprints(rt: HostRuntime) {
-    let alloc = rt.alloc();
+fn fingerprints(rt: HostRuntime) -> Result<(), Fail> {
     for (place, wanted) in &FINGERPRINTS {
-        assert!(rt; has_fingerprint(alloc, place, wanted));
+        let wanted = <[u8; 32] as FromHex>::from_hex(wanted)?;
+        assert_eq!(rt;
+            fingerprint::<Brand>(rt.alloc(), place, Blank::new(1)),
+            Some(wanted)
+        );
     }
+    Ok(())
 }
 
 #[test]
