@@ -1,4 +1,4 @@
-//! Watchers that stay and that leave, as a table; what the area of a hub leaves out; keys.
+//! Watchers that stay and that leave, as a table, and keys.
 
 use crate::listener::Listener;
 use crate::rows::{area, slice};
@@ -8,13 +8,16 @@ use std::sync::atomic::{AtomicU64, Ordering};
 use std::test::*;
 use sub_hub::{Hub, HubKey, Watcher};
 
-// A watcher of /61 that stays, and one of /62 that is added behind the first of three pumps and stays for so many notes. Rows
-// are told by their paths, and are numbered from 1 on.
+// A hub of this front and this area, with a watcher of /61 that stays. Behind the first of three pumps another is added for an
+// area, which stays for so many notes. Rows and areas are told by their paths, rows are numbered from 1 on.
 struct Case {
+    begin: u32,
+    served: &'static [u8],
     before: &'static [u8],
+    other: &'static [u8],
+    stays: usize,
     first: &'static [u8],
     second: &'static [u8],
-    stays: usize,
     // how many leave in the two pumps behind the add
     left: (u32, u32),
     // the numbers of the rows of which each heard, as digits
@@ -22,86 +25,122 @@ struct Case {
     front: u32,
 }
 
-const CASES: [Case; 7] = [
+const CASES: [Case; 8] = [
+    // at its first note, and nothing comes behind
     Case {
+        begin: 0,
+        served: b"",
         before: b"",
+        other: b"b",
+        stays: 0,
         first: b"a b bc ",
         second: b"",
-        stays: 0,
         left: (1, 0),
         heard: (1, 2),
         front: 3,
     },
-    // at its first note, and further rows
+    // at its first note
     Case {
+        begin: 0,
+        served: b"",
         before: b"",
+        other: b"b",
+        stays: 0,
         first: b"a b bc ",
         second: b"b a ",
-        stays: 0,
         left: (1, 0),
         heard: (15, 2),
         front: 5,
     },
     // at a middle one
     Case {
+        begin: 0,
+        served: b"",
         before: b"",
+        other: b"b",
+        stays: 1,
         first: b"a b bc ",
         second: b"b a ",
-        stays: 1,
         left: (1, 0),
         heard: (15, 23),
         front: 5,
     },
     // at its last
     Case {
+        begin: 0,
+        served: b"",
         before: b"",
+        other: b"b",
+        stays: 2,
         first: b"a b bc ",
         second: b"b a ",
-        stays: 2,
         left: (0, 1),
         heard: (15, 234),
         front: 5,
     },
     // never
     Case {
+        begin: 0,
+        served: b"",
         before: b"",
+        other: b"b",
+        stays: 3,
         first: b"a b bc ",
         second: b"b a ",
-        stays: 3,
         left: (0, 0),
         heard: (15, 234),
         front: 5,
     },
     // it is added between pumps
     Case {
+        begin: 0,
+        served: b"",
         before: b"b a ",
+        other: b"b",
+        stays: 9,
         first: b"b ",
         second: b"a bc ",
-        stays: 9,
         left: (0, 0),
         heard: (24, 35),
         front: 5,
     },
-    // so too, and leaves at its last
+    // so too, and leaves at its last note
     Case {
+        begin: 0,
+        served: b"",
         before: b"b a ",
+        other: b"b",
+        stays: 1,
         first: b"b ",
         second: b"a bc ",
-        stays: 1,
         left: (0, 1),
         heard: (24, 35),
         front: 5,
     },
+    // the hub's area leaves out what a watcher's includes
+    Case {
+        begin: 5,
+        served: b"b",
+        before: b"a ",
+        other: b"",
+        stays: 9,
+        first: b"a b ",
+        second: b"bc ",
+        left: (0, 0),
+        heard: (0, 89),
+        front: 9,
+    },
 ];
 
 // What two watchers show.
+#[derive(Drop)]
 struct Words {
     one: Arc<AtomicU64>,
     other: Arc<AtomicU64>,
 }
 
 // Words that show nothing yet.
-fn words(alloc: Global) -> Option<Words> {
+fn make_words(alloc: Global) -> Option<Words> {
     Some(Words {
         one: Arc::new(alloc, AtomicU64::new(0)).ok()?,
         other: Arc::new(alloc, AtomicU64::new(0)).ok()?,
@@ -110,10 +149,7 @@ fn words(alloc: Global) -> Option<Words> {
 
 // Whether they show these digits.
 fn show(words: &Words, heard: (u64, u64)) -> bool {
-    (
-        words.one.load(Ordering::SeqCst),
-        words.other.load(Ordering::SeqCst),
-    ) == heard
+    words.one.load(Ordering::SeqCst) == heard.0 && words.other.load(Ordering::SeqCst) == heard.1
 }
 
 // One that stays, and one that stays for so many notes.
@@ -139,46 +175,55 @@ fn pumped(alloc: Global, hub: &mut Hub, text: &[u8]) -> Option<u32> {
     Some(hub.pump(&rows))
 }
 
-// Whether a watcher is handed back once, and not again.
+// Whether a watcher is handed back, and not a second time.
 fn is_removed_once(hub: &mut Hub, key: HubKey) -> bool {
     hub.remove(key).is_some() && hub.remove(key).is_none()
 }
 
-// Whether two that are added and told as in a case leave as it says, the second is handed back once, and the front is so.
-fn come_out(
+// Begins, adds the first, and pumps what comes before the other is added.
+fn begun(alloc: Global, hub: &mut Hub, case: &Case, one: Box<dyn Watcher>) -> Option<u32> {
+    hub.begin(case.begin, area(alloc, case.served)?);
+    let _one = added(alloc, hub, b"a", one)?;
+    pumped(alloc, hub, case.before)
+}
+
+// Whether so many leave in the two pumps.
+fn leave(alloc: Global, hub: &mut Hub, case: &Case) -> Option<bool> {
+    let left = pumped(alloc, hub, case.first)?;
+    Some(left == case.left.0 && pumped(alloc, hub, case.second)? == case.left.1)
+}
+
+// Whether both leave as the case says, the other is handed back once, and the front is so.
+fn are_told(
     alloc: Global,
     hub: &mut Hub,
     case: &Case,
     one: Box<dyn Watcher>,
     other: Box<dyn Watcher>,
 ) -> Option<bool> {
-    let _stays = added(alloc, hub, b"a", one)?;
-    let nobody_left = pumped(alloc, hub, case.before)? == 0;
-    let key = added(alloc, hub, b"b", other)?;
-    let left = pumped(alloc, hub, case.first)?;
-    let left_later = pumped(alloc, hub, case.second)?;
-    Some(
-        nobody_left
-            && (left, left_later) == case.left
-            && is_removed_once(hub, key)
-            && hub.front() == case.front,
-    )
+    let before = begun(alloc, hub, case, one)?;
+    let key = added(alloc, hub, case.other, other)?;
+    let leave = leave(alloc, hub, case)?;
+    Some(before == 0 && leave && is_removed_once(hub, key) && hub.front() == case.front)
 }
 
-// The same in a hub as new, and whether both heard as the case says.
+// The same in a hub as new.
+fn come_out(alloc: Global, case: &Case, both: (Listener, Listener)) -> Option<bool> {
+    let one: Box<dyn Watcher> = Box::new(alloc, both.0).ok()?;
+    let other: Box<dyn Watcher> = Box::new(alloc, both.1).ok()?;
+    are_told(alloc, &mut Hub::new(alloc), case, one, other)
+}
+
+// The same, and whether both heard as the case says.
 fn is_case(alloc: Global, words: &Words, case: &Case) -> Option<bool> {
-    let (one, other) = listeners(alloc, words, case.stays)?;
-    let one: Box<dyn Watcher> = Box::new(alloc, one).ok()?;
-    let other: Box<dyn Watcher> = Box::new(alloc, other).ok()?;
-    let mut hub = Hub::new(alloc);
-    let are_told = come_out(alloc, &mut hub, case, one, other)?;
+    let are_told = come_out(alloc, case, listeners(alloc, words, case.stays)?)?;
     Some(are_told && show(words, case.heard))
 }
 
 // Whether all cases come out so.
 fn are_cases(alloc: Global) -> Option<bool> {
     for case in &CASES {
-        if !is_case(alloc, &words(alloc)?, case)? {
+        if !is_case(alloc, &make_words(alloc)?, case)? {
             return Some(false);
         }
     }
@@ -191,29 +236,8 @@ fn watchers_leave(rt: HostRuntime) -> Result<(), Fail> {
     Ok(())
 }
 
-// Whether of a hub whose front is 6 and whose area is that below /62 a watcher of /61 hears of nothing, and one of all only of the
-// rows there.
-fn are_left_out(alloc: Global) -> Option<bool> {
-    let words = words(alloc)?;
-    let (one, other) = listeners(alloc, &words, 9)?;
-    let one: Box<dyn Watcher> = Box::new(alloc, one).ok()?;
-    let other: Box<dyn Watcher> = Box::new(alloc, other).ok()?;
-    let mut hub = Hub::new(alloc);
-    let _one = added(alloc, &mut hub, b"a", one)?;
-    let _other = added(alloc, &mut hub, b"", other)?;
-    hub.begin(6, area(alloc, b"b")?);
-    let _left = pumped(alloc, &mut hub, b"a b bc ")?;
-    Some(show(&words, (0, 89)))
-}
-
-#[test]
-fn rows_are_left_out(rt: HostRuntime) -> Result<(), Fail> {
-    assert!(rt; are_left_out(rt.alloc()) == Some(true));
-    Ok(())
-}
-
-// Whether a key is given once where its slot is given again, and the old one finds nobody.
-fn finds_nobody(
+// Whether a key is not given again where its slot is, and finds nobody then.
+fn find_nobody(
     alloc: Global,
     hub: &mut Hub,
     one: Box<dyn Watcher>,
@@ -226,16 +250,19 @@ fn finds_nobody(
 }
 
 // The same in a hub as new.
-fn is_given_once(alloc: Global) -> Option<bool> {
-    let words = words(alloc)?;
-    let (one, other) = listeners(alloc, &words, 9)?;
-    let one: Box<dyn Watcher> = Box::new(alloc, one).ok()?;
-    let other: Box<dyn Watcher> = Box::new(alloc, other).ok()?;
-    finds_nobody(alloc, &mut Hub::new(alloc), one, other)
+fn is_given_once(alloc: Global, both: (Listener, Listener)) -> Option<bool> {
+    let one: Box<dyn Watcher> = Box::new(alloc, both.0).ok()?;
+    let other: Box<dyn Watcher> = Box::new(alloc, both.1).ok()?;
+    find_nobody(alloc, &mut Hub::new(alloc), one, other)
+}
+
+// Whether no key comes twice.
+fn are_given_once(alloc: Global) -> Option<bool> {
+    is_given_once(alloc, listeners(alloc, &make_words(alloc)?, 9)?)
 }
 
 #[test]
 fn no_key_comes_twice(rt: HostRuntime) -> Result<(), Fail> {
-    assert!(rt; is_given_once(rt.alloc()) == Some(true));
+    assert!(rt; are_given_once(rt.alloc()) == Some(true));
     Ok(())
 }

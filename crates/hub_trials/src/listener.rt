@@ -1,5 +1,7 @@
 //! A watcher that tells what it heard.
 
+ghost use Rattle.std.specs.Prelude.{◌≡◌, ◌∷◌, ◌++◌, [], if◌then◌else◌};
+
 use std::alloc::Global;
 use std::sync::Arc;
 use std::sync::atomic::{AtomicU64, Ordering};
@@ -35,7 +37,7 @@ impl Listener {
 }
 
 impl Watcher for Listener {
-    ghost use Rattle.std.specs.Prelude.{map};
+    ghost use Rattle.std.specs.Prelude.{map, Some};
 
     ghost told = { λ l. record { heard = Some (map (λ k. record { at = k.at; entry = k.entry }) l.kept.items); leaves = l.leaves } };
 
@@ -51,7 +53,9 @@ impl Watcher for Listener {
 }
 
 // Keeps a note. Answers whether there was memory for it.
-fn keep(kept: &mut Vec<KeptNote>, at: u32, entry: &Entry) -> bool {
+fn keep(kept: &mut Vec<KeptNote>, at: u32, entry: &Entry) -> bool
+    ensures { kept.new.items ≡ (if result then kept.old.items ++ record { at = at; entry = entry.now } ∷ [] else kept.old.items) }
+{
     match entry.copy() {
         Ok(entry) => kept.push(KeptNote { at, entry }).is_ok(),
         Err(_) => false,

@@ -19,7 +19,7 @@ pub(crate) fn area(alloc: Global, parts: &[u8]) -> Option<Area> {
     Some(Area {
         subspace: None,
         path: path(alloc, parts)?,
-        times: TimeRange::all(),
+        times: TimeRange::new(0, None)?,
     })
 }
 
