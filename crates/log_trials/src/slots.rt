@@ -296,15 +296,11 @@ fn new_comes_out<L: Ledger>(alloc: Global, case: &Case, blank: Blank) -> Option<
     comes_out(&mut Arena::new(alloc), case, &mut steps)
 }
 
-// The same of a new arena over a counter of its own.
-fn case_comes_out(alloc: Global, case: &Case) -> bool {
-    new_comes_out::<Brand>(alloc, case, Blank::new(1)) == Some(true)
-}
-
 #[test]
 fn lists_and_searches(rt: HostRuntime) {
+    let alloc = rt.alloc();
     for case in &CASES {
-        assert!(rt; case_comes_out(rt.alloc(), case));
+        assert!(rt; new_comes_out::<Brand>(alloc, case, Blank::new(1)) == Some(true));
     }
 }
 
