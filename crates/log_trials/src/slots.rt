@@ -261,6 +261,9 @@ fn finds<L: Ledger>(
 
 // Puts a case's items in and takes its keys out.
 fn fill<L: Ledger>(arena: &mut Arena<Item>, case: &Case, steps: &mut Steps<L>) -> Option<()> {
+    if arena.len() > 100 {
+        return None;
+    }
     arena.reserve(5).ok()?;
     for (key, rank) in case.put {
         let (key, rank) = (*key, *rank);
