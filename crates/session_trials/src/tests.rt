@@ -164,7 +164,7 @@ fn run_own<R: Wait + Threads + Sync>(
     most: usize,
 ) -> Option<Ran> {
     let signer = signer()?;
-    let link = MemLink::new(alloc, heard, fails, most);
+    let link = MemLink::new(alloc, heard, fails, most.max(1));
     run_with(rt, alloc, role, OWN, signer, link)
 }
 
