@@ -12,7 +12,7 @@ use std::sync::ledger::Ledger;
 use step_count::Steps;
 
 /// One of the two orders of an arena.
-#[derive(Clone, Copy, Debug, PartialEq, Eq)]
+#[derive(Clone, Copy, PartialEq, Eq)]
 pub enum Order {
     Key,
     Rank,

@@ -16,7 +16,7 @@ use willow_area::Area;
 use willow_path::{End, UserKey};
 
 /// The most delegations of a valid capability.
-pub const MAX_DELEGATIONS: usize = 8;
+pub const MAX_DELEGATIONS: usize = 16;
 
 /// Why a capability is not valid. Delegations are counted from 1.
 #[derive(Clone, Copy, Debug, PartialEq, Eq)]

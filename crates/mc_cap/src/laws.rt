@@ -18,6 +18,6 @@ pub fn validity()
 
 /// The limits are these numbers: a valid capability has at most 8 delegations, and a chain that is spelled 255.
 pub fn limits()
-    ensures valid { MAX_DELEGATIONS ≡ 8 }
+    ensures valid { MAX_DELEGATIONS ≡ 16 }
     ensures spelled { MAX_CHAIN ≡ 255 }
 {}

@@ -14,7 +14,7 @@ use willow_entry::{Entry, Rank, by_rank, by_subspace_path};
 use willow_path::{Digest, NoMemory, Path, UserKey};
 
 /// An entry's rank, and its place within its namespace.
-#[derive(Debug, Drop)]
+#[derive(Drop)]
 pub struct Ranked {
     /// When it was written.
     pub timestamp: u64,

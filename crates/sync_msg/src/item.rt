@@ -12,7 +12,7 @@ pub const MAX_ENTRIES: u8 = 16;
 pub const MAX_REST: u32 = 65_536;
 
 /// An item of an exchange. An `Entries` or a `Rest` is followed by its rows, each an item of its own.
-#[derive(Debug, Drop)]
+#[derive(Drop)]
 pub enum Item<R> {
     /// The fingerprint of the whole box.
     First {

@@ -17,7 +17,7 @@ use std::marker::{Model, PhantomData};
 use willow_entry::{Row, RowForm};
 
 /// What a reader answers to bytes that are not bad.
-#[derive(Debug, Drop)]
+#[derive(Drop)]
 pub enum Step<R> {
     /// An item stands in front.
     Got {

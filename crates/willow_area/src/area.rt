@@ -11,7 +11,7 @@ use willow_path::{NoMemory, Path, UserKey};
 
 /// A part of a namespace: one subspace or any, the entries whose path begins with a path, and a range of
 /// times.
-#[derive(Debug, PartialEq, Eq, Drop)]
+#[derive(PartialEq, Eq, Drop)]
 pub struct Area {
     /// The subspace, or None for any.
     pub subspace: Option<UserKey>,

@@ -19,7 +19,7 @@ use willow_path::{End, NoMemory, Path, UserKey};
 
 /// A range of keys, a range of paths and a range of times: each from a start on and, where there is an end,
 /// below it. Each start is below its end.
-#[derive(Debug, Drop)]
+#[derive(Drop)]
 pub struct Box3 {
     key_start: UserKey,
     key_end: Option<UserKey>,

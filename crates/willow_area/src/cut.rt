@@ -3,7 +3,7 @@
 use willow_path::{Path, UserKey};
 
 /// Where a box is cut: at a key, at a path or at a time.
-#[derive(Debug, Drop)]
+#[derive(Drop)]
 pub enum CutAt {
     /// At this key.
     Subspace(UserKey),

@@ -8,7 +8,7 @@ ghost use Rattle.willow_area.specs.Times.{IsTimes, in_times, ends_later, earlier
 use std::marker::Model;
 
 /// The times from a start on and, where there is an end, below it. The end is above the start.
-#[derive(Clone, Copy, Debug, PartialEq, Eq)]
+#[derive(Clone, Copy, PartialEq, Eq)]
 pub struct TimeRange {
     start: u64,
     end: Option<u64>,

@@ -8,7 +8,7 @@ use std::cmp::Ordering;
 use willow_path::{Digest, NamespaceKey, NoMemory, Path, UserKey};
 
 /// An entry of the Willow Data Model: what was written where, when, and by whose leave.
-#[derive(Debug, Drop)]
+#[derive(Drop)]
 pub struct Entry {
     /// The namespace that it belongs to.
     pub namespace: NamespaceKey,

@@ -4,7 +4,7 @@
 pub const MAX_ROWS: usize = 4_294_967_295;
 
 /// What a store did with a row.
-#[derive(Debug, Clone, Copy, PartialEq, Eq)]
+#[derive(Clone, Copy, PartialEq, Eq)]
 pub enum Placed {
     /// It was stored, and so many rows that it dominates went.
     Stored { pruned: u32 },

@@ -30,7 +30,7 @@ fn order(bytes: &[u8; 33], others: &[u8; 33]) -> Ordering
 
 /// The key of a user, who owns a subspace: a kind (0 or 1) and a body of 32 bytes.
 /// Keys are ordered by their bytes.
-#[derive(Clone, Copy, Debug, PartialEq, Eq)]
+#[derive(Clone, Copy, PartialEq, Eq)]
 pub struct UserKey {
     bytes: [u8; 33],
 }
@@ -100,7 +100,7 @@ impl UserKey {
 }
 
 /// The key of a namespace: a kind (0 or 1) and a body of 32 bytes. Keys are ordered by their bytes.
-#[derive(Clone, Copy, Debug, PartialEq, Eq)]
+#[derive(Clone, Copy, PartialEq, Eq)]
 pub struct NamespaceKey {
     bytes: [u8; 33],
 }
@@ -162,7 +162,7 @@ impl NamespaceKey {
 }
 
 /// The digest of a payload: 32 bytes, by which digests are ordered.
-#[derive(Clone, Copy, Debug, PartialEq, Eq, PartialOrd, Ord)]
+#[derive(Clone, Copy, PartialEq, Eq, PartialOrd, Ord)]
 pub struct Digest(pub [u8; 32]);
 
 /// Reads the key of a user: its 33 bytes. It is wrong as soon as its first byte is read and is above 1.

@@ -66,8 +66,8 @@ pub fn readers()
 /// The limits of a path: components of 255 bytes, 16 of them, 1,024 bytes together.
 pub fn limits()
     ensures part { MAX_PART ≡ 255 }
-    ensures parts { MAX_PARTS ≡ 16 }
-    ensures total { MAX_TOTAL ≡ 1024 }
+    ensures parts { MAX_PARTS ≡ 255 }
+    ensures total { MAX_TOTAL ≡ 4096 }
 {}
 
 /// The answer of `after_prefixed` is the only one that is right. At or above a path and below that answer

@@ -40,7 +40,7 @@ pub enum PathRefusal {
 /// A path of the Willow Data Model: at most `MAX_PARTS` components, each of at most `MAX_PART` bytes,
 /// together at most `MAX_TOTAL` bytes. A contract sees the list of the components.
 /// A path is below its extensions; else the first components that differ decide, as byte strings.
-#[derive(Debug, Drop)]
+#[derive(Drop)]
 pub struct Path {
     // The components one after the other, each behind a byte for its length.
     bytes: SmallVec<u8, INLINE>,
