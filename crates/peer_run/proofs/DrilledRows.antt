@@ -23,7 +23,7 @@ use Rattle.peer_rows.specs.Logged.{authorised_rows}
 use Rattle.peer_rows.specs.Drilled.{generated_rows}
 use Rattle.peer_run.specs.Exchanged.{met, IsPastOne}
 use Rattle.peer_rows.proofs.AuthorisedRows.{authorised_all, authorised_parts, authorised_few, of_namespace}
-use Rattle.peer_run.proofs.FewNew.{few_new}
+use Rattle.willow_entry.proofs.Fitting.{few_new}
 use Rattle.peer_run.proofs.Members.{all_held, all_left, all_right}
 
 -- each of the rows 0 to n - 1

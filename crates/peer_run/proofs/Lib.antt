@@ -1,5 +1,4 @@
 pub mod Members
-pub mod FewNew
 pub mod DrilledRows
 pub mod DrilledText
 pub mod FirstOfBoth

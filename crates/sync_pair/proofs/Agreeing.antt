@@ -14,7 +14,7 @@ use Rattle.sync_core.specs.SyncRules.{sync_rules}
 use Rattle.sync_core.proofs.Lawful.{deciding, disjoint}
 use Rattle.sync_pair.specs.Stores.{AreStores}
 use Rattle.sync_pair.specs.Agreement.{IsSelfContained, left_after, right_after}
-use Rattle.sync_pair.proofs.LiveParts.{kept, kept_from, all_from_contains, join_same, join_covers_left, join_covers_right}
+use Rattle.willow_entry.proofs.LiveParts.{kept, kept_from, all_from_contains, join_same, join_covers_left, join_covers_right}
 use Rattle.sync_pair.proofs.Stores.{store_cuts, store_distinct}
 use Rattle.sync_pair.proofs.SelfContained.{live_inside}
 

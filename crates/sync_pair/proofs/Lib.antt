@@ -1,4 +1,3 @@
-pub mod LiveParts
 pub mod Stores
 pub mod SelfContained
 pub mod Agreeing

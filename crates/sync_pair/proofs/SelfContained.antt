@@ -14,7 +14,7 @@ use Rattle.willow_area.proofs.Orders.{less_is, is_less}
 use Rattle.willow_entry.specs.Row.{RowValue, Dominates, live}
 use Rattle.block_store.specs.InBox.{is_in, rows_in}
 use Rattle.sync_pair.specs.Agreement.{IsSelfContained}
-use Rattle.sync_pair.proofs.LiveParts.{filter-live}
+use Rattle.willow_entry.proofs.LiveParts.{filter-live}
 
 -- ---- paths
 

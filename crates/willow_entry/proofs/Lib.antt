@@ -11,3 +11,5 @@ pub mod Placing
 pub mod Local
 pub mod EntryReads
 pub mod SpelledLength
+pub mod LiveParts
+pub mod Fitting

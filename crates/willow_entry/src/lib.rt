@@ -12,6 +12,7 @@ mod placed;
 mod rank;
 mod row;
 mod row_form;
+mod shared_row;
 
 pub use bare_row::{BareRow, BareRows};
 pub use entry::{Entry, newer};

@@ -1,11 +1,12 @@
--- Of items that all stand in a list no more are new than the list has.
-use Rattle.std.proofs.Common.{◌≡◌, ◌≤◌, ◌<◌, ◌||◌, Bool, true, false, cond, not, List, [], ◌∷◌, ◌++◌, length, filter, refl, sym, ap, ◌∙◌, arith, inl, inr}
-use Rattle.std.specs.List.{list_any, AllByRecursion}
+-- How many items there can be: of items that all stand in a list no more are new than the list has, nor are
+-- there more where none is there twice.
+use Rattle.std.proofs.Common.{◌≡◌, ◌≤◌, ◌<◌, ◌||◌, Bool, true, false, cond, not, List, [], ◌∷◌, ◌++◌, length, filter, refl, sym, ap, ◌∙◌, subst, arith, inl, inr}
+use Rattle.std.specs.List.{list_any, AllByRecursion, IsDistinct}
 use Rattle.std.proofs.lemmas.Bool.{false≢true}
 use Rattle.std.proofs.lemmas.List.Folds.{list_any-append}
 use Rattle.willow_entry.specs.Pruning.{new_after}
 use Rattle.willow_entry.specs.Row.{RowValue, is_covering, new}
-use Rattle.willow_entry.proofs.Members.{Member, true_of_any}
+use Rattle.willow_entry.proofs.Members.{Member, member_filter, true_of_any}
 use Rattle.willow_entry.proofs.RowLaws.{covering_means}
 
 -- where one test passes all that another passes, it passes no fewer; and more where it passes one more
@@ -75,3 +76,20 @@ module _ {X : Type 0} (covers : X → X → Bool) (same : (x : X) → covers x x
 pub few_new : (held rows : List RowValue) → AllByRecursion (Member held) rows → length (new rows) ≤ length held
 few_new held rows all =
     omega (arith, few is_covering (λ r. (covering_means r r).1 (inl refl)) held [] rows all, passing (is_open is_covering (λ r. (covering_means r r).1 (inl refl)) []) held)
+
+-- ---- items of which none is there twice
+
+all_at : {X : Type 0} (P : X → Type 0) (xs : List X) → AllByRecursion P xs → (x : X) → Member xs x → P x
+all_at P [] all x m = absurd m
+all_at P (w ∷ ws) all x (inl e) = subst P e all.0
+all_at P (w ∷ ws) all x (inr m) = all_at P ws all.1 x m
+
+module _ {X : Type 0} (same : X → X → Bool) (itself : (x : X) → same x x ≡ true) where
+  pub distinct_fits : (xs ys : List X) → IsDistinct same xs → ((x : X) → Member xs x → Member ys x) → length xs ≤ length ys
+  unfolding IsDistinct
+  distinct_fits [] ys once held = omega arith
+  distinct_fits (x ∷ xs) ys once held =
+      let others : X → Bool = λ y. not (same x y) in
+      let all : X → Bool = λ y. true in
+      let rest = distinct_fits xs (filter others ys) once.1 (λ y m. member_filter others ys y (held y (inr m)) (ap not (all_at (λ z. same x z ≡ false) xs once.0 y m))) in
+      omega (arith, rest, more others all (λ y e. refl) ys x (held x (inl refl)) (ap not (itself x)) refl, passing all ys)
