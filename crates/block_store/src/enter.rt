@@ -27,7 +27,7 @@ fn times<R: Row>(rows: &[Arc<R>]) -> (u64, u64)
 {
     let (mut earliest, mut latest) = (u64::MAX, 0);
     for at in 0..rows.len() {
-        let time = rows[at].entry().timestamp;
+        let time = (*rows[at]).entry().timestamp;
         earliest = earliest.min(time);
         latest = later(latest, time);
     }
@@ -58,7 +58,7 @@ fn enter_own<R: Row>(block: &mut Block<R>, at: usize, held: Arc<R>) -> Result<()
     ensures more { OnOk result (vec_len block.new.rows ≡ vec_len block.old.rows + 1) }
     ensures err { OnErr result (block.new.rows.items ≡ block.old.rows.items) }
 {
-    let time = held.entry().timestamp;
+    let time = (*held).entry().timestamp;
     block.rows.insert(at, held)?;
     block.earliest = block.earliest.min(time);
     block.latest = later(block.latest, time);

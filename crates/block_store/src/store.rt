@@ -98,7 +98,7 @@ impl<R: Row> BlockStore<R> {
         ensures was_live { AreLive (map R.value self.old) }
         ensures err { OnErr result (self.new ≡ self.old) }
     {
-        let (count, slot) = (row.entry().path.count(), slot_of(&*row));
+        let (count, slot) = ((*row).entry().path.count(), slot_of(&*row));
         let mut guess = self.guesses[slot];
         let placed = offer_shared(&mut self.pieces, row, self.fewest, &mut guess)?;
         self.guesses[slot] = guess;
