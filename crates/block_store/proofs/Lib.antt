@@ -16,5 +16,7 @@ mod Extending
 mod Spans
 mod Narrowing
 mod Spots
+mod Outside
+mod Walking
 mod BlockRuns
 mod Fewest

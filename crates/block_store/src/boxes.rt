@@ -1,8 +1,8 @@
 //! The rows that a box includes.
 
-ghost use Rattle.std.specs.Prelude.{◌≡◌, ◌+◌, ◌⊎◌, ◌^◌, ◌<◌, ◌≤◌, cond, length, map, take, slice_get, Some, IfSome, IsTrue, MatchOption};
+ghost use Rattle.std.specs.Prelude.{◌≡◌, [], ◌+◌, ◌⊎◌, ◌^◌, ◌<◌, ◌≤◌, cond, length, map, take, slice_get, Some, IfSome, IsTrue, MatchOption};
 ghost use Rattle.std.specs.Option.{option_map};
-ghost use Rattle.willow_area.specs.Times.{in_times};
+ghost use Rattle.willow_area.specs.Times.{ends_by, in_times};
 ghost use Rattle.willow_entry.specs.Row.{IsRising};
 ghost use Rattle.block_store.specs.Blocks.{block_rows, block_values, index_of};
 ghost use Rattle.block_store.specs.BoxKinds.{HasAllPaths};
@@ -15,7 +15,7 @@ use crate::block::Block;
 use crate::listing::Listing;
 use crate::runs::{Run, has_all_paths, run_of};
 use std::sync::Arc;
-use willow_area::Box3;
+use willow_area::{Box3, TimeRange};
 use willow_entry::Row;
 
 // Whether the box includes the row.
@@ -86,6 +86,27 @@ fn has_times_of<R: Row>(block: &Block<R>, area: &Box3) -> bool
     area.times().includes(block.earliest) && area.times().includes(block.latest)
 }
 
+// Whether the times of a range end at a time, or before it.
+fn end_by(times: &TimeRange, time: u64) -> bool
+    ensures { result ≡ ends_by times.now.end time }
+{
+    match times.end() {
+        Some(end) => end <= time,
+        None => false,
+    }
+}
+
+// Whether none of the rows of the block was written within the times of the box, so that none is read to tell it.
+pub(crate) fn is_apart<R: Row>(block: &Block<R>, area: &Box3) -> bool
+    ensures { IsTrue result → rows_in area.now (values_of R.value block.now.rows.items) ≡ [] }
+{
+    let times = area.times();
+    if block.latest < times.start() {
+        return true;
+    }
+    end_by(times, block.earliest)
+}
+
 // Whether all rows of the block are in the box, as far as its first and last row and its times tell.
 pub(crate) fn lies_in<R: Row>(block: &Block<R>, area: &Box3) -> bool
     requires { IsRising (values_of R.value block.now.rows.items) }
@@ -101,7 +122,9 @@ fn count_in_block<R: Row>(block: &Block<R>, area: &Box3) -> u32
     requires { IsRising (values_of R.value block.now.rows.items) }
     ensures { result ≡ length (rows_in area.now (values_of R.value block.now.rows.items)) }
 {
-    if lies_in(block, area) {
+    if is_apart(block, area) {
+        0
+    } else if lies_in(block, area) {
         block.rows.len() as u32
     } else {
         count_in_rows(&block.rows, area)

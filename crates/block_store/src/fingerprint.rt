@@ -12,7 +12,7 @@ ghost use Rattle.block_store.specs.InBox.{rows_in};
 ghost use Rattle.block_store.specs.Starts.{values_at};
 
 use crate::block::Block;
-use crate::boxes::{block_behind, is_in, lies_in};
+use crate::boxes::{block_behind, is_apart, is_in, lies_in};
 use crate::listing::Listing;
 use crate::runs::{Run, run_of};
 use crate::summary::four_leaves;
@@ -118,7 +118,9 @@ fn total_in_block<R: Row, L: Ledger>(
     ensures total { result ≡ total_by row_bytes (rows_in area.now (values_of R.value block.now.rows.items)) }
     ensures steps { steps.new ≤ steps.old + length block.now.rows.items }
 {
-    if lies_in(block, area) {
+    if is_apart(block, area) {
+        Lanes::zero()
+    } else if lies_in(block, area) {
         *total
     } else {
         total_in_rows(&block.rows, area, steps)

@@ -9,6 +9,7 @@ mod ends;
 mod enter;
 mod fingerprint;
 mod guess;
+mod hint;
 mod index;
 pub mod laws;
 mod listing;
@@ -25,7 +26,9 @@ mod spot;
 mod store;
 mod summary;
 mod thin;
+mod walk;
 
+pub use hint::Hint;
 pub use rows::Rows;
 pub use snapshot::Snapshot;
 pub use store::BlockStore;

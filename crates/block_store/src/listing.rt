@@ -89,11 +89,10 @@ pub(crate) fn listing_of<R: Row>(alloc: Global, pieces: &[Piece<R>]) -> Result<L
 }
 
 // The row of a block at this place; None exactly from the number of its rows on.
-fn row_at<R: Row>(rows: &[Arc<R>], at: u32) -> Option<&R>
-    ensures { MatchOption result (length rows.now ≤ at) (λ row. slice_get (rows_of rows.now) at ≡ Some row.now) }
+fn held_at<R: Row>(rows: &[Arc<R>], at: u32) -> Option<&Arc<R>>
+    ensures { MatchOption result (length rows.now ≤ at) (λ held. slice_get (rows_of rows.now) at ≡ Some held.now.value) }
 {
-    let row = rows.get(at as usize)?;
-    Some(&**row)
+    rows.get(at as usize)
 }
 
 impl<R: Row> Listing<R> {
@@ -117,9 +116,27 @@ impl<R: Row> Listing<R> {
     pub(crate) fn get(&self, at: u32) -> Option<&R>
         ensures { MatchOption result (length (block_rows self.now.pieces.items) ≤ at) (λ row. slice_get (block_rows self.now.pieces.items) at ≡ Some row.now) }
     {
+        let held = self.held(at)?;
+        Some(&**held)
+    }
+
+    // The same row, shared once more.
+    pub(crate) fn shared(&self, at: u32) -> Result<Option<Arc<R>>, NoMemory>
+        ensures { IfOk result (λ found. MatchOption found (length (block_rows self.now.pieces.items) ≤ at) (λ row. slice_get (block_rows self.now.pieces.items) at ≡ Some row.value)) }
+    {
+        match self.held(at) {
+            Some(held) => Ok(Some(held.clone()?)),
+            None => Ok(None),
+        }
+    }
+
+    // The row at this position with its `Arc`.
+    fn held(&self, at: u32) -> Option<&Arc<R>>
+        ensures { MatchOption result (length (block_rows self.now.pieces.items) ≤ at) (λ held. slice_get (block_rows self.now.pieces.items) at ≡ Some held.now.value) }
+    {
         let block = self.block_at(at);
         let piece = self.pieces.get(block)?;
-        row_at(&piece.block.rows, at - self.starts[block])
+        held_at(&piece.block.rows, at - self.starts[block])
     }
 
     // The block of that number.

@@ -13,7 +13,7 @@ ghost use Rattle.block_store.specs.Positions.{positions};
 use crate::block::Piece;
 use crate::guess::Guess;
 use crate::index::{index_of, next, row_at};
-use crate::place::{own_place, place_or_cover, run_end};
+use crate::place::{own_place, own_place_at, place_or_cover, run_end};
 use crate::put::put;
 use crate::spot::Spot;
 use crate::thin::prunes;
@@ -33,7 +33,24 @@ pub(crate) fn rows_after(rows: u32, placed: Placed) -> u32
     }
 }
 
-// Stores a row that no row covers.
+// Stores a row that no row covers, and answers how many rows it dominates.
+fn store_row<R: Row>(pieces: &mut Vec<Piece<R>>, held: Arc<R>, at: Spot) -> Result<u32, NoMemory>
+    requires few { length (block_rows pieces.old.items) < 2 ^ 32 }
+    requires is_live { AreLive (block_values R.value pieces.old.items) }
+    requires uncovered { HasCovering (block_values R.value pieces.old.items) (R.value held.value) → ⊥ }
+    requires spot { IsSpot pieces.old.items at }
+    requires place { IsPlace place_cmp (R.value held.value) (block_values R.value pieces.old.items) (index_of pieces.old.items at) }
+    ensures rows { OnOk result (block_values R.value pieces.new.items ≡ live (block_values R.value pieces.old.items ++ R.value held.value ∷ [])) }
+    ensures pruned { IfOk result (λ pruned. pruned ≡ count_by (is_dominating (R.value held.value)) (block_values R.value pieces.old.items)) }
+    ensures count { IfOk result (λ pruned. length (block_rows pieces.new.items) ≡ length (block_rows pieces.old.items) + 1 - pruned) }
+    ensures packed { IsPacked pieces.old.items → IsPacked pieces.new.items }
+    ensures err { OnErr result (block_rows pieces.new.items ≡ block_rows pieces.old.items) }
+{
+    let pruned = put(pieces, held, at)?;
+    Ok(pruned as u32)
+}
+
+// The same, with what it means for the row.
 fn store<R: Row>(pieces: &mut Vec<Piece<R>>, held: Arc<R>, at: Spot) -> Result<Placed, NoMemory>
     requires few { length (block_rows pieces.old.items) < 2 ^ 32 }
     requires is_live { AreLive (block_values R.value pieces.old.items) }
@@ -47,10 +64,27 @@ fn store<R: Row>(pieces: &mut Vec<Piece<R>>, held: Arc<R>, at: Spot) -> Result<P
     ensures packed { IsPacked pieces.old.items → IsPacked pieces.new.items }
     ensures err { OnErr result (block_rows pieces.new.items ≡ block_rows pieces.old.items) }
 {
-    let pruned = put(pieces, held, at)?;
-    Ok(Placed::Stored {
-        pruned: pruned as u32,
-    })
+    let pruned = store_row(pieces, held, at)?;
+    Ok(Placed::Stored { pruned })
+}
+
+// Stores a row that no row covers, whose place is looked for first at a guess, and answers how many rows it dominates.
+pub(crate) fn store_at<R: Row>(
+    pieces: &mut Vec<Piece<R>>,
+    held: Arc<R>,
+    guess: Spot,
+) -> Result<u32, NoMemory>
+    requires few { length (block_rows pieces.old.items) < 2 ^ 32 }
+    requires is_live { AreLive (block_values R.value pieces.old.items) }
+    requires uncovered { HasCovering (block_values R.value pieces.old.items) (R.value held.value) → ⊥ }
+    ensures rows { OnOk result (block_values R.value pieces.new.items ≡ live (block_values R.value pieces.old.items ++ R.value held.value ∷ [])) }
+    ensures pruned { IfOk result (λ pruned. pruned ≡ count_by (is_dominating (R.value held.value)) (block_values R.value pieces.old.items)) }
+    ensures count { IfOk result (λ pruned. length (block_rows pieces.new.items) ≡ length (block_rows pieces.old.items) + 1 - pruned) }
+    ensures packed { IsPacked pieces.old.items → IsPacked pieces.new.items }
+    ensures err { OnErr result (block_rows pieces.new.items ≡ block_rows pieces.old.items) }
+{
+    let at = own_place_at(pieces, &*held, guess);
+    store_row(pieces, held, at)
 }
 
 // Keeps the rows where one of them covers the new row, and else puts it in its place. None has fewer components than
@@ -104,7 +138,7 @@ pub(crate) fn offer_shared<R: Row>(
 }
 
 // Adds a position where its row passes.
-fn note(found: &mut Vec<u32>, at: u32, passes: bool) -> Result<(), NoMemory>
+pub(crate) fn note(found: &mut Vec<u32>, at: u32, passes: bool) -> Result<(), NoMemory>
     ensures { OnOk result (found.new.items ≡ found.old.items ++ (if passes then at ∷ [] else [])) }
 {
     if passes {
@@ -124,7 +158,7 @@ fn prunes_at<R: Row>(pieces: &[Piece<R>], row: &R, at: Spot) -> bool
     }
 }
 
-// The positions, rising, of the rows that the row dominates.
+// The positions, rising, of the rows that the row dominates, whose place is looked for first right behind a guess.
 pub(crate) fn dominated<R: Row>(
     alloc: Global,
     pieces: &[Piece<R>],
@@ -135,7 +169,39 @@ pub(crate) fn dominated<R: Row>(
     requires few { length (block_rows pieces.now) < 2 ^ 32 }
     ensures { IfOk result (λ found. found.items ≡ positions (is_dominating (R.value row.now)) (block_values R.value pieces.now)) }
 {
-    let mut spot = own_place(pieces, row, guess.own);
+    let at = own_place(pieces, row, guess.own);
+    dominated_from(alloc, pieces, row, at)
+}
+
+// The same, looked for first at a guess.
+pub(crate) fn dominated_at<R: Row>(
+    alloc: Global,
+    pieces: &[Piece<R>],
+    row: &R,
+    guess: Guess,
+) -> Result<Vec<u32>, NoMemory>
+    requires rising { IsRising (block_values R.value pieces.now) }
+    requires few { length (block_rows pieces.now) < 2 ^ 32 }
+    ensures { IfOk result (λ found. found.items ≡ positions (is_dominating (R.value row.now)) (block_values R.value pieces.now)) }
+{
+    let at = own_place_at(pieces, row, guess.own);
+    dominated_from(alloc, pieces, row, at)
+}
+
+// The same where the row's place is known.
+fn dominated_from<R: Row>(
+    alloc: Global,
+    pieces: &[Piece<R>],
+    row: &R,
+    at: Spot,
+) -> Result<Vec<u32>, NoMemory>
+    requires rising { IsRising (block_values R.value pieces.now) }
+    requires few { length (block_rows pieces.now) < 2 ^ 32 }
+    requires spot { IsSpot pieces.now at }
+    requires place { IsPlace place_cmp (R.value row.now) (block_values R.value pieces.now) (index_of pieces.now at) }
+    ensures { IfOk result (λ found. found.items ≡ positions (is_dominating (R.value row.now)) (block_values R.value pieces.now)) }
+{
+    let mut spot = at;
     let end = run_end(pieces, row, spot);
     let mut found = Vec::new(alloc);
     for at in index_of(pieces, spot)..index_of(pieces, end) {

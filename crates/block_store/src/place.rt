@@ -96,6 +96,15 @@ pub(crate) fn own_place<R: Row>(pieces: &[Piece<R>], row: &R, guess: Spot) -> Sp
     place(pieces, row, row.entry().path.count(), guess)
 }
 
+// The same, looked for first at a guess.
+pub(crate) fn own_place_at<R: Row>(pieces: &[Piece<R>], row: &R, guess: Spot) -> Spot
+    requires { IsRising (block_values R.value pieces.now) }
+    ensures spot { IsSpot pieces.now result }
+    ensures place { IsPlace place_cmp (R.value row.now) (block_values R.value pieces.now) (index_of pieces.now result) }
+{
+    place_near(pieces, row, row.entry().path.count(), guess, guess)
+}
+
 // Whether the held row stands in the row's namespace and subspace, at an extension of its path or at the path itself.
 #[tactic(auto, unfolding(willow_entry::specs::Row::is_at_prefix))]
 fn extends<R: Row>(held: &R, row: &R) -> bool
@@ -208,4 +217,26 @@ pub(crate) fn cover<R: Row>(
 {
     let mut guess = guess;
     place_or_cover(pieces, row, fewest, &mut guess).err()
+}
+
+// The first position whose row is the row or dominates it, among live rows, and where there is none, where the row
+// goes in.
+pub(crate) fn find<R: Row>(
+    pieces: &[Piece<R>],
+    row: &R,
+    fewest: usize,
+    guess: Guess,
+) -> Result<u32, Guess>
+    requires few { length (block_rows pieces.now) < 2 ^ 32 }
+    requires is_live { AreLive (block_values R.value pieces.now) }
+    requires fewest { HaveComponents (block_values R.value pieces.now) fewest }
+    ensures first { IfOk result (λ by. position (λ s. is_covering s (R.value row.now)) (block_values R.value pieces.now) ≡ Some by) }
+    ensures found { IfOk result (λ by. IsCoveringAt (block_values R.value pieces.now) by (R.value row.now)) }
+    ensures free { IfErr result (λ guess. HasCovering (block_values R.value pieces.now) (R.value row.now) → ⊥) }
+{
+    let mut guess = guess;
+    match place_or_cover(pieces, row, fewest, &mut guess) {
+        Ok(_at) => Err(guess),
+        Err(by) => Ok(by),
+    }
 }

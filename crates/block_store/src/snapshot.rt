@@ -13,8 +13,10 @@ use crate::boxes::{count_in, nth_in};
 use crate::fingerprint::total_in;
 use crate::listing::{Listing, listing_of};
 use crate::rows::{Rows, rows_of};
+use crate::walk::positions_in;
 use std::alloc::Global;
 use std::marker::Model;
+use std::sync::Arc;
 use std::sync::ledger::Ledger;
 use step_count::Steps;
 use willow_area::Box3;
@@ -66,6 +68,14 @@ impl<R: Row> Snapshot<R> {
         self.listing.get(at)
     }
 
+    /// The same row as the store shares it, which is not copied.
+    pub fn shared(&self, at: u32) -> Result<Option<Arc<R>>, NoMemory>
+        ensures row { IfOk result (λ found. MatchOption found (length self.now ≤ at) (λ row. slice_get self.now at ≡ Some row.value)) }
+        ensures live { AreLive (map R.value self.now) }
+    {
+        self.listing.shared(at)
+    }
+
     /// The number of rows that the box includes.
     pub fn count_in(&self, area: &Box3) -> u32
         ensures { result ≡ length (rows_in area.now (map R.value self.now)) }
@@ -79,6 +89,14 @@ impl<R: Row> Snapshot<R> {
         ensures { result ≡ slice_get (positions (is_in area.now) (map R.value self.now)) n }
     {
         nth_in(&self.listing, area, n)
+    }
+
+    /// The positions, rising, of the rows that the box includes, by one walk along the blocks. A block whose rows were
+    /// all written at other times is passed by.
+    pub fn positions_in(&self, area: &Box3) -> Result<Vec<u32>, NoMemory>
+        ensures { IfOk result (λ found. found.items ≡ positions (is_in area.now) (map R.value self.now)) }
+    {
+        positions_in(*self.listing.pieces.allocator(), &self.listing, area)
     }
 
     /// The fingerprint of the rows that the box includes: the SHA-256 digest of their number and of the four sums

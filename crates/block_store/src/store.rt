@@ -1,15 +1,16 @@
 //! The store: live rows by rising place, in blocks that snapshots share.
 
-ghost use Rattle.std.specs.Prelude.{◌≡◌, ◌↔◌, ℕ, ◌+◌, ◌-◌, ◌^◌, ◌<◌, ◌≤◌, [], ◌∷◌, ◌++◌, length, map, position, slice_get, OnOk, OnErr, IfOk, IsTrue, IfSome, IfNone, MatchOption, Some};
+ghost use Rattle.std.specs.Prelude.{◌≡◌, ◌↔◌, ℕ, ◌+◌, ◌-◌, ◌^◌, ◌<◌, ◌≤◌, [], ◌∷◌, ◌++◌, length, map, count_by, position, slice_get, OnOk, OnErr, IfOk, IfErr, IsTrue, IfSome, IfNone, MatchOption, Some};
 ghost use Rattle.willow_entry.specs.Row.{AreLive, HasCovering, IsCoveringAt, is_dominating, is_covering, live};
 ghost use Rattle.willow_entry.specs.Placed.{IsPlaced, OnKept};
 ghost use Rattle.block_store.specs.Positions.{positions};
 
 use crate::block::Piece;
 use crate::guess::{GUESSES, Guess, slot_of};
+use crate::hint::Hint;
 use crate::index::{row_at, spot_of};
-use crate::offer::{dominated, offer, offer_shared, rows_after};
-use crate::place::cover;
+use crate::offer::{dominated, dominated_at, offer, offer_shared, rows_after, store_at};
+use crate::place::{cover, find};
 use crate::rows::{Rows, rows_of};
 use crate::snapshot::{Snapshot, snapshot_of};
 use std::alloc::Global;
@@ -105,6 +106,46 @@ impl<R: Row> BlockStore<R> {
         self.rows = rows_after(self.rows, placed);
         self.fewest = self.fewest.min(count);
         Ok(placed)
+    }
+
+    /// The first position whose row equals or dominates the row, or, where there is none, where the row goes in. With
+    /// that `pruned_at` and `ingest_at` need no further search.
+    pub fn search(&self, row: &R) -> Result<u32, Hint>
+        ensures first { IfOk result (λ by. position (λ s. is_covering s (R.value row.now)) (map R.value self.now) ≡ Some by) }
+        ensures found { IfOk result (λ by. IsCoveringAt (map R.value self.now) by (R.value row.now)) }
+        ensures free { IfErr result (λ hint. HasCovering (map R.value self.now) (R.value row.now) → ⊥) }
+    {
+        match find(&self.pieces, row, self.fewest, self.guesses[slot_of(row)]) {
+            Ok(by) => Ok(by),
+            Err(guess) => Err(Hint { guess }),
+        }
+    }
+
+    /// The positions, rising, of the rows that the row dominates, as `pruned_by` tells them.
+    pub fn pruned_at(&self, row: &R, hint: Hint) -> Result<Vec<u32>, NoMemory>
+        ensures { IfOk result (λ found. found.items ≡ positions (is_dominating (R.value row.now)) (map R.value self.now)) }
+    {
+        dominated_at(*self.pieces.allocator(), &self.pieces, row, hint.guess)
+    }
+
+    /// Stores a shared row that no row equals or dominates, and answers how many rows it dominates, which go. The rows
+    /// are then what is live of the old rows with the new one added. An error leaves the store as it was.
+    pub fn ingest_at(&mut self, row: Arc<R>, hint: Hint) -> Result<u32, NoMemory>
+        requires room { length self.old < 2 ^ 32 - 1 }
+        requires uncovered { HasCovering (map R.value self.old) (R.value row.value) → ⊥ }
+        ensures rows { OnOk result (map R.value self.new ≡ live (map R.value self.old ++ R.value row.value ∷ [])) }
+        ensures pruned { IfOk result (λ pruned. pruned ≡ count_by (is_dominating (R.value row.value)) (map R.value self.old)) }
+        ensures few { length self.new ≤ length self.old + 1 }
+        ensures live { AreLive (map R.value self.new) }
+        ensures was_live { AreLive (map R.value self.old) }
+        ensures err { OnErr result (self.new ≡ self.old) }
+    {
+        let (count, slot) = ((*row).entry().path.count(), slot_of(&*row));
+        let pruned = store_at(&mut self.pieces, row, hint.guess.own)?;
+        self.guesses[slot] = hint.guess;
+        self.rows = rows_after(self.rows, Placed::Stored { pruned });
+        self.fewest = self.fewest.min(count);
+        Ok(pruned)
     }
 
     /// The number of rows.

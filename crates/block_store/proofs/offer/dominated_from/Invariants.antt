@@ -2,7 +2,7 @@ use Rattle.std.proofs.Common.{◌≡◌, take}
 use Rattle.willow_entry.specs.Row.{is_dominating}
 use Rattle.block_store.specs.Blocks.{block_values, index_of, IsSpot}
 use Rattle.block_store.specs.Positions.{positions}
-use Rattle.block_store.proofs.offer.dominated.Given as goal
+use Rattle.block_store.proofs.offer.dominated_from.Given as goal
 
 abbrev pub invariant-loop-at : goal.invariant-loop-at
 invariant-loop-at g l = record {

@@ -8,16 +8,16 @@ use Rattle.block_store.proofs.Extensions.{below_stays}
 use Rattle.block_store.proofs.Finding.{item_of}
 use Rattle.block_store.proofs.Pieces.{values_long}
 use Rattle.block_store.proofs.Positions.{positions-none, positions-front, positions-more}
-use Rattle.block_store.proofs.offer.dominated.Goals as goal
+use Rattle.block_store.proofs.offer.dominated_from.Goals as goal
 
 pub loop-at-init : goal.loop-at-init
 loop-at-init g c =
     let r = g.R.Row.value c.args.row.now in
     let rows = block_values g.R.Row.value c.args.pieces.now in
     let first = c.index_of-at.result in
-    let place : IsPlace place_cmp r rows first = subst (IsPlace place_cmp r rows) (sym c.index_of-at.ensures.index) c.own_place-spot.ensures.place in
+    let place : IsPlace place_cmp r rows first = subst (IsPlace place_cmp r rows) (sym c.index_of-at.ensures.index) c.requires.place in
     record {
-      spot = c.own_place-spot.ensures.spot;
+      spot = c.requires.spot;
       index = sym c.index_of-at.ensures.index;
       found = c.new-found.ensures.items ∙ sym (positions-none (is_dominating r) (take first rows) (below_stays r (take first rows) place.below));
     }
