@@ -40,7 +40,7 @@ bytes_again x rest =
     let long : ltb (length (x ++ rest)) (length x) ≡ false = le-ltb _ _ (omega (arith, length-append x rest)) in
     rw (long, take_at x rest (length x) refl, drop_at x rest (length x) refl) refl
 
-text_again : (x rest : List ℕ) → length x ≤ MAX_FRAME → body_at (text_spelling (to_be_bytes w32) x ++ rest) ≡ Whole x rest
+pub text_again : (x rest : List ℕ) → length x ≤ MAX_FRAME → body_at (text_spelling (to_be_bytes w32) x ++ rest) ≡ Whole x rest
 unfolding text_at
 text_again x rest short =
     ap body_at (append_assoc (to_be_bytes w32 (length x)) x rest)

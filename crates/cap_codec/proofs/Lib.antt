@@ -5,3 +5,5 @@ pub mod RowReads
 pub mod Frames
 pub mod Spelled
 pub mod Asking
+pub mod Framed
+pub mod NumberedReads

@@ -92,7 +92,7 @@ whole_more body input e rest t left why is h k more =
     let nothing : left ≡ [] = whole_rest (raw e t) r left [] (sym whole ∙ ap raw_at spelled ∙ alone raw-reads r fits) in
     omega (arith, more, ap length nothing)
 
-empty : (left : List ℕ) → length left ≤ 0 → left ≡ []
+pub empty : (left : List ℕ) → length left ≤ 0 → left ≡ []
 empty [] h = refl
 empty (b ∷ left) h = absurd (omega (arith, h))
 

@@ -37,7 +37,7 @@ pub fn decode_frame(alloc: Global, bytes: &[u8]) -> Result<(RawRow, usize), End<
 
 // The length of a frame's body, and the body.
 #[tactic(auto, unfolding(spelling::specs::Reading::text_at))]
-fn read_body<'a>(input: &mut Input<'a>) -> Result<&'a [u8], Unread>
+pub(crate) fn read_body<'a>(input: &mut Input<'a>) -> Result<&'a [u8], Unread>
     ensures gives { Gives (λ body. body.now) result input.new (text_at (number_up_to w32 MAX_FRAME) input.old) }
     ensures sure { NeedsNoMemory result }
 {

@@ -8,10 +8,14 @@ ghost use Rattle.mc_cap.specs.Forms.{capability_spelling};
 ghost use Rattle.cap_codec.specs.Rows.{RawValue, row_of, raw_spelling, IsRaw, IsRawRow, IsToken, ReadsWhole};
 
 use crate::token::{WriteToken, put_signature, read_measured};
+use crate::token_row::TokenRow;
 use spelling::{End, Input, NoMemory, NotHere, put_bytes};
 use std::alloc::Global;
 use std::marker::Model;
 use willow_entry::{Entry, Row, RowForm, SharedRow, read_entry};
+
+/// How many bytes stand in front of a signature for its length.
+const SIGNATURE_LENGTH: usize = 2;
 
 /// A row with its token read out. It keeps the bytes that it was read from. A contract sees the entry and
 /// the token; nothing is said of whether it is authorised.
@@ -48,19 +52,36 @@ impl RawRow {
     {
         let mut spelled = Vec::new(alloc);
         token.capability.encode(&mut spelled)?;
-        let capability_len = spelled.len();
-        put_signature(&token.signature, &mut spelled)?;
-        let entry_len = entry.spelled_len();
-        let mut body = Vec::with_capacity(alloc, entry_len.saturating_add(spelled.len()))?;
-        entry.encode(&mut body)?;
-        put_bytes(&mut body, &spelled)?;
+        RawRow::with_spelled(alloc, entry, token, &spelled)
+    }
+
+    // The row of this entry and this token, whose capability is spelled so.
+    pub(crate) fn with_spelled(
+        alloc: Global,
+        entry: Entry,
+        token: WriteToken,
+        capability: &[u8],
+    ) -> Result<RawRow, NoMemory>
+        requires { capability.now ≡ capability_spelling token.capability }
+        ensures entry { IfOk result (λ row. row.entry ≡ entry) }
+        ensures token { IfOk result (λ row. row.token ≡ token) }
+    {
         token.known();
+        let entry_len = entry.spelled_len();
+        let room = entry_len
+            .saturating_add(capability.len())
+            .saturating_add(token.signature.as_slice().len())
+            .saturating_add(SIGNATURE_LENGTH);
+        let mut body = Vec::with_capacity(alloc, room)?;
+        entry.encode(&mut body)?;
+        put_bytes(&mut body, capability)?;
+        put_signature(&token.signature, &mut body)?;
         Ok(RawRow {
             entry,
             token,
             body,
             entry_len,
-            capability_len,
+            capability_len: capability.len(),
         })
     }
 
@@ -117,6 +138,7 @@ impl RawRow {
         SpelledRow {
             entry: self.entry,
             body: self.body,
+            capability_len: self.capability_len,
         }
     }
 
@@ -156,16 +178,25 @@ impl Row for RawRow {
 
 impl SharedRow for RawRow {}
 
+impl TokenRow for RawRow {
+    fn capability_bytes(&self) -> &[u8] {
+        self.known();
+        self.capability_bytes()
+    }
+}
+
 /// A row whose token is kept as bytes alone: the entry, and the bytes of both, once. A contract sees the entry and the
 /// token that the bytes spell, as it does of a `RawRow`.
 #[derive(Drop)]
 pub struct SpelledRow {
     entry: Entry,
     body: Vec<u8>,
+    capability_len: usize,
 }
 
 impl Model for SpelledRow {
-    ghost use Rattle.std.specs.Prelude.{◌≡◌};
+    ghost use Rattle.std.specs.Prelude.{◌≡◌, length};
+    ghost use Rattle.mc_cap.specs.Forms.{capability_spelling};
     ghost use Rattle.cap_codec.specs.Rows.{RawValue, IsRaw, raw_spelling};
     ghost use Rattle.cap_codec.specs.Spelled.{spelled_row};
 
@@ -174,7 +205,8 @@ impl Model for SpelledRow {
     ghost view = { λ r. spelled_row r.entry r.body.items };
 
     ghost invariant = { λ r. IsRaw (spelled_row r.entry r.body.items)
-        × (r.body.items ≡ raw_spelling (spelled_row r.entry r.body.items)) };
+        × (r.body.items ≡ raw_spelling (spelled_row r.entry r.body.items))
+        × (r.capability_len ≡ length (capability_spelling (spelled_row r.entry r.body.items).token.capability)) };
 }
 
 impl SpelledRow {
@@ -185,6 +217,13 @@ impl SpelledRow {
         let _body = &self.body;
     }
 
+    /// The bytes of the token's capability: its spelling, as the row keeps it.
+    pub fn capability_bytes(&self) -> &[u8]
+        ensures { result.now ≡ capability_spelling self.now.token.capability }
+    {
+        &self.token_bytes()[..self.capability_len]
+    }
+
     /// An equal row.
     pub fn copy(&self) -> Result<SpelledRow, NoMemory>
         ensures { IfOk result (λ row. row ≡ self.now) }
@@ -192,6 +231,7 @@ impl SpelledRow {
         Ok(SpelledRow {
             entry: self.entry.copy()?,
             body: Vec::from_slice(*self.body.allocator(), &self.body)?,
+            capability_len: self.capability_len,
         })
     }
 }
@@ -217,6 +257,13 @@ impl Row for SpelledRow {
 }
 
 impl SharedRow for SpelledRow {}
+
+impl TokenRow for SpelledRow {
+    fn capability_bytes(&self) -> &[u8] {
+        self.known();
+        self.capability_bytes()
+    }
+}
 
 /// The bodies of rows: an entry within its limits, a write token, and nothing else.
 pub struct RawRows;
