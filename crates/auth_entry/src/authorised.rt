@@ -7,7 +7,7 @@ ghost use Rattle.cap_codec.specs.Rows.{FitsFrame, row_of};
 ghost use Rattle.auth_entry.specs.Authorised.{AuthorisedValue, CheckAsks, early_refusal, row_refusal};
 
 use crate::refusal::check_row;
-use cap_codec::{RawRow, SpelledRow};
+use cap_codec::{RawRow, SpelledRow, TokenRow};
 use mc_cap::RowRefusal;
 use scheme_core::{Scheme, Verify};
 use spelling::End;
@@ -116,3 +116,9 @@ impl<S: Verify> Row for AuthorisedEntry<S> {
 }
 
 impl<S: Scheme> SharedRow for AuthorisedEntry<S> {}
+
+impl<S: Verify> TokenRow for AuthorisedEntry<S> {
+    fn capability_bytes(&self) -> &[u8] {
+        <SpelledRow as TokenRow>::capability_bytes(&self.row)
+    }
+}
