@@ -11,3 +11,11 @@ pub mod ReadParts
 pub mod Misordered
 pub mod ReadBack
 pub mod Asking
+pub mod TwoHeads
+pub mod TwoRising
+pub mod TwoStops
+pub mod TwoReading
+pub mod TwoPlaces
+pub mod TwoRows
+pub mod TwoSame
+pub mod TwoAlike

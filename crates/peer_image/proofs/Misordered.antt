@@ -10,6 +10,7 @@ use Rattle.peer_image.specs.declared.refusal.ImageRefusal.{ImageRefusal}
 use Rattle.peer_image.specs.declared.refusal.ImageRefusal.TheVariants.{BadImage, NotRising, Pruned}
 use Rattle.peer_image.specs.Order.{fall_after, first_fall, pruned_by, pruned_after, order_refusal}
 use Rattle.peer_image.specs.ImageReading.{raw_rows, IsImage, ReadsImage}
+use Rattle.peer_image.specs.ImageTwoReading.{IsImageTwo, ReadsImageTwo}
 
 abbrev IsForOrder : Option ImageRefusal → Type 0
 IsForOrder None = Unit {0}
@@ -54,3 +55,8 @@ pub misordered : (bytes n : List ℕ) (rows : List RawValue) (refusal : ImageRef
 misordered bytes n rows (BadImage at) i e = absurd (subst IsForOrder e (order_for_order (raw_rows rows)))
 misordered bytes n rows (NotRising at) i e = record { namespace = n; rows = rows; is_image = i; refused = e }
 misordered bytes n rows (Pruned at by) i e = record { namespace = n; rows = rows; is_image = i; refused = e }
+
+pub misordered_two : (bytes n : List ℕ) (rows : List RawValue) (refusal : ImageRefusal) → IsImageTwo bytes n rows → order_refusal (raw_rows rows) ≡ Some refusal → ReadsImageTwo bytes (Err (Refused refusal))
+misordered_two bytes n rows (BadImage at) i e = absurd (subst IsForOrder e (order_for_order (raw_rows rows)))
+misordered_two bytes n rows (NotRising at) i e = record { namespace = n; rows = rows; is_image = i; refused = e }
+misordered_two bytes n rows (Pruned at by) i e = record { namespace = n; rows = rows; is_image = i; refused = e }

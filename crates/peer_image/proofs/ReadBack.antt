@@ -62,7 +62,7 @@ framed_rows (r ∷ rows) f = (f.0.short, framed_rows rows f.1)
 
 -- ---- read back
 
-some_not_none : (e : ImageRefusal) (o : Option ImageRefusal) → o ≡ Some e → o ≡ None → ⊥
+pub some_not_none : (e : ImageRefusal) (o : Option ImageRefusal) → o ≡ Some e → o ≡ None → ⊥
 some_not_none e o h k = cc
 
 in_order : (n : List ℕ) (raws : List RawValue) (e : ImageRefusal) → IsImage (image n (raw_rows raws)) n raws → order_refusal (raw_rows raws) ≡ None → IsMisordered (image n (raw_rows raws)) e → ⊥
@@ -80,7 +80,7 @@ back n raws (Err (Refused (NotRising at))) i ok told = absurd (in_order n raws (
 back n raws (Err (Refused (Pruned at by))) i ok told = absurd (in_order n raws (Pruned at by) i ok told)
 back n raws (Err NoMemory) i ok told = refl
 
-image_here : (n : List ℕ) (raws : List RawValue) → IsKey n → AllByRecursion FitsFrame raws → length (raw_rows raws) < 2 ^ 32 → IsImage (image n (raw_rows raws)) n raws
+pub image_here : (n : List ℕ) (raws : List RawValue) → IsKey n → AllByRecursion FitsFrame raws → length (raw_rows raws) < 2 ^ 32 → IsImage (image n (raw_rows raws)) n raws
 image_here n raws key fit few = record { key = key; fit = fit; count = omega (arith, few, length-map raws row_of); spelled = refl }
 
 pub reads_back : ReadsBack

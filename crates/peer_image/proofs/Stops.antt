@@ -51,14 +51,14 @@ headed bytes n rest key parts none = none n rest key parts
 
 -- ---- what begins with no frame
 
-behind_key : (a b c : List ℕ) → length a ≡ 33 → [] ≡ (a ++ b) ++ c → ⊥
+pub behind_key : (a b c : List ℕ) → length a ≡ 33 → [] ≡ (a ++ b) ++ c → ⊥
 behind_key a b c h e = omega (arith, h, ap length e, length-append (a ++ b) c, length-append a b)
 
 body_some : (r : RawValue) → IsRaw r → [] ≡ raw_spelling r → ⊥
 unfolding entry_spelling
 body_some r f e = behind_key r.entry.namespace _ _ f.entry_fits.namespace.whole e
 
-zero_body : (rest : List ℕ) → body_at (0 ∷ 0 ∷ 0 ∷ 0 ∷ rest) ≡ Whole [] rest
+pub zero_body : (rest : List ℕ) → body_at (0 ∷ 0 ∷ 0 ∷ 0 ∷ rest) ≡ Whole [] rest
 zero_body rest = (text-reads MAX_FRAME (omega arith) length-reads).again [] rest (omega arith, tt)
 
 -- four bytes 00

@@ -3,3 +3,7 @@ pub mod Order
 pub mod Fronts
 pub mod ImageReading
 pub mod Parts
+pub mod ImageTwo
+pub mod ImageTwoReading
+pub mod ImageTwoParts
+pub mod ImageAny

@@ -3,6 +3,7 @@
 ghost use Rattle.peer_image.specs.Fronts.{FrontsDecideOrder, FrontsGoOn};
 ghost use Rattle.peer_image.specs.Order.{IsOrder, IsOrderOfLive};
 ghost use Rattle.peer_image.specs.ImageReading.{header_at, header_spelling, image_spelling, ImagesNeverGoWrong, FitsImage, HaveOneImage, HaveOnePlace, ReadsBack};
+ghost use Rattle.peer_image.specs.ImageAny.{HaveOneImageTwo, HaveOnePlaceTwo, ImagesTwoNeverGoWrong, ReadBackAlike, SpellTheSame};
 ghost use Rattle.spelling.specs.Form.{IsForm};
 ghost use Rattle.spelling.specs.Reader.{IsReader};
 ghost use Rattle.willow_path.specs.Key.{IsKey};
@@ -59,4 +60,30 @@ pub fn never_both()
 /// The image of live rows of one namespace is read back as just these.
 pub fn spells()
     ensures { ReadsBack }
+{}
+
+/// Bytes are the image of version 2 of at most one list of rows, of one namespace.
+pub fn one_image_two()
+    ensures { HaveOneImageTwo }
+{}
+
+/// Bytes that are no image of version 2 go wrong at one place.
+pub fn one_place_two()
+    ensures { HaveOnePlaceTwo }
+{}
+
+/// An image of version 2 goes wrong nowhere.
+pub fn never_both_two()
+    ensures { ImagesTwoNeverGoWrong }
+{}
+
+/// The image of version 1 of a namespace and rows and their image of version 2 spell equal values: each is an image of
+/// just this namespace and these rows.
+pub fn spell_the_same()
+    ensures { SpellTheSame }
+{}
+
+/// Live rows of one namespace are read back as just these from either image.
+pub fn read_back_alike()
+    ensures { ReadBackAlike }
 {}

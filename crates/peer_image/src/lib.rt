@@ -2,15 +2,23 @@
 //! The contract: what is written is the image of the rows, and what is read is the one image that the bytes are.
 #![tactic(auto)]
 
+mod known;
 pub mod laws;
 mod order;
 mod parts;
 mod read;
+mod read_any;
+mod read_two;
 mod refusal;
 mod write;
+mod write_two;
 
+pub use known::{ImageHead, KnownCapability, capabilities_in_front, image_two_head};
 pub use order::{are_in_order, last_fronts};
 pub use parts::{image_head, rows_in_front};
 pub use read::{Image, is_trailer, read_image};
+pub use read_any::{is_of_version_two, read_any_image};
+pub use read_two::read_image_two;
 pub use refusal::ImageRefusal;
 pub use write::{put_head, put_trailer, write_image, write_rows, write_store_image};
+pub use write_two::{capabilities_of, place_of, put_capability, put_head_two, put_row_two, write_image_two};

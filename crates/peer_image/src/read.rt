@@ -18,9 +18,9 @@ use willow_path::NamespaceKey;
 /// rows are of that namespace, or authorised.
 #[derive(Drop)]
 pub struct Image {
-    /// The key behind the text WIM1.
+    /// The key behind the first four bytes.
     pub namespace: NamespaceKey,
-    /// The rows of the frames, in their order.
+    /// The rows, in their order.
     pub rows: Vec<RawRow>,
 }
 
