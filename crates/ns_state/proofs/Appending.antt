@@ -12,7 +12,8 @@ use Rattle.willow_entry.proofs.RowLaws.{rows_prune}
 use Rattle.recency_index.specs.declared.ranked.Ranked.{Ranked}
 use Rattle.recency_index.specs.Recency.{ranked_of, recency_cmp, newest, has_at, without}
 use Rattle.ns_state.specs.Log.{IsLog, values}
-use Rattle.ns_state.specs.Recent.{items_of, recent}
+use Rattle.recency_index.specs.Rows.{items_of}
+use Rattle.ns_state.specs.Recent.{recent}
 use Rattle.ns_state.proofs.NewRows.{covering_of_live}
 use Rattle.willow_entry.proofs.Live.{live_early_left}
 use Rattle.ns_state.proofs.Logs.{values_more, live_short, rising_short}

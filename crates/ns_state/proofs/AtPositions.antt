@@ -8,7 +8,7 @@ use Rattle.block_store.proofs.Numbering.{row_there, so_many}
 use Rattle.recency_index.specs.declared.ranked.Ranked.{Ranked}
 use Rattle.recency_index.specs.Recency.{ranked_of}
 use Rattle.willow_entry.specs.Row.{RowValue}
-use Rattle.ns_state.specs.Recent.{items_of}
+use Rattle.recency_index.specs.Rows.{items_of}
 
 module _ (test : RowValue → Bool) (rows : List RowValue) (found : List ℕ) (is : found ≡ positions test rows) where
   as_many : length found ≡ length (filter test rows)

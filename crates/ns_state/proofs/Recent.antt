@@ -21,22 +21,13 @@ use Rattle.recency_index.specs.declared.ranked.Ranked.{Ranked}
 use Rattle.recency_index.specs.Recency.{ranked_of, recency_cmp, newest, is_at, has_at, is_among, without}
 use Rattle.recency_index.proofs.Order.{recency_total, recency_tie}
 use Rattle.recency_index.proofs.Newest.{member_newest, member_from_newest, newest_alike}
-use Rattle.ns_state.specs.Recent.{items_of}
+use Rattle.recency_index.specs.Rows.{items_of}
+use Rattle.recency_index.proofs.Rows.{member_item, row_of_item}
 
 abbrev item_of : RowValue → Ranked
 item_of s = ranked_of s.entry
 
--- ---- members of the items of rows
-
-pub member_item : (rows : List RowValue) (s : RowValue) → Member rows s → Member (items_of rows) (item_of s)
-member_item [] s m = m
-member_item (t ∷ rows) s (inl e) = inl (ap item_of e)
-member_item (t ∷ rows) s (inr m) = inr (member_item rows s m)
-
-pub row_of_item : (rows : List RowValue) (item : Ranked) → Member (items_of rows) item → (s : RowValue) × Member rows s × (item_of s ≡ item)
-row_of_item [] item m = absurd m
-row_of_item (t ∷ rows) item (inl e) = (t, inl refl, e)
-row_of_item (t ∷ rows) item (inr m) = let found = row_of_item rows item m in (found.0, inr found.1, found.2)
+-- ---- which items there are
 
 among_from_member : (gone : List Ranked) (item : Ranked) → Member gone item → is_among gone item ≡ true
 among_from_member gone item m = true_of_any (λ g. eq_by_cmp recency_cmp g item) gone item m (ap is_eq (tied_itself recency_total item))

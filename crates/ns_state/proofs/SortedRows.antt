@@ -5,24 +5,23 @@ use Rattle.std.specs.List.Sorted.{IsPermutation, IsSortedBy, IsStrictlySortedBy}
 use denote.Param.Members.{Mut}
 use Rattle.std.specs.Cmp.{IsTotalOrder, IsStrictWeakOrder}
 use Rattle.std.specs.Fn.{Called, ComparesAs}
-use Rattle.std.specs.Ordering.{is_eq, eq_by_cmp, ordering_reverse, match_ordering}
-use Rattle.std.proofs.lemmas.Cmp.{on_total}
+use Rattle.std.specs.Ordering.{is_eq, eq_by_cmp, ordering_reverse}
 use Rattle.std.proofs.lemmas.Fn.{always_returns_same}
 use Rattle.std.proofs.lemmas.List.{length-map}
 use Rattle.std.proofs.lemmas.List.Sorted.{ranks_by, IsPermutation-map, IsPermutation-sym, Contains-permutation}
 use Rattle.std.proofs.lemmas.Map.Keys.{IsDistinct-IsPermutation, apart_from_distinct, sorted_from_all_adjacent}
 use Rattle.willow_entry.specs.declared.row.LogRow.{LogRow}
-use Rattle.willow_entry.specs.Pruning.{placed}
 use Rattle.willow_entry.specs.Row.{RowValue, is_dominating, place_cmp, live}
 use Rattle.willow_entry.proofs.Members.{Member, contains_from_member, member_from_contains}
 use Rattle.willow_entry.proofs.Pruning.{pruned_member}
 use Rattle.willow_entry.proofs.RowLaws.{rows_prune}
 use Rattle.willow_entry.proofs.Rising.{rising-rises, same_rising, member_from_rising, member_rising}
 use Rattle.willow_entry.proofs.Between.{rising_live, live-again}
-use Rattle.recency_index.specs.Recency.{ranked_of, recency_cmp, newest}
-use Rattle.recency_index.proofs.Order.{recency_total, recency_tie}
+use Rattle.recency_index.specs.Recency.{ranked_of, recency_cmp}
+use Rattle.recency_index.specs.Rows.{items_of, row_recency_cmp, newest_rows}
+use Rattle.recency_index.proofs.Order.{recency_tie}
+use Rattle.recency_index.proofs.Rows.{row_total}
 use Rattle.ns_state.specs.Log.{IsLog, values}
-use Rattle.ns_state.specs.Recent.{items_of, row_recency_cmp, newest_rows}
 use Rattle.ns_state.proofs.Recent.{one_row, items_distinct}
 
 -- ---- what a key orders
@@ -75,31 +74,7 @@ module _ {K : Type 0} (cmp : K → K → Ordering) (total : IsTotalOrder cmp) wh
   sorted_by f {g = g} {compare = compare} xs up h = up (λ x y. is_lt (cmp (f x) (f y))) (ranks_by total f)
       (always_returns_same g (λ a r. is_lt r ≡ is_lt (cmp (f a.0.now) (f a.1.0.now))) compare (λ a r compare' k. (ap is_lt (h a r compare' k).0, (h a r compare' k).1)))
 
--- ---- the items of rows by recency
-
-placed_items : (r : RowValue) (rows : List RowValue) → items_of (placed row_recency_cmp r rows) ≡ placed recency_cmp (ranked_of r.entry) (items_of rows)
-placed_items r [] = refl
-placed_items r (s ∷ rows) =
-    let P : Ordering → Type 0 = λ o. items_of (match_ordering o (r ∷ s ∷ rows) (s ∷ rows) (s ∷ placed row_recency_cmp r rows))
-    ≡ match_ordering o (ranked_of r.entry ∷ ranked_of s.entry ∷ items_of rows) (ranked_of s.entry ∷ items_of rows) (ranked_of s.entry ∷ placed recency_cmp (ranked_of r.entry) (items_of rows)) in
-    let each : (o : Ordering) → P o = elim [
-      | Less ↦ refl
-      | Equal ↦ refl
-      | Greater ↦ ap (λ l. ranked_of s.entry ∷ l) (placed_items r rows)
-    ] in
-    each (row_recency_cmp r s)
-
-pub newest_items : (rows : List RowValue) → items_of (newest_rows rows) ≡ newest (items_of rows)
-newest_items [] = refl
-newest_items (r ∷ rows) = placed_items r (newest_rows rows) ∙ ap (placed recency_cmp (ranked_of r.entry)) (newest_items rows)
-
-pub newest_member : (rows : List RowValue) (r : RowValue) → Contains (newest_rows rows) r → Contains rows r
-newest_member rows r c = contains_from_member rows r (member_from_rising row_recency_cmp rows r (member_from_contains (newest_rows rows) r c))
-
 -- ---- what is live of a log
-
-pub row_total : IsTotalOrder row_recency_cmp
-row_total = on_total (λ (r : RowValue). ranked_of r.entry) recency_total
 
 module _ {R : Type 0} (value : R → RowValue) (namespace : List ℕ) (log : List (LogRow R)) (is : IsLog value namespace log) where
   abbrev rows : List RowValue

@@ -1,25 +1,12 @@
--- Rows by recency.
-use Rattle.std.specs.Prelude.{List, map}
-use Rattle.std.specs.declared.cmp.Ordering.{Ordering}
-use Rattle.willow_entry.specs.Pruning.{rising}
-use Rattle.recency_index.specs.Recency.{ranked_of, recency_cmp, newest}
+-- What is live of a log by recency.
+use Rattle.std.specs.Prelude.{List}
+use Rattle.recency_index.specs.Recency.{newest}
+use Rattle.recency_index.specs.Rows.{items_of}
 use Rattle.recency_index.specs.declared.ranked.Ranked.{Ranked}
 use Rattle.willow_entry.specs.declared.row.LogRow.{LogRow}
 use Rattle.willow_entry.specs.Row.{RowValue, live}
 use Rattle.ns_state.specs.Log.{values}
 
--- the items of the entries of rows
-abbrev pub items_of : List RowValue → List Ranked
-items_of rows = map (λ r. ranked_of r.entry) rows
-
 -- the items of what is live of a log, the most recent first
 abbrev pub recent : {R : Type 0} → (R → RowValue) → List (LogRow R) → List Ranked
 recent value log = newest (items_of (live (values value log)))
-
--- how rows are ordered by recency
-abbrev pub row_recency_cmp : RowValue → RowValue → Ordering
-row_recency_cmp r s = recency_cmp (ranked_of r.entry) (ranked_of s.entry)
-
--- rows, the most recent first
-abbrev pub newest_rows : List RowValue → List RowValue
-newest_rows rows = rising row_recency_cmp rows

@@ -3,8 +3,6 @@
 ghost use Rattle.std.specs.Prelude.{◌≡◌, ◌↔◌, ◌≤◌, List, ◌++◌, length, Contains};
 ghost use Rattle.willow_entry.specs.LogRow.{LogValue};
 ghost use Rattle.willow_entry.specs.Row.{RowValue, live, new, HasCovering};
-ghost use Rattle.recency_index.specs.Recency.{newest};
-ghost use Rattle.ns_state.specs.Recent.{items_of, newest_rows};
 ghost use Rattle.ns_state.specs.Machine.{Event, rows_logged, run, accepted};
 
 use crate::live_log::LOG_LIMIT;
@@ -26,13 +24,6 @@ pub fn core()
 pub fn nothing_is_lost()
     ensures covered { (log more : List LogValue) (r : RowValue) → Contains (rows_logged log) r → HasCovering (live (rows_logged (log ++ more))) r }
     ensures grows { (log : List LogValue) (events : List Event) → (more : List LogValue) × (run log events ≡ log ++ more) }
-{}
-
-/// The newest rows are rows of the list, and their items are the newest of the rows' items.
-#[tactic(auto, using(crate::proofs::SortedRows::newest_items, crate::proofs::SortedRows::newest_member))]
-pub fn newest_rows()
-    ensures items { (rows : List RowValue) → items_of (newest_rows rows) ≡ newest (items_of rows) }
-    ensures rows { (rows : List RowValue) (r : RowValue) → Contains (newest_rows rows) r → Contains rows r }
 {}
 
 /// The limit is this number.

@@ -3,7 +3,7 @@
 ghost use Rattle.std.specs.Prelude.{◌≡◌, map, take, IfOk};
 ghost use Rattle.willow_entry.specs.Row.{live};
 ghost use Rattle.ns_state.specs.Log.{IsLog, values};
-ghost use Rattle.ns_state.specs.Recent.{row_recency_cmp, newest_rows};
+ghost use Rattle.recency_index.specs.Rows.{row_recency_cmp, newest_rows};
 
 use crate::live_log::LiveLog;
 use recency_index::by_recency;

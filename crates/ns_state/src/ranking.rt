@@ -3,7 +3,7 @@
 ghost use Rattle.std.specs.Prelude.{◌≡◌, ◌<◌, length, map, filter, slice_get, Some, IfOk};
 ghost use Rattle.recency_index.specs.Recency.{ranked_of};
 ghost use Rattle.willow_entry.specs.Row.{RowValue, is_dominating};
-ghost use Rattle.ns_state.specs.Recent.{items_of};
+ghost use Rattle.recency_index.specs.Rows.{items_of};
 
 use block_store::BlockStore;
 use recency_index::Ranked;

@@ -4,7 +4,7 @@ use Rattle.std.specs.List.{flat_map}
 use Rattle.std.specs.Global.{Vec}
 use Rattle.willow_entry.specs.Row.{RowValue}
 use Rattle.cap_codec.specs.Rows.{RawValue}
-use Rattle.ns_state.specs.Recent.{newest_rows}
+use Rattle.recency_index.specs.Rows.{newest_rows}
 use Rattle.peer_listing.specs.Listing.{listing_head, listing_line}
 use Rattle.peer_stage.specs.declared.outcome.JoinCounts.{JoinCounts}
 use Rattle.peer_stage.specs.declared.outcome.ShowCounts.{ShowCounts}

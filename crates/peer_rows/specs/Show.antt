@@ -5,7 +5,7 @@ use Rattle.std.specs.Global.{Vec}
 use Rattle.willow_outside.specs.Facts.{SourceFacts}
 use Rattle.lms_core.specs.Use.{peer_rules}
 use Rattle.willow_entry.specs.Row.{RowValue}
-use Rattle.ns_state.specs.Recent.{newest_rows}
+use Rattle.recency_index.specs.Rows.{newest_rows}
 use Rattle.cap_codec.specs.Rows.{RawValue, row_of}
 use Rattle.auth_entry.specs.Authorised.{authorised}
 use Rattle.peer_listing.specs.Listing.{listing_head, listing_line}

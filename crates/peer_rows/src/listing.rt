@@ -1,7 +1,7 @@
 //! The listing of what is live of a log.
 
 ghost use Rattle.std.specs.Prelude.{◌≡◌, flat_map, take, IfOk};
-ghost use Rattle.ns_state.specs.Recent.{newest_rows};
+ghost use Rattle.recency_index.specs.Rows.{newest_rows};
 ghost use Rattle.peer_listing.specs.Listing.{listing_head, listing_line};
 ghost use Rattle.peer_rows.specs.Listed.{AreText, log_listing, rows_listing};
 ghost use Rattle.peer_rows.specs.Logged.{entry_row, live_rows};

@@ -1,5 +1,5 @@
 -- An item that is taken out of its slot, and one that is counted from the first.
-use Rattle.std.proofs.Common.{◌≡◌, ℕ, zero, suc, ◌+◌, ◌<◌, ◌≤◌, List, [], ◌∷◌, ◌++◌, length, get_or, take, not, true, Contains, All, Option, Some, None, is_some, slice_get, MatchOption, Bor, refl, sym, ap, ◌∙◌, subst, Equal, arith, add-one}
+use Rattle.std.proofs.Common.{◌≡◌, ℕ, zero, suc, ◌+◌, ◌<◌, ◌≤◌, List, [], ◌∷◌, ◌++◌, length, get_or, take, not, true, Contains, All, Option, Some, None, is_some, slice_get, MatchOption, Bor, inl, inr, refl, sym, ap, ◌∙◌, subst, Equal, arith, add-one}
 use Rattle.std.specs.Option.{IfSome}
 use Rattle.std.specs.List.{IsDistinct}
 use Rattle.std.specs.Ordering.{eq_by_cmp}
@@ -7,11 +7,11 @@ use Rattle.std.specs.Cmp.{Equal-is}
 use Rattle.std.proofs.Math.Seq.{take-suc}
 use Rattle.std.proofs.lemmas.Cmp.{tied_back}
 use Rattle.std.proofs.lemmas.Option.{slice_get_past}
-use Rattle.willow_entry.proofs.Members.{Member, true_of_any, member_filter, member_from_contains}
+use Rattle.willow_entry.proofs.Members.{Member, true_of_any, member_filter, member_from_contains, contains_from_member}
 use Rattle.willow_entry.proofs.Ranks.{subspace_path_total}
 use Rattle.link_arena.specs.Arena.{Arena, AreTwoOrders, IsOneMore, Holds, IsVacant, slots_in}
 use Rattle.recency_index.specs.declared.ranked.Ranked.{Ranked}
-use Rattle.recency_index.specs.Recency.{recency_cmp, is_at, has_at, is_among, without, without_at}
+use Rattle.recency_index.specs.Recency.{recency_cmp, is_at, has_at, is_among, without, without_at, IsItemAt}
 use Rattle.recency_index.specs.Orders.{place_cmp, ranked_cmp}
 use Rattle.recency_index.specs.Items.{items_in}
 use Rattle.recency_index.proofs.Pairs.{was_there, left_out, one_place}
@@ -107,3 +107,30 @@ one_more_taken old now next gone n item held once within is sofar left orders sp
       orders = orders;
       spare = omega (arith, sofar.spare);
     }
+
+-- ---- from slot to slot
+
+slot_of_pair : (xs : List (ℕ × Ranked)) (slot : ℕ) (item : Ranked) → Member xs (slot, item) → Member (slots_in xs) slot
+slot_of_pair [] slot item m = absurd m
+slot_of_pair (x ∷ xs) slot item (inl e) = inl (ap (λ p. p.0) e)
+slot_of_pair (x ∷ xs) slot item (inr m) = inr (slot_of_pair xs slot item m)
+
+pair_of_slot : (xs : List (ℕ × Ranked)) (slot : ℕ) → Member (slots_in xs) slot → (item : Ranked) × Member xs (slot, item)
+pair_of_slot [] slot m = absurd m
+pair_of_slot (x ∷ xs) slot (inl e) = (x.1, inl (ap (λ s. (s, x.1)) e))
+pair_of_slot (x ∷ xs) slot (inr m) = let below = pair_of_slot xs slot m in (below.0, inr below.1)
+
+-- a slot of the order holds an item
+pub slot_holds : (arena : Arena Ranked) → AreTwoOrders ranked_cmp arena → (slot : ℕ) → Contains (slots_in arena.by_rank) slot → (item : Ranked) × Holds arena slot item
+slot_holds arena orders slot c =
+    let found = pair_of_slot arena.by_rank slot (member_from_contains (slots_in arena.by_rank) slot c) in
+    (found.0, (orders.same (slot, found.0)).1 (contains_from_member arena.by_rank (slot, found.0) found.1))
+
+-- what a slot holds is the item at its place
+pub item_of_slot : (arena : Arena Ranked) → AreTwoOrders ranked_cmp arena → (slot : ℕ) (item : Option (Bor Ranked)) → MatchOption item (IsVacant arena slot) (λ item. Holds arena slot item.now)
+    → MatchOption item (Contains (slots_in arena.by_rank) slot → ⊥) (λ item. IsItemAt (record { items = items_in arena.by_rank; slots = slots_in arena.by_rank; spare = arena.spare }) slot item.now)
+item_of_slot arena orders slot None vacant = λ c. let at = slot_holds arena orders slot c in vacant at.0 at.1
+item_of_slot arena orders slot (Some item) holds = record {
+  held = contains_from_member (slots_in arena.by_rank) slot (slot_of_pair arena.by_rank slot item.now (member_from_contains arena.by_rank (slot, item.now) ((orders.same (slot, item.now)).0 holds)));
+  stands = λ n e. nth_item arena orders n slot e (Some item) holds;
+}

@@ -1,5 +1,5 @@
 -- Which of two entries is the more recent, and entries in that order.
-use Rattle.std.specs.Prelude.{ℕ, Bool, not, List, filter}
+use Rattle.std.specs.Prelude.{◌≡◌, ℕ, Bool, not, List, filter, Contains, Some, slice_get}
 use Rattle.std.specs.List.{list_any}
 use Rattle.std.specs.List.Sorted.{IsStrictlySortedBy}
 use Rattle.std.specs.Ordering.{ordering_then, eq_by_cmp, is_eq}
@@ -50,7 +50,13 @@ is_among gone item = list_any (λ g. eq_by_cmp recency_cmp g item) gone
 abbrev pub without : List Ranked → List Ranked → List Ranked
 without gone items = filter (λ item. not (is_among gone item)) items
 
--- what contracts see of an index: its items, the most recent first, and for how many more it has room
+-- what contracts see of an index: its items, the most recent first, the slot of each, and for how many more it has room
 pub record IndexValue : Type 0 where
   pub items : List Ranked
+  pub slots : List ℕ
   pub spare : ℕ
+
+-- the slot is one of the index, and the item is its: the two stand at one place of the order
+pub record IsItemAt (index : IndexValue) (slot : ℕ) (item : Ranked) : Type 0 where
+  pub held : Contains index.slots slot
+  pub stands : (n : ℕ) → slice_get index.slots n ≡ Some slot → slice_get index.items n ≡ Some item

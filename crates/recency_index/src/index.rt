@@ -1,10 +1,10 @@
 //! The index: an arena of items, by place and by recency.
 
-ghost use Rattle.std.specs.Prelude.{◌≡◌, ◌↔◌, ◌+◌, ◌-◌, ◌^◌, ◌<◌, ◌≤◌, [], ◌∷◌, length, slice_get, false, All, Contains, IsTrue, IfOk, OnOk, OnErr, MatchOption, Some};
+ghost use Rattle.std.specs.Prelude.{◌≡◌, ◌↔◌, ℕ, ◌+◌, ◌-◌, ◌^◌, ◌<◌, ◌≤◌, [], ◌∷◌, length, slice_get, false, All, Contains, IsTrue, IfOk, OnOk, OnErr, MatchOption, Some};
 ghost use Rattle.std.specs.List.{IsDistinct};
 ghost use Rattle.std.specs.Ordering.{eq_by_cmp};
 ghost use Rattle.link_arena.specs.Arena.{AreTwoOrders, slots_in};
-ghost use Rattle.recency_index.specs.Recency.{ranked_of, recency_cmp, newest, AreNewestFirst, has_at, without_at, without};
+ghost use Rattle.recency_index.specs.Recency.{ranked_of, recency_cmp, newest, AreNewestFirst, has_at, without_at, without, IsItemAt};
 ghost use Rattle.recency_index.specs.Orders.{ranked_cmp};
 ghost use Rattle.recency_index.specs.Items.{items_in};
 
@@ -89,14 +89,14 @@ pub struct Recency {
 }
 
 impl Model for Recency {
-    ghost use Rattle.link_arena.specs.Arena.{AreTwoOrders};
+    ghost use Rattle.link_arena.specs.Arena.{AreTwoOrders, slots_in};
     ghost use Rattle.recency_index.specs.Recency.{IndexValue};
     ghost use Rattle.recency_index.specs.Orders.{ranked_cmp};
     ghost use Rattle.recency_index.specs.Items.{items_in};
 
     ghost Value = { IndexValue };
 
-    ghost view = { λ r. record { items = items_in r.items.by_rank; spare = r.items.spare } };
+    ghost view = { λ r. record { items = items_in r.items.by_rank; slots = slots_in r.items.by_rank; spare = r.items.spare } };
 
     ghost invariant = { λ r. AreTwoOrders ranked_cmp r.items };
 }
@@ -174,6 +174,31 @@ impl Recency {
         ensures newest_first { AreNewestFirst self.now.items }
     {
         let slot = nth_slot(&self.items, n)?;
+        self.items.get(slot)
+    }
+
+    /// The slot of the most recent item; None exactly where the index has none. Each item has a slot, and a walk from here
+    /// by `next` meets each of them, the most recent first.
+    pub fn first(&self) -> Option<u32>
+        ensures first { result ≡ slice_get self.now.slots 0 }
+        ensures as_many { length self.now.slots ≡ length self.now.items }
+        ensures newest_first { AreNewestFirst self.now.items }
+    {
+        self.items.first_by(Order::Rank)
+    }
+
+    /// The slot of the item behind that of this slot, by recency; None exactly at the last.
+    pub fn next(&self, slot: u32) -> Option<u32>
+        requires { Contains self.now.slots slot }
+        ensures { (n : ℕ) → slice_get self.now.slots n ≡ Some slot → result ≡ slice_get self.now.slots (n + 1) }
+    {
+        self.items.next_by(slot, Order::Rank)
+    }
+
+    /// The item of a slot; None exactly where the slot is vacant.
+    pub fn at(&self, slot: u32) -> Option<&Ranked>
+        ensures { MatchOption result (Contains self.now.slots slot → ⊥) (λ item. IsItemAt self.now slot item.now) }
+    {
         self.items.get(slot)
     }
 }

@@ -5,9 +5,10 @@ ghost use Rattle.std.specs.Cmp.{IsTotalOrder};
 ghost use Rattle.std.specs.declared.cmp.Ordering.TheVariants.{Less, Equal};
 ghost use Rattle.willow_entry.specs.declared.entry.Entry.{Entry};
 ghost use Rattle.willow_entry.specs.Entry.{IsNewer, rank_of};
-ghost use Rattle.willow_entry.specs.Row.{subspace_path_cmp};
+ghost use Rattle.willow_entry.specs.Row.{RowValue, subspace_path_cmp};
 ghost use Rattle.recency_index.specs.declared.ranked.Ranked.{Ranked};
 ghost use Rattle.recency_index.specs.Recency.{ranked_of, recency_cmp, newest, AreNewestFirst};
+ghost use Rattle.recency_index.specs.Rows.{items_of, newest_rows};
 
 /// Recency is a total order, in which items that tie are equal. A newer entry comes first, and of entries of one rank the
 /// one at the lower place.
@@ -26,4 +27,11 @@ pub fn newest_first()
     ensures order { (items : List Ranked) → AreNewestFirst (newest items) }
     ensures members { (items : List Ranked) (item : Ranked) → Contains (newest items) item ↔ Contains items item }
     ensures only { (items kept : List Ranked) → AreNewestFirst kept → ((item : Ranked) → Contains kept item ↔ Contains items item) → kept ≡ newest items }
+{}
+
+/// The newest rows are rows of the list, and their items are the newest of the rows' items.
+#[tactic(auto, using(crate::proofs::Rows::newest_items, crate::proofs::Rows::newest_member))]
+pub fn newest_rows()
+    ensures items { (rows : List RowValue) → items_of (newest_rows rows) ≡ newest (items_of rows) }
+    ensures rows { (rows : List RowValue) (r : RowValue) → Contains (newest_rows rows) r → Contains rows r }
 {}

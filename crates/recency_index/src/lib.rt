@@ -7,4 +7,4 @@ pub mod laws;
 mod ranked;
 
 pub use index::Recency;
-pub use ranked::{Ranked, by_recency};
+pub use ranked::{Ranked, by_recency, entry_by_recency};

@@ -102,6 +102,16 @@ pub fn by_recency(e: &Entry, f: &Entry) -> Ordering
     )
 }
 
+/// How an entry and an item are ordered by recency, as two entries are.
+pub fn entry_by_recency(e: &Entry, item: &Ranked) -> Ordering
+    ensures { result ≡ recency_cmp (ranked_of e.now) item.now }
+{
+    by_rank_and_place(
+        (&e.rank(), &e.subspace, &e.path),
+        (&item.rank(), &item.subspace, &item.path),
+    )
+}
+
 impl Twice for Ranked {
     ghost use Rattle.recency_index.specs.Orders.{ranked_cmp};
     ghost use Rattle.recency_index.specs.OrderLaws.{ranked_total, ranked_apart};

@@ -1,6 +1,6 @@
 use Rattle.std.proofs.Common.{◌≡◌, map, filter, take}
 use Rattle.willow_entry.specs.Row.{is_dominating}
-use Rattle.ns_state.specs.Recent.{items_of}
+use Rattle.recency_index.specs.Rows.{items_of}
 use Rattle.ns_state.proofs.ranking.gone_items.Given as goal
 
 abbrev pub invariant-loop-at : goal.invariant-loop-at

@@ -1,6 +1,6 @@
 use Rattle.std.proofs.Common.{◌≡◌, ◌∙◌, length, take, arith}
 use Rattle.peer_listing.specs.Listing.{listing_head}
-use Rattle.ns_state.specs.Recent.{newest_rows}
+use Rattle.recency_index.specs.Rows.{newest_rows}
 use Rattle.peer_rows.specs.Logged.{entry_row, live_rows}
 use Rattle.peer_rows.proofs.Listed.{rows_text}
 use Rattle.peer_rows.proofs.listing.list_newest.Goals as goal

@@ -1,8 +1,9 @@
 use Rattle.std.proofs.Common.{Bor, map, take, sym, ap, ◌∙◌, rules}
 use Rattle.std.proofs.lemmas.List.{take-map}
 use Rattle.willow_entry.specs.Row.{RowValue}
-use Rattle.ns_state.specs.Recent.{row_recency_cmp}
-use Rattle.ns_state.proofs.SortedRows.{row_total, sorted_by, sorted_newest}
+use Rattle.recency_index.specs.Rows.{row_recency_cmp}
+use Rattle.recency_index.proofs.Rows.{row_total}
+use Rattle.ns_state.proofs.SortedRows.{sorted_by, sorted_newest}
 use Rattle.ns_state.proofs.live_log.LiveLog.newest.Goals as goal
 
 pub returns : goal.returns

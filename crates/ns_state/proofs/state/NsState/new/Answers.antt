@@ -1,7 +1,8 @@
 use Rattle.std.proofs.Common.{sym, ap, ◌∙◌}
 use Rattle.willow_entry.proofs.Between.{live-empty}
 use Rattle.recency_index.specs.Recency.{newest}
-use Rattle.ns_state.specs.Recent.{items_of, recent}
+use Rattle.recency_index.specs.Rows.{items_of}
+use Rattle.ns_state.specs.Recent.{recent}
 use Rattle.ns_state.proofs.state.NsState.new.Goals as goal
 
 pub invariant_of-result : goal.invariant_of-result
