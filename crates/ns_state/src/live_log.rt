@@ -6,7 +6,7 @@ ghost use Rattle.willow_entry.specs.Row.{live, new, HasCovering, IsCoveringAt};
 ghost use Rattle.ns_state.specs.Log.{IsLog, values, plain_row};
 ghost use Rattle.ns_state.specs.Answer.{IsGrown, IsPlaced};
 
-use crate::log::{first_cover, is_cover, read_rows};
+use crate::log::{first_cover, is_cover, read_rows, rows_from};
 use crate::positions::Positions;
 use block_store::{BlockStore, Snapshot};
 use std::alloc::Global;
@@ -92,6 +92,14 @@ impl<R: Row> LiveLog<R> {
         ensures { IfOk result (λ rows. map plain_row rows.items ≡ take most (drop from self.now.log)) }
     {
         read_rows(self.allocator(), &self.log, from as usize, most as usize)
+    }
+
+    /// The rows of the log from this position on, each with the number of its pass; none from the front on. No row is
+    /// copied.
+    pub fn rows_from(&self, at: u32) -> &[LogRow<Arc<R>>]
+        ensures { map plain_row result.now ≡ drop at self.now.log }
+    {
+        rows_from(&self.log, at as usize)
     }
 
     /// The live rows of the log, by rising place.

@@ -48,7 +48,7 @@ fn share_rows<R: Row>(
 }
 
 // The rows from the position on.
-fn rows_from<R: Row>(log: &[LogRow<Arc<R>>], from: usize) -> &[LogRow<Arc<R>>]
+pub(crate) fn rows_from<R: Row>(log: &[LogRow<Arc<R>>], from: usize) -> &[LogRow<Arc<R>>]
     ensures { result.now ≡ drop from log.now }
 {
     if from < log.len() {
