@@ -1,5 +1,5 @@
 -- The steps of two seats keep the rule, split seat and join seat, and a new table meets it.
-use Rattle.std.proofs.Common.{◌≡◌, ◌≢◌, ℕ, zero, suc, ◌+◌, ◌<◌, eqb, List, [], ◌∷◌, ◌++◌, set, sym, refl, ap, ◌∙◌, subst, ⊎_elim, arith, Option, Some}
+use Rattle.std.proofs.Common.{◌≡◌, ◌≢◌, ℕ, zero, suc, ◌+◌, ◌<◌, ◌≤◌, eqb, List, [], ◌∷◌, ◌++◌, set, sym, refl, ap, ◌∙◌, subst, ⊎_elim, arith, Option, Some}
 use Rattle.std.specs.List.{AllByRecursion}
 use Rattle.std.proofs.lemmas.List.Sums.{sum_by-append}
 use Rattle.std.proofs.lemmas.Bool.{false≢true}
@@ -21,7 +21,7 @@ use Rattle.log_rule.specs.Steps.{first_view, after_making, made_view, lent_view,
 use Rattle.log_rule.proofs.Sums.{one_if, one_here, none_here, one_at_most}
 use Rattle.log_rule.proofs.Prefixes.{prefix_self}
 use Rattle.log_rule.proofs.Books.{rows_of_pass-own, rows_of_pass-none, rows_of_pass_prefix, kept_between, prefixes_of_longer, longer_prefix}
-use Rattle.log_rule.proofs.Swaps.{all_weaker, SameRoles, swaps_split, swaps_join, sum_stays, turn_stays, queue_stays, books_stay, each_set, seen_set, seen_joined}
+use Rattle.log_rule.proofs.Swaps.{all_weaker, SameRoles, swaps_split, swaps_join, sum_stays, sum_under, turn_stays, queue_stays, books_stay, each_set, seen_set, seen_joined}
 
 module _ {S R : Type 0} (content : Content S R) (IsLawful : List ℕ → List (LogRow R) → Type 0) (cell : CellFacts) where
   abbrev Table : Type 0
@@ -39,11 +39,11 @@ module _ {S R : Type 0} (content : Content S R) (IsLawful : List ℕ → List (L
       let b : one_if (p right.role) ≡ 0 = ap (λ r. one_if (p r)) idle ∙ ap one_if none in omega arith
 
   cut : (s : Table) (r : Rule s) (id made : ℕ) (view left right : View R) → get_elem? s.views id ≡ some view → left.role ≡ view.role → right.role ≡ Idle → left.seen ≡ view.seen
-      → left.parts + right.parts ≡ view.parts → 0 < left.parts → AreBooks made r.log (set s.views id left ++ right ∷ [])
+      → left.parts + right.parts ≡ view.parts → left.turns + right.turns ≤ view.turns → 0 < left.parts → AreBooks made r.log (set s.views id left ++ right ∷ [])
       → Knows cell r.served made r.log id left → ((seat : ℕ) → Knows cell r.served made r.log seat right)
       → ((seat : ℕ) (v : View R) → seat ≢ id → get_elem? s.views seat ≡ some v → Knows cell r.served made r.log seat v)
       → Rule record { words = s.words; homes = s.homes; views = set s.views id left ++ right ∷ [] }
-  cut s r id made view left right at role idle seen parts some_part books own new others =
+  cut s r id made view left right at role idle seen parts turns some_part books own new others =
       let swaps = swaps_split s.views id view left right at in
       let same = same_roles view left right role idle in
       let whole = seen_set s.views r.log id view left at some_part (λ e. seen ∙ e) r.seen in
@@ -60,6 +60,7 @@ module _ {S R : Type 0} (content : Content S R) (IsLawful : List ℕ → List (L
             (λ (h : right ≡ v). subst (Knows cell r.served made r.log seat) h (new seat)) (at_snoc (set s.views id left) right v seat there);
         seen = (whole.0, whole.1, at_longer (set s.views id left) (right ∷ []) whole.0 whole.1 whole.2, whole.3, whole.4);
         parts = sum_stays s.views (view ∷ []) (left ∷ right ∷ []) (set s.views id left ++ right ∷ []) swaps (λ (v : View R). v.parts) (omega arith) ∙ r.parts;
+        turns = sum_under s.views (view ∷ []) (left ∷ right ∷ []) (set s.views id left ++ right ∷ []) swaps (λ (v : View R). v.turns) r.served (omega arith) r.turns;
         queue = queue_stays r.next r.served s.views (view ∷ []) (left ∷ right ∷ []) (set s.views id left ++ right ∷ []) swaps same r.queue;
         books = books;
       }
@@ -92,7 +93,7 @@ module _ {S R : Type 0} (content : Content S R) (IsLawful : List ℕ → List (L
       let fresh : rows_of_pass view.made r.log ≡ [] = rows_of_pass-none view.made r.log none in
       let fresh_seen : rows_of_pass view.made view.seen ≡ [] = rows_of_pass_prefix view.made view.seen r.log k.seen fresh in
       let number : right.books ≡ (record { number = r.made; rows = [] }) ∷ [] = ap (λ n. let b : Book R = record { number = n; rows = [] } in b ∷ []) m.1 in
-      cut s r id (r.made + 1) view left right at refl refl refl (omega arith) (omega arith) (books_made r.log s.views id r.made view left right at refl number r.books)
+      cut s r id (r.made + 1) view left right at refl refl refl (omega arith) (omega arith) (omega arith) (books_made r.log s.views id r.made view left right at refl number r.books)
       (record { seen = k.seen; older = k.older; kept = k.kept; kept_seen = k.kept_seen; no_books = λ z. absurd (omega arith); queues = λ _. omega arith; cell_is = λ _. k.cell_is (omega arith); turn = k.turn; maker = λ _. (m.0, ap (λ n. n + 1) m.1) })
       (λ seat. record { seen = k.seen; older = tt; kept = (fresh, tt); kept_seen = (fresh_seen, tt); no_books = λ z. absurd (omega arith); queues = λ _. omega arith; cell_is = λ _. k.cell_is (omega arith); turn = tt; maker = λ z. absurd (omega arith) })
       (λ seat v other there. let h = r.each seat v there in record { seen = h.seen; older = h.older; kept = h.kept; kept_seen = h.kept_seen; no_books = h.no_books; queues = h.queues; cell_is = h.cell_is; turn = h.turn; maker = λ z. absurd (other ((h.maker z).0 ∙ sym m.0)) })
@@ -102,7 +103,7 @@ module _ {S R : Type 0} (content : Content S R) (IsLawful : List ℕ → List (L
       let k = r.each id view at in
       let right = lent_view view in
       let books = books_stay r.made r.log s.views (view ∷ []) (view ∷ right ∷ []) (set s.views id view ++ right ∷ []) (swaps_split s.views id view view right at) (λ n. omega arith) r.books in
-      cut s r id r.made view view right at refl refl refl (omega arith) some_part books k
+      cut s r id r.made view view right at refl refl refl (omega arith) (omega arith) some_part books k
       (λ seat. record { seen = k.seen; older = tt; kept = tt; kept_seen = tt; no_books = λ _. refl; queues = λ z. absurd (false≢true z); cell_is = λ z. absurd (omega arith); turn = tt; maker = λ z. absurd (omega arith) })
       (λ seat v _ there. r.each seat v there)
 
@@ -146,6 +147,7 @@ module _ {S R : Type 0} (content : Content S R) (IsLawful : List ℕ → List (L
             }) (λ i u _ b. r.each i u b) seat v there);
         seen = seen_joined s.views r.log id other view taken both spent at at_other apart (omega arith) fronts.0 fronts.1 fronts.2 r.seen;
         parts = sum_stays s.views (view ∷ taken ∷ []) (both ∷ spent ∷ []) (set changed other spent) swaps (λ (v : View R). v.parts) (omega arith) ∙ r.parts;
+        turns = sum_under s.views (view ∷ taken ∷ []) (both ∷ spent ∷ []) (set changed other spent) swaps (λ (v : View R). v.turns) r.served (omega arith) r.turns;
         queue = queue_stays r.next r.served s.views (view ∷ taken ∷ []) (both ∷ spent ∷ []) (set changed other spent) swaps same r.queue;
         books = books_stay r.made r.log s.views (view ∷ taken ∷ []) (both ∷ spent ∷ []) (set changed other spent) swaps numbers r.books;
       }
@@ -179,6 +181,7 @@ module _ {S R : Type 0} (content : Content S R) (IsLawful : List ℕ → List (L
     each = first_knows (content.log state) own some_pass;
     seen = (0, first_view cell (content.log state), refl, some_pass, refl);
     parts = omega arith;
+    turns = omega arith;
     queue = record { line = refl; once = λ ticket. omega arith; others = λ ticket out. refl };
     books = record {
       once = λ n. let one = one_at_most (eqb n 0) in omega arith;

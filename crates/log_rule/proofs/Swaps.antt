@@ -1,5 +1,5 @@
 -- Some views put in place of others, and what of the rule that leaves.
-use Rattle.std.proofs.Common.{◌≡◌, ◌≢◌, ℕ, ◌+◌, ◌<◌, Bool, false, List, [], ◌∷◌, ◌++◌, length, set, count_by, sum_by, sym, refl, ap, ◌∙◌, subst, ⊎_elim, arith}
+use Rattle.std.proofs.Common.{◌≡◌, ◌≢◌, ℕ, ◌+◌, ◌<◌, ◌≤◌, Bool, false, List, [], ◌∷◌, ◌++◌, length, set, count_by, sum_by, sym, refl, ap, ◌∙◌, subst, ⊎_elim, arith}
 use Rattle.std.specs.List.{AllByRecursion}
 use Rattle.std.proofs.lemmas.List.Sums.{sum_by_push}
 use mathlib.Core.List.{IsPrefix}
@@ -38,6 +38,9 @@ module _ {R : Type 0} where
 
   pub sum_stays : (views gone came after : List (View R)) → Swaps views gone came after → (f : View R → ℕ) → sum_by f gone ≡ sum_by f came → sum_by f after ≡ sum_by f views
   sum_stays views gone came after swaps f same = let h = swaps f in omega arith
+
+  pub sum_under : (views gone came after : List (View R)) → Swaps views gone came after → (f : View R → ℕ) (most : ℕ) → sum_by f came ≤ sum_by f gone → sum_by f views ≤ most → sum_by f after ≤ most
+  sum_under views gone came after swaps f most less under = let h = swaps f in omega arith
 
   -- ---- tickets
 

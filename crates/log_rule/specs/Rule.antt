@@ -83,7 +83,8 @@ module _ {S R : Type 0} (content : Content S R) (IsLawful : List ℕ → List (L
   -- The rule, of the two words, the one slot and the views of all seats: there are a log, the next ticket, the one served
   -- and a number of passes made, of which all this is so.
   -- `lawful`: the log keeps its rules, in the cell's namespace. `at_home`: where nobody has the turn, the state lies in the
-  -- slot. `parts`: there are as many parts as passes.
+  -- slot. `parts`: there are as many parts as passes. `turns`: all seats have had at most as many turns as tickets were
+  -- served; a seat that is taken in leaves its turns behind.
   pub record Ruled (cell : CellFacts) (table : State (Option S) (View R)) : Type 0 where
     pub log : List (LogRow R)
     pub next : ℕ
@@ -96,5 +97,6 @@ module _ {S R : Type 0} (content : Content S R) (IsLawful : List ℕ → List (L
     pub each : (seat : ℕ) (view : View R) → get_elem? table.views seat ≡ some view → Knows cell served made log seat view
     pub seen : IsSeen log table.views
     pub parts : sum_by (λ (view : View R). view.parts) table.views ≡ cell.passes
+    pub turns : sum_by (λ (view : View R). view.turns) table.views ≤ served
     pub queue : IsQueue next served table.views
     pub books : AreBooks made log table.views
