@@ -3,3 +3,4 @@ pub mod Turned
 pub mod NewPasses
 pub mod Joined
 pub mod Offers
+pub mod Histories

@@ -1,6 +1,6 @@
 //! What follows from the contracts of a cell's calls, each the contract of a function that does nothing.
 
-ghost use Rattle.std.specs.Prelude.{◌≡◌, ℕ, ◌+◌, ◌≤◌, ◌++◌, [], ◌∷◌, length, take, slice_get, Result, Ok, Err, Some};
+ghost use Rattle.std.specs.Prelude.{◌≡◌, ℕ, ◌+◌, ◌≤◌, ◌++◌, List, [], ◌∷◌, length, take, slice_get, Result, Ok, Err, Some};
 ghost use Rattle.spelling.specs.declared.ending.End.{End};
 ghost use Rattle.spelling.specs.declared.ending.End.TheVariants.{Refused, NoMemory};
 ghost use Rattle.willow_entry.specs.Row.{HasCovering, IsCoveringAt};
@@ -9,9 +9,12 @@ ghost use Rattle.ns_state.specs.Answer.{IsFull};
 ghost use Rattle.ns_state.specs.declared.live_log.LogFull.{LogFull};
 ghost use Rattle.ns_state.specs.declared.state.Told.{Told};
 ghost use Rattle.ns_state.specs.declared.state.Told.TheVariants.{Stored, Kept};
+ghost use Rattle.willow_entry.specs.declared.row.LogRow.{LogRow};
 ghost use Rattle.ns_cell.specs.declared.limits.TheConstants.{PASS_LIMIT};
-ghost use Rattle.ns_cell.specs.Passes.{PassValue, IsLater};
+ghost use Rattle.ns_cell.specs.Passes.{CellValue, PassValue, IsLater};
 ghost use Rattle.ns_cell.specs.Answers.{IsOffered, Call, Makes, stored_by, offered, place};
+ghost use Rattle.ns_cell.specs.Closed.{IsClosed};
+ghost use Rattle.ns_cell.specs.Histories.{Deed, Leads, HaveDone, IsJoinOfAll};
 
 use willow_entry::Row;
 
@@ -59,4 +62,17 @@ pub fn calls<R: Row>()
         → Makes R.value before call after → (after.cell ≡ before.cell) × (after.number ≡ before.number) }
     ensures own { (before after : PassValue R) (call : Call R)
         → Makes R.value before call after → after.own ≡ before.own ++ stored_by before call }
+{}
+
+/// Whatever passes do at the same time, and in whatever order their turns come: what is live of the log of a closed cell is
+/// the join of the rows that it was opened with and of every row that any pass was told Stored or Kept. `begins`, `goes_on`:
+/// what the passes did is known from the calls' contracts, one call after the other.
+pub fn all_told<R: Row>()
+    ensures join { (cell : CellValue) (opening log : List (LogRow R)) (deeds : ℕ → List (Deed R)) (passes : List (PassValue R))
+        → HaveDone R.value cell opening deeds passes → IsClosed passes log
+        → IsJoinOfAll R.value opening deeds passes log }
+    ensures begins { (pass : PassValue R) → Leads R.value pass [] pass }
+    ensures goes_on { (first last after : PassValue R) (deeds : List (Deed R)) (call : Call R)
+        → Leads R.value first deeds last → Makes R.value last call after
+        → Leads R.value first (deeds ++ record { call = call; after = after } ∷ []) after }
 {}
