@@ -1,5 +1,5 @@
 -- What a state answers to an offer is the machine's step.
-use Rattle.std.proofs.Common.{◌≡◌, ℕ, Bool, true, false, cond, nat_lt, List, [], ◌∷◌, ◌++◌, length, Option, Some, None, Result, Ok, Err, OnOk, sym, ap, ◌∙◌, lt-ltb, arith}
+use Rattle.std.proofs.Common.{◌≡◌, ℕ, Bool, true, false, cond, nat_lt, List, [], ◌∷◌, ◌++◌, length, Option, Some, None, Result, Ok, Err, OnOk, sym, ap, ◌∙◌, subst, lt-ltb, arith}
 use Rattle.std.specs.List.{list_any}
 use Rattle.std.proofs.lemmas.List.{map-append, length-map}
 use Rattle.std.proofs.lemmas.Bool.{lt-ltb, false_from_ne_true, ltb-true}
@@ -19,7 +19,7 @@ use Rattle.ns_state.specs.Log.{values, logged}
 use Rattle.ns_state.specs.Machine.{Reply, StoredAt, Covered, Full, Offer, is_covered, reply, log_after, next}
 use Rattle.ns_state.specs.Answer.{IsAnswer, IsGrown, IsOffer, IsPlaced}
 use Rattle.ns_state.proofs.NewRows.{covered_test, uncovered_test, new-with_covered}
-use Rattle.ns_state.proofs.Logs.{values_more, new_last}
+use Rattle.ns_state.proofs.Logs.{values_more, new_last, covers_last}
 
 module _ {R : Type 0} (value : R → RowValue) (log : List (LogRow R)) (offered : LogRow R) where
   seen : is_covered (logged value log) (value offered.row) ≡ list_any (λ s. is_covering s (value offered.row)) (values value log)
@@ -75,3 +75,8 @@ module _ {R : Type 0} (value : R → RowValue) (log log' : List (LogRow R)) (off
   answer_live (Ok (Stored at)) is = ap live (ap (values value) is.log_is ∙ values_more value log offered)
   answer_live (Ok (Kept at)) is = ap (λ l. live (values value l)) is.log_is ∙ sym (live-covered (values value log) (value offered.row) (covering_from_at (values value log) at (value offered.row) is.covers))
   answer_live (Err e) is = tt
+
+  pub answer_covers : (result : Result Told (End LogFull)) → IsAnswer value log offered log' result → OnOk result (HasCovering (values value log') (value offered.row))
+  answer_covers (Ok (Stored at)) is = covers_last value log log' offered is.log_is
+  answer_covers (Ok (Kept at)) is = subst (λ l. HasCovering (values value l) (value offered.row)) (sym is.log_is) (covering_from_at (values value log) at (value offered.row) is.covers)
+  answer_covers (Err e) is = tt

@@ -1,18 +1,18 @@
 //! The log of one namespace, with what is live of it by place.
 
-ghost use Rattle.std.specs.Prelude.{◌≡◌, ◌↔◌, ℕ, ◌<◌, ◌≤◌, [], ◌∷◌, ◌++◌, length, map, take, drop, slice_get, IfOk, IfSome, IfNone, IsErrOf, IsTrue, OnOk, OnErr, Some, MatchOption};
+ghost use Rattle.std.specs.Prelude.{◌≡◌, ◌↔◌, ℕ, ◌<◌, ◌≤◌, [], ◌∷◌, ◌++◌, length, map, take, drop, slice_get, IfOk, IfErr, IfSome, IfNone, IsErrOf, IsTrue, OnOk, OnErr, Some, MatchOption};
 ghost use Rattle.spelling.specs.declared.ending.End.TheVariants as ends;
 ghost use Rattle.willow_entry.specs.Row.{live, new, HasCovering, IsCoveringAt};
 ghost use Rattle.ns_state.specs.Log.{IsLog, values, plain_row};
-ghost use Rattle.ns_state.specs.Answer.{IsGrown, IsPlaced};
+ghost use Rattle.ns_state.specs.Answer.{IsGrown, IsPlaced, IsStored};
 
 use crate::log::{first_cover, is_cover, read_rows, rows_from};
 use crate::positions::Positions;
-use block_store::{BlockStore, Snapshot};
+use block_store::{BlockStore, Hint, Snapshot};
 use std::alloc::Global;
 use std::marker::Model;
 use std::sync::Arc;
-use willow_entry::{LogRow, Placed, Row};
+use willow_entry::{LogRow, Row};
 use willow_path::{End, NamespaceKey, NoMemory};
 
 /// The greatest number of rows of a log.
@@ -126,22 +126,34 @@ impl<R: Row> LiveLog<R> {
         self.store.covered_by(row).is_some()
     }
 
-    // A position of the log whose row equals or dominates the row; None exactly where there is none. The row itself is
-    // looked for first, and then the live row that covers it. Only where neither guess is right is the log walked over.
-    pub(crate) fn cover(&self, row: &R, positions: &Positions) -> Option<u32>
+    // A position of the log whose row equals or dominates the row, or, where there is none, where the row goes into the
+    // store. The row itself is looked for first, and then the live row that covers it. Only where neither guess is right is
+    // the log walked over.
+    pub(crate) fn cover(&self, row: &R, positions: &Positions) -> Result<u32, Hint>
         ensures log { IsLog R.value self.now.namespace self.now.log }
-        ensures found { IfSome result (λ at. IsCoveringAt (values R.value self.now.log) at (R.value row.now)) }
-        ensures none { IfNone result (HasCovering (values R.value self.now.log) (R.value row.now) → ⊥) }
+        ensures found { IfOk result (λ at. IsCoveringAt (values R.value self.now.log) at (R.value row.now)) }
+        ensures none { IfErr result (λ hint. HasCovering (values R.value self.now.log) (R.value row.now) → ⊥) }
     {
         if let Some(at) = self.covering_at(row, positions.of(row)) {
-            return Some(at);
+            return Ok(at);
         }
-        let by = self.store.covered_by(row)?;
+        match self.store.search(row) {
+            Ok(by) => Ok(self.cover_near(row, by, positions)),
+            Err(hint) => Err(hint),
+        }
+    }
+
+    // A position of the log whose row equals or dominates the row, where there is one. It may be that of the live row at
+    // `by`.
+    fn cover_near(&self, row: &R, by: u32, positions: &Positions) -> u32
+        requires { HasCovering (values R.value self.now.log) (R.value row.now) }
+        ensures { IsCoveringAt (values R.value self.now.log) result (R.value row.now) }
+    {
         if let Some(at) = self.covering_at(row, self.guess_of_live(by, positions)) {
-            return Some(at);
+            return at;
         }
         match first_cover(&self.log, row) {
-            Some(at) => Some(at as u32),
+            Some(at) => at as u32,
             None => unreachable!(),
         }
     }
@@ -196,7 +208,7 @@ impl<R: Row> LiveLog<R> {
     }
 
     // Adds a row to a log that has room, unless a row of the log covers it, and answers its position.
-    pub(crate) fn place(&mut self, pass: u32, row: R) -> Result<Option<u32>, NoMemory>
+    fn place(&mut self, pass: u32, row: R) -> Result<Option<u32>, NoMemory>
         requires namespace { (R.value row).entry.namespace ≡ self.old.namespace }
         requires room { length self.old.log < LOG_LIMIT }
         ensures placed { IfOk result (λ at. IsPlaced R.value self.old.log (record { pass = pass; row = row }) self.new.log at) }
@@ -204,16 +216,29 @@ impl<R: Row> LiveLog<R> {
         ensures log { IsLog R.value self.new.namespace self.new.log }
         ensures err { OnErr result (self.new ≡ self.old) }
     {
+        match self.store.search(&row) {
+            Ok(_) => Ok(None),
+            Err(hint) => Ok(Some(self.append(pass, row, hint)?)),
+        }
+    }
+
+    // Adds a row that no row of the log covers to a log that has room, and answers its position. The hint says where the
+    // store's search found that it goes in.
+    pub(crate) fn append(&mut self, pass: u32, row: R, hint: Hint) -> Result<u32, NoMemory>
+        requires namespace { (R.value row).entry.namespace ≡ self.old.namespace }
+        requires uncovered { HasCovering (values R.value self.old.log) (R.value row) → ⊥ }
+        requires room { length self.old.log < LOG_LIMIT }
+        ensures stored { IfOk result (λ at. IsStored R.value self.old.log (record { pass = pass; row = row }) at self.new.log) }
+        ensures namespace { self.new.namespace ≡ self.old.namespace }
+        ensures log { IsLog R.value self.new.namespace self.new.log }
+        ensures err { OnErr result (self.new ≡ self.old) }
+    {
         self.log.reserve(1)?;
         let held = Arc::new(*self.log.allocator(), row)?;
         let shared = held.clone()?;
-        match self.store.ingest_shared(shared)? {
-            Placed::Kept { by: _ } => Ok(None),
-            Placed::Stored { pruned: _ } => {
-                let at = self.log.len();
-                self.log.push_reserved(LogRow { pass, row: held });
-                Ok(Some(at as u32))
-            }
-        }
+        self.store.ingest_at(shared, hint)?;
+        let at = self.log.len();
+        self.log.push_reserved(LogRow { pass, row: held });
+        Ok(at as u32)
     }
 }

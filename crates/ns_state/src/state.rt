@@ -9,7 +9,7 @@ ghost use Rattle.ns_state.specs.Answer.{IsStored, IsAnswer, IsOffer};
 use crate::live_log::{LOG_LIMIT, LiveLog, LogFull};
 use crate::positions::{Positions, hash_of};
 use crate::ranking::gone_items;
-use block_store::Snapshot;
+use block_store::{Hint, Snapshot};
 use recency_index::{Ranked, Recency};
 use std::alloc::Global;
 use std::marker::Model;
@@ -103,19 +103,32 @@ impl<R: Row> NsState<R> {
         ensures covers { OnOk result (HasCovering (values R.value self.new.log) (R.value row)) }
         ensures err { OnErr result (self.new ≡ self.old) }
     {
-        if let Some(at) = self.log.cover(&row, &self.positions) {
-            return Ok(Told::Kept { at });
+        match self.log.cover(&row, &self.positions) {
+            Ok(at) => Ok(Told::Kept { at }),
+            Err(hint) => self.offer_new(pass, row, hint),
         }
+    }
+
+    // Offers a row that no row of the log covers: it is stored where the log has room.
+    fn offer_new(&mut self, pass: u32, row: R, hint: Hint) -> Result<Told, End<LogFull>>
+        requires namespace { (R.value row).entry.namespace ≡ self.old.namespace }
+        requires uncovered { HasCovering (values R.value self.old.log) (R.value row) → ⊥ }
+        ensures answer { IsAnswer R.value self.old.log (record { pass = pass; row = row }) self.new.log result }
+        ensures namespace { self.new.namespace ≡ self.old.namespace }
+        ensures log { IsLog R.value self.new.namespace self.new.log }
+        ensures err { OnErr result (self.new ≡ self.old) }
+    {
         let front = self.front();
         if front as usize >= LOG_LIMIT {
             return Err(End::Refused(LogFull { front }));
         }
-        let at = self.append(pass, row)?;
+        let at = self.append(pass, row, hint)?;
         Ok(Told::Stored { at })
     }
 
-    // Stores a row that no row of the log covers, in a log that has room, and answers its position.
-    fn append(&mut self, pass: u32, row: R) -> Result<u32, NoMemory>
+    // Stores a row that no row of the log covers, in a log that has room, and answers its position. The store is not
+    // searched again.
+    fn append(&mut self, pass: u32, row: R, hint: Hint) -> Result<u32, NoMemory>
         requires namespace { (R.value row).entry.namespace ≡ self.old.namespace }
         requires uncovered { HasCovering (values R.value self.old.log) (R.value row) → ⊥ }
         requires room { length self.old.log < LOG_LIMIT }
@@ -124,19 +137,15 @@ impl<R: Row> NsState<R> {
         ensures log { IsLog R.value self.new.namespace self.new.log }
         ensures err { OnErr result (self.new ≡ self.old) }
     {
-        let gone = gone_items(self.log.store(), &row)?;
+        let gone = gone_items(self.log.store(), &row, hint)?;
         let item = Ranked::of(row.entry())?;
         self.recency.reserve(1)?;
         self.positions.reserve()?;
         let hash = hash_of(&row);
-        match self.log.place(pass, row)? {
-            Some(at) => {
-                self.recency.replace(&gone, item);
-                self.positions.put(hash, at);
-                Ok(at)
-            }
-            None => unreachable!(),
-        }
+        let at = self.log.append(pass, row, hint)?;
+        self.recency.replace(&gone, item);
+        self.positions.put(hash, at);
+        Ok(at)
     }
 
     /// What is live of the log, by rising place.

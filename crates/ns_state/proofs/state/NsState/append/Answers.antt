@@ -43,8 +43,8 @@ replace-requires-clause-free g c =
     subst (λ l. has_at item.subspace item.path (without gone l) ≡ false) (sym c.in_ok-reserve.ensures.items)
     (place_free value inside.log.namespace inside.log.log store inside.recency.items (c.store.ensures.log, c.store.ensures.live, c.self.invariant) r here uncovered gone gone_is item item_is)
 
-pub invariant_of-self-in-Some : goal.invariant_of-self-in-Some
-invariant_of-self-in-Some g c =
+pub invariant_of-self-2 : goal.invariant_of-self-2
+invariant_of-self-2 g c =
     let value = g.R.Row.value in
     let inside = c.self.inside in
     let r = value c.args.row in
@@ -55,7 +55,7 @@ invariant_of-self-in-Some g c =
     let item_is : item ≡ ranked_of r.entry = c.in_ok-item.ensures ∙ ap ranked_of c.entry.ensures.entry in
     let here : r.entry.namespace ≡ inside.log.namespace = c.requires.namespace ∙ sym (ap (λ s. s.namespace) c.self.view_is) in
     let uncovered = subst (λ l. HasCovering (values value l) r → ⊥) (sym (ap (λ s. s.log) c.self.view_is)) c.requires.uncovered in
-    let stored = rw c.in-Some.is at c.in_ok-at.ensures.placed in
+    let stored = c.in_ok-at.ensures.stored in
     c.replace.ensures.items ∙ ap (λ l. newest (item ∷ without gone l)) c.in_ok-reserve.ensures.items
     ∙ recent_more value inside.log.namespace inside.log.log store inside.recency.items (c.store.ensures.log, c.store.ensures.live, c.self.invariant) r here uncovered gone gone_is item item_is
-    c.place.new.self.log (record { pass = c.args.pass; row = c.args.row }) refl stored.log_is
+    c.append.new.self.log (record { pass = c.args.pass; row = c.args.row }) refl stored.log_is
