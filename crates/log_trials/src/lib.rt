@@ -14,3 +14,5 @@ mod recent;
 mod slots;
 #[cfg(test)]
 mod states;
+#[cfg(test)]
+mod walks;

@@ -47,7 +47,7 @@ fn entry(alloc: Global, spot: Spot) -> Option<Entry> {
 }
 
 // Puts the item of an entry in, in place of one at its path.
-fn put(index: &mut Recency, entry: &Entry) -> Result<(), NoMemory>
+pub(crate) fn put(index: &mut Recency, entry: &Entry) -> Result<(), NoMemory>
     ensures { OnOk result (index.new.items ≡ newest (ranked_of entry.now ∷ without_at entry.now.subspace entry.now.path index.old.items)) }
 {
     index.remove(&entry.subspace, &entry.path)?;

@@ -3,8 +3,9 @@
 use crate::keys::{entry_at, namespace, number_path, path_of, place};
 use ns_state::{LiveLog, LogFull, NsState, Told};
 use std::alloc::Global;
+use std::sync::Arc;
 use std::test::*;
-use willow_entry::{BareRow, Row, SharedRow, same};
+use willow_entry::{BareRow, LogRow, Row, SharedRow, same};
 use willow_path::{End, Path};
 
 // Rows offered one after the other: the pass, the one-byte components of the path, the timestamp, and what becomes of it.
@@ -191,6 +192,33 @@ fn tells_newest(alloc: Global, log: &mut LiveLog<BareRow>) -> Option<bool> {
 // The same of a new log.
 fn new_log_tells_newest(alloc: Global) -> Option<bool> {
     tells_newest(alloc, &mut LiveLog::new(alloc, namespace()?))
+}
+
+// The rows of a log from a position on: how many, and the times of the first and the last of them.
+fn rest(log: &LiveLog<BareRow>, at: u32) -> (usize, Option<u64>, Option<u64>) {
+    let rows = log.rows_from(at);
+    let time = |held: &LogRow<Arc<BareRow>>| held.row.entry().timestamp;
+    (rows.len(), rows.first().map(time), rows.last().map(time))
+}
+
+// What is left from the beginning, from the last row, from the end and behind it, once the rows are written.
+type Rest = [(usize, Option<u64>, Option<u64>); 4];
+
+fn rests(alloc: Global, log: &mut LiveLog<BareRow>) -> Option<Rest> {
+    write(alloc, log)?;
+    Some([rest(log, 0), rest(log, 4), rest(log, 5), rest(log, 9)])
+}
+
+// The same of a new log.
+fn new_log_rests(alloc: Global) -> Option<Rest> {
+    rests(alloc, &mut LiveLog::new(alloc, namespace()?))
+}
+
+#[test]
+fn the_rest_of_a_log(rt: HostRuntime) {
+    let none = (0, None, None);
+    let wanted = [(5, Some(8), Some(7)), (1, Some(7), Some(7)), none, none];
+    assert!(rt; new_log_rests(rt.alloc()) == Some(wanted));
 }
 
 #[test]
