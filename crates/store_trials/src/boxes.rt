@@ -98,6 +98,30 @@ pub(crate) fn found(alloc: Global, place: &Place) -> Option<(u32, [Option<u32>; 
     found_in(snapshot(alloc).as_ref(), place_box(alloc, place).as_ref())
 }
 
+// Whether a walk over those of some rows that the box includes tells just these positions, where both could be made.
+fn walk_tells(
+    rows: Option<&Snapshot<BareRow>>,
+    area: Option<&Box3>,
+    wanted: &[Option<u32>; 5],
+) -> Option<bool> {
+    let walked = rows?.positions_in(area?).ok()?;
+    for at in 0..5usize {
+        if walked.get(at).copied() != wanted[at] {
+            return Some(false);
+        }
+    }
+    Some(true)
+}
+
+// The same of the four rows and the box of an area.
+pub(crate) fn is_walked(alloc: Global, place: &Place, wanted: &[Option<u32>; 5]) -> Option<bool> {
+    walk_tells(
+        snapshot(alloc).as_ref(),
+        place_box(alloc, place).as_ref(),
+        wanted,
+    )
+}
+
 // The fingerprint of those of some rows that the box includes, where both could be made.
 fn fingerprint_in<L: Ledger>(
     rows: Option<&Snapshot<BareRow>>,
@@ -141,4 +165,25 @@ fn shared_of(rows: &Snapshot<BareRow>) -> Option<u32> {
 // The same of the four rows.
 pub(crate) fn shared(alloc: Global) -> Option<u32> {
     shared_of(&snapshot(alloc)?)
+}
+
+// Whether a snapshot shares the row at this position.
+fn shares_row(rows: &Snapshot<BareRow>, at: u32) -> Option<bool> {
+    let shared = rows.shared(at).ok()?;
+    Some(same(rows.get(at)?, &*shared?))
+}
+
+// Whether a snapshot shares the row at each position, and none behind them.
+fn shares_each(rows: &Snapshot<BareRow>) -> Option<bool> {
+    for at in 0..rows.len() {
+        if !shares_row(rows, at)? {
+            return Some(false);
+        }
+    }
+    Some(rows.shared(rows.len()).ok()?.is_none())
+}
+
+// The same of the four rows.
+pub(crate) fn rows_are_shared(alloc: Global) -> Option<bool> {
+    shares_each(&snapshot(alloc)?)
 }

@@ -1,9 +1,10 @@
 //! Lists of rows that look random, and what both stores make of them.
 
-use crate::rows::{Rank, offer, offer_flat, path_of, path_of_bytes, row_of};
+use crate::rows::{Rank, offer, offer_flat, offer_searched, path_of, path_of_bytes, row_of};
 use block_store::BlockStore;
 use flat_store::FlatStore;
 use std::alloc::Global;
+use std::sync::Arc;
 use willow_entry::{BareRow, Placed, same};
 use willow_path::Path;
 
@@ -126,6 +127,20 @@ fn counted(outcome: Outcome, answer: Placed) -> Outcome {
     outcome
 }
 
+// What the store of shared rows answers of a row: every other one it searches for first.
+fn offer_to(
+    alloc: Global,
+    shared: &mut BlockStore<BareRow>,
+    row: BareRow,
+    number: u64,
+) -> Option<Placed> {
+    if number % 2 == 0 {
+        offer(shared, row)
+    } else {
+        offer_searched(shared, Arc::new(alloc, row).ok()?)
+    }
+}
+
 // What both stores answer of the row that a number tells, where they agree.
 fn offer_both(
     alloc: Global,
@@ -135,7 +150,7 @@ fn offer_both(
     number: u64,
 ) -> Option<Placed> {
     let placed = offer_flat(flat, list.row(alloc, number)?)?;
-    let other = offer(shared, list.row(alloc, number)?)?;
+    let other = offer_to(alloc, shared, list.row(alloc, number)?, number)?;
     (placed == other).then_some(placed)
 }
 

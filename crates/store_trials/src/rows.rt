@@ -3,6 +3,7 @@
 use block_store::BlockStore;
 use flat_store::FlatStore;
 use std::alloc::Global;
+use std::sync::Arc;
 use willow_entry::{BareRow, Entry, Placed, Row};
 use willow_path::{Digest, NamespaceKey, Path, UserKey};
 
@@ -74,6 +75,21 @@ pub(crate) fn offer_flat<R: Row>(store: &mut FlatStore<R>, row: R) -> Option<Pla
         return None;
     }
     store.ingest(row).ok()
+}
+
+// What the store of shared rows answers of a shared row, where it is searched first, and then not again.
+pub(crate) fn offer_searched<R: Row>(store: &mut BlockStore<R>, row: Arc<R>) -> Option<Placed> {
+    if store.is_full() {
+        return None;
+    }
+    match store.search(&*row) {
+        Ok(by) => Some(Placed::Kept { by }),
+        Err(hint) => {
+            let gone = store.pruned_at(&*row, hint).ok()?;
+            let pruned = store.ingest_at(row, hint).ok()?;
+            (gone.len() == pruned as usize).then_some(Placed::Stored { pruned })
+        }
+    }
 }
 
 // What the store of shared rows answers of a row.

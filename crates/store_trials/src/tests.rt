@@ -1,7 +1,7 @@
 //! Tables of what the stores answer.
 
 use crate::blocks::{Counts, calls_of_thousand, pruned_below};
-use crate::boxes::{Place, fingerprint, found, shared};
+use crate::boxes::{Place, fingerprint, found, is_walked, rows_are_shared, shared};
 use crate::lists::{List, Outcome, outcome_in_both};
 use crate::pairs::{Made, offer_both};
 use block_store::laws::numbering;
@@ -167,7 +167,7 @@ fn rows_are_shared_and_read_by_block(rt: HostRuntime) {
 }
 
 // An area, how many of the four rows are in its box, and their positions.
-static BOXES: [(Place<'static>, u32, [Option<u32>; 5]); 7] = [
+static BOXES: [(Place<'static>, u32, [Option<u32>; 5]); 9] = [
     (
         (None, b"", 0, None),
         4,
@@ -199,6 +199,9 @@ static BOXES: [(Place<'static>, u32, [Option<u32>; 5]); 7] = [
         [Some(2), Some(3), None, None, None],
     ),
     ((Some(2), b"b", 0, None), 0, [None; 5]),
+    // before and behind all times of the rows
+    ((None, b"", 0, Some(5)), 0, [None; 5]),
+    ((None, b"", 8, None), 0, [None; 5]),
 ];
 
 #[test]
@@ -210,13 +213,26 @@ fn rows_in_boxes(rt: HostRuntime) {
 }
 
 #[test]
+fn walks_over_boxes(rt: HostRuntime) {
+    let alloc = rt.alloc();
+    for (place, _count, positions) in &BOXES {
+        assert!(rt; is_walked(alloc, place, positions) == Some(true));
+    }
+}
+
+#[test]
+fn rows_of_snapshots_are_shared(rt: HostRuntime) {
+    assert!(rt; rows_are_shared(rt.alloc()) == Some(true));
+}
+
+#[test]
 fn snapshots_are_shared(rt: HostRuntime) {
     assert!(rt; shared(rt.alloc()) == Some(4));
 }
 
 // An area, and the fingerprint of those of the four rows that are in its box, made by another program. The last
-// is the digest of forty zero bytes.
-static FINGERPRINTS: [(Place<'static>, &str); 5] = [
+// two are the digest of forty zero bytes.
+static FINGERPRINTS: [(Place<'static>, &str); 6] = [
     (
         (None, b"", 0, None),
         "258c823c59a9fed80ccb91ccb677d4822471b711883d7840ef6bbcd3b052641c",
@@ -232,6 +248,10 @@ static FINGERPRINTS: [(Place<'static>, &str); 5] = [
     (
         (None, b"", 6, None),
         "c8cc0c1580abe05a6f29efd4ec31cbdbd6599859ea88b0df43547e0e28eea9a8",
+    ),
+    (
+        (None, b"", 8, None),
+        "2c34ce1df23b838c5abf2a7f6437cca3d3067ed509ff25f11df6b11b582b51eb",
     ),
     (
         (Some(2), b"b", 0, None),
