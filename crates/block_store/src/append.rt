@@ -64,16 +64,16 @@ fn joined<R: Row>(front: &Piece<R>, behind: &Piece<R>) -> Result<Piece<R>, NoMem
     piece_of(rows)
 }
 
-// Adds a block, joined with the last one where both fit into one block.
-pub(crate) fn append<R: Row>(fresh: &mut Vec<Piece<R>>, piece: Piece<R>) -> Result<(), NoMemory>
-    ensures values { OnOk result (block_values R.value fresh.new.items ≡ block_values R.value fresh.old.items ++ values_of R.value piece.block.value.rows.items) }
-    ensures grown { OnOk result (IsGrown fresh.old.items fresh.new.items) }
+// Adds the last block and one behind it, joined where both fit into one block.
+fn append_both<R: Row>(
+    fresh: &mut Vec<Piece<R>>,
+    last: Piece<R>,
+    piece: Piece<R>,
+) -> Result<(), NoMemory>
+    ensures values { OnOk result (block_values R.value fresh.new.items ≡ block_values R.value (fresh.old.items ++ last ∷ []) ++ values_of R.value piece.block.value.rows.items) }
+    ensures grown { OnOk result (IsGrown (fresh.old.items ++ last ∷ []) fresh.new.items) }
     ensures last { OnOk result (length piece.block.value.rows.items ≤ last_size fresh.new.items) }
 {
-    let Some(last) = fresh.pop() else {
-        fresh.push(piece)?;
-        return Ok(());
-    };
     if last.len + piece.len <= BLOCK_ROWS as u32 {
         fresh.push(joined(&last, &piece)?)?;
     } else {
@@ -81,6 +81,21 @@ pub(crate) fn append<R: Row>(fresh: &mut Vec<Piece<R>>, piece: Piece<R>) -> Resu
         fresh.push(piece)?;
     }
     Ok(())
+}
+
+// Adds a block, joined with the last one where both fit into one block.
+pub(crate) fn append<R: Row>(fresh: &mut Vec<Piece<R>>, piece: Piece<R>) -> Result<(), NoMemory>
+    ensures values { OnOk result (block_values R.value fresh.new.items ≡ block_values R.value fresh.old.items ++ values_of R.value piece.block.value.rows.items) }
+    ensures grown { OnOk result (IsGrown fresh.old.items fresh.new.items) }
+    ensures last { OnOk result (length piece.block.value.rows.items ≤ last_size fresh.new.items) }
+{
+    match fresh.pop() {
+        Some(last) => append_both(fresh, last, piece),
+        None => {
+            fresh.push(piece)?;
+            Ok(())
+        }
+    }
 }
 
 // Adds a block that stays as it is.

@@ -5,6 +5,7 @@ ghost use Rattle.willow_entry.specs.Pruning.{IsPlace};
 ghost use Rattle.willow_entry.specs.Row.{RowValue, AreLive, IsRising, HasCovering, is_dominating, left_of, place_cmp, live};
 ghost use Rattle.block_store.specs.Blocks.{block_rows, block_values, index_of, size_at, IsSpot};
 ghost use Rattle.block_store.specs.Packing.{IsPacked};
+ghost use Rattle.block_store.specs.Held.{values_of};
 
 use crate::append::piece_of;
 use crate::block::{BLOCK_ROWS, Piece};
@@ -13,6 +14,7 @@ use crate::place::run_end;
 use crate::renew::{renewed, replace};
 use crate::spot::Spot;
 use crate::thin::pruned_in;
+use std::alloc::Global;
 use std::sync::Arc;
 use willow_entry::Row;
 use willow_path::NoMemory;
@@ -101,6 +103,15 @@ fn rebuild<R: Row>(
     replace(pieces, at.block.saturating_sub(1), upto, fresh)
 }
 
+// The block of one row.
+fn alone<R: Row>(alloc: Global, held: Arc<R>) -> Result<Piece<R>, NoMemory>
+    ensures { IfOk result (λ piece. values_of R.value piece.block.value.rows.items ≡ R.value held.value ∷ []) }
+{
+    let mut rows = Vec::with_capacity(alloc, BLOCK_ROWS)?;
+    rows.push(held)?;
+    piece_of(rows)
+}
+
 // The first block of a store.
 fn begin<R: Row>(pieces: &mut Vec<Piece<R>>, held: Arc<R>) -> Result<(), NoMemory>
     requires { vec_len pieces.old ≡ 0 }
@@ -108,9 +119,8 @@ fn begin<R: Row>(pieces: &mut Vec<Piece<R>>, held: Arc<R>) -> Result<(), NoMemor
     ensures packed { IsPacked pieces.old.items → IsPacked pieces.new.items }
     ensures err { OnErr result (pieces.new.items ≡ pieces.old.items) }
 {
-    let mut rows = Vec::with_capacity(*pieces.allocator(), BLOCK_ROWS)?;
-    rows.push(held)?;
-    pieces.push(piece_of(rows)?)?;
+    let piece = alone(*pieces.allocator(), held)?;
+    pieces.push(piece)?;
     Ok(())
 }
 

@@ -12,6 +12,7 @@ use crate::append::{add_row, add_rows, append, append_shared, piece_of, share};
 use crate::block::{BLOCK_ROWS, Piece};
 use crate::spot::Spot;
 use crate::thin::{add_left, add_thinned};
+use std::alloc::Global;
 use std::sync::Arc;
 use willow_entry::Row;
 use willow_path::NoMemory;
@@ -31,6 +32,19 @@ fn begun<R: Row>(pieces: &[Piece<R>], at: usize) -> Result<Vec<Piece<R>>, NoMemo
     Ok(fresh)
 }
 
+// Adds the rows in two blocks.
+fn add_halves<R: Row>(fresh: &mut Vec<Piece<R>>, rows: Vec<Arc<R>>) -> Result<(), NoMemory>
+    requires some { 32 < vec_len rows }
+    requires few { vec_len rows ≤ 65 }
+    ensures values { OnOk result (block_values R.value fresh.new.items ≡ block_values R.value fresh.old.items ++ values_of R.value rows.items) }
+    ensures grown { OnOk result (IsGrown fresh.old.items fresh.new.items) }
+{
+    let mut front = rows;
+    let behind = front.split_off(BLOCK_ROWS / 2)?;
+    append(fresh, piece_of(front)?)?;
+    append(fresh, piece_of(behind)?)
+}
+
 // Adds the rows in one block, or where they are too many in two.
 fn add_split<R: Row>(fresh: &mut Vec<Piece<R>>, rows: Vec<Arc<R>>) -> Result<(), NoMemory>
     requires some { 0 < vec_len rows }
@@ -38,13 +52,30 @@ fn add_split<R: Row>(fresh: &mut Vec<Piece<R>>, rows: Vec<Arc<R>>) -> Result<(),
     ensures values { OnOk result (block_values R.value fresh.new.items ≡ block_values R.value fresh.old.items ++ values_of R.value rows.items) }
     ensures grown { OnOk result (IsGrown fresh.old.items fresh.new.items) }
 {
-    let mut front = rows;
-    if front.len() > BLOCK_ROWS {
-        let behind = front.split_off(BLOCK_ROWS / 2)?;
-        append(fresh, piece_of(front)?)?;
-        return append(fresh, piece_of(behind)?);
+    if rows.len() > BLOCK_ROWS {
+        return add_halves(fresh, rows);
     }
-    append(fresh, piece_of(front)?)
+    append(fresh, piece_of(rows)?)
+}
+
+// Rows with one more, but for those behind it that it dominates.
+fn entered_rows<R: Row>(
+    alloc: Global,
+    rows: &[Arc<R>],
+    at: usize,
+    held: &Arc<R>,
+) -> Result<Vec<Arc<R>>, NoMemory>
+    requires { at ≤ length rows.now }
+    ensures rows { IfOk result (λ all. values_of R.value all.items ≡ entered (R.value held.now.value) at (values_of R.value rows.now)) }
+    ensures some { IfOk result (λ all. 0 < vec_len all) }
+    ensures few { IfOk result (λ all. vec_len all ≤ length rows.now + 1) }
+{
+    let mut all = Vec::with_capacity(alloc, BLOCK_ROWS)?;
+    let (front, behind) = rows.split_at(at);
+    add_rows(&mut all, front)?;
+    add_row(&mut all, held)?;
+    add_left(&mut all, behind, &**held)?;
+    Ok(all)
 }
 
 // Adds the rows of a block with one more, but for those behind it that it dominates.
@@ -58,11 +89,7 @@ fn add_entered<R: Row>(
     ensures grown { OnOk result (IsGrown fresh.old.items fresh.new.items) }
     ensures values { OnOk result (block_values R.value fresh.new.items ≡ block_values R.value fresh.old.items ++ entered (R.value held.now.value) at (values_of R.value piece.now.block.value.rows.items)) }
 {
-    let mut rows = Vec::with_capacity(*fresh.allocator(), BLOCK_ROWS)?;
-    let (front, behind) = piece.block.rows.split_at(at);
-    add_rows(&mut rows, front)?;
-    add_row(&mut rows, held)?;
-    add_left(&mut rows, behind, &**held)?;
+    let rows = entered_rows(*fresh.allocator(), &piece.block.rows, at, held)?;
     add_split(fresh, rows)
 }
 

@@ -8,6 +8,7 @@ ghost use Rattle.block_store.specs.Held.{values_of};
 
 use crate::append::{add_row, append, append_shared, piece_of};
 use crate::block::{BLOCK_ROWS, Block, Piece};
+use std::alloc::Global;
 use std::sync::Arc;
 use willow_entry::{Row, dominates};
 use willow_path::NoMemory;
@@ -90,6 +91,28 @@ pub(crate) fn add_left<R: Row>(
     Ok(())
 }
 
+// The rows of a block that the row does not dominate.
+fn left_rows<R: Row>(alloc: Global, rows: &[Arc<R>], row: &R) -> Result<Vec<Arc<R>>, NoMemory>
+    ensures rows { IfOk result (λ kept. values_of R.value kept.items ≡ left_of (R.value row.now) (values_of R.value rows.now)) }
+    ensures few { IfOk result (λ kept. vec_len kept ≤ length rows.now) }
+{
+    let mut kept = Vec::with_capacity(alloc, BLOCK_ROWS)?;
+    add_left(&mut kept, rows, row)?;
+    Ok(kept)
+}
+
+// Adds the rows in one block, where there are any.
+fn append_rows<R: Row>(fresh: &mut Vec<Piece<R>>, rows: Vec<Arc<R>>) -> Result<(), NoMemory>
+    requires { vec_len rows ≤ 64 }
+    ensures values { OnOk result (block_values R.value fresh.new.items ≡ block_values R.value fresh.old.items ++ values_of R.value rows.items) }
+    ensures grown { OnOk result (IsGrown fresh.old.items fresh.new.items) }
+{
+    if rows.len() == 0 {
+        return Ok(());
+    }
+    append(fresh, piece_of(rows)?)
+}
+
 // Adds what the row leaves of a block: the block itself where it leaves all of it.
 fn thin<R: Row>(fresh: &mut Vec<Piece<R>>, piece: &Piece<R>, row: &R) -> Result<(), NoMemory>
     ensures values { OnOk result (block_values R.value fresh.new.items ≡ block_values R.value fresh.old.items ++ left_of (R.value row.now) (values_of R.value piece.now.block.value.rows.items)) }
@@ -98,12 +121,8 @@ fn thin<R: Row>(fresh: &mut Vec<Piece<R>>, piece: &Piece<R>, row: &R) -> Result<
     if pruned_of(&*piece.block, row) == 0 {
         return append_shared(fresh, piece);
     }
-    let mut kept = Vec::with_capacity(*fresh.allocator(), BLOCK_ROWS)?;
-    add_left(&mut kept, &piece.block.rows, row)?;
-    if kept.len() > 0 {
-        append(fresh, piece_of(kept)?)?;
-    }
-    Ok(())
+    let kept = left_rows(*fresh.allocator(), &piece.block.rows, row)?;
+    append_rows(fresh, kept)
 }
 
 // Adds what the row leaves of the blocks.
