@@ -68,7 +68,7 @@ impl<R: Row> Snapshot<R> {
         self.listing.get(at)
     }
 
-    /// The same row as the store shares it, which is not copied.
+    /// The row at this position, counted from 0, shared once more: it is not copied. None exactly from the length on.
     pub fn shared(&self, at: u32) -> Result<Option<Arc<R>>, NoMemory>
         ensures row { IfOk result (λ found. MatchOption found (length self.now ≤ at) (λ row. slice_get self.now at ≡ Some row.value)) }
         ensures live { AreLive (map R.value self.now) }
