@@ -33,9 +33,9 @@ module _ (IsRow : RowValue → Type 0) (fit : (r : RowValue) → IsRow r → IsE
   unfolding row_body
   row_asks r fits = whole_asks (row_body r) r.entry r.token (entry-reads.again r.entry r.token (fit r fits))
 
-  -- where a row was read, the bytes asked
-  pub read_asks : (bytes body behind : List ℕ) (r : RowValue) → IsSplit bytes body behind → ReadsBody IsRow body (Some r) → PieceAsks bytes
-  read_asks bytes body behind r s read = split_asks bytes body behind s (subst EntryAsks (sym read.1) (row_asks r read.0))
+  -- where a row was read, its body asked
+  pub read_asks : (body : List ℕ) (r : RowValue) → ReadsBody IsRow body (Some r) → EntryAsks body
+  read_asks body r read = subst EntryAsks (sym read.1) (row_asks r read.0)
 
   -- a row's frame in front asked
   framed_asks : (r : RowValue) (rest : List ℕ) → IsStreamRow IsRow r → PieceAsks (row_frame r ++ rest)

@@ -15,7 +15,7 @@ use Rattle.row_stream.specs.declared.refusal.StreamRefusal.{StreamRefusal}
 use Rattle.row_stream.specs.declared.refusal.StreamRefusal.TheVariants.{BadFrame, FrameTooLong}
 use Rattle.row_stream.specs.Places.{IsTooLong}
 use Rattle.row_stream.specs.Streams.{frames_of, IsStream, GoesWrong}
-use Rattle.row_stream.specs.Steps.{Adds, ReadsOn, ReadsRow, IsSplit, Splits, IsCompleted}
+use Rattle.row_stream.specs.Steps.{Adds, GivesNoRow, ReadsFrames, IsSplit, Splits, IsCompleted}
 use Rattle.row_stream.proofs.Frames.{row_split, row_framed, split_long, body_long}
 use Rattle.row_stream.proofs.Passing.{nothing_passed, bad_here, too_long_here}
 use Rattle.row_stream.proofs.Longer.{wrong_more, stream_on, frames_longer}
@@ -44,12 +44,13 @@ module _ {R : Type 0} (IsRow : RowValue → Type 0) (value : R → RowValue) (fr
         (wrong_more IsRow from filled rest refusal (bad_here IsRow value from filled [] [] from filled (nothing_passed IsRow value from filled []) body behind refusal s none told))
 
     -- the body is no row's, and that is handed on
-    pub bad_on : (left : List ℕ) (e : End StreamRefusal) (result : Result (Vec R × ℕ) (End StreamRefusal)) → ReadsRow IsRow value from body (Err e) → IsErrAnd result (λ d. d ≡ e) → ReadsOn IsRow value from (begun ++ piece) [] left result
-    bad_on left e result read err =
+    pub bad_on : (rows : List R) (left : List ℕ) (e : End StreamRefusal) (result : Result ℕ (End StreamRefusal)) → GivesNoRow IsRow from body e → IsErrAnd result (λ d. d ≡ e)
+        → ReadsFrames IsRow value (λ n. n) (λ n. left) from (begun ++ piece) [] rows result
+    bad_on rows left e result read err =
         let p = err_from_is_err_and result err in
-        subst (λ (r : Result (Vec R × ℕ) (End StreamRefusal)). ReadsOn IsRow value from (begun ++ piece) [] left r) (ap (λ (d : End StreamRefusal). Err d) (sym p.2) ∙ sym p.1) (told e read)
+        subst (λ (r : Result ℕ (End StreamRefusal)). ReadsFrames IsRow value (λ n. n) (λ n. left) from (begun ++ piece) [] rows r) (ap (λ (d : End StreamRefusal). Err d) (sym p.2) ∙ sym p.1) (told e read)
       where
-        told : (d : End StreamRefusal) → ReadsRow IsRow value from body (Err d) → ReadsOn IsRow value from (begun ++ piece) [] left (Err d)
+        told : (d : End StreamRefusal) → GivesNoRow IsRow from body d → ReadsFrames IsRow value (λ n. n) (λ n. left) from (begun ++ piece) [] rows (Err d)
         told (Refused refusal) h = bad refusal h.0 h.1
         told NoMemory h = tt
 
@@ -83,8 +84,8 @@ module _ {R : Type 0} (IsRow : RowValue → Type 0) (value : R → RowValue) (fr
         place = a.place ∙ ap (λ (n : ℕ). n + length (frames_of (map value a.more))) (is ∙ behind_is) ∙ frames_longer IsRow from filled (value row ∷ []) [] one_row (map value a.more);
       }
 
-      pub goes_on : (at : ℕ) (earlier : List R) (left : List ℕ) (result : Result (Vec R × ℕ) (End StreamRefusal)) → earlier ≡ row ∷ [] → at ≡ from + length filled
-          → ReadsOn IsRow value at rest earlier left result → ReadsOn IsRow value from (begun ++ piece) [] left result
-      goes_on at earlier left (Ok x) one is h = more_added at earlier x.0.items x.1 left one is h
-      goes_on at earlier left (Err (Refused refusal)) one is h = record { rows = value row ∷ h.rows; left = h.left; stream = joined h.rows h.left (Some refusal) at is h.stream }
-      goes_on at earlier left (Err NoMemory) one is h = tt
+      pub goes_on : (at : ℕ) (earlier rows : List R) (left : List ℕ) (result : Result ℕ (End StreamRefusal)) → earlier ≡ row ∷ [] → at ≡ from + length filled
+          → ReadsFrames IsRow value (λ n. n) (λ n. left) at rest earlier rows result → ReadsFrames IsRow value (λ n. n) (λ n. left) from (begun ++ piece) [] rows result
+      goes_on at earlier rows left (Ok here) one is h = more_added at earlier rows here left one is h
+      goes_on at earlier rows left (Err (Refused refusal)) one is h = record { rows = value row ∷ h.rows; left = h.left; stream = joined h.rows h.left (Some refusal) at is h.stream }
+      goes_on at earlier rows left (Err NoMemory) one is h = tt

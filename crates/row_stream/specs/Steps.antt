@@ -1,5 +1,5 @@
 -- The steps of reading a piece: a frame is split from the front, its row is read, and the next frame stands behind it.
-use Rattle.std.specs.Prelude.{◌≡◌, ℕ, ◌+◌, ◌<◌, ◌≤◌, List, ◌++◌, length, map, Option, Some, None, Result, Ok, Err}
+use Rattle.std.specs.Prelude.{◌≡◌, ℕ, ◌+◌, ◌<◌, ◌≤◌, List, [], ◌∷◌, ◌++◌, length, map, Option, Some, None, Result, Ok, Err}
 use Rattle.std.specs.Global.{Vec}
 use Rattle.std.specs.Int.{w32, to_be_bytes}
 use Rattle.spelling.specs.Spelling.{text_spelling}
@@ -30,11 +30,26 @@ Splits body behind bytes (Err unread.Part) = IsUnfinished bytes
 Splits body behind bytes (Err unread.Wrong) = IsTooLong bytes
 Splits body behind bytes (Err unread.NoMemory) = ⊥
 
--- the row of a body, or that it is none's, which is told at the frame's offset
+-- why a body gives no row: it is none's, which is told at the frame's offset
+abbrev pub GivesNoRow : (RowValue → Type 0) → ℕ → List ℕ → End StreamRefusal → Type 0
+GivesNoRow IsRow here body (Refused refusal) = ReadsBody IsRow body None × (refusal ≡ BadFrame here)
+GivesNoRow IsRow here body NoMemory = Unit {0}
+
+-- the row of a body, or why there is none
 abbrev pub ReadsRow : {R : Type 0} → (RowValue → Type 0) → (R → RowValue) → ℕ → List ℕ → Result R (End StreamRefusal) → Type 0
 ReadsRow IsRow value here body (Ok row) = ReadsBody IsRow body (Some (value row))
-ReadsRow IsRow value here body (Err (Refused refusal)) = ReadsBody IsRow body None × (refusal ≡ BadFrame here)
-ReadsRow IsRow value here body (Err NoMemory) = Unit {0}
+ReadsRow IsRow value here body (Err end) = GivesNoRow IsRow here body end
+
+-- the row of a body was added to the earlier ones
+pub record AddsOne {R : Type 0} (IsRow : RowValue → Type 0) (value : R → RowValue) (body : List ℕ) (earlier rows : List R) : Type 0 where
+  pub row : R
+  pub added : rows ≡ earlier ++ row ∷ []
+  pub reads : ReadsBody IsRow body (Some (value row))
+
+-- the same, or why there is none
+abbrev pub AddsRow : {R A : Type 0} → (RowValue → Type 0) → (R → RowValue) → ℕ → List ℕ → List R → List R → Result A (End StreamRefusal) → Type 0
+AddsRow IsRow value here body earlier rows (Ok done) = AddsOne IsRow value body earlier rows
+AddsRow IsRow value here body earlier rows (Err end) = GivesNoRow IsRow here body end
 
 -- further rows were added to the earlier ones: those of all whole frames
 pub record Adds {R : Type 0} (IsRow : RowValue → Type 0) (value : R → RowValue) (from : ℕ) (bytes : List ℕ) (earlier rows : List R) (here : ℕ) (left : List ℕ) : Type 0 where

@@ -5,7 +5,7 @@ ghost use Rattle.spelling.specs.declared.ending.End.TheVariants as ends;
 ghost use Rattle.willow_entry.specs.EntryForm.{EntryAsks};
 ghost use Rattle.row_stream.specs.Memory.{PieceAsks};
 ghost use Rattle.row_stream.specs.Places.{IsUnfinished};
-ghost use Rattle.row_stream.specs.Steps.{ReadsFrames, ReadsOn, ReadsRow};
+ghost use Rattle.row_stream.specs.Steps.{AddsRow, ReadsFrames, ReadsOn, ReadsRow};
 
 use crate::begun::{begin_with, complete};
 use crate::frame::{FIELD, split_frame};
@@ -30,17 +30,36 @@ pub(crate) fn read_piece<F: RowForm>(
     ensures asked { IsErrOf result ends.NoMemory → begun.old.items ≡ [] → PieceAsks piece.now }
 {
     let mut rows = Vec::new(alloc);
+    let here = read_into::<F>(alloc, at, begun, piece, &mut rows)?;
+    Ok((rows, here))
+}
+
+// The same over rows of the caller, which are none yet; answers the offset behind the frames.
+fn read_into<F: RowForm>(
+    alloc: Global,
+    at: u64,
+    begun: &mut Vec<u8>,
+    piece: &[u8],
+    rows: &mut Vec<F::R>,
+) -> Result<u64, End<StreamRefusal>>
+    requires unfinished { IsUnfinished begun.old.items }
+    requires few { at + length begun.old.items + length piece.now < 2 ^ 64 }
+    requires none { rows.old.items ≡ [] }
+    ensures reads { ReadsFrames F.IsRow F.R.value (λ here. here) (λ here. begun.new.items) at (begun.old.items ++ piece.now) [] rows.new.items result }
+    ensures kept { OnErr result (take (length begun.old.items) begun.new.items ≡ begun.old.items) }
+    ensures asked { IsErrOf result ends.NoMemory → begun.old.items ≡ [] → PieceAsks piece.now }
+{
     if begun.is_empty() {
-        return read_on::<F>(alloc, at, rows, begun, piece);
+        return read_on::<F>(alloc, at, begun, piece, rows);
     }
     let rest = complete(begun, piece)?;
     match split_frame(begun) {
         Ok((body, _)) => {
-            rows.push(read_row::<F>(alloc, at, body)?)?;
+            add_row::<F>(alloc, at, body, rows)?;
             let here = at + begun.len() as u64;
-            read_on::<F>(alloc, here, rows, begun, rest)
+            read_on::<F>(alloc, here, begun, rest, rows)
         }
-        Err(Unread::Part) => Ok((rows, at)),
+        Err(Unread::Part) => Ok(at),
         Err(Unread::Wrong) => Err(End::Refused(StreamRefusal::FrameTooLong { at })),
         Err(Unread::NoMemory) => Err(End::NoMemory),
     }
@@ -51,19 +70,19 @@ pub(crate) fn read_piece<F: RowForm>(
 fn read_on<F: RowForm>(
     alloc: Global,
     at: u64,
-    mut rows: Vec<F::R>,
     begun: &mut Vec<u8>,
     bytes: &[u8],
-) -> Result<(Vec<F::R>, u64), End<StreamRefusal>>
+    rows: &mut Vec<F::R>,
+) -> Result<u64, End<StreamRefusal>>
     requires { at + length bytes.now < 2 ^ 64 }
-    ensures reads { ReadsOn F.IsRow F.R.value at bytes.now rows.items begun.new.items result }
+    ensures reads { ReadsFrames F.IsRow F.R.value (λ here. here) (λ here. begun.new.items) at bytes.now rows.old.items rows.new.items result }
     ensures kept { OnErr result (begun.new.items ≡ begun.old.items) }
     ensures asked { IsErrOf result ends.NoMemory → PieceAsks bytes.now }
 {
     rows.reserve(count_rows(bytes))?;
-    let (here, left) = read_frames::<F>(alloc, at, bytes, &mut rows)?;
+    let (here, left) = read_frames::<F>(alloc, at, bytes, rows)?;
     begin_with(begun, left)?;
-    Ok((rows, here))
+    Ok(here)
 }
 
 // Reads the frames in front of the bytes, of which the first has this offset, where they stand. Adds their rows, and
@@ -83,7 +102,7 @@ fn read_frames<'a, F: RowForm>(
     'frames: loop {
         match split_frame(left) {
             Ok((body, behind)) => {
-                rows.push(read_row::<F>(alloc, here, body)?)?;
+                add_row::<F>(alloc, here, body, rows)?;
                 here += (FIELD + body.len()) as u64;
                 left = behind;
             }
@@ -112,6 +131,20 @@ fn count_rows(bytes: &[u8]) -> usize
         left = behind;
     }
     count
+}
+
+// Adds the row of the body of the frame at this offset. Memory is asked for where the body asks.
+fn add_row<F: RowForm>(
+    alloc: Global,
+    at: u64,
+    body: &[u8],
+    rows: &mut Vec<F::R>,
+) -> Result<(), End<StreamRefusal>>
+    ensures reads { AddsRow F.IsRow F.R.value at body.now rows.old.items rows.new.items result }
+    ensures asked { IsErrOf result ends.NoMemory → EntryAsks body.now }
+{
+    rows.push(read_row::<F>(alloc, at, body)?)?;
+    Ok(())
 }
 
 // The row of the body of the frame at this offset. Memory is asked for where the body asks.
