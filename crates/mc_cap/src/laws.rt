@@ -16,7 +16,7 @@ pub fn validity()
     ensures means { (rules : Rules) (c : Capability) → (chain_refusal rules c ≡ None) ↔ IsValid rules c }
 {}
 
-/// The limits are these numbers: a valid capability has at most 8 delegations, and a chain that is spelled 255.
+/// The limits are these numbers: a valid capability has at most 16 delegations, and a chain that is spelled 255.
 pub fn limits()
     ensures valid { MAX_DELEGATIONS ≡ 16 }
     ensures spelled { MAX_CHAIN ≡ 255 }

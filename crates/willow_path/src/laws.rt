@@ -63,7 +63,7 @@ pub fn readers()
     ensures path { IsReader path_at path_spelling IsPath }
 {}
 
-/// The limits of a path: components of 255 bytes, 16 of them, 1,024 bytes together.
+/// The limits of a path: components of 255 bytes, 255 of them, 4,096 bytes together.
 pub fn limits()
     ensures part { MAX_PART ≡ 255 }
     ensures parts { MAX_PARTS ≡ 255 }
