@@ -4,7 +4,7 @@ It shares no code with the crates.
 """
 
 MAX_FRAME = 131_072
-MAX_PART, MAX_PARTS, MAX_TOTAL = 255, 16, 1024  # of a path: bytes of a component, components, bytes of all
+MAX_PART, MAX_PARTS, MAX_TOTAL = 255, 255, 4096  # of a path: bytes of a component, components, bytes of all
 
 
 class More(Exception):

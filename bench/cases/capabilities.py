@@ -8,7 +8,7 @@ from entries import Entry, is_communal, is_prefix, path_bytes, read_key, read_pa
 from octets import NotSpelled, Reader, number
 
 LONGEST_SIGNATURE = 1508
-MOST_DELEGATIONS = 8
+MOST_DELEGATIONS = 16
 READ, WRITE = 0, 1
 MODES = {"read": READ, "write": WRITE}
 

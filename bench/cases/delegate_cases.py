@@ -2,7 +2,7 @@
 from situations import *
 
 NARROW = handed(communal(), U, under=A, start=5, end=10)
-EIGHT = handed_on(communal(), *(U,) * 8)
+SIXTEEN = handed_on(communal(), *(U,) * 16)
 
 
 def delegate(name: str, capability, signer: str = BY_U, to: bytes = V, names=None, fails="", **area) -> Case:
@@ -21,7 +21,7 @@ DELEGATIONS = [
     delegate("hands-on-one-subspace-of-an-owned-namespace", owned(), to=U, subspace=V),
     delegate("hands-on-what-was-handed-on", handed(communal(), V, under=A, start=3, end=9), BY_V, K.user(),
              under="/61/62"),
-    delegate("adds-an-eighth-delegation", handed_on(communal(), *(U,) * 7)),
+    delegate("adds-a-sixteenth-delegation", handed_on(communal(), *(U,) * 15)),
     delegate("keeps-the-granted-end-and-starts-before-it", NARROW, until=10, **{"from": 9}),
     delegate("hands-on-the-last-time-of-all", communal(), **{"from": GREATEST}),
     delegate("hands-on-all-times-but-the-last", communal(), until=GREATEST),
@@ -36,7 +36,7 @@ REFUSED_DELEGATIONS = [
     delegate("refuses-an-earlier-start-than-was-granted", NARROW, **{"from": 4}),
     delegate("refuses-a-later-end-than-was-granted", NARROW, until=11),
     delegate("refuses-no-end-where-one-was-granted", NARROW, until="none"),
-    delegate("refuses-a-ninth-delegation", EIGHT),
+    delegate("refuses-a-seventeenth-delegation", SIXTEEN),
     delegate("refuses-a-256th-delegation",
              replace(communal(), chain=(Delegation(communal().grant(), U, b""),) * 255)),
     delegate("refuses-an-owned-capability-in-a-communal-namespace", owned(space=N)),
@@ -58,7 +58,7 @@ WITHOUT_TIMES = [
              **{"from": 10}),
     delegate("without-times-opens-no-key-file-that-is-spent", NARROW, "lms:k", names={"k": at(K, 32).file()}, until=5),
     delegate("without-times-opens-no-file-that-is-no-key", NARROW, "lms:k", names={"k": b"\x00"}, until=5),
-    delegate("without-times-tells-a-ninth-delegation-first", EIGHT, until=0),
+    delegate("without-times-tells-a-seventeenth-delegation-first", SIXTEEN, until=0),
     delegate("without-times-tells-the-kind-of-capability-first", owned(space=N), until=0),
     delegate("without-times-tells-an-earlier-signature-first", UNSIGNED, until=0),
     delegate("without-times-tells-wrong-bytes-first", b"\x01", "lms:gone", until=0),
@@ -74,7 +74,7 @@ DELEGATIONS_BY_LMS = [
     delegate("by-an-lms-key-signs-with-the-second-index", OF_K, "lms:k", names={"k": at(K, 1).file()}),
     delegate("uses-up-an-index-of-a-delegation-that-grows", OF_K, "lms:k", names={"k": at(K, 30).file()},
              subspace="any"),
-    delegate("uses-up-an-index-of-a-ninth-delegation", handed_on(communal(), *(U,) * 7, K.user()), "lms:k",
+    delegate("uses-up-an-index-of-a-seventeenth-delegation", handed_on(communal(), *(U,) * 15, K.user()), "lms:k",
              names=WITH_K),
     delegate("misses-a-key-file", OF_K, "lms:gone", names=WITH_K),
     wrong_file("of-height-6", flipped(K.file(), 4, 3)),

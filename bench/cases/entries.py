@@ -8,7 +8,7 @@ from dataclasses import dataclass
 from octets import NotSpelled, Reader, number
 
 KEY_LENGTH = 33
-MOST_COMPONENTS, LONGEST_COMPONENT, LONGEST_PATH = 16, 255, 1024
+MOST_COMPONENTS, LONGEST_COMPONENT, LONGEST_PATH = 255, 255, 4096
 
 
 def is_communal(namespace: bytes) -> bool:

@@ -48,7 +48,7 @@ REFUSED_WRITES = [
     write("refuses-a-capability-that-another-lms-key-signed", owned(space=OWN, by=at(K, 30))),
     write("refuses-a-chain-that-grows", GROWN),
     write("refuses-a-chain-that-its-giver-did-not-sign", UNSIGNED),
-    write("refuses-nine-delegations", handed_on(communal(), U, V, U, V, U, V, U, V, U)),
+    write("refuses-seventeen-delegations", handed_on(communal(), *(U, V) * 8, U)),
     write("tells-a-fault-of-the-report-before-a-refusal", communal(), BY_V, fails="r2"),
 ]
 

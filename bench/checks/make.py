@@ -22,7 +22,7 @@ def open_key(letter: str) -> bytes:
 
 N, O = open_key("N"), open_key("O")  # a communal namespace and an owned one
 U, V, W = open_key("U"), open_key("V"), open_key("W")
-MOST = 8  # delegations of a valid capability
+MOST = 16  # delegations of a valid capability
 
 
 INSIDE = Area(U, (b"a",), 3, 9)

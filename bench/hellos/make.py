@@ -194,8 +194,8 @@ def reads():
     for cut in (b"\x00\x01", b"\x00\x02", b"\x00\x03", b"\x01", b"\x00\x02\x00\x01", b"\x00\x02\x01"):
         read(front + FULL.spelled() + cut)
     for ask in (
-        b"\x02", b"\x01\x02", b"\x00\x11", b"\x00\x10", b"\x00\x05" + b"\xff" + b"c" * 255,
-        b"\x00\x05" + (b"\xff" + b"c" * 255) * 4 + b"\x04", b"\x00\x05" + (b"\xff" + b"c" * 255) * 4 + b"\x05",
+        b"\x02", b"\x01\x02", b"\x00\xff", b"\x00\x10", b"\x00\x11" + b"\xff" + b"c" * 255,
+        b"\x00\x11" + (b"\xff" + b"c" * 255) * 16 + b"\x10", b"\x00\x11" + (b"\xff" + b"c" * 255) * 16 + b"\x11",
         b"\x00\x00" + number(8, GREATEST) + b"\x00", b"\x00\x00" + number(8, GREATEST) + b"\x01",
         b"\x00\x00" + number(8, 5) + b"\x01" + number(8, 5), b"\x00\x00" + number(8, 5) + b"\x01" + number(8, 5)[:7],
         b"\x00\x00" + number(8, 5) + b"\x01" + number(8, 6), b"\x00\x00" + number(8, 255) + b"\x01" + bytes(7),

@@ -1,7 +1,7 @@
 """Prints the table of items that `crates/answer_cases` reads; `bench/answers.py` puts it there.
 
 A line `item NAME BEFORE BYTES ANSWER` is a case: a reader that took the bytes BEFORE is given BYTES, both in
-hexadecimal (`-` for none). Each line `at CUT ZERO FULL NEXT FLIP` behind it is about one byte of BYTES, the first for
+hexadecimal (`-` for none). Behind all but the longest, each line `at CUT ZERO FULL NEXT FLIP` behind it is about one byte of BYTES, the first for
 the first: what is answered to the bytes in front of it, and to BYTES with 0 in its place, with 255, with one more (0
 for 255), and with its highest bit turned.
 
@@ -97,9 +97,14 @@ def hexadecimal(text):
     return text.hex() or "-"
 
 
-def case(name, before, text):
+def whole(name, before, text):
     due = due_behind(before)
     print("item", name, hexadecimal(before), hexadecimal(text), answer(due, text)[0])
+    return due
+
+
+def case(name, before, text):
+    due = whole(name, before, text)
     for place, byte in enumerate(text):
         answers = [answer(due, text[:place])[0]]
         for value in (0, 255, (byte + 1) % 256, byte ^ 0x80):
@@ -131,7 +136,7 @@ def rest(count):
 def main():
     key = b"\x00" + b"\x61" * 32
     prints = b"\x22" * 32 + b"\x33" * 32
-    full = spelled_path(*[b"c" * 255] * 4, b"d" * 4)  # 1,024 bytes
+    full = spelled_path(*[b"c" * 255] * 16, b"d" * 16)  # 4,096 bytes
     short, plain = frame(entry(spelled_path()) + b"\x07"), frame(entry(spelled_path(b"a", b"bc")))
 
     case("first", b"", b"\x01" + b"\x11" * 32)
@@ -140,8 +145,9 @@ def main():
     case("split-at-the-empty-path", b"", b"\x03\x01" + spelled_path() + prints)
     case("split-at-a-path", b"", b"\x03\x01" + spelled_path(b"a", b"", b"bc") + prints)
     case("split-at-a-time", b"", b"\x03\x02" + b"\x00" * 8 + prints)
-    case("path-of-all-components", b"", b"\x03\x01" + spelled_path(*[b""] * 16) + prints)
-    case("path-of-too-many-components", b"", b"\x03\x01" + spelled_path(*[b""] * 17) + prints)
+    case("path-of-all-components", b"", b"\x03\x01" + spelled_path(*[b""] * 255) + prints)
+    whole("path-of-all-bytes", b"", b"\x03\x01" + full + prints)
+    whole("path-of-all-bytes-cut-short", b"", b"\x03\x01" + full)
     for count in (0, 1, 16, 17):
         case(f"entries-{count}", b"", entries(count))
     for count in (0, 2, 65_536, 65_537):
@@ -162,7 +168,9 @@ def main():
     case("body-of-no-row", rest(65_536), frame(b"\x02\x00"))
     case("body-cut-short", rest(1), frame(entry(spelled_path())[:-1]))
     case("row-of-the-longest-path", entries(1), frame(entry(full))[:77])
-    case("path-too-long", b"", b"\x03\x01" + spelled_path(*[b"c" * 255] * 4, b"d" * 5)[:1026])
+    too_long = spelled_path(*[b"c" * 255] * 16, b"d" * 17)
+    whole("path-before-it-is-too-long", b"", b"\x03\x01" + too_long[:4_097])
+    whole("path-too-long", b"", b"\x03\x01" + too_long[:4_098])
     case("no-head-while-a-row-is-due", entries(1), b"\x06")
     case("no-head-while-rows-are-due", rest(2) + short, b"\x01" + b"\x11" * 32)
     case("head-behind-no-entries", entries(0), b"\x02")

@@ -149,8 +149,8 @@ fn is_chain(alloc: Global, line: &str) -> Option<bool> {
 // The third has as many delegations as there may be, and the fourth one more.
 const CHAINS: &str = "20 10: None
 20 10 11: Some(AreaGrows { at: 3 })
-20 20 20 20 20 20 20 20: None
-20 20 20 20 20 20 20 20 20: Some(TooManyDelegations)";
+20 20 20 20 20 20 20 20 20 20 20 20 20 20 20 20: None
+20 20 20 20 20 20 20 20 20 20 20 20 20 20 20 20 20: Some(TooManyDelegations)";
 
 #[test]
 fn chains(rt: HostRuntime) {

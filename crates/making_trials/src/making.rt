@@ -221,10 +221,10 @@ fn length_often<R: Threads + Sync>(rt: &R, alloc: Global, count: u32) -> Option<
 fn capabilities_are_handed_on(rt: HostRuntime) {
     let alloc = rt.alloc();
     let is_handed = is_written(alloc, &handed_once(&rt, alloc), HANDED);
-    let length = length_often(&rt, alloc, 8);
-    let often = handed_often(&rt, alloc, 9);
+    let length = length_often(&rt, alloc, 16);
+    let often = handed_often(&rt, alloc, 17);
     let is_full = is_refused(&often, ChainRefusal::TooManyDelegations);
-    assert!(rt; (is_handed, length, is_full) == (true, Some(956), true));
+    assert!(rt; (is_handed, length, is_full) == (true, Some(1844), true));
 }
 
 // What comes of the communal capability, handed on for times that are none, with a key file that is missing.

@@ -15,14 +15,34 @@ const HIGH: &[u8] = &[0xff; 255];
 
 const LONG: &[u8] = &[0x61; 255];
 
-// As many components as a path may have.
+// Many components.
 const MANY: Parts = &[
     b"a", b"", b"ccc", b"d", b"e", b"f", b"g", b"h", b"i", b"j", b"k", b"l", b"m", b"n", b"o",
     b"pp",
 ];
 
 // Components of as many bytes as a path may have.
-const WIDE: Parts = &[LONG, HIGH, LONG, HIGH, b"abcd"];
+const WIDE: Parts = &[
+    LONG, HIGH, LONG, HIGH, LONG, HIGH, LONG, HIGH, LONG, HIGH, LONG, HIGH, LONG, HIGH, LONG, HIGH,
+    b"sixteen letters!",
+];
+
+// Sixteen bytes fewer.
+const NEARLY_WIDE: Parts = &[
+    LONG, LONG, LONG, LONG, LONG, LONG, LONG, LONG, LONG, LONG, LONG, LONG, LONG, LONG, LONG, LONG,
+];
+
+// The same bytes, with a last component that can only be raised.
+const RAISED: Parts = &[
+    LONG, LONG, LONG, LONG, LONG, LONG, LONG, LONG, LONG, LONG, LONG, LONG, LONG, LONG, LONG, LONG,
+    b"b\xff\xff\xff\xff\xff\xff\xff\xff\xff\xff\xff\xff\xff\xff\xff",
+];
+
+// What comes behind it.
+const BEHIND_RAISED: Parts = &[
+    LONG, LONG, LONG, LONG, LONG, LONG, LONG, LONG, LONG, LONG, LONG, LONG, LONG, LONG, LONG, LONG,
+    b"c",
+];
 
 // Whether the least path above all extensions of a path is this one, or there is none.
 fn comes_after(alloc: Global, parts: &[&[u8]], due: Option<&[&[u8]]>) -> Option<bool> {
@@ -40,8 +60,9 @@ const SUCCESSORS: &[(Parts, Option<Parts>)] = &[
     (&[b"a", HIGH], Some(&[b"a\0"])),
     (
         &[LONG, LONG, LONG, LONG, b"b\xff\xff\xff"],
-        Some(&[LONG, LONG, LONG, LONG, b"c"]),
+        Some(&[LONG, LONG, LONG, LONG, b"b\xff\xff\xff\0"]),
     ),
+    (RAISED, Some(BEHIND_RAISED)),
 ];
 
 #[test]
@@ -52,12 +73,15 @@ fn successors_of_paths(rt: HostRuntime) {
     }
 }
 
-// What a path of so many long components answers to one more, of so many bytes.
-fn pushed(alloc: Global, count: usize, len: usize) -> Option<Result<(), End<PathRefusal>>> {
-    let mut path = Path::empty(alloc);
-    for _ in 0..count {
-        path.push(LONG).ok()?;
-    }
+// What a path of these components and one of so many bytes answers to one more, of so many bytes.
+fn pushed(
+    alloc: Global,
+    parts: &[&[u8]],
+    before: usize,
+    len: usize,
+) -> Option<Result<(), End<PathRefusal>>> {
+    let mut path = path_of(alloc, parts)?;
+    path.push([0x61; 256].get(..before)?).ok()?;
     Some(path.push([0x61; 256].get(..len)?))
 }
 
@@ -76,39 +100,41 @@ fn numbers_of(alloc: Global, parts: &[&[u8]]) -> Option<(usize, usize)> {
     Some((path.count(), path.total()))
 }
 
-const PUSHED: &[(usize, usize, Result<(), End<PathRefusal>>)] = &[
+const PUSHED: &[(Parts, usize, usize, Result<(), End<PathRefusal>>)] = &[
     (
+        &[],
         0,
         256,
         Err(End::Refused(PathRefusal::ComponentTooLong { len: 256 })),
     ),
-    (0, 255, Ok(())),
+    (&[], 0, 255, Ok(())),
     (
-        4,
+        NEARLY_WIDE,
+        12,
         5,
-        Err(End::Refused(PathRefusal::PathTooLong { total: 1025 })),
+        Err(End::Refused(PathRefusal::PathTooLong { total: 4097 })),
     ),
-    (4, 4, Ok(())),
+    (NEARLY_WIDE, 12, 4, Ok(())),
 ];
 
 #[test]
 fn limits_of_components(rt: HostRuntime) {
     let alloc = rt.alloc();
-    for (count, len, due) in PUSHED {
-        assert!(rt; pushed(alloc, *count, *len).as_ref() == Some(due));
+    for (parts, before, len, due) in PUSHED {
+        assert!(rt; pushed(alloc, parts, *before, *len).as_ref() == Some(due));
     }
 }
 
 #[test]
 fn limits_of_paths(rt: HostRuntime) {
     let full = Err(End::Refused(PathRefusal::TooManyComponents));
-    assert!(rt; pushed_onto_most(rt.alloc()) == Some((16, full)));
+    assert!(rt; pushed_onto_most(rt.alloc()) == Some((255, full)));
 }
 
 const NUMBERS: &[(Parts, usize, usize)] = &[
     (&[LONG, b"", b"bc"], 3, 257),
     (MANY, 16, 18),
-    (WIDE, 5, 1024),
+    (WIDE, 17, 4096),
 ];
 
 #[test]
