@@ -14,7 +14,7 @@ use Rattle.log_rule.proofs.Prefixes.{prefix_self, prefix_trans}
 use Rattle.ns_cell.specs.Passes.{CellValue, PassValue, opening_rows, new_pass}
 use Rattle.ns_cell.specs.Answers.{Call, Offers, Reads, Makes, offered, stored_by}
 use Rattle.ns_cell.specs.Closed.{IsClosed}
-use Rattle.ns_cell.specs.Histories.{Deed, Leads, accepted_by, accepted_in, accepted_of, HaveDone, IsJoinOfAll}
+use Rattle.ns_cell.specs.Histories.{CallMade, Leads, accepted_by, accepted_in, accepted_of, HaveDone, IsJoinOfAll}
 use Rattle.ns_cell.proofs.Offers.{kept_is, call_later, own_grows}
 
 module _ {X Y : Type 0} (f : X → Y) where
@@ -66,16 +66,16 @@ module _ {R : Type 0} (value : R → RowValue) where
 
   -- ---- the deeds of a pass
 
-  leads_seen : (first last : PassValue R) (deeds : List (Deed R)) → Leads value first deeds last → IsPrefix first.seen last.seen
+  leads_seen : (first last : PassValue R) (deeds : List (CallMade R)) → Leads value first deeds last → IsPrefix first.seen last.seen
   leads_seen first last [] h = subst (λ (p : PassValue R). IsPrefix first.seen p.seen) (sym h) (prefix_self first.seen)
   leads_seen first last (d ∷ ds) h = prefix_trans first.seen d.after.seen last.seen (call_later value first d.after d.call h.0).seen (leads_seen d.after last ds h.1)
 
-  pub leads_on : (first last after : PassValue R) (deeds : List (Deed R)) (call : Call R) → Leads value first deeds last → Makes value last call after
+  pub leads_on : (first last after : PassValue R) (deeds : List (CallMade R)) (call : Call R) → Leads value first deeds last → Makes value last call after
       → Leads value first (deeds ++ record { call = call; after = after } ∷ []) after
   leads_on first last after [] call h made = (subst (λ p. Makes value p call after) h made, refl)
   leads_on first last after (d ∷ ds) call h made = (h.0, leads_on d.after last after ds call h.1 made)
 
-  accepted_covered : (first last : PassValue R) (deeds : List (Deed R)) → Leads value first deeds last → (row : R) → Member (accepted_in deeds) row → HasCovering (values value last.seen) (value row)
+  accepted_covered : (first last : PassValue R) (deeds : List (CallMade R)) → Leads value first deeds last → (row : R) → Member (accepted_in deeds) row → HasCovering (values value last.seen) (value row)
   accepted_covered first last [] h row m = absurd m
   accepted_covered first last (d ∷ ds) h row m = ⊎_elim
       (λ (k : Member (accepted_by d.call) row). covering_front d.after.seen last.seen (value row) (leads_seen d.after last ds h.1) (told_covered first d.after d.call h.0 row k))
@@ -83,7 +83,7 @@ module _ {R : Type 0} (value : R → RowValue) where
       (member_append_cases (accepted_by d.call) (accepted_in ds) row m)
 
   -- the rows that a pass has for its own it had at first, or was told Stored
-  own_from : (first last : PassValue R) (deeds : List (Deed R)) → Leads value first deeds last → (l : LogRow R) → Member last.own l → Member first.own l ⊎ Member (accepted_in deeds) l.row
+  own_from : (first last : PassValue R) (deeds : List (CallMade R)) → Leads value first deeds last → (l : LogRow R) → Member last.own l → Member first.own l ⊎ Member (accepted_in deeds) l.row
   own_from first last [] h l m = inl (subst (λ (p : PassValue R). Member p.own l) h m)
   own_from first last (d ∷ ds) h l m = ⊎_elim
       (λ (k : Member d.after.own l). ⊎_elim
@@ -99,7 +99,7 @@ module _ {R : Type 0} (value : R → RowValue) where
   opening_member zero opening l m = m
   opening_member (suc number) opening l m = absurd m
 
-  module _ (deeds : ℕ → List (Deed R)) where
+  module _ (deeds : ℕ → List (CallMade R)) where
     accepted_here : (passes : List (PassValue R)) (pass : PassValue R) (row : R) → Member passes pass → Member (accepted_in (deeds pass.number)) row → Member (accepted_of deeds passes) row
     accepted_here [] pass row at m = absurd at
     accepted_here (p ∷ ps) pass row (inl e) m =

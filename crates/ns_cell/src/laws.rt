@@ -14,7 +14,7 @@ ghost use Rattle.ns_cell.specs.declared.limits.TheConstants.{PASS_LIMIT};
 ghost use Rattle.ns_cell.specs.Passes.{CellValue, PassValue, IsLater};
 ghost use Rattle.ns_cell.specs.Answers.{IsOffered, Call, Makes, stored_by, offered, place};
 ghost use Rattle.ns_cell.specs.Closed.{IsClosed};
-ghost use Rattle.ns_cell.specs.Histories.{Deed, Leads, HaveDone, IsJoinOfAll};
+ghost use Rattle.ns_cell.specs.Histories.{CallMade, Leads, HaveDone, IsJoinOfAll};
 
 use willow_entry::Row;
 
@@ -68,11 +68,11 @@ pub fn calls<R: Row>()
 /// the join of the rows that it was opened with and of every row that any pass was told Stored or Kept. `begins`, `goes_on`:
 /// what the passes did is known from the calls' contracts, one call after the other.
 pub fn all_told<R: Row>()
-    ensures join { (cell : CellValue) (opening log : List (LogRow R)) (deeds : ℕ → List (Deed R)) (passes : List (PassValue R))
+    ensures join { (cell : CellValue) (opening log : List (LogRow R)) (deeds : ℕ → List (CallMade R)) (passes : List (PassValue R))
         → HaveDone R.value cell opening deeds passes → IsClosed passes log
         → IsJoinOfAll R.value opening deeds passes log }
     ensures begins { (pass : PassValue R) → Leads R.value pass [] pass }
-    ensures goes_on { (first last after : PassValue R) (deeds : List (Deed R)) (call : Call R)
+    ensures goes_on { (first last after : PassValue R) (deeds : List (CallMade R)) (call : Call R)
         → Leads R.value first deeds last → Makes R.value last call after
         → Leads R.value first (deeds ++ record { call = call; after = after } ∷ []) after }
 {}
