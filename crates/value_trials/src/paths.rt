@@ -23,7 +23,22 @@ const MANY: Parts = &[
 
 // Components of as many bytes as a path may have.
 const WIDE: Parts = &[
-    LONG, HIGH, LONG, HIGH, LONG, HIGH, LONG, HIGH, LONG, HIGH, LONG, HIGH, LONG, HIGH, LONG, HIGH,
+    LONG,
+    HIGH,
+    LONG,
+    HIGH,
+    LONG,
+    HIGH,
+    LONG,
+    HIGH,
+    LONG,
+    HIGH,
+    LONG,
+    HIGH,
+    LONG,
+    HIGH,
+    LONG,
+    HIGH,
     b"sixteen letters!",
 ];
 
@@ -34,7 +49,22 @@ const NEARLY_WIDE: Parts = &[
 
 // The same bytes, with a last component that can only be raised.
 const RAISED: Parts = &[
-    LONG, LONG, LONG, LONG, LONG, LONG, LONG, LONG, LONG, LONG, LONG, LONG, LONG, LONG, LONG, LONG,
+    LONG,
+    LONG,
+    LONG,
+    LONG,
+    LONG,
+    LONG,
+    LONG,
+    LONG,
+    LONG,
+    LONG,
+    LONG,
+    LONG,
+    LONG,
+    LONG,
+    LONG,
+    LONG,
     b"b\xff\xff\xff\xff\xff\xff\xff\xff\xff\xff\xff\xff\xff\xff\xff",
 ];
 
