@@ -41,5 +41,5 @@ read_back_alike n m rows one two key of readable short few is_live told_one told
     let r = raws_of rows readable short in
     let P : List RowValue → Type 0 = λ l. AreOf m l → length l < 2 ^ 32 → live l ≡ l → ReadsImageTwo (image_two n l) two → IsBack n l two in
     let here : P (raw_rows r.raws) = λ o f v t.
-        back (image_two n (raw_rows r.raws)) n r.raws two (image_two_here n r.raws key r.fit (omega (arith, f, length-map r.raws row_of))) ((order_of_live m (raw_rows r.raws) o).1 v) t in
+    back (image_two n (raw_rows r.raws)) n r.raws two (image_two_here n r.raws key r.fit (omega (arith, f, length-map r.raws row_of))) ((order_of_live m (raw_rows r.raws) o).1 v) t in
     (reads_back n m rows one key of readable short few is_live told_one, subst P r.same here of few is_live told_two)

@@ -145,16 +145,17 @@ apart xs x y m n e = bytes_tie x y e
 pub told_is : (gathered sorted told : List Text) → IsPermutation gathered sorted → IsSorted by_text sorted → told ≡ dedup same_text sorted → now_of told ≡ rising bytes_cmp (now_of gathered)
 told_is gathered sorted told moved up is =
     same_rising bytes_cmp nat_list_cmp_total (now_of told) (rising bytes_cmp (now_of gathered)) (now_up told (told_up gathered sorted told moved up is)) (rising-rises bytes_cmp nat_list_cmp_total (now_of gathered)) there back where
-  there : (z : List ℕ) → Member (now_of told) z → Member (rising bytes_cmp (now_of gathered)) z
-  there z m =
-      let x = member_now told z m in
-      let here = member_from_contains gathered x.0 (told_gathered gathered sorted told moved up is x.0 (contains_from_member told x.0 x.1)) in
-      member_rising bytes_cmp (now_of gathered) (apart (now_of gathered)) z (subst (Member (now_of gathered)) x.2 (now_member gathered x.0 here))
-  back : (z : List ℕ) → Member (rising bytes_cmp (now_of gathered)) z → Member (now_of told) z
-  back z m =
-      let x = member_now gathered z (member_from_rising bytes_cmp (now_of gathered) z m) in
-      let y = gathered_told gathered sorted told moved up is x.0 (contains_from_member gathered x.0 x.1) in
-      subst (Member (now_of told)) (sym y.2 ∙ x.2) (now_member told y.0 (member_from_contains told y.0 y.1))
+      there : (z : List ℕ) → Member (now_of told) z → Member (rising bytes_cmp (now_of gathered)) z
+      there z m =
+          let x = member_now told z m in
+          let here = member_from_contains gathered x.0 (told_gathered gathered sorted told moved up is x.0 (contains_from_member told x.0 x.1)) in
+          member_rising bytes_cmp (now_of gathered) (apart (now_of gathered)) z (subst (Member (now_of gathered)) x.2 (now_member gathered x.0 here))
+
+      back : (z : List ℕ) → Member (rising bytes_cmp (now_of gathered)) z → Member (now_of told) z
+      back z m =
+          let x = member_now gathered z (member_from_rising bytes_cmp (now_of gathered) z m) in
+          let y = gathered_told gathered sorted told moved up is x.0 (contains_from_member gathered x.0 x.1) in
+          subst (Member (now_of told)) (sym y.2 ∙ x.2) (now_member told y.0 (member_from_contains told y.0 y.1))
 
 -- ---- what a binary search tells
 

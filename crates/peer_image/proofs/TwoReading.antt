@@ -162,11 +162,13 @@ marks_on marks count rows r number m below is = record {
 } where
   here : number < length marks
   here = omega (arith, below, is, m.long)
+
   one : (k : ℕ) → k < count → get_or (set marks number true) k false ≡ true → IsUsed (rows ++ r ∷ []) k
   one k within e = elim (cases_eq k number) [
     | inl same ↦ subst (λ (n : ℕ). IsUsed (rows ++ r ∷ []) n) (sym (same ∙ is)) (used_here rows r)
     | inr differ ↦ used_on rows r k ((m.marked k within).0 (sym (get_or-set_other marks number k true false differ) ∙ e))
   ]
+
   other : (k : ℕ) → k < count → IsUsed (rows ++ r ∷ []) k → get_or (set marks number true) k false ≡ true
   other k within u = elim (cases_eq k number) [
     | inl same ↦ ap (λ (n : ℕ). get_or (set marks number true) n false) same ∙ get_or-set_same marks number true false here
@@ -331,8 +333,16 @@ module _ (bytes : List ℕ) (h : ImageHead) (behind : List ℕ) (told : List Cap
   wrong_from flags count e flags_are count_is none bad =
       let same : count ≡ length so.so.numbered = count_is ∙ as_many in
       let stop : RowsStopAt bytes bad.at = record {
-        head = h; behind = behind; told = told; middle = middle; numbered = so.so.numbered; left = left;
-        head_fits = fits; parts = parts; are_told = are; all = all;
+        head = h;
+        behind = behind;
+        told = told;
+        middle = middle;
+        numbered = so.so.numbered;
+        left = left;
+        head_fits = fits;
+        parts = parts;
+        are_told = are;
+        all = all;
         are_numbered = record { fit = so.so.fit; parts = so.so.parts; no_row = so.no_row };
         no_end = λ few used is. none (omega (arith, few, same)) (is ∙ ap trailer (sym same)) (ap (list_all (λ x. x)) flags_are ∙ set_from_used marks (length told) so.so.numbered so.so.marked used);
         place = bad.place;

@@ -52,7 +52,7 @@ module _ (told : List Capability) (last next : Capability) (end : EndsIn told la
   rising_by_last total up =
       let before = map capability_spelling end.front in
       let ends : IsStrictlySortedBy bytes_cmp (before ++ capability_spelling last ∷ []) =
-          subst (IsStrictlySortedBy bytes_cmp) (ap (map capability_spelling) end.parts ∙ map-append capability_spelling end.front (last ∷ [])) up in (
+      subst (IsStrictlySortedBy bytes_cmp) (ap (map capability_spelling) end.parts ∙ map-append capability_spelling end.front (last ∷ [])) up in (
         λ above. subst (IsStrictlySortedBy bytes_cmp) (sym spelled_end) (up_on bytes_cmp total before (capability_spelling last) (capability_spelling next) ends above),
         λ all. up_end bytes_cmp before (capability_spelling last) (capability_spelling next) (subst (IsStrictlySortedBy bytes_cmp) spelled_end all),
       )

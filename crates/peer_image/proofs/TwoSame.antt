@@ -69,9 +69,16 @@ four k = refl
 
 numbered_short : (k : ℕ) (r : RawValue) → FitsFrame r → length (numbered_spelling (numbered_row k r)) ≤ MAX_FRAME
 numbered_short k r f =
-    omega (arith, f.short, length-append (entry_spelling r.entry) (token_spelling r.token), length-append (text_of r) (signature_spelling r.token.signature),
-    capability_long r.token.capability f.raw.token_fits.capability_fits, length-append (entry_spelling r.entry) (to_be_bytes w32 k ++ signature_spelling r.token.signature),
-    length-append (to_be_bytes w32 k) (signature_spelling r.token.signature), four k)
+    omega (
+      arith,
+      f.short,
+      length-append (entry_spelling r.entry) (token_spelling r.token),
+      length-append (text_of r) (signature_spelling r.token.signature),
+      capability_long r.token.capability f.raw.token_fits.capability_fits,
+      length-append (entry_spelling r.entry) (to_be_bytes w32 k ++ signature_spelling r.token.signature),
+      length-append (to_be_bytes w32 k) (signature_spelling r.token.signature),
+      four k,
+    )
 
 texts_are : (rows : List RawValue) → AllByRecursion FitsFrame rows → map capability_bytes (raw_rows rows) ≡ map text_of rows
 texts_are [] f = refl
@@ -135,14 +142,16 @@ module _ (texts : List (List ℕ)) (told : List Capability) (same : map capabili
   numbered_fit : (rows : List RawValue) → length texts < 2 ^ 32 → AllByRecursion FitsFrame rows → ((r : RawValue) → Member rows r → Member texts (text_of r)) → AllByRecursion (FitsBelow (length told)) (map numbered_in rows)
   numbered_fit [] few f m = tt
   numbered_fit (r ∷ rows) few f m =
-      let at = placed_at (text_of r) (m r (inl refl)) in
-      (record {
-        fits = record {
-          value_fits = record { entry_fits = f.0.raw.entry_fits; number_fits = omega (arith, at.0, few); signature_fits = f.0.raw.token_fits.signature_fits };
-          short = numbered_short (place_in texts (text_of r)) r f.0;
-        };
-        below = omega (arith, at.0, long);
-      }, numbered_fit rows few f.1 (λ x h. m x (inr h)))
+      let at = placed_at (text_of r) (m r (inl refl)) in (
+        record {
+          fits = record {
+            value_fits = record { entry_fits = f.0.raw.entry_fits; number_fits = omega (arith, at.0, few); signature_fits = f.0.raw.token_fits.signature_fits };
+            short = numbered_short (place_in texts (text_of r)) r f.0;
+          };
+          below = omega (arith, at.0, long);
+        },
+        numbered_fit rows few f.1 (λ x h. m x (inr h)),
+      )
 
   all_used : (rows : List RawValue) → ((c : List ℕ) → Member texts c → Member (map text_of rows) c) → AreUsed (length told) (map numbered_in rows)
   all_used rows back k below =
@@ -160,8 +169,8 @@ module _ (texts : List (List ℕ)) (told : List Capability) (same : map capabili
       let capability = capability_again r.token f.0.raw.token_fits in
       let signature = signature_again r.token f.0.raw.token_fits in
       let one : placed_frame texts (row_of r) ≡ numbered_frame (numbered_in r) =
-          ap (λ (c : List ℕ). bytes_frame (numbered_as (place_in texts c) (row_of r))) capability
-          ∙ ap (λ (s : List ℕ). bytes_frame (entry_spelling r.entry ++ (to_be_bytes w32 (place_in texts (text_of r)) ++ s))) signature in
+      ap (λ (c : List ℕ). bytes_frame (numbered_as (place_in texts c) (row_of r))) capability
+      ∙ ap (λ (s : List ℕ). bytes_frame (entry_spelling r.entry ++ (to_be_bytes w32 (place_in texts (text_of r)) ++ s))) signature in
       ap (λ (l : List ℕ). l ++ flat_map (placed_frame texts) (raw_rows rows)) one ∙ ap (λ (l : List ℕ). numbered_frame (numbered_in r) ++ l) (frames_are rows f.1)
 
 -- ---- all of it

@@ -146,9 +146,10 @@ told_not_all bytes at h told rows left s f =
 
 pub one_image_two : (bytes n m : List ℕ) (rows others : List RawValue) → IsImageTwo bytes n rows → IsImageTwo bytes m others → (n ≡ m) × (rows ≡ others)
 one_image_two bytes n m rows others i j =
-    let same = same_fronts bytes (head_of n i.told) (head_of m j.told) i.told j.told i.numbered j.numbered _ _ (front_of_image bytes n rows i) (front_of_image bytes m others j) in
-    (ap (λ (x : ImageHead). x.namespace) same.heads,
-    i.rows_are ∙ ap (λ (l : List Capability). map (row_among l) i.numbered) same.told_are ∙ ap (map (row_among j.told)) same.rows_are ∙ sym j.rows_are)
+    let same = same_fronts bytes (head_of n i.told) (head_of m j.told) i.told j.told i.numbered j.numbered _ _ (front_of_image bytes n rows i) (front_of_image bytes m others j) in (
+      ap (λ (x : ImageHead). x.namespace) same.heads,
+      i.rows_are ∙ ap (λ (l : List Capability). map (row_among l) i.numbered) same.told_are ∙ ap (map (row_among j.told)) same.rows_are ∙ sym j.rows_are,
+    )
 
 not_end : (bytes n : List ℕ) (rows : List RawValue) (at : ℕ) → IsImageTwo bytes n rows → RowsStopAt bytes at → ⊥
 not_end bytes n rows at i s =

@@ -21,4 +21,6 @@ pub use read_any::{is_of_version_two, read_any_image};
 pub use read_two::read_image_two;
 pub use refusal::ImageRefusal;
 pub use write::{put_head, put_trailer, write_image, write_rows, write_store_image};
-pub use write_two::{capabilities_of, place_of, put_capability, put_head_two, put_row_two, write_image_two};
+pub use write_two::{
+    capabilities_of, place_of, put_capability, put_head_two, put_row_two, write_image_two,
+};
