@@ -13,7 +13,7 @@ use Rattle.willow_path.proofs.PathReads.{key-reads}
 use Rattle.cap_codec.proofs.CapReads.{zero_key, zero_key_fits}
 use Rattle.peer_image.specs.declared.known.ImageHead.{ImageHead}
 use Rattle.peer_image.specs.ImageTwo.{magic_two}
-use Rattle.peer_image.specs.ImageTwoReading.{head_two_at, head_spelling, IsImageHead, HasNoHead}
+use Rattle.peer_image.specs.ImageTwoReading.{head_two_at, head_two_spelling, IsImageHead, HasNoHead}
 
 abbrev head : List ℕ → ℕ → ImageHead
 head n c = record { namespace = n; count = c }
@@ -32,7 +32,7 @@ from_text =
     Reads-then (λ (n : List ℕ × List ℕ). counted_at n.0 n.1) (λ (h : ImageHead). h.namespace) key-reads from_key (λ n h f. ap (λ (x : ImageHead). x.namespace) f.1)
     (any_follows key-reads (λ n f. (head n 0, (omega arith, refl))))
 
-pub head-reads : Reads head_two_at head_spelling IsImageHead
+pub head-reads : Reads head_two_at head_two_spelling IsImageHead
 unfolding head_two_at
 head-reads =
     let joined = Reads-then (λ (t : Unit {0} × List ℕ). keyed_at t.1) (λ (h : ImageHead). tt) (exactly-reads magic_two) (λ t. from_text) (λ t h f. refl)

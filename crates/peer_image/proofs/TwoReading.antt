@@ -36,8 +36,8 @@ use Rattle.peer_image.specs.declared.known.ImageHead.{ImageHead}
 use Rattle.peer_image.specs.declared.refusal.ImageRefusal.{ImageRefusal}
 use Rattle.peer_image.specs.Image.{trailer}
 use Rattle.peer_image.specs.ImageTwo.{head_two}
-use Rattle.peer_image.specs.ImageTwoParts.{AllRowsSo, AreMarked, IsBadAt, IsRowInFront, RowsSo, TellsNext}
-use Rattle.peer_image.specs.ImageTwoReading.{AreRising, AreTold, AreUsed, FirstIsWhole, FitsBelow, HasNoHigher, HasNoRow, ImageTwoAsks, IsImageHead, IsImageTwo, IsUsed, ReadsRowsTwo, RowsStopAt, ToldStopAt, head_spelling, head_two_at, row_among}
+use Rattle.peer_image.specs.ImageTwoParts.{AllRowsSo, AreMarked, GoesBadAt, IsRowInFront, RowsSo, TellsNext}
+use Rattle.peer_image.specs.ImageTwoReading.{AreRising, AreToldInFront, AreAllTold, FirstIsWhole, FitsBelow, HasNoHigher, HasNoRow, ImageTwoAsks, IsImageHead, IsImageTwo, IsToldBy, ReadsRowsTwo, RowsStopAt, ToldStopAt, head_two_spelling, head_two_at, row_among}
 use Rattle.peer_image.proofs.LastFronts.{EndsIn}
 use Rattle.peer_image.proofs.TwoHeads.{head-reads}
 use Rattle.peer_image.proofs.TwoRising.{rising_by_last, rising_one}
@@ -114,7 +114,7 @@ told_asks bytes count [] left so asks = subst FirstIsWhole (sym so.parts) (capab
 told_asks bytes count (c ∷ told) left so asks = some_told bytes (c ∷ told) left so.fit so.parts (omega arith)
 
 -- where the rows ask, the first frame behind the head is whole
-pub rows_ask_whole : (bytes : List ℕ) (count : ℕ) (told : List Capability) (middle : List ℕ) → AreTold bytes count told middle → (0 < length told) ⊎ FrameAsks middle → FirstIsWhole bytes
+pub rows_ask_whole : (bytes : List ℕ) (count : ℕ) (told : List Capability) (middle : List ℕ) → AreToldInFront bytes count told middle → (0 < length told) ⊎ FrameAsks middle → FirstIsWhole bytes
 rows_ask_whole bytes count told middle are (inl some) = some_told bytes told middle are.fit are.parts some
 rows_ask_whole bytes count [] middle are (inr asks) = subst FirstIsWhole (sym are.parts) (frame_whole middle asks)
 rows_ask_whole bytes count (c ∷ told) middle are (inr asks) = some_told bytes (c ∷ told) middle are.fit are.parts (omega arith)
@@ -124,7 +124,7 @@ rows_ask_whole bytes count (c ∷ told) middle are (inr asks) = some_told bytes 
 abbrev numbers : List NumberedRow → List ℕ
 numbers = map (λ (r : NumberedRow). r.number)
 
-none_used : (k : ℕ) → IsUsed [] k → ⊥
+none_used : (k : ℕ) → IsToldBy [] k → ⊥
 none_used k u = omega (arith, u.1)
 
 false_not_true : false ≡ true → ⊥
@@ -146,13 +146,13 @@ marks_push marks n m = record {
   ]
 
 -- one row more: its capability is marked
-used_on : (rows : List NumberedRow) (r : NumberedRow) (k : ℕ) → IsUsed rows k → IsUsed (rows ++ r ∷ []) k
+used_on : (rows : List NumberedRow) (r : NumberedRow) (k : ℕ) → IsToldBy rows k → IsToldBy (rows ++ r ∷ []) k
 used_on rows r k u = subst (λ (l : List ℕ). Contains l k) (sym (map-append (λ (x : NumberedRow). x.number) rows (r ∷ []))) (Contains-append_left (numbers rows) (r.number ∷ []) k u)
 
-used_here : (rows : List NumberedRow) (r : NumberedRow) → IsUsed (rows ++ r ∷ []) r.number
+used_here : (rows : List NumberedRow) (r : NumberedRow) → IsToldBy (rows ++ r ∷ []) r.number
 used_here rows r = subst (λ (l : List ℕ). Contains l r.number) (sym (map-append (λ (x : NumberedRow). x.number) rows (r ∷ []))) (Contains-push (numbers rows) r.number)
 
-used_cases : (rows : List NumberedRow) (r : NumberedRow) (k : ℕ) → IsUsed (rows ++ r ∷ []) k → IsUsed rows k ⊎ (r.number ≡ k)
+used_cases : (rows : List NumberedRow) (r : NumberedRow) (k : ℕ) → IsToldBy (rows ++ r ∷ []) k → IsToldBy rows k ⊎ (r.number ≡ k)
 used_cases rows r k u = Contains-push_cases (numbers rows) r.number k (subst (λ (l : List ℕ). Contains l k) (map-append (λ (x : NumberedRow). x.number) rows (r ∷ [])) u)
 
 marks_on : (marks : List Bool) (count : ℕ) (rows : List NumberedRow) (r : NumberedRow) (number : ℕ) → AreMarked marks count rows → r.number < count → number ≡ r.number → AreMarked (set marks number true) count (rows ++ r ∷ [])
@@ -163,13 +163,13 @@ marks_on marks count rows r number m below is = record {
   here : number < length marks
   here = omega (arith, below, is, m.long)
 
-  one : (k : ℕ) → k < count → get_or (set marks number true) k false ≡ true → IsUsed (rows ++ r ∷ []) k
+  one : (k : ℕ) → k < count → get_or (set marks number true) k false ≡ true → IsToldBy (rows ++ r ∷ []) k
   one k within e = elim (cases_eq k number) [
-    | inl same ↦ subst (λ (n : ℕ). IsUsed (rows ++ r ∷ []) n) (sym (same ∙ is)) (used_here rows r)
+    | inl same ↦ subst (λ (n : ℕ). IsToldBy (rows ++ r ∷ []) n) (sym (same ∙ is)) (used_here rows r)
     | inr differ ↦ used_on rows r k ((m.marked k within).0 (sym (get_or-set_other marks number k true false differ) ∙ e))
   ]
 
-  other : (k : ℕ) → k < count → IsUsed (rows ++ r ∷ []) k → get_or (set marks number true) k false ≡ true
+  other : (k : ℕ) → k < count → IsToldBy (rows ++ r ∷ []) k → get_or (set marks number true) k false ≡ true
   other k within u = elim (cases_eq k number) [
     | inl same ↦ ap (λ (n : ℕ). get_or (set marks number true) n false) same ∙ get_or-set_same marks number true false here
     | inr differ ↦ elim (used_cases rows r k u) [
@@ -223,10 +223,10 @@ all_from : (marks : List Bool) → ((k : ℕ) → k < length marks → get_or ma
 all_from [] f = refl
 all_from (m ∷ marks) f = and_from m (list_all (λ x. x) marks) (f 0 (omega arith)) (all_from marks (λ k below. f (suc k) (omega (arith, below))))
 
-pub used_from_set : (marks : List Bool) (count : ℕ) (rows : List NumberedRow) → AreMarked marks count rows → list_all (λ x. x) marks ≡ true → AreUsed count rows
+pub used_from_set : (marks : List Bool) (count : ℕ) (rows : List NumberedRow) → AreMarked marks count rows → list_all (λ x. x) marks ≡ true → AreAllTold count rows
 used_from_set marks count rows m e = λ k below. (m.marked k below).0 (all_at marks k e (omega (arith, below, m.long)))
 
-pub set_from_used : (marks : List Bool) (count : ℕ) (rows : List NumberedRow) → AreMarked marks count rows → AreUsed count rows → list_all (λ x. x) marks ≡ true
+pub set_from_used : (marks : List Bool) (count : ℕ) (rows : List NumberedRow) → AreMarked marks count rows → AreAllTold count rows → list_all (λ x. x) marks ≡ true
 set_from_used marks count rows m u = all_from marks (λ k below. let within : k < count = omega (arith, below, m.long) in (m.marked k within).1 (u k within))
 
 -- ---- the next capability
@@ -287,7 +287,7 @@ none_higher told bytes c taken above fits spelled below tells d rest f up parts 
     false_not_true (sym below ∙ tells.1 (subst (λ (x : Capability). AreRising (told ++ x ∷ [])) (sym same.0) up))
 
 -- behind a head
-pub head_asks : (bytes : List ℕ) (h : ImageHead) (behind : List ℕ) → IsImageHead h → bytes ≡ head_spelling h ++ behind → FirstIsWhole behind → ImageTwoAsks bytes
+pub head_asks : (bytes : List ℕ) (h : ImageHead) (behind : List ℕ) → IsImageHead h → bytes ≡ head_two_spelling h ++ behind → FirstIsWhole behind → ImageTwoAsks bytes
 head_asks bytes h behind fits parts whole = rw (ap head_two_at parts ∙ head-reads.again h behind fits) whole
 
 rows_some : (told : List Capability) (numbered : List NumberedRow) (rows : List RawValue) → AllByRecursion (FitsBelow (length told)) numbered → rows ≡ map (row_among told) numbered → 0 < length rows → 0 < length told
@@ -303,7 +303,7 @@ image_asks bytes n rows i some =
     (some_told behind i.told (flat_map numbered_frame i.numbered ++ trailer (length i.numbered)) i.told_fit refl (rows_some i.told i.numbered rows i.fit i.rows_are some))
 
 module _ (bytes : List ℕ) (h : ImageHead) (behind : List ℕ) (told : List Capability) (middle : List ℕ) (rows : List RawValue) (marks : List Bool) (left : List ℕ)
-    (fits : IsImageHead h) (parts : bytes ≡ head_spelling h ++ behind) (are : AreTold behind h.count told middle) (all : length told ≡ h.count) (so : AllRowsSo told middle rows marks left) where
+    (fits : IsImageHead h) (parts : bytes ≡ head_two_spelling h ++ behind) (are : AreToldInFront behind h.count told middle) (all : length told ≡ h.count) (so : AllRowsSo told middle rows marks left) where
   as_many : length rows ≡ length so.so.numbered
   as_many = ap length so.so.rows_are ∙ length-map so.so.numbered (row_among told)
 
@@ -329,7 +329,7 @@ module _ (bytes : List ℕ) (h : ImageHead) (behind : List ℕ) (told : List Cap
   }
 
   -- what is left is not the end
-  pub wrong_from : (flags : List Bool) (count : ℕ) (e : End ImageRefusal) → flags ≡ marks → count ≡ length rows → (count < 2 ^ 32 → left ≡ trailer count → list_all (λ x. x) flags ≡ true → ⊥) → IsBadAt bytes left e → ReadsRowsTwo bytes (Err e)
+  pub wrong_from : (flags : List Bool) (count : ℕ) (e : End ImageRefusal) → flags ≡ marks → count ≡ length rows → (count < 2 ^ 32 → left ≡ trailer count → list_all (λ x. x) flags ≡ true → ⊥) → GoesBadAt bytes left e → ReadsRowsTwo bytes (Err e)
   wrong_from flags count e flags_are count_is none bad =
       let same : count ≡ length so.so.numbered = count_is ∙ as_many in
       let stop : RowsStopAt bytes bad.at = record {
@@ -350,7 +350,7 @@ module _ (bytes : List ℕ) (h : ImageHead) (behind : List ℕ) (told : List Cap
       subst (λ (x : End ImageRefusal). ReadsRowsTwo bytes (Err x)) (sym bad.is) (inr (inr stop))
 
 -- fewer capabilities are told than are counted
-pub too_few : (bytes : List ℕ) (h : ImageHead) (behind : List ℕ) (told : List Capability) (left : List ℕ) (e : End ImageRefusal) → IsImageHead h → bytes ≡ head_spelling h ++ behind → AreTold behind h.count told left → length told < h.count → IsBadAt bytes left e
+pub too_few : (bytes : List ℕ) (h : ImageHead) (behind : List ℕ) (told : List Capability) (left : List ℕ) (e : End ImageRefusal) → IsImageHead h → bytes ≡ head_two_spelling h ++ behind → AreToldInFront behind h.count told left → length told < h.count → GoesBadAt bytes left e
     → ReadsRowsTwo bytes (Err e)
 too_few bytes h behind told left e fits parts are few bad =
     let stop : ToldStopAt bytes bad.at = record { head = h; behind = behind; told = told; left = left; head_fits = fits; parts = parts; are_told = are; few = few; place = bad.place } in

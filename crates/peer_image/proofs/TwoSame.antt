@@ -29,7 +29,7 @@ use Rattle.cap_codec.proofs.Spelled.{capability_again, signature_again}
 use Rattle.peer_image.specs.Image.{trailer}
 use Rattle.peer_image.specs.ImageReading.{raw_rows}
 use Rattle.peer_image.specs.ImageTwo.{bytes_frame, capabilities, capability_bytes, head_two, image_two, numbered_as, place_in, placed_frame}
-use Rattle.peer_image.specs.ImageTwoReading.{AreRising, AreUsed, FitsBelow, IsImageTwo, row_among}
+use Rattle.peer_image.specs.ImageTwoReading.{AreRising, AreAllTold, FitsBelow, IsImageTwo, row_among}
 use Rattle.peer_image.proofs.TwoRows.{capability_long}
 use Rattle.peer_image.proofs.TwoPlaces.{all_at, all_rising, place_at, rising_short}
 
@@ -153,7 +153,7 @@ module _ (texts : List (List ℕ)) (told : List Capability) (same : map capabili
         numbered_fit rows few f.1 (λ x h. m x (inr h)),
       )
 
-  all_used : (rows : List RawValue) → ((c : List ℕ) → Member texts c → Member (map text_of rows) c) → AreUsed (length told) (map numbered_in rows)
+  all_used : (rows : List RawValue) → ((c : List ℕ) → Member texts c → Member (map text_of rows) c) → AreAllTold (length told) (map numbered_in rows)
   all_used rows back k below =
       let t = get_or texts k [] in
       let within : k < length texts = omega (arith, below, long) in

@@ -18,7 +18,7 @@ use Rattle.cap_codec.proofs.NumberedReads.{numbered-reads}
 use Rattle.peer_image.specs.declared.known.ImageHead.{ImageHead}
 use Rattle.peer_image.specs.Image.{trailer}
 use Rattle.peer_image.specs.ImageTwo.{head_two}
-use Rattle.peer_image.specs.ImageTwoReading.{AreNumbered, AreRising, AreTold, AreUsed, FitsBelow, HasNoHead, HasNoHigher, HasNoRow, IsImageHead, IsImageTwo, IsWrongTwo, RowsStopAt, ToldStopAt, head_spelling, row_among}
+use Rattle.peer_image.specs.ImageTwoReading.{AreNumbered, AreRising, AreToldInFront, AreAllTold, FitsBelow, HasNoHead, HasNoHigher, HasNoRow, IsImageHead, IsImageTwo, IsWrongTwo, RowsStopAt, ToldStopAt, head_two_spelling, row_among}
 use Rattle.peer_image.proofs.Stops.{behind_key, zero_body}
 use Rattle.peer_image.proofs.TwoHeads.{head-reads}
 use Rattle.peer_image.proofs.TwoRising.{rising_left}
@@ -60,10 +60,10 @@ told_same count before (c ∷ told) (d ∷ others) all all' a b is is' f g e =
     let more = told_same count (before ++ c ∷ []) told others all all' a b (is ∙ sym (append_assoc before (c ∷ []) told)) there (ends_on count all c told a f) (ends_on count all' d others b g) both.1 in
     (ap (λ (x : Capability). x ∷ told) both.0 ∙ ap (λ (l : List Capability). d ∷ l) more.0, more.1)
 
-ends_of : (bytes : List ℕ) (count : ℕ) (told : List Capability) (left : List ℕ) → AreTold bytes count told left → Ends count told told left
+ends_of : (bytes : List ℕ) (count : ℕ) (told : List Capability) (left : List ℕ) → AreToldInFront bytes count told left → Ends count told told left
 ends_of bytes count told left t = record { fit = t.fit; up = t.up; within = t.within; ended = t.ended }
 
-pub same_told : (bytes others_bytes : List ℕ) (count other_count : ℕ) (told others : List Capability) (a b : List ℕ) → bytes ≡ others_bytes → count ≡ other_count → AreTold bytes count told a → AreTold others_bytes other_count others b → (told ≡ others) × (a ≡ b)
+pub same_told : (bytes others_bytes : List ℕ) (count other_count : ℕ) (told others : List Capability) (a b : List ℕ) → bytes ≡ others_bytes → count ≡ other_count → AreToldInFront bytes count told a → AreToldInFront others_bytes other_count others b → (told ≡ others) × (a ≡ b)
 same_told bytes others_bytes count other_count told others a b is counted f g =
     let there : Ends count others others b = subst (λ (n : ℕ). Ends n others others b) (sym counted) (ends_of others_bytes other_count others b g) in
     told_same count [] told others told others a b refl refl (ends_of bytes count told a f) there (sym f.parts ∙ is ∙ g.parts)
@@ -97,8 +97,8 @@ pub record IsFrontTwo (bytes : List ℕ) (h : ImageHead) (told : List Capability
   pub behind : List ℕ
   pub middle : List ℕ
   pub head_fits : IsImageHead h
-  pub parts : bytes ≡ head_spelling h ++ behind
-  pub are_told : AreTold behind h.count told middle
+  pub parts : bytes ≡ head_two_spelling h ++ behind
+  pub are_told : AreToldInFront behind h.count told middle
   pub all : length told ≡ h.count
   pub are_numbered : AreNumbered middle (length told) rows left
 
@@ -155,7 +155,7 @@ not_end : (bytes n : List ℕ) (rows : List RawValue) (at : ℕ) → IsImageTwo 
 not_end bytes n rows at i s =
     let same = same_fronts bytes (head_of n i.told) s.head i.told s.told i.numbered s.numbered _ _ (front_of_image bytes n rows i) (front_of_stop bytes at s) in
     s.no_end (subst (λ (l : List NumberedRow). length l < 2 ^ 32) same.rows_are i.count)
-    (subst (λ (l : List NumberedRow). AreUsed (length s.told) l) same.rows_are (subst (λ (l : List Capability). AreUsed (length l) i.numbered) same.told_are i.used))
+    (subst (λ (l : List NumberedRow). AreAllTold (length s.told) l) same.rows_are (subst (λ (l : List Capability). AreAllTold (length l) i.numbered) same.told_are i.used))
     (sym same.left_same ∙ ap (λ (l : List NumberedRow). trailer (length l)) same.rows_are)
 
 pub never_both_two : (bytes n : List ℕ) (rows : List RawValue) (at : ℕ) → IsImageTwo bytes n rows → IsWrongTwo bytes at → ⊥

@@ -10,7 +10,7 @@ use Rattle.cap_codec.specs.Numbered.{FitsCapability, capability_frame, numbered_
 use Rattle.cap_codec.specs.Rows.{RawValue}
 use Rattle.peer_image.specs.declared.refusal.ImageRefusal.{ImageRefusal}
 use Rattle.peer_image.specs.declared.refusal.ImageRefusal.TheVariants.{BadImage}
-use Rattle.peer_image.specs.ImageTwoReading.{AreNumbered, AreRising, FitsBelow, HasNoHigher, HasNoRow, IsUsed, row_among}
+use Rattle.peer_image.specs.ImageTwoReading.{AreNumbered, AreRising, FitsBelow, HasNoHigher, HasNoRow, IsToldBy, row_among}
 
 -- a capability that stands above those told is told in front of the bytes, or none is
 abbrev pub TellsNext : List Capability → List ℕ → Result (Capability × ℕ) (End NotHere) → Type 0
@@ -36,7 +36,7 @@ ReadsRow told bytes (Err NoMemory) = Unit {0}
 -- there is a mark for each capability, and it is set just where a row tells the capability
 pub record AreMarked (marks : List Bool) (count : ℕ) (numbered : List NumberedRow) : Type 0 where
   pub long : length marks ≡ count
-  pub marked : (k : ℕ) → k < count → (slice_index_or marks k false ≡ true) ↔ IsUsed numbered k
+  pub marked : (k : ℕ) → k < count → (slice_index_or marks k false ≡ true) ↔ IsToldBy numbered k
 
 -- some rows stand in front of what is left; of the capabilities those that they tell are marked
 pub record RowsSo (told : List Capability) (bytes : List ℕ) (rows : List RawValue) (marks : List Bool) (left : List ℕ) : Type 0 where
@@ -52,7 +52,7 @@ pub record AllRowsSo (told : List Capability) (bytes : List ℕ) (rows : List Ra
   pub no_row : HasNoRow (length told) left
 
 -- the bytes go wrong where these are left
-pub record IsBadAt (bytes left : List ℕ) (e : End ImageRefusal) : Type 0 where
+pub record GoesBadAt (bytes left : List ℕ) (e : End ImageRefusal) : Type 0 where
   pub at : ℕ
   pub is : e ≡ Refused (BadImage at)
   pub place : at + length left ≡ length bytes

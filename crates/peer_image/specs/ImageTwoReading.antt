@@ -29,8 +29,8 @@ use Rattle.peer_image.specs.Order.{order_refusal}
 -- ---- the head
 
 -- the text WIM2, a key and a number of four bytes
-abbrev pub head_spelling : ImageHead → List ℕ
-head_spelling h = head_two h.namespace h.count
+abbrev pub head_two_spelling : ImageHead → List ℕ
+head_two_spelling h = head_two h.namespace h.count
 
 pub record IsImageHead (h : ImageHead) : Type 0 where
   pub key : IsKey h.namespace
@@ -46,7 +46,7 @@ head_two_at bytes = do
 
 -- no such head stands in front
 abbrev pub HasNoHead : List ℕ → Type 0
-HasNoHead bytes = (h : ImageHead) (left : List ℕ) → IsImageHead h → bytes ≡ head_spelling h ++ left → ⊥
+HasNoHead bytes = (h : ImageHead) (left : List ℕ) → IsImageHead h → bytes ≡ head_two_spelling h ++ left → ⊥
 
 -- the first length behind the head is above zero, and so many bytes are there
 abbrev pub FirstIsWhole : List ℕ → Type 0
@@ -67,7 +67,7 @@ abbrev pub HasNoHigher : List Capability → List ℕ → Type 0
 HasNoHigher told left = (c : Capability) (rest : List ℕ) → FitsCapability c → AreRising (told ++ c ∷ []) → left ≡ capability_frame c ++ rest → ⊥
 
 -- these capabilities, at most so many, are told in front of what is left; where they are fewer, no further one is
-pub record AreTold (bytes : List ℕ) (count : ℕ) (told : List Capability) (left : List ℕ) : Type 0 where
+pub record AreToldInFront (bytes : List ℕ) (count : ℕ) (told : List Capability) (left : List ℕ) : Type 0 where
   pub fit : AllByRecursion FitsCapability told
   pub up : AreRising told
   pub within : length told ≤ count
@@ -90,12 +90,12 @@ abbrev pub row_among : List Capability → NumberedRow → RawValue
 row_among told r = row_with (slice_index_or told r.number no_token.capability) r
 
 -- some row tells the capability of this number
-abbrev pub IsUsed : List NumberedRow → ℕ → Type 0
-IsUsed rows k = Contains (map (λ (r : NumberedRow). r.number) rows) k
+abbrev pub IsToldBy : List NumberedRow → ℕ → Type 0
+IsToldBy rows k = Contains (map (λ (r : NumberedRow). r.number) rows) k
 
 -- all capabilities, of which there are so many, are told by rows
-abbrev pub AreUsed : ℕ → List NumberedRow → Type 0
-AreUsed count rows = (k : ℕ) → k < count → IsUsed rows k
+abbrev pub AreAllTold : ℕ → List NumberedRow → Type 0
+AreAllTold count rows = (k : ℕ) → k < count → IsToldBy rows k
 
 -- these rows stand in front of what is left, and no further one
 pub record AreNumbered (bytes : List ℕ) (count : ℕ) (rows : List NumberedRow) (left : List ℕ) : Type 0 where
@@ -115,7 +115,7 @@ pub record IsImageTwo (bytes n : List ℕ) (rows : List RawValue) : Type 0 where
   pub told_fit : AllByRecursion FitsCapability told
   pub up : AreRising told
   pub fit : AllByRecursion (FitsBelow (length told)) numbered
-  pub used : AreUsed (length told) numbered
+  pub used : AreAllTold (length told) numbered
   pub count : length numbered < 2 ^ 32
   pub spelled : bytes ≡ head_two n (length told) ++ (flat_map capability_frame told ++ (flat_map numbered_frame numbered ++ trailer (length numbered)))
   pub rows_are : rows ≡ map (row_among told) numbered
@@ -127,8 +127,8 @@ pub record ToldStopAt (bytes : List ℕ) (at : ℕ) : Type 0 where
   pub told : List Capability
   pub left : List ℕ
   pub head_fits : IsImageHead head
-  pub parts : bytes ≡ head_spelling head ++ behind
-  pub are_told : AreTold behind head.count told left
+  pub parts : bytes ≡ head_two_spelling head ++ behind
+  pub are_told : AreToldInFront behind head.count told left
   pub few : length told < head.count
   pub place : at + length left ≡ length bytes
 
@@ -142,11 +142,11 @@ pub record RowsStopAt (bytes : List ℕ) (at : ℕ) : Type 0 where
   pub numbered : List NumberedRow
   pub left : List ℕ
   pub head_fits : IsImageHead head
-  pub parts : bytes ≡ head_spelling head ++ behind
-  pub are_told : AreTold behind head.count told middle
+  pub parts : bytes ≡ head_two_spelling head ++ behind
+  pub are_told : AreToldInFront behind head.count told middle
   pub all : length told ≡ head.count
   pub are_numbered : AreNumbered middle (length told) numbered left
-  pub no_end : length numbered < 2 ^ 32 → AreUsed (length told) numbered → left ≡ trailer (length numbered) → ⊥
+  pub no_end : length numbered < 2 ^ 32 → AreAllTold (length told) numbered → left ≡ trailer (length numbered) → ⊥
   pub place : at + length left ≡ length bytes
 
 -- the bytes are no image: they have no head, and go wrong from their first byte on, or they go wrong behind it

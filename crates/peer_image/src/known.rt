@@ -6,7 +6,7 @@ ghost use Rattle.spelling.specs.declared.ending.End.TheVariants as ends;
 ghost use Rattle.mc_cap.specs.Forms.{capability_spelling};
 ghost use Rattle.cap_codec.specs.Numbered.{CapabilityFrameAsks};
 ghost use Rattle.peer_image.specs.ImageTwoParts.{TellsNext};
-ghost use Rattle.peer_image.specs.ImageTwoReading.{AreRising, AreTold, FirstIsWhole, HasNoHead, IsImageHead, head_spelling, head_two_at};
+ghost use Rattle.peer_image.specs.ImageTwoReading.{AreRising, AreToldInFront, FirstIsWhole, HasNoHead, IsImageHead, head_two_spelling, head_two_at};
 
 use cap_codec::{behind, decode_capability_frame};
 use mc_cap::Capability;
@@ -30,7 +30,7 @@ pub struct ImageHead {
 /// The namespace key and the number of the capabilities behind the text WIM2, and the bytes behind these; None where they
 /// do not stand in front.
 pub fn image_two_head(bytes: &[u8]) -> Option<(ImageHead, &[u8])>
-    ensures { MatchOption result (HasNoHead bytes.now) (λ found. IsImageHead found.0 × (bytes.now ≡ head_spelling found.0 ++ found.1.now)) }
+    ensures { MatchOption result (HasNoHead bytes.now) (λ found. IsImageHead found.0 × (bytes.now ≡ head_two_spelling found.0 ++ found.1.now)) }
 {
     let mut input = Input::new(bytes);
     match read_head(&mut input) {
@@ -94,7 +94,7 @@ pub fn capabilities_in_front<'a>(
     bytes: &'a [u8],
     count: u32,
 ) -> Result<(Vec<KnownCapability<'a>>, &'a [u8]), NoMemory>
-    ensures reads { IfOk result (λ read. AreTold bytes.now count read.0.items read.1.now) }
+    ensures reads { IfOk result (λ read. AreToldInFront bytes.now count read.0.items read.1.now) }
     ensures asked { OnErr result (FirstIsWhole bytes.now) }
 {
     let mut told = Vec::new(alloc);

@@ -5,8 +5,8 @@ ghost use Rattle.std.specs.List.{list_all};
 ghost use Rattle.spelling.specs.declared.ending.End.TheVariants as ends;
 ghost use Rattle.willow_entry.specs.Frame.{FrameAsks};
 ghost use Rattle.peer_image.specs.Image.{trailer};
-ghost use Rattle.peer_image.specs.ImageTwoParts.{AllRowsSo, AreMarked, IsBadAt, ReadsRow};
-ghost use Rattle.peer_image.specs.ImageTwoReading.{AreTold, FirstIsWhole, ImageTwoAsks, IsImageHead, ReadsImageTwo, ReadsRowsTwo, head_spelling};
+ghost use Rattle.peer_image.specs.ImageTwoParts.{AllRowsSo, AreMarked, GoesBadAt, ReadsRow};
+ghost use Rattle.peer_image.specs.ImageTwoReading.{AreToldInFront, FirstIsWhole, ImageTwoAsks, IsImageHead, ReadsImageTwo, ReadsRowsTwo, head_two_spelling};
 
 use crate::known::{ImageHead, KnownCapability, capabilities_in_front, image_two_head};
 use crate::order::order_refusal;
@@ -65,7 +65,7 @@ fn read_behind_head(
     behind: &[u8],
 ) -> Result<Image, End<ImageRefusal>>
     requires head { IsImageHead head }
-    requires behind { bytes.now ≡ head_spelling head ++ behind.now }
+    requires behind { bytes.now ≡ head_two_spelling head ++ behind.now }
     ensures rows { ReadsRowsTwo bytes.now result }
     ensures asked { IsErrOf result ends.NoMemory → FirstIsWhole behind.now }
 {
@@ -89,8 +89,8 @@ fn read_behind_told(
     middle: &[u8],
 ) -> Result<Image, End<ImageRefusal>>
     requires head { IsImageHead head }
-    requires behind { bytes.now ≡ head_spelling head ++ behind.now }
-    requires told { AreTold behind.now head.count told.now middle.now }
+    requires behind { bytes.now ≡ head_two_spelling head ++ behind.now }
+    requires told { AreToldInFront behind.now head.count told.now middle.now }
     requires all { length told.now ≡ head.count }
     ensures rows { ReadsRowsTwo bytes.now result }
     ensures asked { IsErrOf result ends.NoMemory → FirstIsWhole behind.now }
@@ -120,7 +120,7 @@ fn is_end_two(bytes: &[u8], count: usize, marks: &[bool]) -> bool
 // The bytes are no image from where these are left.
 fn bad_at(bytes: &[u8], left: &[u8]) -> End<ImageRefusal>
     requires { length left.now ≤ length bytes.now }
-    ensures { IsBadAt bytes.now left.now result }
+    ensures { GoesBadAt bytes.now left.now result }
 {
     let at = bytes.len() - left.len();
     End::Refused(ImageRefusal::BadImage { at: at as u64 })
