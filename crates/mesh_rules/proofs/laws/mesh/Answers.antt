@@ -1,0 +1,15 @@
+use Rattle.std.proofs.Common.{sym, ◌∙◌}
+use Rattle.mesh_rules.proofs.Runs.{holds_reached, holds_live, holds_area}
+use Rattle.mesh_rules.proofs.laws.mesh.Goals as goal
+
+pub returns-clause-reached : goal.returns-clause-reached
+returns-clause-reached g c = λ m events run i. holds_reached m events run i
+
+pub returns-clause-just : goal.returns-clause-just
+returns-clause-just g c = λ m events run i reached same. holds_live m events run i reached same
+
+pub returns-clause-area : goal.returns-clause-area
+returns-clause-area g c = λ m events run x i whole reach. holds_area m events run i x whole reach
+
+pub returns-clause-agree : goal.returns-clause-agree
+returns-clause-agree g c = λ m events run x i j whole one other. holds_area m events run i x whole one ∙ sym (holds_area m events run j x whole other)

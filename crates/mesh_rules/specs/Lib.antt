@@ -1,0 +1,5 @@
+pub mod Events
+pub mod Reaching
+pub mod Meetings
+pub mod Laws
+pub mod Small
