@@ -1,4 +1,5 @@
 pub mod Carrying
+pub mod Listing
 pub mod Covered
 pub mod Steps
 pub mod Runs

@@ -4,7 +4,7 @@ ghost use Rattle.std.specs.Prelude.{◌≡◌, ℕ, List, [], ◌∷◌};
 ghost use Rattle.willow_entry.specs.Row.{RowValue, join};
 ghost use Rattle.mesh_rules.specs.Events.{NodeEvent, node_rows};
 ghost use Rattle.mesh_rules.specs.Reaching.{Reaches};
-ghost use Rattle.mesh_rules.specs.Laws.{OnlyReachedAreHeld, LiveAreHeld, OfferedReach, IsExactRun, ReachedAreHeld, LiveOfReachedAreHeld, LiveOfAreaAreHeld, SameOfAreaAreHeld};
+ghost use Rattle.mesh_rules.specs.Laws.{OnlyReachedAreHeld, LiveAreHeld, OfferedReach, ReachingAreListed, IsExactRun, ReachedAreHeld, LiveOfReachedAreHeld, LiveOfAreasAreHeld, SameOfAreasAreHeld};
 ghost use Rattle.mesh_rules.specs.Small.{Subspace, joining, includes, meets_in_order, meets_out_of_order, meets_over, not_yet_told, told_again};
 
 /// What needs no exact meetings: where none makes up a row, a node holds only rows that reach it; where each leaves live
@@ -14,19 +14,21 @@ pub fn any_meetings<X>()
     ensures live { LiveAreHeld X }
 {}
 
-/// The rows that reach a node are rows that are offered, and each of these reaches one.
+/// The rows that reach a node are rows that are offered, and each of these reaches one. For each node there is a list of
+/// those that reach it.
 pub fn reaching<X>()
     ensures offered { OfferedReach X }
+    ensures listed { ReachingAreListed X }
 {}
 
 /// Where each meeting leaves its two nodes with the joins, over areas that include what dominates their rows: each node
 /// holds live rows that reach it and covers all that do, so it holds what is live of these. Where all rows of an area reach
-/// it, it holds there what is live of them, and two such nodes hold the same.
+/// it, it holds there what is live of them, and two such nodes hold the same there.
 pub fn mesh<X>()
     ensures reached { ReachedAreHeld X }
     ensures just { LiveOfReachedAreHeld X }
-    ensures area { LiveOfAreaAreHeld X }
-    ensures agree { SameOfAreaAreHeld X }
+    ensures areas { LiveOfAreasAreHeld X }
+    ensures agree { SameOfAreasAreHeld X }
 {}
 
 /// There are meshes whose runs meet what the laws ask, whatever the events are.
