@@ -70,7 +70,10 @@ module _ {X : Type 0} (has : X → RowValue → Bool) where
   comes_member (Meet left right x ∷ es) j r = comes_member es j r
 
   pub reaching_listed : (es : List (NodeEvent X)) (i : ℕ) → (reached : List RowValue) × ((r : RowValue) → Contains reached r ↔ Reaches has es r i)
-  reaching_listed es i = (coming es i, λ r. (
-    (λ c. reaches_from_comes has es r i (member_comes es i r (member_from_contains (coming es i) r c))),
-    (λ reaches. contains_from_member (coming es i) r (comes_member es i r (comes_from_reaches has es r i reaches))),
-  ))
+  reaching_listed es i = (
+    coming es i,
+    λ r. (
+      (λ c. reaches_from_comes has es r i (member_comes es i r (member_from_contains (coming es i) r c))),
+      (λ reaches. contains_from_member (coming es i) r (comes_member es i r (comes_from_reaches has es r i reaches))),
+    ),
+  )

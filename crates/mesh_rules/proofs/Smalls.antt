@@ -102,7 +102,7 @@ offered_two P r s q c one other = elim (member_from_contains (r ∷ s ∷ []) q 
 ]
 
 module _ (r s : RowValue) where
-  all_reach_first : AllReach includes (told_again r s) None 0
+  pub all_reach_first : AllReach includes (told_again r s) None 0
   all_reach_first q c h = offered_two (λ q. Reaches includes (told_again r s) q 0) r s q c
       (0, 0, refl, ([], refl)) (
         1,
@@ -114,7 +114,7 @@ module _ (r s : RowValue) where
         ),
       )
 
-  all_reach_last : AllReach includes (told_again r s) None 2
+  pub all_reach_last : AllReach includes (told_again r s) None 2
   all_reach_last q c h = offered_two (λ q. Reaches includes (told_again r s) q 2) r s q c (
     0,
     0,

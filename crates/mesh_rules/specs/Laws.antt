@@ -21,6 +21,14 @@ abbrev pub LiveAreHeld : Type 0 → Type 0
 LiveAreHeld X = (m : Mesh X) (events : List (NodeEvent X)) → EachMeeting (LeavesLive m) m empty_nodes events
     → (i : ℕ) → AreLive (node_rows m events i)
 
+-- an exact meeting makes up no row
+abbrev pub ExactMakesUpNoRow : Type 0 → Type 0
+ExactMakesUpNoRow X = (m : Mesh X) (a b : List RowValue) (x : X) → IsExact m a b x → MakesUpNoRow m a b x
+
+-- and leaves live rows
+abbrev pub ExactLeavesLive : Type 0 → Type 0
+ExactLeavesLive X = (m : Mesh X) (a b : List RowValue) (x : X) → IsExact m a b x → LeavesLive m a b x
+
 -- a row is offered just where there is a node that it reaches
 abbrev pub OfferedReach : Type 0 → Type 0
 OfferedReach X = (has : X → RowValue → Bool) (events : List (NodeEvent X)) (r : RowValue)

@@ -1,10 +1,10 @@
 //! The laws of a mesh, each the contract of a function that does nothing, at whatever areas `X` there are.
 
-ghost use Rattle.std.specs.Prelude.{◌≡◌, ℕ, List, [], ◌∷◌};
+ghost use Rattle.std.specs.Prelude.{◌≡◌, ℕ, List, [], ◌∷◌, None};
 ghost use Rattle.willow_entry.specs.Row.{RowValue, join};
 ghost use Rattle.mesh_rules.specs.Events.{NodeEvent, node_rows};
 ghost use Rattle.mesh_rules.specs.Reaching.{Reaches};
-ghost use Rattle.mesh_rules.specs.Laws.{OnlyReachedAreHeld, LiveAreHeld, OfferedReach, ReachingAreListed, IsExactRun, ReachedAreHeld, LiveOfReachedAreHeld, LiveOfAreasAreHeld, SameOfAreasAreHeld};
+ghost use Rattle.mesh_rules.specs.Laws.{OnlyReachedAreHeld, LiveAreHeld, ExactMakesUpNoRow, ExactLeavesLive, OfferedReach, ReachingAreListed, IsExactRun, ReachedAreHeld, LiveOfReachedAreHeld, AllReach, LiveOfAreasAreHeld, SameOfAreasAreHeld};
 ghost use Rattle.mesh_rules.specs.Small.{Subspace, joining, includes, meets_in_order, meets_out_of_order, meets_over, not_yet_told, told_again};
 
 /// What needs no exact meetings: where none makes up a row, a node holds only rows that reach it; where each leaves live
@@ -12,6 +12,12 @@ ghost use Rattle.mesh_rules.specs.Small.{Subspace, joining, includes, meets_in_o
 pub fn any_meetings<X>()
     ensures only { OnlyReachedAreHeld X }
     ensures live { LiveAreHeld X }
+{}
+
+/// An exact meeting makes up no row, and leaves live rows.
+pub fn exact_meetings<X>()
+    ensures only { ExactMakesUpNoRow X }
+    ensures live { ExactLeavesLive X }
 {}
 
 /// The rows that reach a node are rows that are offered, and each of these reaches one. For each node there is a list of
@@ -38,7 +44,8 @@ pub fn a_lawful_mesh()
 
 /// A row comes from node 0 by node 1 to node 2 where they meet in this order, and in the other order it does not; nor
 /// does it come over another subspace. Where nodes 0 and 2 are offered a row each and meet node 1 in this order, the last
-/// holds what is live of both rows and the first its own alone; once it has met node 1 again they hold the same.
+/// holds what is live of both rows and the first its own alone; once it has met node 1 again both rows reach both nodes, and
+/// they hold the same.
 pub fn small_meshes()
     ensures in_order { (r : RowValue) → node_rows joining (meets_in_order r) 2 ≡ r ∷ [] }
     ensures reaches { (r : RowValue) → Reaches includes (meets_in_order r) r 2 }
@@ -48,6 +55,8 @@ pub fn small_meshes()
         → (r.entry.subspace ≡ subspace → ⊥) → node_rows joining (meets_over subspace r) 1 ≡ [] }
     ensures first_alone { (r s : RowValue) → node_rows joining (not_yet_told r s) 0 ≡ r ∷ [] }
     ensures last_both { (r s : RowValue) → node_rows joining (not_yet_told r s) 2 ≡ join (s ∷ []) (r ∷ []) }
+    ensures all_to_first { (r s : RowValue) → AllReach includes (told_again r s) None 0 }
+    ensures all_to_last { (r s : RowValue) → AllReach includes (told_again r s) None 2 }
     ensures again { (r s : RowValue)
         → node_rows joining (told_again r s) 0 ≡ node_rows joining (told_again r s) 2 }
 {}
