@@ -4,7 +4,7 @@ use Rattle.std.specs.Prelude.{slice_get, unwrap_or, ◌↔◌}
 use Rattle.willow_entry.specs.Row.{RowValue}
 use Rattle.willow_entry.proofs.Members.{Member, contains_from_member, member_from_contains}
 use Rattle.mesh_rules.specs.Events.{NodeEvent, Offer, Meet, offered_rows}
-use Rattle.mesh_rules.specs.Reaching.{TakesTo, Leads, Reaches}
+use Rattle.mesh_rules.specs.Reaching.{TakesTo, LeadsTo, Reaches}
 
 some_same : {A : Type 0} (a b : A) → Some a ≡ Some b → a ≡ b
 some_same a b e = ap (λ o. unwrap_or o a) e
@@ -34,24 +34,24 @@ module _ {X : Type 0} (has : X → RowValue → Bool) where
 
   -- ---- places shift with an event in front
 
-  down : (e : NodeEvent X) (es : List (NodeEvent X)) (r : RowValue) (first i : ℕ) (places : List ℕ) (j : ℕ) → Leads has (e ∷ es) r (suc first) i places j → (ps : List ℕ) × Leads has es r first i ps j
+  down : (e : NodeEvent X) (es : List (NodeEvent X)) (r : RowValue) (first i : ℕ) (places : List ℕ) (j : ℕ) → LeadsTo has (e ∷ es) r (suc first) i places j → (ps : List ℕ) × LeadsTo has es r first i ps j
   down e es r first i [] j l = ([], l)
   down e es r first i (zero ∷ places) j l = absurd (omega (arith, l.0))
   down e es r first i (suc place ∷ places) j l =
       let rest = down e es r (suc place) l.1.0 places j l.1.2 in
       (place ∷ rest.0, (omega (arith, l.0), (l.1.0, l.1.1, rest.1)))
 
-  up : (e : NodeEvent X) (es : List (NodeEvent X)) (r : RowValue) (first i : ℕ) (places : List ℕ) (j : ℕ) → Leads has es r first i places j → Leads has (e ∷ es) r (suc first) i (map suc places) j
+  up : (e : NodeEvent X) (es : List (NodeEvent X)) (r : RowValue) (first i : ℕ) (places : List ℕ) (j : ℕ) → LeadsTo has es r first i places j → LeadsTo has (e ∷ es) r (suc first) i (map suc places) j
   up e es r first i [] j l = l
   up e es r first i (place ∷ places) j l = (omega (arith, l.0), (l.1.0, l.1.1, up e es r (suc place) l.1.0 places j l.1.2))
 
-  sooner : (es : List (NodeEvent X)) (r : RowValue) (first i : ℕ) (places : List ℕ) (j : ℕ) → Leads has es r (suc first) i places j → Leads has es r first i places j
+  sooner : (es : List (NodeEvent X)) (r : RowValue) (first i : ℕ) (places : List ℕ) (j : ℕ) → LeadsTo has es r (suc first) i places j → LeadsTo has es r first i places j
   sooner es r first i [] j l = l
   sooner es r first i (place ∷ places) j l = (omega (arith, l.0), l.1)
 
   -- ---- carried along places
 
-  carried_from_leads : (es : List (NodeEvent X)) (r : RowValue) (i : ℕ) (places : List ℕ) (j : ℕ) → Leads has es r 0 i places j → Carries r es i j
+  carried_from_leads : (es : List (NodeEvent X)) (r : RowValue) (i : ℕ) (places : List ℕ) (j : ℕ) → LeadsTo has es r 0 i places j → Carries r es i j
   carried_from_leads [] r i [] j l = l
   carried_from_leads [] r i (place ∷ places) j l = absurd (nothing_there l.1.1.0 l.1.1.1)
   carried_from_leads (e ∷ es) r i [] j l = inl (carried_from_leads es r i [] j l)
@@ -63,7 +63,7 @@ module _ {X : Type 0} (has : X → RowValue → Bool) where
       let rest = down e es r 0 i (suc place ∷ places) j (omega arith, l.1) in
       inl (carried_from_leads es r i rest.0 j rest.1)
 
-  leads_from_carried : (es : List (NodeEvent X)) (r : RowValue) (i j : ℕ) → Carries r es i j → (places : List ℕ) × Leads has es r 0 i places j
+  leads_from_carried : (es : List (NodeEvent X)) (r : RowValue) (i j : ℕ) → Carries r es i j → (places : List ℕ) × LeadsTo has es r 0 i places j
   leads_from_carried [] r i j c = ([], c)
   leads_from_carried (e ∷ es) r i j (inl c) =
       let rest = leads_from_carried es r i j c in
@@ -74,7 +74,7 @@ module _ {X : Type 0} (has : X → RowValue → Bool) where
 
   -- ---- offered, then carried
 
-  comes_from_leads : (es : List (NodeEvent X)) (r : RowValue) (j place node : ℕ) (places : List ℕ) → slice_get es place ≡ Some (Offer node r) → Leads has es r (suc place) node places j → Comes r es j
+  comes_from_leads : (es : List (NodeEvent X)) (r : RowValue) (j place node : ℕ) (places : List ℕ) → slice_get es place ≡ Some (Offer node r) → LeadsTo has es r (suc place) node places j → Comes r es j
   comes_from_leads [] r j place node places at l = absurd (nothing_there (Offer node r) at)
   comes_from_leads (Offer n s ∷ es) r j zero node places at l =
       let same = some_same (Offer n s) (Offer node r) at in

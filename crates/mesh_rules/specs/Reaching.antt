@@ -15,11 +15,11 @@ module _ {X : Type 0} (has : X → RowValue → Bool) where
 
   -- The meetings at these places lead the row from node i to node j. The places rise, and none is before the first that
   -- may be. No place at all leads from a node to itself.
-  abbrev pub Leads : List (NodeEvent X) → RowValue → ℕ → ℕ → List ℕ → ℕ → Type 0
-  Leads events r first i [] j = i ≡ j
-  Leads events r first i (place ∷ places) j = (first ≤ place) × ((k : ℕ) × TakesAt events place r i k × Leads events r (suc place) k places j)
+  abbrev pub LeadsTo : List (NodeEvent X) → RowValue → ℕ → ℕ → List ℕ → ℕ → Type 0
+  LeadsTo events r first i [] j = i ≡ j
+  LeadsTo events r first i (place ∷ places) j = (first ≤ place) × ((k : ℕ) × TakesAt events place r i k × LeadsTo events r (suc place) k places j)
 
   -- the row is offered to a node at some place, and meetings at places behind it lead the row from there to node j
   abbrev pub Reaches : List (NodeEvent X) → RowValue → ℕ → Type 0
   Reaches events r j =
-      (place : ℕ) × (node : ℕ) × (slice_get events place ≡ Some (Offer node r)) × ((places : List ℕ) × Leads events r (suc place) node places j)
+      (place : ℕ) × (node : ℕ) × (slice_get events place ≡ Some (Offer node r)) × ((places : List ℕ) × LeadsTo events r (suc place) node places j)
