@@ -1,6 +1,6 @@
 //! Images against bytes made elsewhere.
 
-use crate::tables::{joined, shows};
+use crate::tables::{cut_short, joined, shows};
 use block_store::BlockStore;
 use cap_codec::RawRow;
 use peer_image::{Image, ImageRefusal, read_image, write_image, write_rows};
@@ -56,18 +56,10 @@ fn refusal_of(alloc: Global, bytes: &[u8]) -> Option<ImageRefusal> {
     }
 }
 
-// Whether so many of the bytes that the words spell are refused so.
-fn is_refused(alloc: Global, words: &str, len: usize, due: &str) -> Option<bool> {
-    let mut bytes = joined(alloc, words)?;
-    bytes.truncate(len);
-    shows(alloc, &refusal_of(alloc, &bytes)?, due)
-}
-
 // Whether the line, a number of bytes, words and a refusal, is right.
 fn refuses(alloc: Global, line: &str) -> Option<bool> {
-    let (len, line) = line.split_once(' ')?;
-    let (words, due) = line.split_once(": ")?;
-    is_refused(alloc, words, len.parse::<usize>().ok()?, due)
+    let (bytes, due) = cut_short(alloc, line)?;
+    shows(alloc, &refusal_of(alloc, &bytes)?, due)
 }
 
 const REFUSED: &str = "1000 HEAD BELOW FIRST 0000000000000002: NotRising { at: 2 }

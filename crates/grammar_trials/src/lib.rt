@@ -9,6 +9,8 @@ mod hellos;
 #[cfg(test)]
 mod images;
 #[cfg(test)]
+mod images_two;
+#[cfg(test)]
 mod items;
 #[cfg(test)]
 mod keys;

@@ -26,6 +26,25 @@ const ELSEWHERE: &str =
 const BETWEEN: &str =
     "000000dd004f4f4f4f4f4f4f4f4f4f4f4f4f4f4f4f4f4f4f4f4f4f4f4f4f4f4f4f4f4f4f4f005555555555555555555555555555555555555555555555555555555555555555020161016100000000000000050000000000000001111111111111111111111111111111111111111111111111111111111111111101004e4e4e4e4e4e4e4e4e4e4e4e4e4e4e4e4e4e4e4e4e4e4e4e4e4e4e4e4e4e4e4e005555555555555555555555555555555555555555555555555555555555555555000020921011dfbcf8667c90cf80dbed1db4d1eee1fda9a08fbd2d9d240d6664fabcc9";
 
+// The text WIM2 and a namespace key.
+const HEAD_2: &str = "57494d32004e4e4e4e4e4e4e4e4e4e4e4e4e4e4e4e4e4e4e4e4e4e4e4e4e4e4e4e4e4e4e4e";
+
+// The frame of a communal capability without delegations, which the rows of the frames above have,
+const CAPABILITY: &str =
+    "0000004401004e4e4e4e4e4e4e4e4e4e4e4e4e4e4e4e4e4e4e4e4e4e4e4e4e4e4e4e4e4e4e4e00555555555555555555555555555555555555555555555555555555555555555500";
+
+// and that of the capability handed on once, which stands above it.
+const HANDED_ON: &str =
+    "000000b301004e4e4e4e4e4e4e4e4e4e4e4e4e4e4e4e4e4e4e4e4e4e4e4e4e4e4e4e4e4e4e4e005555555555555555555555555555555555555555555555555555555555555555010100555555555555555555555555555555555555555555555555555555555555555500000000000000000000005555555555555555555555555555555555555555555555555555555555555555002076ebc1e082b688463d42c4f84e32363cb8f8d6d1785638fab5d793d00994a1d3";
+
+// The frames of the first row and of the row below it, as images of version 2 tell them: the capability is that of
+// number 0.
+const FIRST_2: &str =
+    "0000009b004e4e4e4e4e4e4e4e4e4e4e4e4e4e4e4e4e4e4e4e4e4e4e4e4e4e4e4e4e4e4e4e005555555555555555555555555555555555555555555555555555555555555555010161000000000000000500000000000000011111111111111111111111111111111111111111111111111111111111111111000000000020c829d729f7a6d6c9e53b25700abe4e6c8e3c37cf8c4cf612ceafd4d405183ce5";
+
+const BELOW_2: &str =
+    "0000009d004e4e4e4e4e4e4e4e4e4e4e4e4e4e4e4e4e4e4e4e4e4e4e4e4e4e4e4e4e4e4e4e0055555555555555555555555555555555555555555555555555555555555555550201610162000000000000000500000000000000011111111111111111111111111111111111111111111111111111111111111111000000000020921011dfbcf8667c90cf80dbed1db4d1eee1fda9a08fbd2d9d240d6664fabcc9";
+
 // A communal write capability, handed on once: the number of delegations stands at 67, the area at 68, the
 // signature's length at 145.
 const DELEGATED: &str =
@@ -70,13 +89,18 @@ const KEY_55: &str = "0055555555555555555555555555555555555555555555555555555555
 const KEY_56: &str = "005656565656565656565656565656565656565656565656565656565656565656";
 
 // The pieces, by their names.
-static PIECES: [(&str, &str); 19] = [
+static PIECES: [(&str, &str); 24] = [
     ("HEAD", HEAD),
     ("FIRST", FIRST),
     ("BELOW", BELOW),
     ("NEWER", NEWER),
     ("ELSEWHERE", ELSEWHERE),
     ("BETWEEN", BETWEEN),
+    ("HEAD_2", HEAD_2),
+    ("CAPABILITY", CAPABILITY),
+    ("HANDED_ON", HANDED_ON),
+    ("FIRST_2", FIRST_2),
+    ("BELOW_2", BELOW_2),
     ("DELEGATED", DELEGATED),
     ("ROW", ROW),
     ("OWNED_ON", OWNED_ON),
@@ -115,6 +139,15 @@ pub(crate) fn joined(alloc: Global, words: &str) -> Option<Vec<u8>> {
         add_word(alloc, &mut bytes, word)?;
     }
     Some(bytes)
+}
+
+// So many of the bytes that words spell, and what the line says behind a number, the words and a colon.
+pub(crate) fn cut_short(alloc: Global, line: &str) -> Option<(Vec<u8>, &str)> {
+    let (len, line) = line.split_once(' ')?;
+    let (words, due) = line.split_once(": ")?;
+    let mut bytes = joined(alloc, words)?;
+    bytes.truncate(len.parse::<usize>().ok()?);
+    Some((bytes, due))
 }
 
 // Whether the words spell these bytes.
