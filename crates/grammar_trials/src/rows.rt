@@ -46,7 +46,7 @@ fn bytes_that_are_no_capability(rt: HostRuntime) {
         (1, 2),
         (67, 2),
         (68, 2),
-        (102, 17),
+        (102, 255),
         (111, 2),
         (145, 6),
     ] {

@@ -32,8 +32,8 @@ fn word_of(alloc: Global, name: &str) -> Option<String> {
         "PLACE_256" => long_word(alloc, "", "a", 254, ":1"),
         "PART_255" => long_word(alloc, "/", "61", 255, ""),
         "PART_256" => long_word(alloc, "/", "61", 256, ""),
-        "PARTS_16" => long_word(alloc, "", "/", 16, ""),
-        "PARTS_17" => long_word(alloc, "", "/", 17, ""),
+        "PARTS_255" => long_word(alloc, "", "/", 255, ""),
+        "PARTS_256" => long_word(alloc, "", "/", 256, ""),
         "EMPTY" => String::from_str(alloc, "").ok(),
         _ => String::from_str(alloc, name).ok(),
     }
@@ -106,7 +106,7 @@ write --key OPEN --path /6 --time 5 --length 1 --digest DIGEST
 write --key OPEN --path /6g --time 5 --length 1 --digest DIGEST
 write --key OPEN --path ./61 --time 5 --length 1 --digest DIGEST
 write --key OPEN --path PART_256 --time 5 --length 1 --digest DIGEST
-write --key OPEN --path PARTS_17 --time 5 --length 1 --digest DIGEST
+write --key OPEN --path PARTS_256 --time 5 --length 1 --digest DIGEST
 write --key OPEN --path /61 --time 18446744073709551616 --length 1 --digest DIGEST
 write --key OPEN --path /61 --time 5 --length 00 --digest DIGEST
 write --key OPEN --path /61 --time 5 --length 1 --digest USER
@@ -143,7 +143,7 @@ delegate --key OPEN --to USER
 delegate --key OPEN --to USER --from 5 --until 6 --under . --subspace any
 delegate --key lms:k --to USER --from 5 --until none --under / --subspace USER
 write --key OPEN --path PART_255 --time 5 --length 1 --digest DIGEST
-write --key OPEN --path PARTS_16 --time 5 --length 1 --digest DIGEST
+write --key OPEN --path PARTS_255 --time 5 --length 1 --digest DIGEST
 gen --rows 1
 drill --rows 65536
 meet --left a --right b --left-cap c --right-cap d --left-out e --right-out f
