@@ -1,0 +1,9 @@
+pub mod Lists
+pub mod Fronts
+pub mod Walking
+pub mod ByPosition
+pub mod Indexing
+pub mod Keeping
+pub mod Choosing
+pub mod Unlimited
+pub mod Offering

@@ -1,0 +1,3 @@
+pub mod Interest
+pub mod Limits
+pub mod Kept
