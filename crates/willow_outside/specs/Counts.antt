@@ -11,6 +11,10 @@ use Rattle.willow_outside.specs.declared.reading.ReadEnd.TheVariants as read_end
 abbrev pub one_more : ℕ → ℕ
 one_more count = min (count + 1) (2 ^ 64 - 1)
 
+-- so many more, up to that value
+abbrev pub many_more : ℕ → ℕ → ℕ
+many_more more count = min (count + more) (2 ^ 64 - 1)
+
 -- a count rose, or stands at the last value of a u64
 abbrev pub Rose : ℕ → ℕ → Type 0
 Rose before now = one_more before ≤ now
@@ -20,10 +24,10 @@ pub record HasRisen (before now : ℕ) : Type 0 where
   pub never_falls : before ≤ now
   pub rose : Rose before now
 
--- a count of faults rises where the call failed, and never falls at want of memory, which a machine may count too
+-- a count of faults rises where the call failed, and stays at want of memory, which hides no fault
 abbrev pub CountsCause : ℕ → ℕ → Fault → Type 0
 CountsCause before now Failed = HasRisen before now
-CountsCause before now NoMemory = before ≤ now
+CountsCause before now NoMemory = now ≡ before
 
 -- and stays where the call did its work
 abbrev pub CountsFault : {A : Type 0} → ℕ → ℕ → Result A Fault → Type 0
@@ -35,7 +39,7 @@ abbrev pub CountsReads : {A : Type 0} → ℕ → ℕ → Result A (End ReadEnd)
 CountsReads before now (Ok x) = now ≡ before
 CountsReads before now (Err (ends.Refused read_ends.Failed)) = HasRisen before now
 CountsReads before now (Err (ends.Refused read_ends.TooLong)) = now ≡ before
-CountsReads before now (Err ends.NoMemory) = before ≤ now
+CountsReads before now (Err ends.NoMemory) = now ≡ before
 
 -- a count of ends rises where a read with room gave nothing, and stays where it gave some or had no room
 pub record CountsEnd (before now given : ℕ) (buf : List ℕ) : Type 0 where

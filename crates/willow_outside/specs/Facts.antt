@@ -38,9 +38,11 @@ pub record LinkFacts : Type 0 where
   pub write_faults : ℕ
   pub ends : ℕ
 
--- how many calls failed, how many links are handed out and not back, the places asked for, and the links given back
+-- how many calls failed, how many accepts were made, how many links are handed out and not back, the places asked for,
+-- and the links given back
 pub record DoorFacts : Type 0 where
   pub faults : ℕ
+  pub accepts : ℕ
   pub out : ℕ
   pub asked : Option (List (List ℕ))
   pub back : Option (List LinkFacts)

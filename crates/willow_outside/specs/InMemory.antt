@@ -51,12 +51,14 @@ pub record MemoryNoise : Type 0 where
   pub plan : Plan
   pub faults : ℕ
 
--- the links to hand out, those that came back, how many are out, and the places that were asked for
+-- the links to hand out, those that came back, how many are out, the places that were asked for, and how many accepts
+-- were made
 pub record MemoryDoor (L : Type 0) : Type 0 where
   pub to_come : List L
   pub back : List L
   pub out : ℕ
   pub asked : List (List ℕ)
+  pub accepts : ℕ
   pub plan : Plan
   pub faults : ℕ
 

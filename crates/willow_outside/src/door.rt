@@ -1,7 +1,7 @@
 //! Where links come from.
 
 ghost use Rattle.std.specs.Prelude.{◌≡◌, ◌-◌, ◌≤◌, IfOk};
-ghost use Rattle.willow_outside.specs.Counts.{CountsFault};
+ghost use Rattle.willow_outside.specs.Counts.{CountsFault, one_more};
 ghost use Rattle.willow_outside.specs.Facts.{DoorFacts};
 ghost use Rattle.willow_outside.specs.Links.{AsksPlace, HandsOutLink, IsFresh, list_with};
 
@@ -17,14 +17,17 @@ pub trait Door {
     fn listen(&mut self, place: &str) -> Result<(), Fault>
         ensures asked { AsksPlace (facts self.old).asked (facts self.new).asked place.now result }
         ensures cause { CountsFault (facts self.old).faults (facts self.new).faults result }
+        ensures accepts { (facts self.new).accepts ≡ (facts self.old).accepts }
         ensures out { (facts self.new).out ≡ (facts self.old).out }
         ensures back { (facts self.new).back ≡ (facts self.old).back };
 
-    /// A link from one who asked for a place that is listened at. `Failed` comes only where `faults` rose.
+    /// A link from one who asked for a place that is listened at. `Failed` comes only where `faults` rose. Each call is
+    /// counted, whatever it answers.
     fn accept(&mut self) -> Result<Self::L, Fault>
         ensures fresh { IfOk result (λ link. IsFresh (Self.L.facts link)) }
         ensures out { HandsOutLink (facts self.old).out (facts self.new).out result }
         ensures cause { CountsFault (facts self.old).faults (facts self.new).faults result }
+        ensures accepts { (facts self.new).accepts ≡ one_more (facts self.old).accepts }
         ensures asked { (facts self.new).asked ≡ (facts self.old).asked }
         ensures back { (facts self.new).back ≡ (facts self.old).back };
 
@@ -34,6 +37,7 @@ pub trait Door {
         ensures out { HandsOutLink (facts self.old).out (facts self.new).out result }
         ensures asked { AsksPlace (facts self.old).asked (facts self.new).asked place.now result }
         ensures cause { CountsFault (facts self.old).faults (facts self.new).faults result }
+        ensures accepts { (facts self.new).accepts ≡ (facts self.old).accepts }
         ensures back { (facts self.new).back ≡ (facts self.old).back };
 
     /// Takes back a link, for which there is room since it was handed out.
@@ -42,5 +46,6 @@ pub trait Door {
         ensures back { (facts self.new).back ≡ list_with (Self.L.facts link) (facts self.old).back }
         ensures out { (facts self.new).out ≡ (facts self.old).out - 1 }
         ensures asked { (facts self.new).asked ≡ (facts self.old).asked }
+        ensures accepts { (facts self.new).accepts ≡ (facts self.old).accepts }
         ensures faults { (facts self.new).faults ≡ (facts self.old).faults };
 }

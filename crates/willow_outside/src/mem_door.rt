@@ -2,7 +2,7 @@
 
 ghost use Rattle.std.specs.Prelude.{◌≡◌, ◌-◌, ◌≤◌, ◌++◌, ◌∷◌, Some, [], IfOk, map};
 ghost use Rattle.std.specs.List.{AllByRecursion};
-ghost use Rattle.willow_outside.specs.Counts.{CountsFault};
+ghost use Rattle.willow_outside.specs.Counts.{CountsFault, one_more};
 ghost use Rattle.willow_outside.specs.Links.{AsksPlace, HandsOutLink, IsFresh, list_with};
 ghost use Rattle.willow_outside.specs.Plan.{plan_of, called, IsPlanned, HandsOutPlanned};
 
@@ -19,6 +19,7 @@ pub struct MemDoor<L: Link> {
     traffic: Traffic<L>,
     asked: Vec<String>,
     schedule: Schedule,
+    accepts: u64,
     faults: u64,
     alloc: Global,
 }
@@ -31,7 +32,7 @@ impl<L: Link> Model for MemDoor<L> {
 
     ghost Value = { MemoryDoor L };
 
-    ghost view = { λ s. record { to_come = s.traffic.to_come.items; back = s.traffic.returns.back.items; out = s.traffic.returns.out; asked = map string_bytes s.asked.items; plan = s.schedule; faults = s.faults } };
+    ghost view = { λ s. record { to_come = s.traffic.to_come.items; back = s.traffic.returns.back.items; out = s.traffic.returns.out; asked = map string_bytes s.asked.items; accepts = s.accepts; plan = s.schedule; faults = s.faults } };
 
     ghost invariant = { λ s. (link : L) → Contains s.traffic.to_come.items link → IsFresh (L.facts link) };
 }
@@ -41,13 +42,14 @@ impl<L: Link + Send> MemDoor<L> {
     /// `give_back` is not counted.
     pub fn new(alloc: Global, links: Vec<L>, fails: Vec<u64>) -> MemDoor<L>
         requires { AllByRecursion (λ link. IsFresh (L.facts link)) links.items }
-        ensures value { result ≡ record { to_come = links.items; back = []; out = 0; asked = []; plan = plan_of fails.items; faults = 0 } }
-        ensures facts { ⟦<MemDoor<L> as Door>⟧.facts result ≡ record { faults = 0; out = 0; asked = Some []; back = Some [] } }
+        ensures value { result ≡ record { to_come = links.items; back = []; out = 0; asked = []; accepts = 0; plan = plan_of fails.items; faults = 0 } }
+        ensures facts { ⟦<MemDoor<L> as Door>⟧.facts result ≡ record { faults = 0; accepts = 0; out = 0; asked = Some []; back = Some [] } }
     {
         MemDoor {
             traffic: Traffic::new(alloc, links),
             asked: Vec::new(alloc),
             schedule: Schedule::new(fails),
+            accepts: 0,
             faults: 0,
             alloc,
         }
@@ -64,7 +66,7 @@ impl<L: Link + Send> MemDoor<L> {
 impl<L: Link + Send> Door for MemDoor<L> {
     type L = L;
 
-    ghost facts = { λ s. record { faults = s.faults; out = s.out; asked = Some s.asked; back = Some (map L.facts s.back) } };
+    ghost facts = { λ s. record { faults = s.faults; accepts = s.accepts; out = s.out; asked = Some s.asked; back = Some (map L.facts s.back) } };
 
     fn listen(&mut self, place: &str) -> Result<(), Fault>
         ensures planned { IsPlanned self.old.plan result }
@@ -72,6 +74,7 @@ impl<L: Link + Send> Door for MemDoor<L> {
         ensures to_come { self.new.to_come ≡ self.old.to_come }
         ensures asked { AsksPlace (Some self.old.asked) (Some self.new.asked) place.now result }
         ensures cause { CountsFault self.old.faults self.new.faults result }
+        ensures accepts { self.new.accepts ≡ self.old.accepts }
         ensures out { self.new.out ≡ self.old.out }
         ensures back { self.new.back ≡ self.old.back }
     {
@@ -90,9 +93,11 @@ impl<L: Link + Send> Door for MemDoor<L> {
         ensures fresh { IfOk result (λ link. IsFresh (L.facts link)) }
         ensures out { HandsOutLink self.old.out self.new.out result }
         ensures cause { CountsFault self.old.faults self.new.faults result }
+        ensures accepts { self.new.accepts ≡ one_more self.old.accepts }
         ensures asked { self.new.asked ≡ self.old.asked }
         ensures back { self.new.back ≡ self.old.back }
     {
+        self.accepts = self.accepts.saturating_add(1);
         if self.schedule.next_fails() || self.traffic.to_come.is_empty() {
             self.faults = self.faults.saturating_add(1);
             return Err(Fault::Failed);
@@ -108,6 +113,7 @@ impl<L: Link + Send> Door for MemDoor<L> {
         ensures out { HandsOutLink self.old.out self.new.out result }
         ensures asked { AsksPlace (Some self.old.asked) (Some self.new.asked) place.now result }
         ensures cause { CountsFault self.old.faults self.new.faults result }
+        ensures accepts { self.new.accepts ≡ self.old.accepts }
         ensures back { self.new.back ≡ self.old.back }
     {
         if self.schedule.next_fails() || self.traffic.to_come.is_empty() {
@@ -129,6 +135,7 @@ impl<L: Link + Send> Door for MemDoor<L> {
         ensures back { Some (map L.facts self.new.back) ≡ list_with (L.facts link) (Some (map L.facts self.old.back)) }
         ensures out { self.new.out ≡ self.old.out - 1 }
         ensures asked { self.new.asked ≡ self.old.asked }
+        ensures accepts { self.new.accepts ≡ self.old.accepts }
         ensures faults { self.new.faults ≡ self.old.faults }
     {
         self.traffic.returns.take_back(link);
