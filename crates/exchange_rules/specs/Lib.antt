@@ -6,3 +6,4 @@ pub mod Premises
 pub mod AnyPeer
 pub mod Numbers
 pub mod Small
+pub mod Laws

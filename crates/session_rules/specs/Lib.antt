@@ -11,3 +11,6 @@ pub mod Turns
 pub mod WholeTurns
 pub mod Adding
 pub mod Telling
+pub mod Laws
+pub mod SessionLaws
+pub mod TurnLaws
