@@ -1,4 +1,5 @@
 pub mod Authorised
+pub mod Rows
 pub mod Known
 pub mod Places
 pub mod Batch

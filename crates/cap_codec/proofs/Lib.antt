@@ -7,3 +7,4 @@ pub mod Spelled
 pub mod Asking
 pub mod Framed
 pub mod NumberedReads
+pub mod CapabilityLengths

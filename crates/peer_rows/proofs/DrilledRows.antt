@@ -13,7 +13,8 @@ use Rattle.peer_listing.specs.Generator.{generated, generator_namespace}
 use Rattle.peer_listing.specs.declared.generator.TheConstants.{GENERATED_ROWS}
 use Rattle.ns_state.specs.Log.{StateValue, values}
 use Rattle.peer_rows.specs.RowLogs.{HasTaken, ArePastLog}
-use Rattle.peer_rows.specs.Logged.{authorised_rows, entry_row, stored_rows}
+use Rattle.auth_entry.specs.Rows.{entry_row}
+use Rattle.peer_rows.specs.Logged.{authorised_rows, stored_rows}
 use Rattle.peer_rows.specs.Drilled.{generated_between, generated_rows}
 use Rattle.peer_rows.proofs.AuthorisedRows.{authorised_few, authorised_parts}
 use Rattle.peer_rows.proofs.NewRows.{new_after-fewer}

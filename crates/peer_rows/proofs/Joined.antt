@@ -7,7 +7,8 @@ use Rattle.willow_entry.specs.Row.{live}
 use Rattle.auth_entry.specs.Authorised.{AuthorisedValue}
 use Rattle.peer_image.specs.Image.{image}
 use Rattle.peer_rows.specs.declared.log.Log.{Log}
-use Rattle.peer_rows.specs.Logged.{authorised_rows, entry_row, live_rows, stored_rows}
+use Rattle.auth_entry.specs.Rows.{entry_row}
+use Rattle.peer_rows.specs.Logged.{authorised_rows, live_rows, stored_rows}
 use Rattle.peer_rows.specs.Stored.{IsLogRead}
 use Rattle.peer_rows.specs.Join.{IsJoinRead}
 use Rattle.peer_rows.proofs.Framed.{live_framed}

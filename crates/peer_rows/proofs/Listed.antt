@@ -19,7 +19,8 @@ use Rattle.peer_rows.proofs.AuthorisedRows.{authorised_live}
 use Rattle.peer_rows.proofs.Taken.{taken_live, taken_many}
 use Rattle.peer_listing.specs.Listing.{listing_head, listing_line}
 use Rattle.peer_stage.specs.declared.outcome.JoinCounts.{JoinCounts}
-use Rattle.peer_rows.specs.Logged.{authorised_rows, entry_row, live_rows, AreCounts}
+use Rattle.auth_entry.specs.Rows.{entry_row}
+use Rattle.peer_rows.specs.Logged.{authorised_rows, live_rows, AreCounts}
 use Rattle.peer_rows.specs.Show.{listing, asked_listing, AreShown}
 use Rattle.peer_rows.specs.Listed.{log_listing, rows_listing, show_counts, IsListing, ListsImage}
 

@@ -16,7 +16,8 @@ use Rattle.spelling.specs.declared.ending.End.TheVariants.{Refused, NoMemory}
 use Rattle.ns_state.specs.Log.{StateValue}
 use Rattle.ns_state.specs.declared.live_log.LogFull.{LogFull}
 use Rattle.peer_rows.specs.RowLogs.{HasTaken, ArePastLog, GoesOn, OffersRow}
-use Rattle.peer_rows.specs.Logged.{authorised_rows, entry_row, numbered_refusal, first_refused, AreCounts, IsLogOf, Offers, with_refused, with_offered}
+use Rattle.auth_entry.specs.Rows.{entry_row}
+use Rattle.peer_rows.specs.Logged.{authorised_rows, numbered_refusal, first_refused, AreCounts, IsLogOf, Offers, with_refused, with_offered}
 use Rattle.peer_rows.proofs.Firsts.{first_some-snoc, or_else-none}
 
 pub authorised_none : (n : List ℕ) (r : RawValue) → row_refusal peer_rules n r ≡ None → is_authorised peer_rules n r ≡ true

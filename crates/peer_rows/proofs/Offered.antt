@@ -12,7 +12,8 @@ use Rattle.peer_stage.specs.declared.outcome.JoinCounts.{JoinCounts}
 use Rattle.ns_state.specs.Log.{StateValue, values}
 use Rattle.ns_state.specs.declared.live_log.LogFull.{LogFull}
 use Rattle.ns_state.specs.declared.live_log.TheConstants.{LOG_LIMIT}
-use Rattle.peer_rows.specs.Logged.{authorised_rows, entry_row, AreCounts, IsLogOf, Offers, PassesLog}
+use Rattle.auth_entry.specs.Rows.{entry_row}
+use Rattle.peer_rows.specs.Logged.{authorised_rows, AreCounts, IsLogOf, Offers, PassesLog}
 use Rattle.peer_rows.specs.Stored.{OffersAll}
 use Rattle.std.specs.Prelude.{Ok, Err}
 use Rattle.std.specs.Result.{IsErrAnd}

@@ -15,7 +15,8 @@ use Rattle.peer_stage.specs.declared.outcome.Stop.TheVariants as stop
 use Rattle.ns_state.specs.Log.{StateValue}
 use Rattle.ns_state.specs.declared.live_log.LogFull.{LogFull}
 use Rattle.peer_rows.specs.RowLogs.{HasTaken}
-use Rattle.peer_rows.specs.Logged.{authorised_rows, entry_row, AreCounts, PassesLog}
+use Rattle.auth_entry.specs.Rows.{entry_row}
+use Rattle.peer_rows.specs.Logged.{authorised_rows, AreCounts, PassesLog}
 
 -- the bytes are the image of these rows in order
 pub record IsImageInOrder (bytes namespace : List ℕ) (rows : List RawValue) : Type 0 where

@@ -8,6 +8,7 @@ use Rattle.lms_core.specs.Use.{peer_rules}
 use Rattle.mc_cap.specs.declared.refusal.RowRefusal.{RowRefusal}
 use Rattle.cap_codec.specs.Rows.{RawValue, row_of}
 use Rattle.auth_entry.specs.Authorised.{AuthorisedValue, authorised, row_refusal}
+use Rattle.auth_entry.specs.Rows.{entry_row}
 use Rattle.peer_stage.specs.declared.outcome.JoinCounts.{JoinCounts}
 use Rattle.mc_cap.specs.declared.refusal.RefusedRow.{RefusedRow}
 use Rattle.ns_state.specs.Log.{StateValue, values}
@@ -19,10 +20,7 @@ use Rattle.peer_rows.specs.RowLogs.{HasTaken, ArePastLog}
 abbrev pub authorised_rows : List ℕ → List RawValue → List RowValue
 authorised_rows namespace rows = map row_of (authorised peer_rules namespace rows)
 
--- the row of an authorised entry, as a store sees it; those of several
-abbrev pub entry_row : AuthorisedValue → RowValue
-entry_row a = row_of a.row
-
+-- the rows of some authorised entries, as a store sees them
 abbrev pub stored_rows : List AuthorisedValue → List RowValue
 stored_rows = map entry_row
 

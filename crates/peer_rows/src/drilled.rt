@@ -3,7 +3,8 @@
 ghost use Rattle.std.specs.Prelude.{◌≡◌, ◌/◌, ◌≤◌, IfOk, OnOk};
 ghost use Rattle.peer_listing.specs.Generator.{generator_namespace};
 ghost use Rattle.peer_rows.specs.RowLogs.{HasTaken};
-ghost use Rattle.peer_rows.specs.Logged.{authorised_rows, entry_row, stored_rows};
+ghost use Rattle.auth_entry.specs.Rows.{entry_row};
+ghost use Rattle.peer_rows.specs.Logged.{authorised_rows, stored_rows};
 ghost use Rattle.peer_rows.specs.Drilled.{generated_between, generated_rows};
 
 use crate::images::EntryLog;

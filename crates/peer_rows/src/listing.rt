@@ -4,7 +4,8 @@ ghost use Rattle.std.specs.Prelude.{◌≡◌, flat_map, take, IfOk};
 ghost use Rattle.recency_index.specs.Rows.{newest_rows};
 ghost use Rattle.peer_listing.specs.Listing.{listing_head, listing_line};
 ghost use Rattle.peer_rows.specs.Listed.{AreText, log_listing, rows_listing};
-ghost use Rattle.peer_rows.specs.Logged.{entry_row, live_rows};
+ghost use Rattle.auth_entry.specs.Rows.{entry_row};
+ghost use Rattle.peer_rows.specs.Logged.{live_rows};
 
 use crate::images::EntryLog;
 use crate::log::leave_to_exit;

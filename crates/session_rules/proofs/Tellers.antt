@@ -8,7 +8,7 @@ use Rattle.session_rules.specs.Rounds.{rounds}
 use Rattle.session_rules.specs.Messages.{IsReadAs, CanTalk}
 use Rattle.session_rules.specs.Talk.{Role, Caller, Answerer, speaks, TellsOwn}
 use Rattle.session_rules.specs.Pairs.{GreetEachOther, caller_side, answerer_side}
-use Rattle.session_rules.specs.Telling.{Told, Row, All, Teller, Begins, Listens, Compares, Answers, IsDone, told_first, next_told, listened, told_seen, told_spelling, by_telling, tellers}
+use Rattle.session_rules.specs.Telling.{NumberTold, Row, All, Teller, Begins, Listens, Compares, Answers, IsDone, told_first, next_told, listened, told_seen, told_spelling, by_telling, tellers}
 use Rattle.session_rules.proofs.Holding.{IsOwn, own_told}
 
 one_byte : {M : Type 0} (sees : List ℕ → Seen M) (byte : ℕ) (m : M) → sees (byte ∷ []) ≡ Whole m → IsReadAs sees (byte ∷ []) m
@@ -76,7 +76,7 @@ not_none x e = cc
 not_err : {A E : Type 0} (x : A) (e : E) → ◌≡◌ {A = Result A E} (Err e) (Ok x) → ⊥
 not_err x e h = cc
 
-abbrev Kept : List ℕ → Told × Teller → Type 0
+abbrev Kept : List ℕ → NumberTold × Teller → Type 0
 Kept rows step = HoldsOf rows step.1 × IsOwn by_telling rows step.0
 
 no_row : (rows : List ℕ) → IsOwn by_telling rows All
@@ -85,7 +85,7 @@ no_row rows row e = absurd (not_none row e)
 own_row : (rows : List ℕ) (n : ℕ) → Contains rows n → IsOwn by_telling rows (Row n)
 own_row rows n c row e = subst (Contains rows) (same_some n row e) c
 
-kept_said : (rows : List ℕ) (t : Teller) (step : Told × Teller) → HoldsOf rows t → next_told t ≡ Some step → Kept rows step
+kept_said : (rows : List ℕ) (t : Teller) (step : NumberTold × Teller) → HoldsOf rows t → next_told t ≡ Some step → Kept rows step
 kept_said rows (Begins []) step holds e = subst (Kept rows) (same_some (All, Listens) step e) (tt, no_row rows)
 kept_said rows (Begins (n ∷ own)) step holds e =
     subst (Kept rows) (same_some (Row n, Begins own) step e) (within_rest rows own n holds, own_row rows n (within_first rows own n holds))
@@ -96,7 +96,7 @@ kept_said rows (Answers (n ∷ own)) step holds e =
     subst (Kept rows) (same_some (Row n, Answers own) step e) (within_rest rows own n holds, own_row rows n (within_first rows own n holds))
 kept_said rows IsDone step holds e = absurd (not_none step e)
 
-kept_heard : (rows : List ℕ) (t next : Teller) (item : Told) → HoldsOf rows t → listened t item ≡ Ok next → HoldsOf rows next
+kept_heard : (rows : List ℕ) (t next : Teller) (item : NumberTold) → HoldsOf rows t → listened t item ≡ Ok next → HoldsOf rows next
 kept_heard rows (Begins own) next item holds e = absurd (not_err next 2 e)
 kept_heard rows Listens next (Row n) holds e = subst (HoldsOf rows) (same_ok Listens next e) tt
 kept_heard rows Listens next All holds e = subst (HoldsOf rows) (same_ok IsDone next e) tt

@@ -12,7 +12,7 @@ use Rattle.session_rules.specs.Machine.{Refuses, Machine}
 use Rattle.session_rules.specs.Reading.{Waits, stepped, run}
 use Rattle.session_rules.specs.Messages.{taken}
 use Rattle.session_rules.specs.Talk.{Role, Caller, Answerer}
-use Rattle.session_rules.specs.Turns.{Replies, GoesOn, opening_turn, opening_asks, Begins, Awaits, TakeTurns}
+use Rattle.session_rules.specs.Turns.{Replies, GoesOn, opening_turn, opening_asks, CallerBegins, Awaits, TakeTurns}
 use Rattle.session_rules.specs.WholeTurns.{TurnPlace, first_heard, turn_answered, turn_read, turn_counted, place_first, by_turns, as_turns}
 use Rattle.session_rules.proofs.Runs.{then_stay}
 
@@ -68,7 +68,7 @@ module _ {R X C : Type 0} (rules : Rules R X C) (box : Option X) (role : Role) (
   }
 
 module _ {R X C : Type 0} (rules : Rules R X C) (box : Option X) (rows others : List R) (limit : ℕ) where
-  begins : Begins (as_turns R X C) rules (by_turns rules Caller rows box limit) rows box limit
+  begins : CallerBegins (as_turns R X C) rules (by_turns rules Caller rows box limit) rows box limit
   begins = record { says = refl; hears = record { has = refl; hears = refl; so_many = refl; so_many_may = refl } }
 
   first_is_heard : (x : Option X) → first_heard x (opening_turn rules rows x) ≡ Some (opening_asks rules rows x)

@@ -46,9 +46,9 @@ by_digits = record {
 -- ---- the exchange
 
 -- a row, or that all are told
-pub data Told : Type 0 where
-  Row : ℕ → Told
-  All : Told
+pub data NumberTold : Type 0 where
+  Row : ℕ → NumberTold
+  All : NumberTold
 
 -- the caller has rows to tell, or listens; the answerer, who has rows and was told some, listens, or has rows to tell;
 -- both are done
@@ -63,7 +63,7 @@ abbrev pub told_first : Role → List ℕ → Teller
 told_first Caller rows = Begins rows
 told_first Answerer rows = Compares rows []
 
-abbrev pub next_told : Teller → Option (Told × Teller)
+abbrev pub next_told : Teller → Option (NumberTold × Teller)
 next_told (Begins []) = Some (All, Listens)
 next_told (Begins (n ∷ rows)) = Some (Row n, Begins rows)
 next_told (Answers []) = Some (All, IsDone)
@@ -76,7 +76,7 @@ left_to_tell (Answers rows) = suc (length rows)
 left_to_tell teller = 0
 
 -- the answerer tells what it was not told
-abbrev pub listened : Teller → Told → Result Teller ℕ
+abbrev pub listened : Teller → NumberTold → Result Teller ℕ
 listened Listens (Row n) = Ok Listens
 listened Listens All = Ok IsDone
 listened (Compares rows told) (Row n) = Ok (Compares rows (told ++ n ∷ []))
@@ -87,21 +87,21 @@ abbrev pub has_parted : Teller → Bool
 has_parted IsDone = true
 has_parted teller = false
 
-abbrev pub row_told : Told → Option ℕ
+abbrev pub row_told : NumberTold → Option ℕ
 row_told (Row n) = Some n
 row_told All = None
 
 -- a row is the byte one above it
-abbrev pub told_seen : List ℕ → Seen Told
+abbrev pub told_seen : List ℕ → Seen NumberTold
 told_seen [] = Part
 told_seen (byte ∷ []) = Whole (if byte == 0 then All else Row (byte - 1))
 told_seen (byte ∷ next ∷ bytes) = Wrong
 
-abbrev pub told_spelling : Told → List ℕ
+abbrev pub told_spelling : NumberTold → List ℕ
 told_spelling (Row n) = suc n ∷ []
 told_spelling All = 0 ∷ []
 
-abbrev pub by_telling : Talk ℕ ℕ Teller Told ℕ
+abbrev pub by_telling : Talk ℕ ℕ Teller NumberTold ℕ
 by_telling = record {
   has = λ limit n. nat_lt n limit;
   begin = λ role rows box. told_first role rows;
@@ -115,7 +115,7 @@ by_telling = record {
 }
 
 -- a caller that asks for what is below 9, and an answerer that asks for what is below 6
-abbrev pub tellers : Pair ℕ ℕ ℕ ℕ ℕ Teller Told ℕ
+abbrev pub tellers : Pair ℕ ℕ ℕ ℕ ℕ Teller NumberTold ℕ
 tellers = record {
   greeting = by_digits;
   talk = by_telling;

@@ -71,7 +71,7 @@ opening_asks rules rows None = []
 opening_asks rules rows (Some x) = first_asks rules rows x
 
 -- the caller begins with it
-pub record Begins {R X C T I G : Type 0} (v : View R X C T I) (rules : Rules R X C) (side : Machine T I I R G) (rows : List R) (box : Option X) (most : ℕ) : Type 0 where
+pub record CallerBegins {R X C T I G : Type 0} (v : View R X C T I) (rules : Rules R X C) (side : Machine T I I R G) (rows : List R) (box : Option X) (most : ℕ) : Type 0 where
   pub says : side.opening ≡ v.items_of (opening_turn rules rows box)
   pub hears : Hearing v rows (opening_asks rules rows box) (length (opening_turn rules rows box).items) most side.first
 
@@ -86,7 +86,7 @@ pub record Awaits {R X C T I G : Type 0} (v : View R X C T I) (rules : Rules R X
 pub record TakeTurns {R X C T I G : Type 0} (v : View R X C T I) (rules : Rules R X C) (caller answerer : Machine T I I R G) (rows others : List R) (box : Option X) : Type 0 where
   pub caller_most : ℕ
   pub answerer_most : ℕ
-  pub begins : Begins v rules caller rows box caller_most
+  pub begins : CallerBegins v rules caller rows box caller_most
   pub caller_goes_on : GoesOn v rules caller answerer.spelling rows others
   pub awaits : Awaits v rules answerer caller.spelling others rows box answerer_most
   pub answerer_goes_on : GoesOn v rules answerer caller.spelling others rows

@@ -11,7 +11,8 @@ use Rattle.willow_entry.specs.declared.row.LogRow.{LogRow}
 use Rattle.willow_entry.proofs.Members.{contains_from_member, member_from_contains, any_false, any_true, true_of_any}
 use Rattle.willow_entry.proofs.RowLaws.{covering_means}
 use Rattle.auth_entry.specs.Authorised.{AuthorisedValue}
-use Rattle.sync_link.specs.Kept.{entry_row, log_rows, is_covered, uncovered}
+use Rattle.auth_entry.specs.Rows.{entry_row}
+use Rattle.sync_link.specs.Kept.{log_rows, is_covered, uncovered}
 
 pub covered_is : (log : List RowValue) (row : RowValue) → HasCovering log row → is_covered log row ≡ true
 covered_is log row h = true_of_any (λ s. is_covering s row) log h.0 (member_from_contains log h.0 h.1) ((covering_means h.0 row).1 h.2)

@@ -26,7 +26,8 @@ use Rattle.sync_core.specs.SyncRules.{sync_rules}
 use Rattle.sync_core.proofs.Lawful.{deciding, disjoint, can_cut_rows}
 use Rattle.sync_link.specs.Sessions.{Party, box_with}
 use Rattle.sync_link.specs.Settling.{IsOpening, CanMeet, AreApartIn}
-use Rattle.sync_link.specs.Kept.{log_rows, authorised_rows}
+use Rattle.auth_entry.specs.Rows.{authorised_rows}
+use Rattle.sync_link.specs.Kept.{log_rows}
 use Rattle.sync_link.specs.Run.{Covers}
 use Rattle.sync_link.specs.Ran.{Ran, side, opening_of, store_of, LiesAbove, IsDone, IsOther, IsAuthorisedRow, AreAuthorised, AreApartAs, other_common}
 use Rattle.sync_link.specs.declared.plan.SessionReport.{SessionReport}

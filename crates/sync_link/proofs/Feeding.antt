@@ -17,7 +17,7 @@ use Rattle.session_rules.specs.Session.{Talking, InGreeting, InTalk}
 use Rattle.session_rules.proofs.Runs.{run_append, run_idle}
 use Rattle.sync_link.specs.Places.{has_finished}
 use Rattle.sync_link.specs.Sessions.{Party, SessionStage, SessionMessage, SessionCause, session_of}
-use Rattle.sync_link.specs.Sound.{AreSound, GoesOn}
+use Rattle.sync_link.specs.Sound.{AreSound, IsUnrefused}
 use Rattle.sync_link.specs.Standing.{Side, MayBe, Reads, Feeds, party_of, within}
 use Rattle.sync_link.specs.Due.{stand_of}
 use Rattle.sync_link.specs.Fed.{noting}
@@ -83,7 +83,7 @@ module _ (p : Party) (rows : List RowValue) (q at_held last : Stand SessionStage
 
 -- ---- how a side stands to which nothing is due
 
-finished_by : (doing : Doing) → GoesOn doing → (stage_of doing ≡ stage.Writing → ⊥) → (stage_of doing ≡ stage.Reading → ⊥) → has_finished doing ≡ true
+finished_by : (doing : Doing) → IsUnrefused doing → (stage_of doing ≡ stage.Writing → ⊥) → (stage_of doing ≡ stage.Reading → ⊥) → has_finished doing ≡ true
 finished_by (Saying items asks) on silent closed = absurd (silent refl)
 finished_by Replying on silent closed = absurd (silent refl)
 finished_by Beginning on silent closed = absurd (closed refl)

@@ -23,7 +23,8 @@ use Rattle.session_rules.proofs.Growing.{front_self}
 use Rattle.sync_link.specs.Sessions.{SessionStage, SessionCause}
 use Rattle.sync_link.specs.Fed.{GoesWell, standing_as}
 use Rattle.sync_link.specs.declared.standing.Standing.TheVariants as standings
-use Rattle.sync_link.specs.Kept.{entry_row, log_rows, authorised_rows}
+use Rattle.auth_entry.specs.Rows.{entry_row, authorised_rows}
+use Rattle.sync_link.specs.Kept.{log_rows}
 use Rattle.sync_link.specs.Run.{Answer, CoversOrIsFull, Ends, Covers, Counts, Reports, Runs}
 use Rattle.sync_link.specs.UnderWay.{Start, Now, brought, IsUnderWay, EndsSo}
 use Rattle.sync_link.specs.declared.plan.SessionReport.{SessionReport}

@@ -22,7 +22,8 @@ use Rattle.mc_cap.specs.Signature.{signature_spelling}
 use Rattle.cap_codec.specs.Rows.{IsRawRow, FitsFrame}
 use Rattle.auth_entry.specs.Authorised.{AuthorisedValue}
 use Rattle.ns_cell.specs.Passes.{PassValue, IsPass}
-use Rattle.sync_link.specs.Kept.{entry_row, log_rows}
+use Rattle.auth_entry.specs.Rows.{entry_row}
+use Rattle.sync_link.specs.Kept.{log_rows}
 use Rattle.sync_link.specs.Settling.{IsOpening}
 use Rattle.sync_link.specs.Sound.{AreSound}
 use Rattle.sync_link.specs.UnderWay.{AreTold}

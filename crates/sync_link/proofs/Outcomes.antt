@@ -20,7 +20,8 @@ use Rattle.session_rules.proofs.Growing.{front_self, front_is, out_grows, got_gr
 use Rattle.sync_link.specs.Sessions.{SessionCause, session_of, out, got, ending}
 use Rattle.sync_link.specs.Settling.{IsOpening}
 use Rattle.sync_link.specs.Fed.{Fed}
-use Rattle.sync_link.specs.Kept.{log_rows, authorised_rows}
+use Rattle.auth_entry.specs.Rows.{authorised_rows}
+use Rattle.sync_link.specs.Kept.{log_rows}
 use Rattle.sync_link.specs.Tallies.{HasGrown}
 use Rattle.sync_link.specs.Run.{Answer, IsAllOf, Ends, Covers, Counts, Reports, IsProofOf, Runs}
 use Rattle.sync_link.specs.UnderWay.{Start, brought, Reached}

@@ -27,7 +27,7 @@ use Rattle.sync_core.specs.Steps.{count_one, hearing_rows, remembered, box_of, r
 use Rattle.sync_core.specs.Runs.{said_from, says, left_to_say, says_all}
 use Rattle.sync_core.proofs.Lawful.{disjoint}
 use Rattle.sync_core.proofs.SpelledTurns.{spelled_turn}
-use Rattle.sync_link.specs.Sound.{IsIn, AreIn, AsksIn, GoesOn, AreSound, IsSound}
+use Rattle.sync_link.specs.Sound.{IsIn, AreIn, AsksIn, IsUnrefused, AreSound, IsSound}
 use Rattle.sync_link.specs.Standing.{within}
 use Rattle.sync_link.proofs.Cases.{AreCases, by_cases, heard_to, heard_as}
 use Rattle.sync_link.proofs.Own.{same_some, same_ok, not_err, unless_ok}
@@ -55,7 +55,7 @@ AreSpelled items = AllByRecursion HasSpelling items
 
 -- ---- at the beginning
 
-spelled_first : (role : Role) (area : Option Ranges) (rows : List RowValue) → GoesOn (first_doing role area rows)
+spelled_first : (role : Role) (area : Option Ranges) (rows : List RowValue) → IsUnrefused (first_doing role area rows)
 spelled_first Caller None rows = (tt, tt)
 spelled_first Caller (Some x) rows = (tt, (tt, tt))
 spelled_first Answerer area rows = tt
@@ -78,11 +78,11 @@ in_going_on : (area : Option Ranges) (items : List ItemValue) (asks : List AskVa
 in_going_on area [] asks h = in_waiting area asks h
 in_going_on area (item ∷ items) asks h = h
 
-spelled_waiting : (asks : List AskValue) → GoesOn (waiting asks)
+spelled_waiting : (asks : List AskValue) → IsUnrefused (waiting asks)
 spelled_waiting [] = tt
 spelled_waiting (ask ∷ asks) = tt
 
-spelled_going_on : (items : List ItemValue) (asks : List AskValue) → AreSpelled items → GoesOn (going_on items asks)
+spelled_going_on : (items : List ItemValue) (asks : List AskValue) → AreSpelled items → IsUnrefused (going_on items asks)
 spelled_going_on [] asks h = spelled_waiting asks
 spelled_going_on (item ∷ items) asks h = h
 
@@ -90,7 +90,7 @@ spelled_going_on (item ∷ items) asks h = h
 abbrev StepsSound : Place → ItemValue × Place → Type 0
 StepsSound place step = IsSound step.1 × HasSpelling step.0
 
-sound_at : (place : Place) (doing : Doing) → AreSound place.rows → GoesOn doing → AsksIn place.area doing → (step : ItemValue × Place) → said_at place (next_said doing) ≡ Some step → StepsSound place step
+sound_at : (place : Place) (doing : Doing) → AreSound place.rows → IsUnrefused doing → AsksIn place.area doing → (step : ItemValue × Place) → said_at place (next_said doing) ≡ Some step → StepsSound place step
 sound_at place (Saying [] asks) rows spelled inside step e = absurd cc
 sound_at place (Saying (x ∷ items) asks) rows spelled inside step e =
     let first : ItemValue × Place = (x, record place { sent = place.sent + count_one x; doing = going_on items asks }) in
@@ -143,28 +143,28 @@ module _ (area : Option Ranges) (rows : List RowValue) (sound : AreSound rows) w
 
   -- what a sound side does then
   abbrev SoundThen : Doing → ItemValue → Result Doing CoreRefusal → Type 0
-  SoundThen doing item r = (d : Doing) → r ≡ Ok d → AsksIn area doing → AsksIn area d × GoesOn d
+  SoundThen doing item r = (d : Doing) → r ≡ Ok d → AsksIn area doing → AsksIn area d × IsUnrefused d
 
   both : Doing → Type 0
-  both d = AsksIn area d × GoesOn d
+  both d = AsksIn area d × IsUnrefused d
 
-  spelled_hearing : (ask : AskValue) (asks : List AskValue) (left : ℕ) (read : List RowValue) (opens : List AskValue) → GoesOn (hearing_rows ask asks left read opens)
+  spelled_hearing : (ask : AskValue) (asks : List AskValue) (left : ℕ) (read : List RowValue) (opens : List AskValue) → IsUnrefused (hearing_rows ask asks left read opens)
   spelled_hearing (rules.Print box print) asks zero read opens = tt
   spelled_hearing (rules.Sent box sent) asks zero read opens = tt
   spelled_hearing (rules.Print box print) asks (suc left) read opens = tt
   spelled_hearing (rules.Sent box sent) asks (suc left) read opens = tt
 
   spelled_cut : (box : Ranges) (lower upper : List ℕ) (at : CutAt) (asks opens : List AskValue) (d : Doing)
-      → unless (cause_if (not (can_cut box at)) BadCut) (Hearing asks (opens ++ rules.Print (lower_part box at) lower ∷ rules.Print (upper_part box at) upper ∷ [])) ≡ Ok d → GoesOn d
+      → unless (cause_if (not (can_cut box at)) BadCut) (Hearing asks (opens ++ rules.Print (lower_part box at) lower ∷ rules.Print (upper_part box at) upper ∷ [])) ≡ Ok d → IsUnrefused d
   spelled_cut box lower upper at asks opens d e =
-      subst GoesOn (unless_ok (cause_if (not (can_cut box at)) BadCut) (Hearing asks (opens ++ rules.Print (lower_part box at) lower ∷ rules.Print (upper_part box at) upper ∷ [])) d e) tt
+      subst IsUnrefused (unless_ok (cause_if (not (can_cut box at)) BadCut) (Hearing asks (opens ++ rules.Print (lower_part box at) lower ∷ rules.Print (upper_part box at) upper ∷ [])) d e) tt
 
   first_in : (box : Ranges) (print : List ℕ) (o : Option Ranges) → o ≡ Some box → IsIn o (rules.Print box print)
   first_in box print None e = absurd cc
   first_in box print (Some x) e = subst (λ y. IsIn (Some y) (rules.Print box print)) (sym (same_some x box e)) (λ r i. i)
 
-  then_ok : (doing d : Doing) → AsksIn area doing → GoesOn doing → ◌≡◌ {A = Result Doing CoreRefusal} (Ok doing) (Ok d) → AsksIn area d × GoesOn d
-  then_ok doing d h spelled e = let same = same_ok doing d e in (subst (AsksIn area) same h, subst GoesOn same spelled)
+  then_ok : (doing d : Doing) → AsksIn area doing → IsUnrefused doing → ◌≡◌ {A = Result Doing CoreRefusal} (Ok doing) (Ok d) → AsksIn area d × IsUnrefused d
+  then_ok doing d h spelled e = let same = same_ok doing d e in (subst (AsksIn area) same h, subst IsUnrefused same spelled)
 
   sound_cases : AreCases area rows SoundThen
   sound_cases = record {
@@ -180,7 +180,7 @@ module _ (area : Option Ranges) (rows : List RowValue) (sound : AreSound rows) w
     row = λ ask asks left read opens row d e h.
         let next = hearing_rows ask asks (left - 1) (remembered ask read row) opens in
         let same = unless_ok (row_cause (box_of ask) read row) next d e in
-        (subst (AsksIn area) same (in_hearing ask asks (left - 1) (remembered ask read row) opens h.0.0 h.0.1 h.1), subst GoesOn same (spelled_hearing ask asks (left - 1) (remembered ask read row) opens));
+        (subst (AsksIn area) same (in_hearing ask asks (left - 1) (remembered ask read row) opens h.0.0 h.0.1 h.1), subst IsUnrefused same (spelled_hearing ask asks (left - 1) (remembered ask read row) opens));
     last_bye = λ d e h. then_ok Replying d tt tt e;
     end_turn = λ ask asks d e h. then_ok (answering rows (ask ∷ asks)) d (in_opened area (ask ∷ asks) h.1) (spelled_turn rows sound.rise sound.few sound.framed (ask ∷ asks)) e;
     farewell = λ d e h. then_ok Finished d tt tt e;

@@ -30,7 +30,7 @@ use Rattle.session_rules.specs.Reading.{Stand, Waits, Over, Move, stay, stepped,
 use Rattle.session_rules.specs.Messages.{taken}
 use Rattle.session_rules.specs.Talk as talk
 use Rattle.session_rules.specs.Talk.{answered}
-use Rattle.session_rules.specs.Turns.{View, Hearing as IsHearing, HearingAt, Replies, GoesOn, opening_turn, opening_asks, Begins, Awaits, TakeTurns}
+use Rattle.session_rules.specs.Turns.{View, Hearing as IsHearing, HearingAt, Replies, GoesOn, opening_turn, opening_asks, CallerBegins, Awaits, TakeTurns}
 use Rattle.sync_link.specs.Places.{has_finished}
 use Rattle.sync_link.proofs.Speaking.{spoken_as}
 use Rattle.sync_link.proofs.Heard.{rows_told, answers_to, side, hears_all}
@@ -174,7 +174,7 @@ module _ (rows others : List RowValue) (up : IsStrictlySortedBy inner_place_cmp 
       → IsHearing by_items place.rows asks (length t.items) (most_items place.area place.rows) (place_after place t asks)
   first_waits t asks place none nothing told = record { has = refl; hears = waits_for asks; so_many = omega (arith, none, nothing, turn_count t told); so_many_may = refl }
 
-  begins : (box : Option Ranges) → Begins by_items sync_rules (side talk.Caller rows box) rows box (most_items box rows)
+  begins : (box : Option Ranges) → CallerBegins by_items sync_rules (side talk.Caller rows box) rows box (most_items box rows)
   begins None =
       let place = first_place roles.Caller rows None in
       let said = spoken_as place ∙ says_whole place bye [] refl in

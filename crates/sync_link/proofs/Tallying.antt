@@ -22,7 +22,8 @@ use Rattle.ns_state.specs.declared.live_log.TheConstants.{LOG_LIMIT}
 use Rattle.ns_cell.specs.Passes.{PassValue, IsPass, IsLater}
 use Rattle.ns_cell.specs.Answers.{IsOffered, offered}
 use Rattle.ns_cell.proofs.Offers.{stored_is, kept_is, full_is, unanswered}
-use Rattle.sync_link.specs.Kept.{entry_row, log_rows, authorised_rows, numbered_refusal, first_refused, uncovered, IsPart}
+use Rattle.auth_entry.specs.Rows.{entry_row, authorised_rows, numbered_refusal, first_refused}
+use Rattle.sync_link.specs.Kept.{log_rows, uncovered, IsPart}
 use Rattle.sync_link.specs.Tallies.{with_refused, with_told, HasGrown, IsTally}
 use Rattle.sync_link.specs.declared.intake.Tally.{Tally}
 use Rattle.sync_link.proofs.PartsOf.{part_more, part_with}

@@ -27,7 +27,8 @@ use Rattle.sync_link.specs.Sessions.{Party, SessionCause, said, out, got, ending
 use Rattle.sync_link.specs.Settling.{IsOpening}
 use Rattle.sync_link.specs.Talking.{own_message}
 use Rattle.sync_link.specs.Fed.{heard, counted}
-use Rattle.sync_link.specs.Kept.{log_rows, authorised_rows, first_refused, uncovered, IsPart}
+use Rattle.auth_entry.specs.Rows.{authorised_rows, first_refused}
+use Rattle.sync_link.specs.Kept.{log_rows, uncovered, IsPart}
 use Rattle.sync_link.specs.declared.plan.SessionReport.{SessionReport}
 
 -- what a session answers

@@ -32,15 +32,15 @@ AsksIn area Finished = Unit {0}
 AsksIn area (Refused cause) = Unit {0}
 
 -- nothing was refused, and what is still to be said has spellings
-abbrev pub GoesOn : Doing → Type 0
-GoesOn (Saying items asks) = AllByRecursion HasSpelling items
-GoesOn Replying = Unit {0}
-GoesOn Beginning = Unit {0}
-GoesOn (Hearing asks opens) = Unit {0}
-GoesOn (HearingRows asks left read opens) = Unit {0}
-GoesOn Parting = Unit {0}
-GoesOn Finished = Unit {0}
-GoesOn (Refused cause) = ⊥
+abbrev pub IsUnrefused : Doing → Type 0
+IsUnrefused (Saying items asks) = AllByRecursion HasSpelling items
+IsUnrefused Replying = Unit {0}
+IsUnrefused Beginning = Unit {0}
+IsUnrefused (Hearing asks opens) = Unit {0}
+IsUnrefused (HearingRows asks left read opens) = Unit {0}
+IsUnrefused Parting = Unit {0}
+IsUnrefused Finished = Unit {0}
+IsUnrefused (Refused cause) = ⊥
 
 -- rows that a side may have: they rise, are not too many, and frames carry them
 pub record AreSound (rows : List RowValue) : Type 0 where
@@ -51,5 +51,5 @@ pub record AreSound (rows : List RowValue) : Type 0 where
 -- the place of a side that has such rows, goes on, and whose asks are within the area
 pub record IsSound (place : Place) : Type 0 where
   pub rows : AreSound place.rows
-  pub goes_on : GoesOn place.doing
+  pub goes_on : IsUnrefused place.doing
   pub asks : AsksIn place.area place.doing

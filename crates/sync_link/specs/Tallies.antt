@@ -11,7 +11,8 @@ use Rattle.ns_state.specs.declared.state.Told.{Told}
 use Rattle.ns_state.specs.declared.state.Told.TheVariants.{Stored, Kept}
 use Rattle.ns_state.specs.declared.live_log.TheConstants.{LOG_LIMIT}
 use Rattle.ns_cell.specs.Passes.{PassValue, IsPass, IsLater}
-use Rattle.sync_link.specs.Kept.{entry_row, log_rows, authorised_rows, first_refused, uncovered, IsPart}
+use Rattle.auth_entry.specs.Rows.{entry_row, authorised_rows, first_refused}
+use Rattle.sync_link.specs.Kept.{log_rows, uncovered, IsPart}
 use Rattle.sync_link.specs.declared.intake.Tally.{Tally}
 
 -- each row that came is counted once

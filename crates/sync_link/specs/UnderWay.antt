@@ -21,7 +21,8 @@ use Rattle.sync_link.specs.Sessions.{Party}
 use Rattle.sync_link.specs.Settling.{IsOpening}
 use Rattle.sync_link.specs.Standing.{Side}
 use Rattle.sync_link.specs.Fed.{Fed, HaveRead, fed_in}
-use Rattle.sync_link.specs.Kept.{entry_row, log_rows}
+use Rattle.auth_entry.specs.Rows.{entry_row}
+use Rattle.sync_link.specs.Kept.{log_rows}
 use Rattle.sync_link.specs.Tallies.{IsSum, IsTally}
 use Rattle.sync_link.specs.Run.{IsProofOf, Runs}
 use Rattle.sync_link.specs.declared.piece.Session.{Session}
@@ -141,9 +142,9 @@ abbrev pub EndsSo : Start → PassValue AuthorisedValue → LinkFacts → ℕ �
 EndsSo start pass link faults end = Runs (brought start) start.gives start.pass pass start.link link start.faults faults (Err end)
 
 -- it goes on, or it has ended
-abbrev pub GoesOn : Start → Now → Result (Unit {0}) SessionEnd → Type 0
-GoesOn start now (Ok u) = IsUnderWay start now
-GoesOn start now (Err end) = EndsSo start now.pass now.link now.faults end
+abbrev pub GoesOnOrEnds : Start → Now → Result (Unit {0}) SessionEnd → Type 0
+GoesOnOrEnds start now (Ok u) = IsUnderWay start now
+GoesOnOrEnds start now (Err end) = EndsSo start now.pass now.link now.faults end
 
 -- a session that began, or has ended
 abbrev pub Opens : {S : Type 0} → Start → PassValue AuthorisedValue → LinkFacts → Result (Session S) SessionEnd → Type 0

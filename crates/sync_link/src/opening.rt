@@ -6,7 +6,7 @@ ghost use Rattle.spelling.specs.Spelling.{AreSoManyBytes};
 ghost use Rattle.sync_hello.specs.Checked.{hello_refusal};
 ghost use Rattle.sync_hello.specs.HelloForm.{HasSpelling, IsHello};
 ghost use Rattle.sync_link.specs.Fed.{begun, first_bytes};
-ghost use Rattle.sync_link.specs.Kept.{entry_row};
+ghost use Rattle.auth_entry.specs.Rows.{entry_row};
 ghost use Rattle.sync_link.specs.Plans.{own_hello};
 ghost use Rattle.sync_link.specs.Settling.{IsOpening};
 ghost use Rattle.sync_link.specs.UnderWay.{AreTold};

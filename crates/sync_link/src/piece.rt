@@ -4,7 +4,7 @@ ghost use Rattle.std.specs.Prelude.{◌≡◌, ◌+◌, ◌<◌, ◌≤◌, leng
 ghost use Rattle.session_rules.specs.Reading.{ending_of, More};
 ghost use Rattle.ns_cell.specs.Passes.{IsPassOf};
 ghost use Rattle.willow_outside.specs.Facts.{LinkFacts};
-ghost use Rattle.sync_link.specs.UnderWay.{Start, IsCounted, IsUnderWay, GaveBytes, GoesOn, now_of};
+ghost use Rattle.sync_link.specs.UnderWay.{Start, IsCounted, IsUnderWay, GaveBytes, GoesOnOrEnds, now_of};
 
 use crate::intake::{Tally, known_raws};
 use crate::judge::take_lists;
@@ -55,7 +55,7 @@ pub(crate) fn hear_piece<R: Wait + Threads + Sync, S: Scheme, C: Checker<S>, K: 
     ensures grows { OnOk result (session.old.count < session.new.count) }
     ensures goes_on { (start : Start) → start.rules ≡ S.rules → start.namespace ≡ cell.now.namespace → start.gives ≡ K.gives signer.old → 1 ≤ start.left
         → IsUnderWay start (now_of S.rules session.old pass.old (L.facts link.old) (K.left signer.old) (K.faults signer.old))
-        → GoesOn start (now_of S.rules session.new pass.new (L.facts link.new) (K.left signer.new) (K.faults signer.new)) result }
+        → GoesOnOrEnds start (now_of S.rules session.new pass.new (L.facts link.new) (K.left signer.new) (K.faults signer.new)) result }
 {
     match link.read(room) {
         Ok(0) => Err(SessionEnd::ClosedEarly { at: session.count }),
@@ -98,7 +98,7 @@ fn take_piece<R: Wait + Threads + Sync, S: Scheme, C: Checker<S>, K: Signer, L: 
     ensures goes_on { (start : Start) (before : LinkFacts) → start.rules ≡ S.rules → start.namespace ≡ cell.now.namespace → start.gives ≡ K.gives signer.old → 1 ≤ start.left
         → IsUnderWay start (now_of S.rules session.old pass.old before (K.left signer.old) (K.faults signer.old))
         → GaveBytes before (L.facts link.old) piece.now
-        → GoesOn start (now_of S.rules session.new pass.new (L.facts link.new) (K.left signer.new) (K.faults signer.new)) result }
+        → GoesOnOrEnds start (now_of S.rules session.new pass.new (L.facts link.new) (K.left signer.new) (K.faults signer.new)) result }
 {
     let count = match session.count.checked_add(piece.len() as u64) {
         Some(count) => count,

@@ -7,12 +7,12 @@ ghost use Rattle.ns_cell.specs.Passes.{PassValue, IsPassOf};
 ghost use Rattle.session_rules.specs.Reading.{Done, More, ending_of};
 ghost use Rattle.session_rules.specs.Rounds.{IsOver};
 ghost use Rattle.sync_hello.specs.Checked.{hello_refusal};
-ghost use Rattle.sync_link.specs.Kept.{entry_row};
+ghost use Rattle.auth_entry.specs.Rows.{entry_row};
 ghost use Rattle.sync_link.specs.Plans.{own_hello, planned};
 ghost use Rattle.sync_link.specs.SessionPromises.{KeepsSessionPromises};
 ghost use Rattle.sync_link.specs.Run.{Runs};
 ghost use Rattle.sync_link.specs.Settling.{IsOpening};
-ghost use Rattle.sync_link.specs.UnderWay.{Start, IsCounted, IsReady, IsUnderWay, GoesOn, Opens, brought, now_of};
+ghost use Rattle.sync_link.specs.UnderWay.{Start, IsCounted, IsReady, IsUnderWay, GoesOnOrEnds, Opens, brought, now_of};
 
 use crate::intake::Tally;
 use crate::opening::{begin_side, known_plan, known_rows};
@@ -128,7 +128,7 @@ fn talk<R: Wait + Threads + Sync, S: Scheme, C: Checker<S>, K: Signer, L: Link>(
     ensures gives { K.gives signer.new ≡ K.gives signer.old }
     ensures goes_on { (start : Start) → start.rules ≡ S.rules → start.namespace ≡ cell.now.namespace → start.gives ≡ K.gives signer.old → 1 ≤ start.left
         → IsUnderWay start (now_of S.rules session.old pass.old (L.facts link.old) (K.left signer.old) (K.faults signer.old))
-        → GoesOn start (now_of S.rules session.new pass.new (L.facts link.new) (K.left signer.new) (K.faults signer.new)) result }
+        → GoesOnOrEnds start (now_of S.rules session.new pass.new (L.facts link.new) (K.left signer.new) (K.faults signer.new)) result }
     ensures over { OnOk result (IsOver (ending_of session.new.speaker.stand)) }
 {
     let mut room = match vec![in alloc; 0u8; PIECE] {

@@ -1,110 +1,32 @@
 -- Two sides that pass their turns on to each other, and what is left of the exchange.
-use Rattle.std.proofs.Common.{◌≡◌, ◌⊎◌, inl, inr, ℕ, ◌+◌, ◌≤◌, ◌<◌, Bool, true, false, cond, List, [], ◌∷◌, ◌++◌, map, filter_map, flat_map, length, sum_by, Option, Some, None, Result, Ok, refl, sym, ap, ap₂, ◌∙◌, subst, arith}
+use Rattle.std.proofs.Common.{◌≡◌, ◌⊎◌, inl, inr, ℕ, ◌+◌, ◌≤◌, ◌<◌, List, [], ◌∷◌, ◌++◌, map, filter_map, flat_map, length, Option, Some, None, Ok, refl, sym, ap, ◌∙◌, subst, arith}
 use Rattle.std.specs.Prelude.{IsOk, is_ok}
-use Rattle.std.specs.List.{AllByRecursion, cons_option}
+use Rattle.std.specs.List.{AllByRecursion}
 use Rattle.std.proofs.lemmas.List.{append-nil, append_assoc, length-append, length-map}
 use Rattle.std.proofs.lemmas.List.Sums.{sum_by-cons}
 use Rattle.willow_area.specs.Boxes.{Ranges}
-use Rattle.willow_area.specs.declared.cut.CutAt.{CutAt}
 use Rattle.willow_entry.specs.Row.{RowValue}
 use Rattle.exchange_rules.specs.Items as rules
-use Rattle.exchange_rules.specs.Items.{caller_turns, answerer_turns, rows_of_item, rows_of_turn, rows_of_turns, counted, to_left, to_right}
+use Rattle.exchange_rules.specs.Items.{caller_turns, answerer_turns, rows_of_turn, rows_of_turns, counted, to_left, to_right}
 use Rattle.exchange_rules.proofs.Potentials.{caller_turns-cons}
 use Rattle.exchange_rules.proofs.Costs.{counted_exchange}
 use Rattle.sync_msg.specs.Items.{ItemValue, HasSpelling, item_spelling}
-use Rattle.sync_msg.specs.declared.item.Item.TheVariants.{Row, EndTurn, Bye}
 use Rattle.sync_msg.specs.declared.role.Role.TheVariants.{Caller, Answerer}
 use Rattle.sync_core.specs.declared.stage.Stage.{Stage}
 use Rattle.sync_core.specs.declared.stage.Stage.TheVariants as stage
-use Rattle.sync_core.specs.Flat.{TurnValue, split_items, items_of, turn_items, IsOneCut, IsTold, IsToldTurn, row_in}
+use Rattle.sync_core.specs.Flat.{TurnValue, row_in}
 use Rattle.sync_core.specs.SyncRules.{sync_rules}
-use Rattle.sync_core.specs.Place.{Finished, Place, first_place, stage_of}
+use Rattle.sync_core.specs.Place.{Place, first_place, stage_of}
 use Rattle.sync_core.specs.Held.{to_count}
 use Rattle.sync_core.specs.Runs.{says_all, hears, SayTurns}
-use Rattle.sync_core.proofs.Owing.{to_count-append, to_count-rows}
+use Rattle.sync_core.proofs.TurnItems.{rows_in_turn, turn_count}
 use Rattle.sync_core.proofs.Lawful.{disjoint, can_cut_rows}
 use Rattle.sync_core.proofs.Telling.{rows_in-le}
 use Rattle.sync_core.proofs.TwoSides.{say_exchange}
-use Rattle.sync_core.proofs.OneByOne.{says_counted, hears_counted_items, SaysTurn, says_turn_first}
+use Rattle.sync_core.proofs.OneByOne.{says_counted, hears_counted_items, says_turn_first}
 use Rattle.sync_pair.specs.Meeting.{turn_bytes, meeting}
-use Rattle.sync_pair.specs.Passing.{CanPass, PassesTurn, turn_end}
+use Rattle.sync_pair.specs.Passing.{CanPass, PassesTurn}
 use Rattle.sync_pair.proofs.Plain.{IsPlain, AreSendable, plain_meeting}
-
--- ---- the items of a turn
-
--- the end of a turn
-abbrev end_of : Bool → List ItemValue
-end_of ends_with_bye = cond ends_with_bye Bye EndTurn ∷ []
-
-rows_told-append : (xs ys : List ItemValue) → filter_map row_in (xs ++ ys) ≡ filter_map row_in xs ++ filter_map row_in ys
-rows_told-append [] ys = refl
-rows_told-append (x ∷ xs) ys = ap (cons_option (row_in x)) (rows_told-append xs ys) ∙ behind (row_in x) (filter_map row_in xs) (filter_map row_in ys)
-  where
-    behind : (o : Option RowValue) (front back : List RowValue) → cons_option o (front ++ back) ≡ cons_option o front ++ back
-    behind None front back = refl
-    behind (Some row) front back = refl
-
-rows_told : (rows : List RowValue) → filter_map row_in (map (λ r. Row r) rows) ≡ rows
-rows_told [] = refl
-rows_told (row ∷ rows) = ap (λ l. row ∷ l) (rows_told rows)
-
-no_rows : (cuts : List CutAt) (prints : List (List ℕ)) → filter_map row_in (split_items cuts prints) ≡ []
-no_rows [] prints = refl
-no_rows (at ∷ []) [] = refl
-no_rows (at ∷ []) (lower ∷ []) = refl
-no_rows (at ∷ []) (lower ∷ upper ∷ []) = refl
-no_rows (at ∷ []) (lower ∷ upper ∷ more ∷ prints) = refl
-no_rows (at ∷ other ∷ cuts) prints = refl
-
-rows_of_one : (item : rules.Item RowValue (List CutAt)) → filter_map row_in (items_of item) ≡ rows_of_item item
-rows_of_one (rules.First print) = refl
-rows_of_one rules.Agree = refl
-rows_of_one (rules.Split cuts prints) = no_rows cuts prints
-rows_of_one (rules.Entries rows) = rows_told rows
-rows_of_one (rules.Rest rows) = rows_told rows
-
-rows_of_items : (items : List (rules.Item RowValue (List CutAt))) → filter_map row_in (flat_map items_of items) ≡ flat_map rows_of_item items
-rows_of_items [] = refl
-rows_of_items (item ∷ items) = rows_told-append (items_of item) (flat_map items_of items) ∙ ap₂ (λ front back. front ++ back) (rows_of_one item) (rows_of_items items)
-
-end_has_none : (b : Bool) → filter_map row_in (end_of b) ≡ []
-end_has_none true = refl
-end_has_none false = refl
-
--- the rows among the items of a turn are its rows
-pub rows_in_turn : (t : TurnValue) → filter_map row_in (turn_items t) ≡ rows_of_turn t
-rows_in_turn t =
-    rows_told-append (flat_map items_of t.items) (end_of t.ends_with_bye)
-    ∙ ap₂ (λ front back. front ++ back) (rows_of_items t.items) (end_has_none t.ends_with_bye)
-    ∙ append-nil (rows_of_turn t)
-
-cut_count : (cuts : List CutAt) (prints : List (List ℕ)) → IsOneCut cuts prints → to_count (split_items cuts prints) ≡ 1
-cut_count [] prints told = absurd told
-cut_count (at ∷ []) [] told = absurd told
-cut_count (at ∷ []) (lower ∷ []) told = absurd told
-cut_count (at ∷ []) (lower ∷ upper ∷ []) told = refl
-cut_count (at ∷ []) (lower ∷ upper ∷ more ∷ prints) told = absurd told
-cut_count (at ∷ other ∷ cuts) prints told = absurd told
-
-item_count : (item : rules.Item RowValue (List CutAt)) → IsTold item → to_count (items_of item) ≡ 1
-item_count (rules.First print) told = refl
-item_count rules.Agree told = refl
-item_count (rules.Split cuts prints) told = cut_count cuts prints told
-item_count (rules.Entries rows) told = omega (arith, to_count-rows rows)
-item_count (rules.Rest rows) told = omega (arith, to_count-rows rows)
-
-items_count : (items : List (rules.Item RowValue (List CutAt))) → AllByRecursion IsTold items → to_count (flat_map items_of items) ≡ length items
-items_count [] told = refl
-items_count (item ∷ items) told = omega (arith, to_count-append (items_of item) (flat_map items_of items), item_count item told.0, items_count items told.1)
-
-end_count : (b : Bool) → to_count (end_of b) ≡ 0
-end_count true = refl
-end_count false = refl
-
--- so many items of a turn are counted
-turn_count : (t : TurnValue) → IsToldTurn t → to_count (turn_items t) ≡ length t.items
-turn_count t told =
-    omega (arith, to_count-append (flat_map items_of t.items) (end_of t.ends_with_bye), items_count t.items told, end_count t.ends_with_bye)
 
 -- ---- what is left
 

@@ -1,7 +1,7 @@
 use Rattle.std.proofs.Common.{◌≡◌, ◌-◌, ◌≤◌}
 use Rattle.peer_listing.specs.Generator.{generator_namespace}
 use Rattle.peer_rows.specs.RowLogs.{HasTaken}
-use Rattle.peer_rows.specs.Logged.{entry_row}
+use Rattle.auth_entry.specs.Rows.{entry_row}
 use Rattle.peer_rows.specs.Drilled.{generated_rows}
 use Rattle.peer_rows.proofs.drilled.generated_logs.Given as goal
 

@@ -4,7 +4,8 @@ use Rattle.std.proofs.lemmas.List.Elements.{All-from_recursion}
 use Rattle.willow_entry.specs.Row.{RowValue}
 use Rattle.peer_listing.specs.Generator.{generator_namespace}
 use Rattle.peer_rows.specs.RowLogs.{ArePastLog, HasTaken}
-use Rattle.peer_rows.specs.Logged.{authorised_rows, entry_row, stored_rows}
+use Rattle.auth_entry.specs.Rows.{entry_row}
+use Rattle.peer_rows.specs.Logged.{authorised_rows, stored_rows}
 use Rattle.peer_rows.specs.Drilled.{generated_between, generated_rows}
 use Rattle.peer_rows.proofs.AuthorisedRows.{of_namespace}
 use Rattle.peer_rows.proofs.DrilledRows.{generated_on, generated_fit}

@@ -1,6 +1,6 @@
 use Rattle.std.proofs.Common.{◌≡◌, flat_map, take}
 use Rattle.peer_listing.specs.Listing.{listing_line}
-use Rattle.peer_rows.specs.Logged.{entry_row}
+use Rattle.auth_entry.specs.Rows.{entry_row}
 use Rattle.peer_rows.proofs.listing.lines_of.Given as goal
 
 abbrev pub invariant-loop-row : goal.invariant-loop-row

@@ -1,7 +1,8 @@
 use Rattle.std.proofs.Common.{◌++◌, map, ap, ◌∙◌}
 use Rattle.willow_entry.specs.Row.{RowValue}
 use Rattle.peer_listing.specs.Listing.{listing_line}
-use Rattle.peer_rows.specs.Logged.{entry_row, live_rows}
+use Rattle.auth_entry.specs.Rows.{entry_row}
+use Rattle.peer_rows.specs.Logged.{live_rows}
 use Rattle.peer_rows.proofs.Listed.{listed_on}
 use Rattle.peer_rows.proofs.listing.list_all.Goals as goal
 

@@ -1,7 +1,8 @@
 use Rattle.std.proofs.Common.{◌≡◌, ◌∙◌, length, take, arith}
 use Rattle.peer_listing.specs.Listing.{listing_head}
 use Rattle.recency_index.specs.Rows.{newest_rows}
-use Rattle.peer_rows.specs.Logged.{entry_row, live_rows}
+use Rattle.auth_entry.specs.Rows.{entry_row}
+use Rattle.peer_rows.specs.Logged.{live_rows}
 use Rattle.peer_rows.proofs.Listed.{rows_text}
 use Rattle.peer_rows.proofs.listing.list_newest.Goals as goal
 

@@ -4,7 +4,7 @@ use Rattle.spelling.specs.declared.ending.End.TheVariants as ends
 use Rattle.auth_entry.specs.Authorised.{AuthorisedValue, verdict}
 use Rattle.ns_state.specs.declared.live_log.LogFull.{LogFull}
 use Rattle.ns_cell.specs.Answers.{IsOffered}
-use Rattle.sync_link.specs.Kept.{entry_row}
+use Rattle.auth_entry.specs.Rows.{entry_row}
 use Rattle.auth_entry.proofs.Verdicts.{verdict_ok, verdict_err}
 use Rattle.sync_link.proofs.Tallying.{tally_refused, tally_told, tally_missed, grown_unanswered}
 use Rattle.sync_link.proofs.TakenRows.{later_self}

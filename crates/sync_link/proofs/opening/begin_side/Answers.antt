@@ -1,5 +1,5 @@
 use Rattle.std.proofs.Common.{map}
-use Rattle.sync_link.specs.Kept.{entry_row}
+use Rattle.auth_entry.specs.Rows.{entry_row}
 use Rattle.sync_link.proofs.Openings.{sound_of}
 use Rattle.sync_link.proofs.opening.begin_side.Goals as goal
 

@@ -21,7 +21,7 @@ returns-in-Err-NoMemory-clause-goes_on g c start rules namespace gives some u =
     let link = g.L.Link.facts c.read.new.self in
     let now = now_of g.S.Verify.rules c.args.session.now c.args.pass.now old (g.K.Signer.left c.args.signer.now) (g.K.Signer.faults c.args.signer.now) in
     let more = subst (λ (x : Fault). CountsCause old.read_faults link.read_faults x) c.in-Err-NoMemory.field-0-is c.in-Err-NoMemory.ensures.cause in
-    read_unkept start now u link (keeps_none old.left link.left c.in-Err-NoMemory.ensures.bytes) (still old.taken link.taken c.in-Err-NoMemory.ensures.taken) c.read.ensures.held more c.read.ensures.write_faults c.in-Err-NoMemory.ensures.end
+    read_unkept start now u link (keeps_none old.left link.left c.in-Err-NoMemory.ensures.bytes) (still old.taken link.taken c.in-Err-NoMemory.ensures.taken) c.read.ensures.held (omega (arith, more)) c.read.ensures.write_faults c.in-Err-NoMemory.ensures.end
 
 pub returns-in-Ok-eq0-clause-goes_on : goal.returns-in-Ok-eq0-clause-goes_on
 returns-in-Ok-eq0-clause-goes_on g c start rules namespace gives some u =

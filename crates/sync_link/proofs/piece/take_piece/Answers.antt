@@ -117,4 +117,4 @@ returns-clause-goes_on g c start before rules namespace gives some u given =
     let t' = tally_as rules' start.rules n start.namespace start.pass (u.rows ++ came) c.take_lists.new.pass c.take_lists.new.tally (sym rules) (sym namespace) (c.in-Ok-take_lists.ensures.takes start.pass u.rows t) in
     let more = subst (λ (x : Fault). CountsCause mid.write_faults (g.L.Link.facts c.send.new.link).write_faults x) c.in-Err-NoMemory-send.field-0-is c.in-Err-NoMemory-send.ensures.cause in
     unsent_unkept start now u mid c.args.piece.now given (are_bytes c.args.piece.now c.type_inv.piece) new said came (subst (λ (l : List RawValue). All IsRaw l) c.deref.ensures.value c.known_raws.ensures) f c.in-Ok-feed.ensures.counts signs c.known_signature.ensures c.take_lists.new.pass c.take_lists.ensures.later c.take_lists.new.tally t' (g.L.Link.facts c.send.new.link) c.send.ensures.rest
-    (g.K.Signer.faults c.feed.new.signer) c.feed.ensures.faults (subst (λ (l : List ℕ). (k : ℕ) × (k < length l) × Extends mid.held (g.L.Link.facts c.send.new.link).held (take k l)) c.deref-2.ensures.value c.in-Err-NoMemory-send.ensures.held) more
+    (g.K.Signer.faults c.feed.new.signer) c.feed.ensures.faults (subst (λ (l : List ℕ). (k : ℕ) × (k < length l) × Extends mid.held (g.L.Link.facts c.send.new.link).held (take k l)) c.deref-2.ensures.value c.in-Err-NoMemory-send.ensures.held) (omega (arith, more))

@@ -1,11 +1,11 @@
-use Rattle.std.proofs.Common.{◌≡◌, ◌++◌, ℕ, ◌<◌, ◌≤◌, List, [], map, length, take, None, sym, ap, ◌∙◌, subst}
+use Rattle.std.proofs.Common.{◌≡◌, ◌++◌, ℕ, ◌<◌, ◌≤◌, List, [], map, length, take, None, sym, ap, ◌∙◌, subst, arith}
 use Rattle.willow_outside.specs.Told.{Extends}
 use Rattle.willow_outside.specs.Counts.{HasRisen, CountsCause}
 use Rattle.willow_outside.specs.Facts.{LinkFacts}
 use Rattle.willow_outside.specs.declared.fault.Fault.{Fault}
 use Rattle.session_end.specs.declared.end.SessionEnd.TheVariants as ends
 use Rattle.sync_link.specs.Sessions.{Party}
-use Rattle.sync_link.specs.Kept.{entry_row}
+use Rattle.auth_entry.specs.Rows.{entry_row}
 use Rattle.sync_link.specs.UnderWay.{EndsSo, IsUnderWay, ReadsNothing}
 use Rattle.sync_link.specs.Fed.{State, begun, fed_in, first_bytes}
 use Rattle.sync_link.specs.Plans.{own_hello}
@@ -37,7 +37,7 @@ returns-clause-opens g c start pass e link ready =
     let more = subst (λ (x : Fault). CountsCause (g.L.Link.facts c.args.link.now).write_faults now.write_faults x) c.in-Err-NoMemory.field-0-is c.in-Err-NoMemory.ensures.cause in
     unwritten_unkept start (map entry_row c.args.snapshot) pass ready now (subst (λ (l : LinkFacts). ReadsNothing l now) (sym link) c.send.ensures.rest)
     (subst (λ (l : LinkFacts). (k : ℕ) × (k < length due) × Extends l.held now.held (take k due)) (sym link) held)
-    (subst (λ (l : LinkFacts). l.write_faults ≤ now.write_faults) (sym link) more)
+    (subst (λ (l : LinkFacts). l.write_faults ≤ now.write_faults) (sym link) (omega (arith, more)))
 
 pub returns-in-Ok-send-clause-opens : goal.returns-in-Ok-send-clause-opens
 returns-in-Ok-send-clause-opens g c start pass e link ready =

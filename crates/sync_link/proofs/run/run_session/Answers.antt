@@ -1,5 +1,5 @@
 use Rattle.std.proofs.Common.{◌≡◌, ℕ, List, map, refl, ap, sym, ◌∙◌}
-use Rattle.sync_link.specs.Kept.{entry_row}
+use Rattle.auth_entry.specs.Rows.{entry_row}
 use Rattle.sync_link.specs.Plans.{own_hello, planned}
 use Rattle.sync_link.specs.UnderWay.{Start, IsReady, brought, now_of}
 use Rattle.ns_cell.specs.Passes.{CellValue}
