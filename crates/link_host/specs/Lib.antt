@@ -1,3 +1,4 @@
-pub mod Visits
+pub mod Begun
 pub mod Hosted
-pub mod Workers
+pub mod Keeping
+pub mod Visits

@@ -1,10 +1,9 @@
 //! Links that are accepted one after the other.
 
-ghost use Rattle.std.specs.Prelude.{◌≡◌, ◌≤◌, All, [], vec_len, vec_capacity};
-ghost use Rattle.link_host.specs.Workers.{IsAccepted};
+ghost use Rattle.std.specs.Prelude.{◌≡◌, ◌≤◌, All, [], length};
+ghost use Rattle.link_host.specs.Begun.{IsAccepted};
 
-use crate::Host;
-use crate::worker::{Errand, Started, start};
+use crate::{Host, NoLink, Workers};
 use std::alloc::Global;
 use std::collections::VecDeque;
 use std::sync::Wait;
@@ -14,12 +13,13 @@ use willow_outside::{Door, Fault, Link};
 /// The workers of the links that came, the jobs for which none came, and why.
 #[derive(Drop)]
 pub(crate) struct Accepted<L: Link + Send, H: Host<L>> {
-    pub(crate) started: Vec<Started<L, H>>,
+    pub(crate) workers: Workers<L, H>,
     pub(crate) unused: VecDeque<H::Job>,
     pub(crate) stopped: Option<Fault>,
 }
 
 /// Accepts a link for each job in order and starts its worker, until an accept fails. There is room for all workers.
+#[tactic(auto, using(crate::proofs::Coming::one_more_came, crate::proofs::Coming::none_came_for))]
 pub(crate) fn accept_all<
     's,
     E,
@@ -34,31 +34,26 @@ pub(crate) fn accept_all<
     host: &'s H,
     jobs: Vec<H::Job>,
     door: &mut D,
-    mut started: Vec<Started<L, H>>,
+    mut workers: Workers<L, H>,
 ) -> Accepted<L, H>
     requires jobs { All (H.may host.now) jobs.items }
-    requires room { (started.items ≡ []) × (vec_len jobs ≤ vec_capacity started) }
-    ensures { IsAccepted L.facts H.does host.now jobs.items (D.facts door.old) (D.facts door.new) result }
+    requires workers { (workers.host ≡ host.now) × (workers.begun ≡ []) × (length jobs.items ≤ workers.room) }
+    ensures host { result.workers.host ≡ host.now }
+    ensures accepted { IsAccepted jobs.items (D.facts door.old) (D.facts door.new) result.workers.begun result.unused.items result.stopped }
 {
     let mut unused = VecDeque::from(jobs);
-    while !unused.is_empty() {
-        let link = match door.accept() {
-            Ok(link) => link,
-            Err(fault) => {
-                return Accepted {
-                    started,
-                    unused,
-                    stopped: Some(fault),
-                };
-            }
-        };
-        let Some(job) = unused.pop_front() else {
-            unreachable!();
-        };
-        started.push_reserved(start(rt, threads, alloc, host, Errand { job, link }));
+    while let Some(job) = unused.pop_front() {
+        if let Err(NoLink { job, fault }) = workers.accept(rt, threads, alloc, host, job, door) {
+            unused.push_front_reserved(job);
+            return Accepted {
+                workers,
+                unused,
+                stopped: Some(fault),
+            };
+        }
     }
     Accepted {
-        started,
+        workers,
         unused,
         stopped: None,
     }

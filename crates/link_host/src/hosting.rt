@@ -1,12 +1,11 @@
 //! All visits of a host.
 
-ghost use Rattle.std.specs.Prelude.{◌≡◌, ◌≤◌, All, [], map, vec_len, vec_capacity};
+ghost use Rattle.std.specs.Prelude.{◌≡◌, ◌≤◌, All, [], length};
+ghost use Rattle.link_host.specs.Begun.{IsAccepted};
 ghost use Rattle.link_host.specs.Hosted.{IsHosted, Hosts};
-ghost use Rattle.link_host.specs.Workers.{AreVisited, IsAccepted, Keeps};
 
-use crate::Host;
 use crate::accepting::{Accepted, accept_all};
-use crate::worker::{Started, Visited, finish};
+use crate::{Host, Workers};
 use spelling::NoMemory;
 use std::alloc::Global;
 use std::sync::Wait;
@@ -25,8 +24,8 @@ pub struct Hosted<J, P> {
 }
 
 /// Accepts a link for each job, in order, and lets the host visit each on a thread of its own; where no thread starts, the
-/// visit is made in place. An accept waits for no visit. Where an accept fails, no more links are accepted, and the jobs that
-/// are left come back. All visits are waited for, and their links are given back in the order in which they came.
+/// visit is made in place. An accept waits for no visit. Where an accept fails, no further link is asked for, and the jobs
+/// that are left come back. All visits are waited for, and their links are given back in the order in which they came.
 ///
 /// `NoMemory` comes only before the first accept, and leaves the door as it was.
 pub fn host_links<R: Wait + Threads + Sync, D: Door, H: Host<D::L>>(
@@ -39,9 +38,8 @@ pub fn host_links<R: Wait + Threads + Sync, D: Door, H: Host<D::L>>(
     requires { All (H.may host.now) jobs.items }
     ensures hosts { Hosts (H.does host.now) jobs.items (D.facts door.old) (D.facts door.new) result }
 {
-    let started = Vec::with_capacity(alloc, jobs.len())?;
-    let partings = Vec::with_capacity(alloc, jobs.len())?;
-    Ok(host_reserved(rt, alloc, host, jobs, door, started, partings))
+    let workers = Workers::with_room(alloc, host, jobs.len())?;
+    Ok(host_reserved(rt, alloc, host, jobs, door, workers))
 }
 
 // The same, with all memory taken.
@@ -51,12 +49,10 @@ fn host_reserved<R: Wait + Threads + Sync, L: Link + Send, D: Door<L = L>, H: Ho
     host: &H,
     jobs: Vec<H::Job>,
     door: &mut D,
-    started: Vec<Started<L, H>>,
-    partings: Vec<H::Parting>,
+    workers: Workers<L, H>,
 ) -> Hosted<H::Job, H::Parting>
     requires jobs { All (H.may host.now) jobs.items }
-    requires started { (started.items ≡ []) × (vec_len jobs ≤ vec_capacity started) }
-    requires partings { (partings.items ≡ []) × (vec_len jobs ≤ vec_capacity partings) }
+    requires workers { (workers.host ≡ host.now) × (workers.begun ≡ []) × (length jobs.items ≤ workers.room) }
     ensures { IsHosted (H.does host.now) jobs.items (D.facts door.old) (D.facts door.new) result }
 {
     // The door comes out of the scope again, since a contract does not see what a scope does to a captured reference.
@@ -64,42 +60,21 @@ fn host_reserved<R: Wait + Threads + Sync, L: Link + Send, D: Door<L = L>, H: Ho
         scope_env(),
         rt,
         move |threads| -> (&mut D, Accepted<L, H>)
-            requires { All (H.may host.now) jobs.items × (started.items ≡ []) × (vec_len jobs ≤ vec_capacity started) }
-            ensures { (result.0.ghost_name ≡ door.entry.ghost_name) × IsAccepted L.facts H.does host.entry.now jobs.items (D.facts door.entry.now) (D.facts result.0.now) result.1 }
+            requires { All (H.may host.now) jobs.items × (workers.host ≡ host.now) × (workers.begun ≡ []) × (length jobs.items ≤ workers.room) }
+            ensures { (result.0.ghost_name ≡ door.entry.ghost_name) × (result.1.workers.host ≡ host.entry.now) × IsAccepted jobs.items (D.facts door.entry.now) (D.facts result.0.now) result.1.workers.begun result.1.unused.items result.1.stopped }
         {
-            let accepted = accept_all(rt, threads, alloc, host, jobs, door, started);
+            let accepted = accept_all(rt, threads, alloc, host, jobs, door, workers);
             (door, accepted)
         },
     );
     let Accepted {
-        started,
+        workers,
         unused,
         stopped,
     } = accepted;
     Hosted {
-        partings: finish_all(rt, host, door, started, partings),
+        partings: workers.finish(rt, door),
         unused: Vec::from(unused),
         stopped,
     }
-}
-
-// Waits for all workers, in order, and gives each link back.
-fn finish_all<R: Threads, L: Link + Send, D: Door<L = L>, H: Host<L>>(
-    rt: &R,
-    host: &H,
-    door: &mut D,
-    started: Vec<Started<L, H>>,
-    mut partings: Vec<H::Parting>,
-) -> Vec<H::Parting>
-    requires keeps { All (Keeps L.facts H.does host.now) started.items }
-    requires out { vec_len started ≤ (D.facts door.old).out }
-    requires room { (partings.items ≡ []) × (vec_len started ≤ vec_capacity partings) }
-    ensures { AreVisited (H.does host.now) (map (λ s. s.job.value) started.items) result.items (D.facts door.old) (D.facts door.new) }
-{
-    for worker in started {
-        let Visited { link, parting } = finish(rt, host, worker);
-        door.give_back(link);
-        partings.push_reserved(parting);
-    }
-    partings
 }

@@ -2,7 +2,7 @@
 
 ghost use Rattle.std.specs.Prelude.{◌≡◌};
 ghost use Rattle.willow_outside.specs.Links.{IsFresh};
-ghost use Rattle.link_host.specs.Workers.{Keeps};
+ghost use Rattle.link_host.specs.Keeping.{Keeps};
 
 use crate::Host;
 use std::alloc::Global;
@@ -78,6 +78,7 @@ pub(crate) fn start<'s, E, R: Wait + Threads + Sync, L: Link + Send + 's, H: Hos
     requires may { H.may host.now errand.job }
     requires fresh { IsFresh (L.facts errand.link) }
     ensures job { result.job.value ≡ errand.job }
+    ensures link { result.handed_out.value ≡ errand.link }
     ensures keeps { Keeps L.facts H.does host.now result }
 {
     let job = Snapshot::of(&errand.job);
@@ -110,11 +111,11 @@ pub(crate) fn start<'s, E, R: Wait + Threads + Sync, L: Link + Send + 's, H: Hos
 /// Waits for the worker, where it runs.
 pub(crate) fn finish<R: Threads, L: Link + Send, H: Host<L>>(
     rt: &R,
-    host: &H,
+    host: &Snapshot<H>,
     started: Started<L, H>,
 ) -> Visited<L, H>
-    requires { Keeps L.facts H.does host.now started }
-    ensures { H.does host.now started.job.value (L.facts started.handed_out.value) result.parting (L.facts result.link) }
+    requires { Keeps L.facts H.does host.now.value started }
+    ensures { H.does host.now.value started.job.value (L.facts started.handed_out.value) result.parting (L.facts result.link) }
 {
     let Started {
         job: _,

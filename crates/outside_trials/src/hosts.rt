@@ -2,6 +2,7 @@
 
 ghost use Rattle.std.specs.Prelude.{⊤};
 
+use crate::counted_door::CountedDoor;
 use link_host::{Host, host_links};
 use std::alloc::Global;
 use std::sync::Wait;
@@ -46,7 +47,8 @@ fn door_of_two(alloc: Global, fails: u64) -> Result<MemDoor<MemLink>, Fault> {
     ))
 }
 
-/// Which accept fails, the jobs, and what is to come of it: the bytes that were read, the jobs left, and the fault.
+/// Which accept fails, the jobs, and what is to come of it: the bytes that were read, the jobs left, the fault, and how many
+/// accepts were made.
 #[derive(Clone, Copy)]
 struct Case<'a> {
     fails: u64,
@@ -54,6 +56,7 @@ struct Case<'a> {
     read: &'a [u8],
     unused: &'a [u8],
     stopped: Option<Fault>,
+    accepts: u32,
 }
 
 /// Whether the partings are those bytes, and the links that came back hold each its byte and its job, in order.
@@ -78,6 +81,7 @@ const CASES: [Case<'static>; 5] = [
         read: &[5, 6],
         unused: &[],
         stopped: None,
+        accepts: 2,
     },
     Case {
         fails: 9,
@@ -85,6 +89,7 @@ const CASES: [Case<'static>; 5] = [
         read: &[5, 6],
         unused: &[3],
         stopped: Some(Fault::Failed),
+        accepts: 3,
     },
     Case {
         fails: 2,
@@ -92,6 +97,7 @@ const CASES: [Case<'static>; 5] = [
         read: &[5],
         unused: &[2],
         stopped: Some(Fault::Failed),
+        accepts: 2,
     },
     Case {
         fails: 1,
@@ -99,6 +105,7 @@ const CASES: [Case<'static>; 5] = [
         read: &[],
         unused: &[1, 2],
         stopped: Some(Fault::Failed),
+        accepts: 1,
     },
     Case {
         fails: 9,
@@ -106,6 +113,7 @@ const CASES: [Case<'static>; 5] = [
         read: &[],
         unused: &[],
         stopped: None,
+        accepts: 0,
     },
 ];
 
@@ -113,12 +121,13 @@ const CASES: [Case<'static>; 5] = [
 fn links_come_back_in_order(rt: HostRuntime) -> Result<(), Fail> {
     let alloc = rt.alloc();
     for case in CASES {
-        let mut door = door_of_two(alloc, case.fails)?;
+        let mut door = CountedDoor::new(door_of_two(alloc, case.fails)?);
         let jobs: Vec<u8> = case.jobs.iter().copied().collect(alloc)?;
         let hosted = host_links(&rt, alloc, &Echo, jobs, &mut door)?;
         assert!(rt; came(&case, &hosted.partings, door.back()));
         assert!(rt; hosted.unused.as_slice() == case.unused);
         assert_eq!(rt; hosted.stopped, case.stopped);
+        assert_eq!(rt; door.accepts(), case.accepts);
     }
     Ok(())
 }

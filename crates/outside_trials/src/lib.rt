@@ -3,6 +3,8 @@
 #![tactic(auto)]
 
 #[cfg(test)]
+mod counted_door;
+#[cfg(test)]
 mod disks;
 #[cfg(test)]
 mod file_disks;

@@ -25,12 +25,15 @@ pub(crate) fn fault_of(error: &Error) -> Fault
     }
 }
 
-// Counts an error of the machine, of whatever kind, and tells what it is.
+// Tells what an error of the machine is, and counts it where it is no want of memory.
 pub(crate) fn counted(count: &mut u64, error: &Error) -> Fault
-    ensures count { count.new ≡ one_more count.old }
+    ensures count { result ≡ Fault.Failed → count.new ≡ one_more count.old }
     ensures cause { CountsCause count.old count.new result }
     ensures fault { (result ≡ Fault.NoMemory) ↔ (error_kind error.now ≡ ErrorKind.OutOfMemory) }
 {
-    *count = raised(*count);
-    fault_of(error)
+    let fault = fault_of(error);
+    if fault == Fault::Failed {
+        *count = raised(*count);
+    }
+    fault
 }

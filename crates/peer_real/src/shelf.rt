@@ -74,7 +74,7 @@ impl<R: Files + AllocGlobal + Drop> Shelf for FileShelf<R> {
 
     fn put(&mut self, name: &str, bytes: &[u8]) -> Result<(), Fault> {
         let ended = replace(&self.machine, name, bytes);
-        if ended.is_err() {
+        if ended == Err(Fault::Failed) {
             self.write_faults = raised(self.write_faults);
         }
         ended

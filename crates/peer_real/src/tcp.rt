@@ -88,12 +88,13 @@ impl Link for TcpLink {
     }
 }
 
-/// The network, with a count of the faults. The places asked for and the links that came back are not told.
+/// The network, with counts of the faults and of the accepts. The places asked for and the links that came back are not told.
 /// `accept` waits until somebody asks for a link, and `connect` for as long as the machine does.
 #[derive(Drop)]
 pub struct TcpDoor<N> {
     net: N,
     listener: Option<TcpListener>,
+    accepts: u64,
     faults: u64,
     out: u64,
 }
@@ -101,11 +102,12 @@ pub struct TcpDoor<N> {
 impl<N: Net<Listener = TcpListener, Stream = TcpStream> + AllocGlobal + Drop> TcpDoor<N> {
     /// The network `net`, with counts 0, which listens at no place yet.
     pub fn new(net: N) -> TcpDoor<N>
-        ensures { ⟦<TcpDoor<N> as Door>⟧.facts result ≡ record { faults = 0; out = 0; asked = None; back = None } }
+        ensures { ⟦<TcpDoor<N> as Door>⟧.facts result ≡ record { faults = 0; accepts = 0; out = 0; asked = None; back = None } }
     {
         TcpDoor {
             net,
             listener: None,
+            accepts: 0,
             faults: 0,
             out: 0,
         }
@@ -116,6 +118,7 @@ impl<N: Net<Listener = TcpListener, Stream = TcpStream> + AllocGlobal + Drop> Tc
         ensures fresh { IfOk result (λ link. IsFresh (⟦<TcpLink as Link>⟧.facts link)) }
         ensures out { HandsOutLink self.old.out self.new.out result }
         ensures cause { CountsFault self.old.faults self.new.faults result }
+        ensures accepts { self.new.accepts ≡ self.old.accepts }
     {
         let link = match stream {
             Ok(stream) => TcpLink::new(self.net.alloc(), stream),
@@ -138,7 +141,7 @@ impl<N: Net<Listener = TcpListener, Stream = TcpStream> + AllocGlobal + Drop> Tc
 impl<N: Net<Listener = TcpListener, Stream = TcpStream> + AllocGlobal + Drop> Door for TcpDoor<N> {
     type L = TcpLink;
 
-    ghost facts = { λ s. record { faults = s.faults; out = s.out; asked = None; back = None } };
+    ghost facts = { λ s. record { faults = s.faults; accepts = s.accepts; out = s.out; asked = None; back = None } };
 
     /// Listens at `place` from now on, in place of an earlier one.
     fn listen(&mut self, place: &str) -> Result<(), Fault> {
@@ -152,6 +155,7 @@ impl<N: Net<Listener = TcpListener, Stream = TcpStream> + AllocGlobal + Drop> Do
     }
 
     fn accept(&mut self) -> Result<TcpLink, Fault> {
+        self.accepts = raised(self.accepts);
         let stream = match &self.listener {
             Some(listener) => listener.accept().map(|(stream, _)| stream),
             None => Err(io::Error::from(ErrorKind::NotConnected)),

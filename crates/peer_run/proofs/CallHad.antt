@@ -9,7 +9,8 @@ use Rattle.auth_entry.specs.Authorised.{AuthorisedValue}
 use Rattle.lms_core.specs.Use.{peer_rules}
 use Rattle.lms_core.specs.declared.scheme.PeerScheme.{PeerScheme}
 use Rattle.ns_state.specs.Log.{IsLog}
-use Rattle.sync_link.specs.Kept.{entry_row, log_rows}
+use Rattle.auth_entry.specs.Rows.{entry_row}
+use Rattle.sync_link.specs.Kept.{log_rows}
 use Rattle.sync_link.specs.Plans.{planned}
 use Rattle.sync_link.specs.Sessions.{Party}
 use Rattle.sync_link.specs.declared.plan.SessionPlan.{SessionPlan}

@@ -13,7 +13,7 @@ use Rattle.auth_entry.specs.Authorised.{AuthorisedValue}
 use Rattle.ns_state.specs.Log.{StateValue, IsLog}
 use Rattle.ns_cell.specs.Closed.{IsClosed}
 use Rattle.ns_cell.specs.Passes.{CellValue, PassValue, new_pass}
-use Rattle.sync_link.specs.Kept.{entry_row}
+use Rattle.auth_entry.specs.Rows.{entry_row}
 use Rattle.sync_link.specs.Plans.{planned}
 use Rattle.sync_link.specs.Run.{Answer, Runs}
 use Rattle.sync_link.specs.declared.plan.SessionPlan.{SessionPlan}

@@ -10,7 +10,8 @@ use Rattle.sync_pair.specs.Meeting.{turn_bytes}
 use Rattle.peer_listing.specs.Summary.{drill_summary}
 use Rattle.peer_listing.specs.declared.summary.DrillCounts.{DrillCounts}
 use Rattle.peer_rows.specs.Drilled.{generated_rows}
-use Rattle.peer_rows.specs.Logged.{entry_row, live_rows}
+use Rattle.auth_entry.specs.Rows.{entry_row}
+use Rattle.peer_rows.specs.Logged.{live_rows}
 use Rattle.ns_state.specs.Log.{StateValue}
 use Rattle.peer_rows.specs.RowLogs.{HasTaken}
 use Rattle.peer_rows.proofs.Taken.{taken_live}

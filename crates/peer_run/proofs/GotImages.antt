@@ -18,7 +18,7 @@ untold =
       input = record { left = None; faults = 0; ends = 0 };
       output = record { held = None; faults = 0 };
       report = record { held = None; faults = 0 };
-      door = record { faults = 0; out = 0; asked = None; back = None };
+      door = record { faults = 0; accepts = 0; out = 0; asked = None; back = None };
       noise = record { draws = None; faults = 0 };
     }
 

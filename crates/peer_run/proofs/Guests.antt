@@ -20,7 +20,7 @@ use Rattle.lms_core.specs.declared.scheme.PeerScheme.{PeerScheme}
 use Rattle.ns_state.specs.Log.{StateValue, IsLog}
 use Rattle.ns_cell.specs.Closed.{IsClosed}
 use Rattle.ns_cell.specs.Passes.{PassValue, new_pass, new_passes}
-use Rattle.sync_link.specs.Kept.{entry_row}
+use Rattle.auth_entry.specs.Rows.{entry_row}
 use Rattle.sync_link.specs.Plans.{planned}
 use Rattle.sync_link.specs.Run.{Answer, Runs}
 use Rattle.sync_link.specs.Sessions.{Party}
@@ -191,7 +191,7 @@ accepts_so old listened new links came unused (Some fault.NoMemory) all_came all
 stops_above : (before now : ℕ) (unused : List Guest) (stopped : Option Fault) → CountsStop before now unused stopped → before ≤ now
 stops_above before now unused None stops = omega (arith, stops.1)
 stops_above before now unused (Some fault.Failed) stops = stops.1.never_falls
-stops_above before now unused (Some fault.NoMemory) stops = stops.1
+stops_above before now unused (Some fault.NoMemory) stops = omega (arith, stops.1)
 
 -- ---- all of it
 

@@ -17,7 +17,8 @@ use Rattle.sync_core.specs.Flat.{TurnValue}
 use Rattle.sync_pair.specs.Meeting.{turn_bytes}
 use Rattle.peer_image.specs.Image.{image}
 use Rattle.peer_rows.specs.Images.{LogsImage, log_stop}
-use Rattle.peer_rows.specs.Logged.{authorised_rows, entry_row, live_rows, first_refused, AreCounts}
+use Rattle.auth_entry.specs.Rows.{entry_row}
+use Rattle.peer_rows.specs.Logged.{authorised_rows, live_rows, first_refused, AreCounts}
 use Rattle.ns_state.specs.Log.{StateValue}
 use Rattle.ns_state.specs.declared.live_log.LogFull.{LogFull}
 use Rattle.peer_rows.specs.RowLogs.{HasTaken}

@@ -20,7 +20,8 @@ use Rattle.ns_state.specs.declared.state.Told.{Told}
 use Rattle.ns_state.specs.declared.state.Told.TheVariants.{Stored, Kept}
 use Rattle.log_rule.specs.Views.{AreOf}
 use Rattle.peer_rows.specs.Images.{log_stop}
-use Rattle.peer_rows.specs.Logged.{authorised_rows, entry_row, PassesLog}
+use Rattle.auth_entry.specs.Rows.{entry_row}
+use Rattle.peer_rows.specs.Logged.{authorised_rows, PassesLog}
 use Rattle.peer_rows.specs.RowLogs.{ArePastLog, HasTaken}
 use Rattle.peer_rows.proofs.Logged.{authorised_none, authorised_some, authorised_rows-more, authorised_rows-same, first-more, first-same, number}
 use Rattle.peer_rows.proofs.Offered.{PassesLog-longer}

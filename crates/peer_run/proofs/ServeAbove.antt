@@ -17,7 +17,8 @@ use Rattle.session_end.specs.declared.end.SessionEnd.TheVariants.{LinkRead, Link
 use Rattle.session_rules.proofs.Growing.{says_of}
 use Rattle.session_rules.proofs.Worlds.{same_read}
 use Rattle.sync_link.specs.Greetings.{greeting}
-use Rattle.sync_link.specs.Kept.{entry_row, log_rows, authorised_rows}
+use Rattle.auth_entry.specs.Rows.{entry_row, authorised_rows}
+use Rattle.sync_link.specs.Kept.{log_rows}
 use Rattle.sync_link.specs.Places.{places}
 use Rattle.sync_link.specs.Ran.{Ran, other_common, opening_of}
 use Rattle.sync_link.specs.Run.{Answer, Covers}

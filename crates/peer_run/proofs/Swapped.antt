@@ -14,7 +14,8 @@ use Rattle.ns_state.specs.declared.live_log.LogFull.{LogFull}
 use Rattle.sync_pair.specs.Meeting.{IsMeeting}
 use Rattle.sync_pair.specs.declared.meet.PairRun.{PairRun}
 use Rattle.peer_rows.specs.RowLogs.{HasTaken, ArePastLog}
-use Rattle.peer_rows.specs.Logged.{entry_row, live_rows, stored_rows}
+use Rattle.auth_entry.specs.Rows.{entry_row}
+use Rattle.peer_rows.specs.Logged.{live_rows, stored_rows}
 use Rattle.peer_rows.proofs.Taken.{taken_live}
 use Rattle.peer_run.specs.Exchanged.{AreMet, Exchanges, HasTakenUp, Takes}
 use Rattle.peer_run.specs.declared.exchanging.Came.{Came}

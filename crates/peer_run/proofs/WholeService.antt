@@ -14,7 +14,8 @@ use Rattle.lms_core.specs.Use.{peer_rules}
 use Rattle.lms_core.specs.declared.scheme.PeerScheme.{PeerScheme}
 use Rattle.mc_cap.specs.declared.refusal.RefusedRow.{RefusedRow}
 use Rattle.mc_cap.specs.declared.refusal.RowRefusal.{RowRefusal}
-use Rattle.sync_link.specs.Kept.{entry_row, log_rows}
+use Rattle.auth_entry.specs.Rows.{entry_row}
+use Rattle.sync_link.specs.Kept.{log_rows}
 use Rattle.sync_link.specs.Plans.{planned}
 use Rattle.sync_link.specs.Run.{Answer}
 use Rattle.sync_link.specs.Sessions.{Party}

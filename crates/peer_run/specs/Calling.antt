@@ -6,7 +6,7 @@ use Rattle.willow_outside.specs.Links.{IsFresh, list_with}
 use Rattle.auth_entry.specs.Authorised.{AuthorisedValue}
 use Rattle.ns_state.specs.Log.{StateValue, IsLog}
 use Rattle.ns_cell.specs.Passes.{PassValue}
-use Rattle.sync_link.specs.Kept.{entry_row}
+use Rattle.auth_entry.specs.Rows.{entry_row}
 use Rattle.sync_link.specs.Run.{Runs}
 use Rattle.sync_link.specs.Sessions.{Party}
 use Rattle.peer_make.specs.KeySigners.{gives_of}

@@ -15,7 +15,7 @@ use Rattle.auth_entry.specs.Authorised.{AuthorisedValue}
 use Rattle.ns_state.specs.Log.{StateValue}
 use Rattle.ns_state.specs.declared.live_log.LogFull.{LogFull}
 use Rattle.peer_rows.specs.RowLogs.{HasTaken, ArePastLog}
-use Rattle.peer_rows.specs.Logged.{entry_row}
+use Rattle.auth_entry.specs.Rows.{entry_row}
 use Rattle.peer_run.specs.declared.exchanging.Came.{Came}
 use Rattle.peer_run.specs.declared.exchanging.Exchanged.{Exchanged}
 

@@ -12,7 +12,7 @@ use Rattle.ns_state.specs.Log.{IsLog}
 use Rattle.ns_cell.specs.Closed.{IsClosed}
 use Rattle.ns_cell.specs.Passes.{PassValue, IsPassOf}
 use Rattle.sync_hello.specs.Checked.{hello_refusal}
-use Rattle.sync_link.specs.Kept.{entry_row}
+use Rattle.auth_entry.specs.Rows.{entry_row}
 use Rattle.sync_link.specs.Plans.{own_hello, planned}
 use Rattle.sync_link.specs.Run.{Runs}
 use Rattle.peer_make.specs.KeySigners.{gives_of, left_of}

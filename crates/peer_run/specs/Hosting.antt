@@ -11,7 +11,7 @@ use Rattle.auth_entry.specs.Authorised.{AuthorisedValue}
 use Rattle.log_rule.specs.Views.{rows_of_pass}
 use Rattle.ns_state.specs.Log.{StateValue, IsLog}
 use Rattle.ns_cell.specs.Passes.{PassValue}
-use Rattle.sync_link.specs.Kept.{entry_row}
+use Rattle.auth_entry.specs.Rows.{entry_row}
 use Rattle.sync_link.specs.Ran.{Ran}
 use Rattle.sync_link.specs.Run.{Answer, Runs}
 use Rattle.sync_link.specs.Sessions.{Party}

@@ -11,7 +11,8 @@ use Rattle.lms_core.specs.Accepts.{leaves}
 use Rattle.lms_core.specs.Key.{Key, IsKey, key_file}
 use Rattle.ns_state.specs.Log.{IsLog}
 use Rattle.session_end.specs.declared.end.SessionEnd.TheVariants.{LogFull}
-use Rattle.sync_link.specs.Kept.{entry_row, log_rows}
+use Rattle.auth_entry.specs.Rows.{entry_row}
+use Rattle.sync_link.specs.Kept.{log_rows}
 use Rattle.sync_msg.specs.declared.role.Role.TheVariants.{Answerer}
 use Rattle.peer_make.specs.KeySigners.{AreSignersOf}
 use Rattle.peer_make.specs.Making.{TakesDraws}

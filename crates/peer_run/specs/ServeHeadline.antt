@@ -15,7 +15,8 @@ use Rattle.ns_state.specs.declared.live_log.TheConstants.{LOG_LIMIT}
 use Rattle.lms_core.specs.Key.{Key, raised}
 use Rattle.lms_core.specs.Reserve.{HoldsKey, KeepsNames, PutsKey}
 use Rattle.session_end.specs.declared.end.SessionEnd.TheVariants.{LinkWrite, SignFault, NoMemory}
-use Rattle.sync_link.specs.Kept.{entry_row, log_rows, authorised_rows as authorised_of}
+use Rattle.auth_entry.specs.Rows.{entry_row, authorised_rows as authorised_of}
+use Rattle.sync_link.specs.Kept.{log_rows}
 use Rattle.sync_link.specs.Run.{Answer}
 use Rattle.sync_link.specs.Sessions.{Party, AreSameInCommon, out}
 use Rattle.sync_msg.specs.declared.role.Role.TheVariants.{Answerer}

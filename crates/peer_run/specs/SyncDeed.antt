@@ -9,7 +9,8 @@ use Rattle.willow_entry.specs.declared.row.LogRow.{LogRow}
 use Rattle.auth_entry.specs.Authorised.{AuthorisedValue}
 use Rattle.ns_state.specs.Log.{IsLog}
 use Rattle.session_end.specs.declared.end.SessionEnd.TheVariants.{LogFull}
-use Rattle.sync_link.specs.Kept.{entry_row, log_rows}
+use Rattle.auth_entry.specs.Rows.{entry_row}
+use Rattle.sync_link.specs.Kept.{log_rows}
 use Rattle.sync_link.specs.Run.{Answer}
 use Rattle.peer_make.specs.Deeds.{CanSign}
 use Rattle.peer_make.specs.KeySigners.{gives_of, IsSignerOf}

@@ -3,7 +3,7 @@
 ghost use Rattle.std.specs.Prelude.{◌≡◌, ◌↔◌, map, IfOk, IsTrue};
 ghost use Rattle.std.specs.List.{AllByRecursion};
 ghost use Rattle.willow_entry.specs.Frame.{HasFrame};
-ghost use Rattle.sync_link.specs.Kept.{entry_row};
+ghost use Rattle.auth_entry.specs.Rows.{entry_row};
 ghost use Rattle.peer_stage.specs.Faults.{CountsStep};
 ghost use Rattle.peer_stage.specs.Shelves.{PutsBytes};
 ghost use Rattle.peer_run.specs.Closing.{IsForWant, counts_of, image_of, put_end};

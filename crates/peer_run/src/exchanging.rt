@@ -4,7 +4,8 @@ ghost use Rattle.std.specs.Prelude.{◌≡◌, List, All};
 ghost use Rattle.willow_entry.specs.Frame.{HasFrame};
 ghost use Rattle.willow_entry.specs.Row.{RowValue};
 ghost use Rattle.peer_rows.specs.RowLogs.{HasTaken};
-ghost use Rattle.peer_rows.specs.Logged.{entry_row, live_rows, stored_rows};
+ghost use Rattle.auth_entry.specs.Rows.{entry_row};
+ghost use Rattle.peer_rows.specs.Logged.{live_rows, stored_rows};
 ghost use Rattle.peer_run.specs.Exchanged.{Exchanges, Takes, boxed};
 
 use auth_entry::AuthorisedEntry;

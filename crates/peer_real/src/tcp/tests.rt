@@ -130,6 +130,7 @@ fn a_link_ends_where_the_other_side_goes(rt: HostRuntime) -> Result<(), Fail> {
     assert!(rt; reads(&mut near, &[4, 5]) == Ok(true));
     assert!(rt; near.read(&mut [0; 3]) == Ok(0));
     assert_eq!(rt; counts(&near), (0, 0, 1));
+    assert_eq!(rt; (door.accepts, door.faults, door.out), (2, 1, 0));
     Ok(())
 }
 
@@ -150,7 +151,7 @@ fn bytes_are_read_one_at_a_time(rt: HostRuntime) -> Result<(), Fail> {
 fn a_closed_port_is_a_fault(rt: HostRuntime) {
     let mut door = TcpDoor::new(&rt);
     assert!(rt; matches!(door.connect("127.0.0.1:1"), Err(Fault::Failed)));
-    assert_eq!(rt; (door.faults, door.out), (1, 0));
+    assert_eq!(rt; (door.accepts, door.faults, door.out), (0, 1, 0));
 }
 
 #[test]

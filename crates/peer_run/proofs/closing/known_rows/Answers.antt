@@ -2,7 +2,7 @@ use Rattle.std.proofs.Common.{ℕ, add-one, map, take, arith, sym, subst}
 use Rattle.std.specs.List.{AllByRecursion}
 use Rattle.std.proofs.lemmas.List.Elements.{recursion_from_All}
 use Rattle.willow_entry.specs.Frame.{HasFrame}
-use Rattle.sync_link.specs.Kept.{entry_row}
+use Rattle.auth_entry.specs.Rows.{entry_row}
 use Rattle.sync_link.proofs.Openings.{CanTell, can_tell, told_more, told_all}
 use Rattle.peer_run.proofs.closing.known_rows.Goals as goal
 

@@ -1,6 +1,6 @@
 use Rattle.std.proofs.Common.{ℕ, ◌/◌, List, ◌++◌, Some, length, refl, sym, ap, ◌∙◌, subst}
 use Rattle.std.proofs.lemmas.List.{length-map}
-use Rattle.peer_rows.specs.Logged.{entry_row}
+use Rattle.auth_entry.specs.Rows.{entry_row}
 use Rattle.willow_area.specs.declared.area.Area.{Area}
 use Rattle.peer_listing.specs.Summary.{drill_summary}
 use Rattle.peer_listing.specs.declared.summary.DrillCounts.{DrillCounts}

@@ -3,7 +3,7 @@ use Rattle.std.specs.Prelude.{option_map}
 use Rattle.std.proofs.lemmas.Result.{err_from_is_err_and}
 use Rattle.willow_area.specs.AreaBox.{area_box}
 use Rattle.willow_area.specs.declared.area.Area.{Area}
-use Rattle.peer_rows.specs.Logged.{entry_row}
+use Rattle.auth_entry.specs.Rows.{entry_row}
 use Rattle.peer_run.specs.Exchanged.{boxed}
 use Rattle.peer_run.proofs.Swapped.{live_one, left_here, right_here, met_of, left_past, right_past, are_met}
 use Rattle.peer_run.proofs.exchanging.exchange.Goals as goal

@@ -2,7 +2,8 @@ use Rattle.std.proofs.Common.{ℕ, List, map, ◌∙◌, sym, ap, subst}
 use Rattle.std.specs.List.{AllByRecursion}
 use Rattle.willow_entry.specs.Frame.{HasFrame}
 use Rattle.peer_image.specs.Image.{image}
-use Rattle.peer_rows.specs.Logged.{authorised_rows, entry_row, AreCounts}
+use Rattle.auth_entry.specs.Rows.{entry_row}
+use Rattle.peer_rows.specs.Logged.{authorised_rows, AreCounts}
 use Rattle.peer_rows.specs.RowLogs.{HasTaken}
 use Rattle.peer_run.specs.Transcript.{transcript}
 use Rattle.peer_run.proofs.FirstOfBoth.{first_few}
