@@ -20,3 +20,5 @@ mod Outside
 mod Walking
 mod BlockRuns
 mod Fewest
+mod ByTime
+mod TimeTotals

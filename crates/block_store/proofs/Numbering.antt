@@ -14,7 +14,7 @@ some_within a (Some x) e = cc
 some_within a None e = absurd cc
 
 module _ {X : Type 0} where
-  seam : (front : List X) (x : X) (rest : List X) → slice_get (front ++ x ∷ rest) (length front) ≡ Some x
+  pub seam : (front : List X) (x : X) (rest : List X) → slice_get (front ++ x ∷ rest) (length front) ≡ Some x
   seam [] x rest = refl
   seam (y ∷ front) x rest = seam front x rest
 

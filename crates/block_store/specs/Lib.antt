@@ -7,6 +7,8 @@ pub mod Entered
 pub mod Positions
 pub mod Counting
 pub mod InBox
+pub mod ByTime
+pub mod BytesAt
 pub mod Fingerprint
 pub mod Ends
 pub mod BoxKinds

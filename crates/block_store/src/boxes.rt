@@ -27,7 +27,7 @@ pub(crate) fn is_in<R: Row>(row: &R, area: &Box3) -> bool
 }
 
 // 1 for a row that passes.
-fn one_if(passes: bool) -> u32
+pub(crate) fn one_if(passes: bool) -> u32
     ensures value { result ≡ cond passes 1 0 }
     ensures small { result ≤ 1 }
 {

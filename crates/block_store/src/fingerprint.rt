@@ -33,7 +33,7 @@ fn read<R: Row, L: Ledger>(row: &R, steps: &mut Steps<L>) -> Lanes
 }
 
 // The total of a row where the box includes it, and else of no row.
-fn read_if_in<R: Row, L: Ledger>(row: &R, area: &Box3, steps: &mut Steps<L>) -> Lanes
+pub(crate) fn read_if_in<R: Row, L: Ledger>(row: &R, area: &Box3, steps: &mut Steps<L>) -> Lanes
     ensures total { result ≡ total_by row_bytes (rows_in area.now (R.value row.now ∷ [])) }
     ensures steps { steps.new ≤ steps.old + 1 }
 {

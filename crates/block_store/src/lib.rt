@@ -5,6 +5,7 @@
 mod append;
 mod block;
 mod boxes;
+mod by_time;
 mod ends;
 mod enter;
 mod fingerprint;
@@ -26,9 +27,11 @@ mod spot;
 mod store;
 mod summary;
 mod thin;
+mod time_order;
 mod walk;
 
 pub use hint::Hint;
 pub use rows::Rows;
 pub use snapshot::Snapshot;
 pub use store::BlockStore;
+pub use time_order::TimeOrder;

@@ -53,6 +53,13 @@ pub(crate) fn snapshot_of<R: Row>(
 }
 
 impl<R: Row> Snapshot<R> {
+    // Its rows in blocks.
+    pub(crate) fn listing(&self) -> &Listing<R>
+        ensures { block_rows result.now.pieces.items ≡ self.now }
+    {
+        &self.listing
+    }
+
     /// The number of rows.
     pub fn len(&self) -> u32
         ensures { result ≡ length self.now }

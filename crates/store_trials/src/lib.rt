@@ -14,3 +14,5 @@ mod pairs;
 mod rows;
 #[cfg(test)]
 mod tests;
+#[cfg(test)]
+mod times;

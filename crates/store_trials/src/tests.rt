@@ -4,6 +4,7 @@ use crate::blocks::{Counts, calls_of_thousand, pruned_below};
 use crate::boxes::{Place, fingerprint, found, is_walked, rows_are_shared, shared};
 use crate::lists::{List, Outcome, outcome_in_both};
 use crate::pairs::{Made, offer_both};
+use crate::times::told_in;
 use block_store::laws::numbering;
 use hex::FromHex;
 use std::alloc::Global;
@@ -274,4 +275,26 @@ fn fingerprints(rt: HostRuntime) -> Result<(), Fail> {
 #[test]
 fn the_law_of_positions_can_be_called() {
     numbering();
+}
+
+// A box of any or one subspace and of times from the first on and below the second; how many of the rows it includes, by
+// a count of the times themselves; the most looks at rows along an order by time.
+static TIMES: [(Option<u8>, u64, u64, u32, u64); 4] = [
+    (None, 100, 104, 8, 100),
+    (Some(2), 100, 104, 4, 100),
+    (None, 0, 521, 1024, 500),
+    (Some(1), 520, 521, 1, 100),
+];
+
+#[test]
+fn rows_of_times(rt: HostRuntime) {
+    for (subspace, start, end, rows, most) in &TIMES {
+        match told_in(rt.alloc(), *subspace, *start, *end) {
+            Some(told) => {
+                assert!(rt; told.rows == *rows);
+                assert!(rt; told.by_time <= *most);
+            }
+            None => assert!(rt; false),
+        }
+    }
 }
