@@ -17,8 +17,6 @@ mod keys;
 #[cfg(test)]
 mod lines;
 #[cfg(test)]
-mod reports;
-#[cfg(test)]
 mod rows;
 #[cfg(test)]
 mod streams;

@@ -15,8 +15,6 @@ mod hosts;
 #[cfg(test)]
 mod memory;
 #[cfg(test)]
-mod noting;
-#[cfg(test)]
 mod real;
 #[cfg(test)]
 mod shelves;

@@ -3,11 +3,13 @@ use Rattle.std.proofs.Common.{◌≡◌, inl, inr, ℕ, ◌<◌, ◌≤◌, ◌^
 use Rattle.std.specs.List.{flat_map, AllByRecursion}
 use Rattle.std.specs.Int.{w32, to_be_bytes}
 use Rattle.std.proofs.lemmas.List.{length-append}
+use Rattle.spelling.specs.Front.{Whole}
 use Rattle.spelling.proofs.Joining.{one_spelling, whole_value}
+use Rattle.mc_cap.specs.Forms.{IsCapability, capability_spelling}
 use Rattle.mc_cap.specs.declared.capability.Capability.{Capability}
 use Rattle.willow_entry.specs.EntryForm.{entry_spelling}
 use Rattle.cap_codec.specs.declared.numbered.NumberedRow.{NumberedRow}
-use Rattle.cap_codec.specs.Numbered.{FitsCapability, IsNumbered, capability_frame, numbered_frame, numbered_spelling}
+use Rattle.cap_codec.specs.Numbered.{FitsCapability, FitsNumbered, IsNumbered, capability_frame, numbered_frame, numbered_spelling}
 use Rattle.cap_codec.specs.Rows.{RawValue}
 use Rattle.cap_codec.proofs.CapReads.{capability-reads}
 use Rattle.cap_codec.proofs.Frames.{body_at}
@@ -15,8 +17,9 @@ use Rattle.cap_codec.proofs.Framed.{framed_again, framed_form}
 use Rattle.cap_codec.proofs.NumberedReads.{numbered-reads}
 use Rattle.peer_image.specs.declared.known.ImageHead.{ImageHead}
 use Rattle.peer_image.specs.Image.{trailer}
-use Rattle.peer_image.specs.ImageTwoReading.{AreNumbered, AreRising, AreToldInFront, AreAllTold, FitsBelow, HasNoHigher, HasNoRow, IsImageHead, IsImageTwo, IsWrongTwo, RowsStopAt, ToldStopAt, head_two_spelling, row_among}
-use Rattle.peer_image.proofs.OneStops.{behind_key, zero_body}
+use Rattle.peer_image.specs.ImageTwo.{head_two}
+use Rattle.peer_image.specs.ImageTwoReading.{AreNumbered, AreRising, AreToldInFront, AreAllTold, FitsBelow, HasNoHead, HasNoHigher, HasNoRow, IsImageHead, IsImageTwo, IsWrongTwo, RowsStopAt, ToldStopAt, head_two_spelling, row_among}
+use Rattle.peer_image.proofs.Stops.{behind_key, zero_body}
 use Rattle.peer_image.proofs.TwoHeads.{head-reads}
 use Rattle.peer_image.proofs.TwoRising.{rising_left}
 

@@ -1,9 +1,9 @@
 pub mod Image
-pub mod ImageOne
 pub mod Order
 pub mod Fronts
-pub mod ImageOneReading
+pub mod ImageReading
 pub mod Parts
+pub mod ImageTwo
 pub mod ImageTwoReading
 pub mod ImageTwoParts
-pub mod ImageReading
+pub mod ImageAny

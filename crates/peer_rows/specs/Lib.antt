@@ -9,4 +9,3 @@ pub mod Show
 pub mod Listed
 pub mod Generate
 pub mod Deeds
-pub mod Writing

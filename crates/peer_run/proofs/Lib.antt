@@ -9,7 +9,6 @@ pub mod Agreed
 pub mod GotImages
 pub mod BothPass
 pub mod PairDeeds
-pub mod Unbuilt
 pub mod Laws
 pub mod SignedAll
 pub mod Ends

@@ -38,9 +38,9 @@ pub record DoesVisit (hall : Hall) (guest : Guest) (handed_out : LinkFacts) (par
 
 -- how a place is listened at
 abbrev pub Listens : List ℕ → DoorFacts → DoorFacts → Result (Unit {0}) Stop → Type 0
-Listens place old new (Ok u) = (new.asked ≡ list_with place old.asked) × (new.out ≡ old.out) × (new.back ≡ old.back) × (new.faults ≡ old.faults) × (new.accepts ≡ old.accepts)
+Listens place old new (Ok u) = (new.asked ≡ list_with place old.asked) × (new.out ≡ old.out) × (new.back ≡ old.back) × (new.faults ≡ old.faults)
 Listens place old new (Err stop.ReadFault) = IsUnasked old new × HasRisen old.faults new.faults
-Listens place old new (Err stop.NoMemory) = IsUnasked old new × (new.faults ≡ old.faults)
+Listens place old new (Err stop.NoMemory) = IsUnasked old new × (old.faults ≤ new.faults)
 Listens place old new (Err e) = ⊥
 
 -- ---- behind all visits

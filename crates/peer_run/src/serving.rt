@@ -135,8 +135,6 @@ fn close_house<H: Shelf>(
         sessions,
         all_came,
         first,
-        left: 0,
-        kept: None,
         put,
     }))
 }

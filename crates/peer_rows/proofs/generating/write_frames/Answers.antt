@@ -4,8 +4,7 @@ use Rattle.cap_codec.specs.Rows.{frame}
 use Rattle.peer_listing.specs.Generator.{generated}
 use Rattle.peer_rows.specs.Generate.{generated_frames}
 use Rattle.peer_rows.proofs.Generated.{frames_from, all_left, frames_left, none_left, some_left}
-use Rattle.peer_rows.proofs.Writing.{nothing_written, piece_grows, piece_written, writing_unpaid, writing_stops, writing_ends}
-use Rattle.peer_rows.specs.Writing.{IsWriting}
+use Rattle.peer_rows.proofs.Writing.{IsWriting, nothing_written, piece_grows, piece_written, writing_unpaid, writing_stops, writing_ends}
 use Rattle.peer_rows.proofs.generating.write_frames.Goals as goal
 use Rattle.peer_rows.proofs.generating.write_frames.Goals.{then-len-ge-PIECE+in_ok-write_output, else-len-ge-PIECE}
 

@@ -1,6 +1,6 @@
 use Rattle.peer_rows.specs.Generate.{generated_frames}
 use Rattle.peer_rows.proofs.Generated.{frames_from}
-use Rattle.peer_rows.specs.Writing.{IsWriting}
+use Rattle.peer_rows.proofs.Writing.{IsWriting}
 use Rattle.peer_rows.proofs.generating.write_frames.Given as goal
 
 abbrev pub invariant-rows : goal.invariant-rows

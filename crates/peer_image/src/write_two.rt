@@ -1,0 +1,184 @@
+//! Images of version 2 as they are written.
+
+ghost use Rattle.std.specs.Prelude.{◌≡◌, ◌+◌, ◌<◌, ◌≤◌, ◌^◌, ◌++◌, length, map, IfOk, OnOk};
+ghost use Rattle.std.specs.List.{AllByRecursion, flat_map};
+ghost use Rattle.std.specs.List.Sorted.{IsStrictlySortedBy};
+ghost use Rattle.willow_entry.specs.Entry.{bytes_cmp};
+ghost use Rattle.willow_entry.specs.EntryForm.{entry_spelling};
+ghost use Rattle.willow_entry.specs.Frame.{HasFrame};
+ghost use Rattle.willow_entry.specs.declared.frame.TheConstants.{MAX_FRAME};
+ghost use Rattle.cap_codec.specs.TokenParts.{signature_in};
+ghost use Rattle.peer_image.specs.ImageTwo.{bytes_frame, capabilities, capability_bytes, head_two, image_two, numbered_as, place_in, placed_frame};
+
+use crate::write::put_trailer;
+use block_store::{BlockStore, Rows, Snapshot};
+use cap_codec::TokenRow;
+use spelling::{NoMemory, put_bytes, put_u32};
+use std::alloc::Global;
+use willow_path::NamespaceKey;
+
+/// How many bytes stand in front of a frame's bytes for their number, and how many tell a capability's place.
+const NUMBER: usize = 4;
+
+/// The image of version 2 of a snapshot's rows: the text WIM2, the namespace key, the number of the capabilities in four
+/// bytes, the capabilities of the rows, each once and rising by their bytes, the rows in their order, four bytes 00 and the
+/// number of rows in four bytes. Each capability and each row has the number of its bytes in four bytes before it. A row is
+/// its entry, the place of its capability in four bytes, counted from 0, and its signature field. Bodies of the rows have
+/// at most `MAX_FRAME` bytes.
+#[tactic(auto, unfolding(crate::specs::ImageTwo::image_two))]
+pub fn write_image_two<R: TokenRow>(
+    alloc: Global,
+    namespace: &NamespaceKey,
+    snapshot: &Snapshot<R>,
+) -> Result<Vec<u8>, NoMemory>
+    requires { AllByRecursion HasFrame (map R.value snapshot.now) }
+    ensures { IfOk result (λ v. v.items ≡ image_two namespace.now (map R.value snapshot.now)) }
+{
+    let told = capabilities_of(alloc, snapshot.rows())?;
+    let mut out = Vec::new(alloc);
+    put_told(&mut out, namespace, &told, snapshot.len())?;
+    put_rows_two(&mut out, &told, snapshot.rows())?;
+    put_trailer(&mut out, snapshot.len())?;
+    Ok(out)
+}
+
+/// The capabilities of the rows, rising by their bytes, each once.
+pub fn capabilities_of<'a, R: TokenRow>(
+    alloc: Global,
+    rows: Rows<'a, R>,
+) -> Result<Vec<&'a [u8]>, NoMemory>
+    requires { AllByRecursion HasFrame (map R.value rows) }
+    ensures told { IfOk result (λ told. map (λ c. c.now) told.items ≡ capabilities (map R.value rows.entry)) }
+    ensures up { IfOk result (λ told. IsStrictlySortedBy (λ c d. bytes_cmp c.now d.now) told.items) }
+    ensures short { IfOk result (λ told. AllByRecursion (λ c. length c ≤ MAX_FRAME) (map (λ c. c.now) told.items)) }
+{
+    let mut told = gathered(alloc, rows)?;
+    told.sort_unstable();
+    told.dedup();
+    Ok(told)
+}
+
+// The capability of each row.
+fn gathered<'a, R: TokenRow>(alloc: Global, rows: Rows<'a, R>) -> Result<Vec<&'a [u8]>, NoMemory>
+    requires { AllByRecursion HasFrame (map R.value rows) }
+    ensures all { IfOk result (λ told. map (λ c. c.now) told.items ≡ map capability_bytes (map R.value rows.entry)) }
+    ensures short { IfOk result (λ told. AllByRecursion (λ c. length c ≤ MAX_FRAME) (map (λ c. c.now) told.items)) }
+{
+    let mut told = Vec::new(alloc);
+    let mut left = rows;
+    'rows: while let Some(row) = left.next() {
+        told.push(short_capability(row))?;
+    }
+    Ok(told)
+}
+
+// The capability of a row.
+fn short_capability<R: TokenRow>(row: &R) -> &[u8]
+    requires { HasFrame (R.value row.now) }
+    ensures capability { result.now ≡ capability_bytes (R.value row.now) }
+    ensures short { length result.now ≤ MAX_FRAME }
+{
+    row.capability_bytes()
+}
+
+/// Appends what an image of version 2 begins with: the text WIM2, the namespace key, and the number of the capabilities in
+/// four bytes. Without memory a front of it was appended.
+pub fn put_head_two(out: &mut Vec<u8>, namespace: &NamespaceKey, count: u32) -> Result<(), NoMemory>
+    ensures { OnOk result (out.new.items ≡ out.old.items ++ head_two namespace.now count) }
+{
+    put_bytes(out, b"WIM2")?;
+    put_bytes(out, &namespace.to_bytes())?;
+    put_u32(out, count)
+}
+
+/// Appends a capability as an image of version 2 tells it: the number of its bytes in four bytes, and the bytes. Without
+/// memory a front of it was appended.
+pub fn put_capability(out: &mut Vec<u8>, capability: &[u8]) -> Result<(), NoMemory>
+    requires { length capability.now ≤ MAX_FRAME }
+    ensures { OnOk result (out.new.items ≡ out.old.items ++ bytes_frame capability.now) }
+{
+    put_u32(out, capability.len() as u32)?;
+    put_bytes(out, capability)
+}
+
+// Appends the head and the capabilities, of which there are no more than rows.
+fn put_told(
+    out: &mut Vec<u8>,
+    namespace: &NamespaceKey,
+    told: &[&[u8]],
+    rows: u32,
+) -> Result<(), NoMemory>
+    requires few { length told.now ≤ rows }
+    requires short { AllByRecursion (λ c. length c ≤ MAX_FRAME) (map (λ c. c.now) told.now) }
+    ensures { OnOk result (out.new.items ≡ out.old.items ++ (head_two namespace.now (length told.now) ++ flat_map bytes_frame (map (λ c. c.now) told.now))) }
+{
+    put_head_two(out, namespace, told.len() as u32)?;
+    put_capabilities(out, told)
+}
+
+// Appends the capabilities.
+fn put_capabilities(out: &mut Vec<u8>, told: &[&[u8]]) -> Result<(), NoMemory>
+    requires { AllByRecursion (λ c. length c ≤ MAX_FRAME) (map (λ c. c.now) told.now) }
+    ensures { OnOk result (out.new.items ≡ out.old.items ++ flat_map bytes_frame (map (λ c. c.now) told.now)) }
+{
+    for capability in told {
+        put_capability(out, capability)?;
+    }
+    Ok(())
+}
+
+/// The place of a row's capability among those that are told, counted from 0: where it is none of them, their number. They
+/// rise by their bytes.
+pub fn place_of<R: TokenRow>(told: &[&[u8]], row: &R) -> u32
+    requires up { IsStrictlySortedBy (λ c d. bytes_cmp c.now d.now) told.now }
+    requires few { length told.now < 2 ^ 32 }
+    ensures { result ≡ place_in (map (λ c. c.now) told.now) (capability_bytes (R.value row.now)) }
+{
+    let capability = row.capability_bytes();
+    match told.binary_search(&capability) {
+        Ok(at) => at as u32,
+        Err(_) => told.len() as u32,
+    }
+}
+
+/// Appends a row as an image of version 2 tells it, with this number for its capability: the number of the bytes that
+/// follow in four bytes, its entry, the number in four bytes, and its signature field. Without memory a front of it was
+/// appended.
+pub fn put_row_two<R: TokenRow>(out: &mut Vec<u8>, row: &R, number: u32) -> Result<(), NoMemory>
+    requires { HasFrame (R.value row.now) }
+    ensures { OnOk result (out.new.items ≡ out.old.items ++ bytes_frame (numbered_as number (R.value row.now))) }
+{
+    let (entry, signature) = (row.entry_bytes(), signature_of(row));
+    put_u32(out, (entry.len() + NUMBER + signature.len()) as u32)?;
+    put_bytes(out, entry)?;
+    put_u32(out, number)?;
+    put_bytes(out, signature)
+}
+
+// The signature field of a row.
+fn signature_of<R: TokenRow>(row: &R) -> &[u8]
+    requires { HasFrame (R.value row.now) }
+    ensures signature { result.now ≡ signature_in (R.value row.now).token }
+    ensures short { length (entry_spelling (R.value row.now).entry) + 4 + length result.now ≤ MAX_FRAME }
+{
+    let capability = row.capability_bytes();
+    &row.token_bytes()[capability.len()..]
+}
+
+// Appends the rows.
+fn put_rows_two<R: TokenRow>(
+    out: &mut Vec<u8>,
+    told: &[&[u8]],
+    rows: Rows<'_, R>,
+) -> Result<(), NoMemory>
+    requires frames { AllByRecursion HasFrame (map R.value rows) }
+    requires up { IsStrictlySortedBy (λ c d. bytes_cmp c.now d.now) told.now }
+    requires few { length told.now < 2 ^ 32 }
+    ensures { OnOk result (out.new.items ≡ out.old.items ++ flat_map (placed_frame (map (λ c. c.now) told.now)) (map R.value rows.entry)) }
+{
+    let mut left = rows;
+    'rows: while let Some(row) = left.next() {
+        put_row_two(out, row, place_of(told, row))?;
+    }
+    Ok(())
+}
