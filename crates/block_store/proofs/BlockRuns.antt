@@ -22,8 +22,8 @@ use Rattle.block_store.specs.Fingerprint.{row_bytes}
 use Rattle.block_store.specs.Starts.{values_at}
 use Rattle.block_store.specs.Totals.{totals_of}
 use Rattle.block_store.specs.declared.block.Piece.{Piece}
-use Rattle.block_store.specs.declared.runs.Run.{Run}
-use Rattle.block_store.specs.declared.spot.Spot.{Spot}
+use Rattle.block_store.specs.declared.reading.runs.Run.{Run}
+use Rattle.block_store.specs.declared.looking.spot.Spot.{Spot}
 use Rattle.block_store.proofs.Spans.{within_front, within_back, within_between, all_parts, filter_all, filter_none, front_items, back_items, cut_at, piece_more, piece_between}
 use Rattle.block_store.proofs.Narrowing.{IsUpTo, up_to_at, one_namespace, between_in, times_between, key_start_first, key_before, key_behind, whole_inside}
 use Rattle.block_store.proofs.Pieces.{values_long, values_seen}

@@ -9,7 +9,7 @@ use Rattle.willow_entry.specs.Row.{RowValue}
 use Rattle.block_store.specs.Blocks.{block_rows, block_values, index_of, last_passes, size_at, sizes, IsSpot}
 use Rattle.block_store.specs.Held.{rows_of, values_of}
 use Rattle.block_store.specs.declared.block.Piece.{Piece}
-use Rattle.block_store.specs.declared.spot.Spot.{Spot}
+use Rattle.block_store.specs.declared.looking.spot.Spot.{Spot}
 use Rattle.block_store.proofs.Copies.{seen_pieces}
 use Rattle.block_store.proofs.Finding.{either, item_of, lasts_split, same_long, start-next, start-rises, start-all, start-within}
 

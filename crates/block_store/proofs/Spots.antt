@@ -7,7 +7,7 @@ use Rattle.block_store.specs.Blocks.{block_rows, index_of, IsSpot}
 use Rattle.block_store.specs.Held.{rows_of}
 use Rattle.block_store.specs.Starts.{AreStarts}
 use Rattle.block_store.specs.declared.block.Piece.{Piece}
-use Rattle.block_store.specs.declared.spot.Spot.{Spot}
+use Rattle.block_store.specs.declared.looking.spot.Spot.{Spot}
 use Rattle.block_store.proofs.Spans.{piece_more, front_short, get_piece, get_is}
 
 pub piece_some : {R : Type 0} {b : _} (p : Piece R b) → 0 < length (rows_of p.block.value.rows.items)

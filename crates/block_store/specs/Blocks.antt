@@ -4,7 +4,7 @@ use Rattle.std.specs.List.Sorted.{IsPartitionPoint}
 use Rattle.willow_entry.specs.Row.{RowValue}
 use Rattle.block_store.specs.Held.{rows_of, values_of}
 use Rattle.block_store.specs.declared.block.Piece.{Piece}
-use Rattle.block_store.specs.declared.spot.Spot.{Spot}
+use Rattle.block_store.specs.declared.looking.spot.Spot.{Spot}
 
 -- the rows of blocks, one block after the other
 abbrev pub block_rows : {R : Type 0} {b : _} → List (Piece R b) → List R

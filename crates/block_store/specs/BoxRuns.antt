@@ -6,7 +6,7 @@ use Rattle.willow_entry.specs.Row.{RowValue}
 use Rattle.block_store.specs.Blocks.{block_values, index_of, IsSpot}
 use Rattle.block_store.specs.InBox.{is_in}
 use Rattle.block_store.specs.declared.block.Piece.{Piece}
-use Rattle.block_store.specs.declared.runs.Run.{Run}
+use Rattle.block_store.specs.declared.reading.runs.Run.{Run}
 
 -- no row before the first position or from the second on is in the box
 pub record AreBetween (area : Ranges) (rows : List RowValue) (low high : ℕ) : Type 0 where

@@ -3,7 +3,7 @@ use Rattle.std.specs.Prelude.{ℕ, List, ◌∷◌, ◌++◌, take, drop}
 use Rattle.willow_entry.specs.Row.{RowValue, left_of}
 use Rattle.block_store.specs.Blocks.{block_values, index_of}
 use Rattle.block_store.specs.declared.block.Piece.{Piece}
-use Rattle.block_store.specs.declared.spot.Spot.{Spot}
+use Rattle.block_store.specs.declared.looking.spot.Spot.{Spot}
 
 -- the row stands behind so many of the rows, and of those behind it the ones go that it dominates
 abbrev pub entered : RowValue → ℕ → List RowValue → List RowValue

@@ -2,36 +2,14 @@
 //! Its one contract: after an ingest the rows are what is live of the old rows with the new one added.
 #![tactic(auto)]
 
-mod append;
 mod block;
-mod boxes;
-mod by_time;
-mod ends;
-mod enter;
-mod fingerprint;
-mod guess;
-mod hint;
-mod index;
+mod changing;
 pub mod laws;
-mod listing;
-mod near;
-mod offer;
-mod place;
-mod put;
-mod renew;
-mod rows;
-mod runs;
-mod search;
-mod snapshot;
-mod spot;
-mod store;
-mod summary;
-mod thin;
-mod time_order;
-mod walk;
+mod looking;
+mod reading;
 
-pub use hint::Hint;
-pub use rows::Rows;
-pub use snapshot::Snapshot;
-pub use store::BlockStore;
-pub use time_order::TimeOrder;
+pub use changing::store::BlockStore;
+pub use looking::hint::Hint;
+pub use reading::rows::Rows;
+pub use reading::snapshot::Snapshot;
+pub use reading::time_order::TimeOrder;

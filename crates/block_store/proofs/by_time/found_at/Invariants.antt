@@ -1,7 +1,0 @@
-use Rattle.std.proofs.Common.{◌≡◌, take}
-use Rattle.block_store.specs.Blocks.{block_values}
-use Rattle.block_store.specs.ByTime.{found_at}
-use Rattle.block_store.proofs.by_time.found_at.Given as goal
-
-abbrev pub invariant-loop-i : goal.invariant-loop-i
-invariant-loop-i g l = l.found.items ≡ found_at l.area (block_values g.R.Row.value l.listing.pieces.items) (take l.i l.ats)

@@ -1,4 +1,0 @@
-use Rattle.block_store.proofs.offer.store.Goals as goal
-
-pub returns-clause-placed : goal.returns-clause-placed
-returns-clause-placed g c = (c.requires.uncovered, c.in_ok-pruned.ensures.pruned)

@@ -1,0 +1,176 @@
+//! Blocks with where they start and what they add up to.
+
+ghost use Rattle.std.specs.Prelude.{◌≡◌, ◌+◌, ◌^◌, ◌<◌, ◌≤◌, length, take, Some, slice_get, MatchOption, IfOk, vec_len};
+ghost use Rattle.lane_sum.specs.Totals.{total_by};
+ghost use Rattle.willow_entry.specs.Row.{AreLive, IsRising};
+ghost use Rattle.block_store.specs.Blocks.{block_rows, block_values, index_of, IsSpot};
+ghost use Rattle.block_store.specs.Fingerprint.{row_bytes};
+ghost use Rattle.block_store.specs.Held.{rows_of, values_of};
+ghost use Rattle.block_store.specs.Starts.{AreStarts, values_at};
+ghost use Rattle.block_store.specs.Totals.{totals_of};
+
+use crate::block::{Block, Piece};
+use crate::looking::spot::Spot;
+use lane_sum::Lanes;
+use std::alloc::Global;
+use std::sync::Arc;
+use willow_entry::Row;
+use willow_path::NoMemory;
+
+// Live rows in blocks, with the position of each block's first row and behind these the number of all rows, and with
+// the total of each block.
+#[derive(Drop)]
+pub(crate) struct Listing<R: Row> {
+    pub(crate) pieces: Vec<Piece<R>>,
+    pub(crate) starts: Vec<u32>,
+    pub(crate) totals: Vec<Lanes>,
+    ghost live: { AreLive (block_values R.value pieces.items) },
+    ghost few: { length (block_rows pieces.items) < 2 ^ 32 },
+    ghost placed: { AreStarts starts.items pieces.items },
+    ghost summed: { totals.items ≡ totals_of R.value pieces.items },
+}
+
+// For each block the position of its first row, and behind these the number of all rows.
+fn starts_of<R: Row>(alloc: Global, pieces: &[Piece<R>]) -> Result<Vec<u32>, NoMemory>
+    requires { length (block_rows pieces.now) < 2 ^ 32 }
+    ensures { IfOk result (λ starts. AreStarts starts.items pieces.now) }
+{
+    let mut starts = Vec::with_capacity(alloc, pieces.len())?;
+    let mut at = 0;
+    for i in 0..pieces.len() {
+        starts.push(at)?;
+        at += pieces[i].len;
+    }
+    starts.push(at)?;
+    Ok(starts)
+}
+
+// The total of each block.
+fn totals_of<R: Row>(alloc: Global, pieces: &[Piece<R>]) -> Result<Vec<Lanes>, NoMemory>
+    ensures { IfOk result (λ totals. totals.items ≡ totals_of R.value pieces.now) }
+{
+    let mut totals = Vec::with_capacity(alloc, pieces.len())?;
+    for i in 0..pieces.len() {
+        totals.push(pieces[i].block.total())?;
+    }
+    Ok(totals)
+}
+
+// The same blocks, shared once more.
+fn share<R: Row>(alloc: Global, pieces: &[Piece<R>]) -> Result<Vec<Piece<R>>, NoMemory>
+    ensures { IfOk result (λ copy. block_rows copy.items ≡ block_rows pieces.now) }
+{
+    let mut copy = Vec::with_capacity(alloc, pieces.len())?;
+    for i in 0..pieces.len() {
+        let piece = &pieces[i];
+        let block = piece.block.clone()?;
+        copy.push(Piece {
+            block,
+            len: piece.len,
+        })?;
+    }
+    Ok(copy)
+}
+
+// The listing of the blocks, which share their rows. A total is made where no listing made it before.
+pub(crate) fn listing_of<R: Row>(alloc: Global, pieces: &[Piece<R>]) -> Result<Listing<R>, NoMemory>
+    requires live { AreLive (block_values R.value pieces.now) }
+    requires few { length (block_rows pieces.now) < 2 ^ 32 }
+    ensures { IfOk result (λ listing. block_rows listing.pieces.items ≡ block_rows pieces.now) }
+{
+    let pieces = share(alloc, pieces)?;
+    let starts = starts_of(alloc, &pieces)?;
+    let totals = totals_of(alloc, &pieces)?;
+    Ok(Listing {
+        pieces,
+        starts,
+        totals,
+    })
+}
+
+// The row of a block at this place; None exactly from the number of its rows on.
+fn held_at<R: Row>(rows: &[Arc<R>], at: u32) -> Option<&Arc<R>>
+    ensures { MatchOption result (length rows.now ≤ at) (λ held. slice_get (rows_of rows.now) at ≡ Some held.now.value) }
+{
+    rows.get(at as usize)
+}
+
+impl<R: Row> Listing<R> {
+    // The number of rows.
+    pub(crate) fn len(&self) -> u32
+        ensures { result ≡ length (block_rows self.now.pieces.items) }
+    {
+        self.starts[self.pieces.len()]
+    }
+
+    // The position of a spot.
+    pub(crate) fn position(&self, spot: Spot) -> u32
+        requires { IsSpot self.now.pieces.items spot }
+        ensures position { result ≡ index_of self.now.pieces.items spot }
+        ensures within { result ≤ length (block_rows self.now.pieces.items) }
+    {
+        self.starts[spot.block] + spot.row as u32
+    }
+
+    // The row at this position; None exactly from the number of rows on.
+    pub(crate) fn get(&self, at: u32) -> Option<&R>
+        ensures { MatchOption result (length (block_rows self.now.pieces.items) ≤ at) (λ row. slice_get (block_rows self.now.pieces.items) at ≡ Some row.now) }
+    {
+        let held = self.held(at)?;
+        Some(&**held)
+    }
+
+    // The same row, shared once more.
+    pub(crate) fn shared(&self, at: u32) -> Result<Option<Arc<R>>, NoMemory>
+        ensures { IfOk result (λ found. MatchOption found (length (block_rows self.now.pieces.items) ≤ at) (λ row. slice_get (block_rows self.now.pieces.items) at ≡ Some row.value)) }
+    {
+        match self.held(at) {
+            Some(held) => Ok(Some(held.clone()?)),
+            None => Ok(None),
+        }
+    }
+
+    // The row at this position with its `Arc`.
+    fn held(&self, at: u32) -> Option<&Arc<R>>
+        ensures { MatchOption result (length (block_rows self.now.pieces.items) ≤ at) (λ held. slice_get (block_rows self.now.pieces.items) at ≡ Some held.now.value) }
+    {
+        let block = self.block_at(at);
+        let piece = self.pieces.get(block)?;
+        held_at(&piece.block.rows, at - self.starts[block])
+    }
+
+    // The block of that number.
+    pub(crate) fn block(&self, i: usize) -> &Block<R>
+        requires { i < length self.now.pieces.items }
+        ensures rows { values_of R.value result.now.rows.items ≡ values_at R.value self.now.pieces.items i }
+        ensures rising { IsRising (values_at R.value self.now.pieces.items i) }
+        ensures few { length (block_rows (take i self.now.pieces.items)) + length result.now.rows.items < 2 ^ 32 }
+    {
+        &*self.pieces[i].block
+    }
+
+    // The position of the first row of the block of that number.
+    pub(crate) fn start(&self, i: usize) -> u32
+        requires { i < length self.now.pieces.items }
+        ensures { result ≡ length (block_rows (take i self.now.pieces.items)) }
+    {
+        self.starts[i]
+    }
+
+    // The total of the block of that number.
+    pub(crate) fn total(&self, i: usize) -> &Lanes
+        requires { i < length self.now.pieces.items }
+        ensures { result.now ≡ total_by row_bytes (values_at R.value self.now.pieces.items i) }
+    {
+        &self.totals[i]
+    }
+
+    // The last block that starts at most at this position, or the number of blocks from the number of rows on.
+    fn block_at(&self, at: u32) -> usize
+        ensures within { result ≤ length self.now.pieces.items }
+        ensures from { length (block_rows (take result self.now.pieces.items)) ≤ at }
+        ensures below { result < length self.now.pieces.items → at < length (block_rows (take (result + 1) self.now.pieces.items)) }
+    {
+        self.starts.partition_point(|start| *start <= at) - 1
+    }
+}
