@@ -26,7 +26,7 @@ CALL = re.compile(r"(\bpub\s+)?\b(?:const\s+|unsafe\s+)*fn\s+(" + NAME + ")")
 BLOCK = re.compile(r"^\s*(?:pub\s+trait\s+(" + NAME + r")|impl\b([^{]*))", re.MULTILINE)
 CLAUSE = re.compile(r"\b(?:requires|ensures)\b")
 FACT = re.compile(r"\bghost\s+(" + NAME + r")\s*:\s*(?=\{)")
-DEFINED = re.compile(r"^( *)((?:\w+ )*)pub (record |data )?(?!mod\b)(" + NAME + r")(?=[ \n:({])", re.MULTILINE)
+DEFINED = re.compile(r"^( *)((?:\w+ )*)pub (record |data )?(?!(?:mod|use)\b)(" + NAME + r")(?=[ \n:({])", re.MULTILINE)
 TYPE = re.compile(r"^pub (?:struct|enum|trait) (" + NAME + ")", re.MULTILINE)
 
 

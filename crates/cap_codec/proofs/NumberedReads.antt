@@ -13,7 +13,7 @@ use Rattle.mc_cap.specs.declared.capability.Capability.{Capability}
 use Rattle.cap_codec.specs.declared.numbered.NumberedRow.{NumberedRow}
 use Rattle.cap_codec.specs.Reading.{signature_at}
 use Rattle.cap_codec.specs.Rows.{RawValue}
-use Rattle.cap_codec.specs.Numbered.{numbered_at, numbered_spelling, IsNumbered, row_with}
+use Rattle.cap_codec.specs.Numbered.{numbered_at, numbered_spelling, IsNumberedRow, row_with}
 use Rattle.cap_codec.proofs.FormReads.{signature-reads, no_bytes}
 
 abbrev numbered : Entry → ℕ → List ℕ → NumberedRow
@@ -34,7 +34,7 @@ from_entry e =
     Reads-then (λ (n : ℕ × List ℕ). signed_at e n.0 n.1) (λ (r : NumberedRow). r.number) u32-reads (from_number e) (λ n r f. ap (λ (x : NumberedRow). x.number) f.1)
     (any_follows u32-reads (λ n f. (numbered e n [], (no_bytes, refl))))
 
-pub numbered-reads : Reads numbered_at numbered_spelling IsNumbered
+pub numbered-reads : Reads numbered_at numbered_spelling IsNumberedRow
 unfolding numbered_at
 numbered-reads =
     let joined = Reads-then (λ (e : Entry × List ℕ). counted_at e.0 e.1) (λ (r : NumberedRow). r.entry) entry-reads from_entry (λ e r f. ap (λ (x : NumberedRow). x.entry) f.1.1)

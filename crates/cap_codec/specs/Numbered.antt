@@ -20,7 +20,7 @@ abbrev pub numbered_spelling : NumberedRow → List ℕ
 numbered_spelling r = entry_spelling r.entry ++ (to_be_bytes w32 r.number ++ signature_spelling r.signature)
 
 -- each field is within its limits
-pub record IsNumbered (r : NumberedRow) : Type 0 where
+pub record IsNumberedRow (r : NumberedRow) : Type 0 where
   pub entry_fits : IsEntry r.entry
   pub number_fits : r.number < 2 ^ 32
   pub signature_fits : IsSignature r.signature
@@ -42,7 +42,7 @@ abbrev pub numbered_frame : NumberedRow → List ℕ
 numbered_frame = framed numbered_spelling
 
 abbrev pub FitsNumbered : NumberedRow → Type 0
-FitsNumbered = FitsFramed numbered_spelling IsNumbered
+FitsNumbered = FitsFramed numbered_spelling IsNumberedRow
 
 -- a capability in a frame
 abbrev pub capability_frame : Capability → List ℕ

@@ -10,7 +10,7 @@ ghost use Rattle.willow_entry.specs.Frame.{FrameAsks};
 ghost use Rattle.mc_cap.specs.Forms.{capability_spelling, IsCapability};
 ghost use Rattle.cap_codec.specs.Framed.{ReadsAll};
 ghost use Rattle.cap_codec.specs.Memory.{CapabilityAsks};
-ghost use Rattle.cap_codec.specs.Numbered.{CapabilityFrameAsks, FitsCapability, FitsNumbered, IsNumbered, capability_frame, numbered_at, numbered_frame, numbered_spelling, row_with};
+ghost use Rattle.cap_codec.specs.Numbered.{CapabilityFrameAsks, FitsCapability, FitsNumbered, IsNumberedRow, capability_frame, numbered_at, numbered_frame, numbered_spelling, row_with};
 
 use crate::capability::{read_capability, read_signature};
 use crate::frame::read_body;
@@ -67,7 +67,7 @@ fn read_numbered(alloc: Global, input: &mut Input) -> Result<NumberedRow, Unread
 
 // The row that the whole body spells.
 fn decode_numbered(alloc: Global, body: &[u8]) -> Result<NumberedRow, End<NotHere>>
-    ensures reads { ReadsAll numbered_spelling IsNumbered body.now result }
+    ensures reads { ReadsAll numbered_spelling IsNumberedRow body.now result }
     ensures asked { IsErrOf result ends.NoMemory → EntryAsks body.now }
 {
     let mut input = Input::new(body);

@@ -14,8 +14,8 @@ use willow_outside::{Door, Fault, Link};
 #[derive(Drop)]
 pub(crate) struct Accepted<L: Link + Send, H: Host<L>> {
     pub(crate) workers: Workers<L, H>,
-    pub(crate) unused: VecDeque<H::Job>,
-    pub(crate) stopped: Option<Fault>,
+    pub(crate) left: VecDeque<H::Job>,
+    pub(crate) why: Option<Fault>,
 }
 
 /// Accepts a link for each job in order and starts its worker, until an accept fails. There is room for all workers.
@@ -39,22 +39,22 @@ pub(crate) fn accept_all<
     requires jobs { All (H.may host.now) jobs.items }
     requires workers { (workers.host ≡ host.now) × (workers.begun ≡ []) × (length jobs.items ≤ workers.room) }
     ensures host { result.workers.host ≡ host.now }
-    ensures accepted { IsAccepted jobs.items (D.facts door.old) (D.facts door.new) result.workers.begun result.unused.items result.stopped }
+    ensures accepted { IsAccepted jobs.items (D.facts door.old) (D.facts door.new) result.workers.begun result.left.items result.why }
 {
-    let mut unused = VecDeque::from(jobs);
-    while let Some(job) = unused.pop_front() {
+    let mut left = VecDeque::from(jobs);
+    while let Some(job) = left.pop_front() {
         if let Err(NoLink { job, fault }) = workers.accept(rt, threads, alloc, host, job, door) {
-            unused.push_front_reserved(job);
+            left.push_front_reserved(job);
             return Accepted {
                 workers,
-                unused,
-                stopped: Some(fault),
+                left,
+                why: Some(fault),
             };
         }
     }
     Accepted {
         workers,
-        unused,
-        stopped: None,
+        left,
+        why: None,
     }
 }

@@ -61,20 +61,16 @@ fn host_reserved<R: Wait + Threads + Sync, L: Link + Send, D: Door<L = L>, H: Ho
         rt,
         move |threads| -> (&mut D, Accepted<L, H>)
             requires { All (H.may host.now) jobs.items × (workers.host ≡ host.now) × (workers.begun ≡ []) × (length jobs.items ≤ workers.room) }
-            ensures { (result.0.ghost_name ≡ door.entry.ghost_name) × (result.1.workers.host ≡ host.entry.now) × IsAccepted jobs.items (D.facts door.entry.now) (D.facts result.0.now) result.1.workers.begun result.1.unused.items result.1.stopped }
+            ensures { (result.0.ghost_name ≡ door.entry.ghost_name) × (result.1.workers.host ≡ host.entry.now) × IsAccepted jobs.items (D.facts door.entry.now) (D.facts result.0.now) result.1.workers.begun result.1.left.items result.1.why }
         {
             let accepted = accept_all(rt, threads, alloc, host, jobs, door, workers);
             (door, accepted)
         },
     );
-    let Accepted {
-        workers,
-        unused,
-        stopped,
-    } = accepted;
+    let Accepted { workers, left, why } = accepted;
     Hosted {
         partings: workers.finish(rt, door),
-        unused: Vec::from(unused),
-        stopped,
+        unused: Vec::from(left),
+        stopped: why,
     }
 }
