@@ -73,7 +73,7 @@ Reserves name count old new (Err (Refused (KeySpent next))) = (k : Key) × IsSpe
 Reserves name count old new (Err (Refused ShelfWrite)) = (k : Key) × FailsToPut name count old new k
 Reserves name count old new (Err NoMemory) = KeepsNames old new
 
--- How the counts of faults move: only that of the call that failed, and at want of memory that of one kind of call at most.
+-- How the counts of faults move: only that of the call that failed, and none at want of memory, which hides no fault.
 abbrev pub CountsReserve : {A : Type 0} → ShelfFacts → ShelfFacts → Result A (End KeyRefusal) → Type 0
 CountsReserve old new (Ok signers) = HasNoShelfFault old new
 CountsReserve old new (Err (Refused ShelfRead)) = HasRisen old.read_faults new.read_faults × (new.write_faults ≡ old.write_faults)
@@ -81,4 +81,4 @@ CountsReserve old new (Err (Refused Missing)) = HasNoShelfFault old new
 CountsReserve old new (Err (Refused BadKeyFile)) = HasNoShelfFault old new
 CountsReserve old new (Err (Refused (KeySpent next))) = HasNoShelfFault old new
 CountsReserve old new (Err (Refused ShelfWrite)) = HasRisen old.write_faults new.write_faults × (new.read_faults ≡ old.read_faults)
-CountsReserve old new (Err NoMemory) = (new.write_faults ≡ old.write_faults) ⊎ (new.read_faults ≡ old.read_faults)
+CountsReserve old new (Err NoMemory) = HasNoShelfFault old new

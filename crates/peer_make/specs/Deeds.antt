@@ -68,6 +68,7 @@ key_deed name height =
       ready = λ old new. IsFree old.shelf (string_bytes name);
       reads = λ old new. Rose old.shelf.read_faults new.shelf.read_faults ⊎ Rose old.noise.faults new.noise.faults;
       writes = λ old new. Rose old.shelf.write_faults new.shelf.write_faults ⊎ Rose old.output.faults new.output.faults;
+      wants_later = λ old new. ⊥;
       unbuilt = ⊥;
     }
 
@@ -80,6 +81,7 @@ grant_deed namespace mode user key =
       ready = λ old new. CanBegin key old.shelf;
       reads = λ old new. BeginningRose key old.shelf.read_faults new.shelf.read_faults;
       writes = λ old new. BeginningRose key old.shelf.write_faults new.shelf.write_faults ⊎ Rose old.output.faults new.output.faults;
+      wants_later = λ old new. ⊥;
       unbuilt = ⊥;
     }
 
@@ -102,6 +104,7 @@ delegate_deed key to area =
       ready = λ old new. CanDelegate key area old.shelf old.input;
       reads = λ old new. SignerRose key old.shelf.read_faults new.shelf.read_faults ⊎ Rose old.input.faults new.input.faults;
       writes = λ old new. SignerRose key old.shelf.write_faults new.shelf.write_faults ⊎ Rose old.output.faults new.output.faults;
+      wants_later = λ old new. ⊥;
       unbuilt = ⊥;
     }
 
@@ -118,5 +121,6 @@ write_deed key words =
       ready = λ old new. CanWrite key old.shelf old.input;
       reads = λ old new. SignerRose key old.shelf.read_faults new.shelf.read_faults ⊎ Rose old.input.faults new.input.faults;
       writes = λ old new. SignerRose key old.shelf.write_faults new.shelf.write_faults ⊎ Rose old.output.faults new.output.faults;
+      wants_later = λ old new. ⊥;
       unbuilt = ⊥;
     }

@@ -14,6 +14,7 @@ use Rattle.peer_stage.specs.declared.outcome.ShowCounts.{ShowCounts}
 use Rattle.peer_stage.specs.declared.outcome.MeetCounts.{MeetCounts}
 use Rattle.peer_stage.specs.declared.outcome.SessionCounts.{SessionCounts}
 use Rattle.peer_stage.specs.declared.outcome.Served.{Served}
+use Rattle.peer_stage.specs.declared.outcome.WatchCounts.{WatchCounts}
 use Rattle.peer_stage.proofs.Told.{served_parts}
 use Rattle.peer_report.specs.Report.{others_met}
 use Rattle.peer_stage.proofs.Ends.{synced_status, synced_is, told_of, refused_only, first_only, none_met}
@@ -27,39 +28,15 @@ shown_status d counts s is status = status ∙ sym (refused_only counts.refused)
 pub met_status : (d : Done) (counts : MeetCounts) (s : ℕ) → d ≡ done.Met counts → s ≡ first_status counts.first → s ≡ status_of (Ok d)
 met_status d counts s is status = status ∙ sym (first_only counts.first) ∙ ap (λ (x : Done). status_of (Ok x)) (sym is)
 
+pub watched_status : (d : Done) (counts : WatchCounts) (s : ℕ) → d ≡ done.Watched counts → s ≡ first_status counts.first → s ≡ status_of (Ok d)
+watched_status d counts s is status = status ∙ sym (first_only counts.first) ∙ ap (λ (x : Done). status_of (Ok x)) (sym is)
+
 pub made_status : (d : Done) → d ≡ done.Made → 0 ≡ status_of (Ok d)
 made_status d is = sym none_met ∙ ap (λ (x : Done). status_of (Ok x)) (sym is)
 
 -- of a call, and of a server
 pub same_status : (d e : Done) (status : ℕ) → d ≡ e → status ≡ status_of (Ok e) → status ≡ status_of (Ok d)
 same_status d e status is given = given ∙ ap (λ (x : Done). status_of (Ok x)) (sym is)
-
--- ---- the status of a call, by how its session ended and whether the image was put
-
-module _ (session : Result SessionCounts SessionEnd) (put : Bool) (first : Option RefusedRow) where
-  -- it is the status of a call that ended so
-  from : (s : Result SessionCounts SessionEnd) (b : Bool) → session ≡ s → put ≡ b → synced_status s b first ≡ told_of (session_status session) put first
-  from s b session_is put_is = sym (ap (λ (x : Result SessionCounts SessionEnd). told_of (session_status x) put first) session_is ∙ ap (λ (x : Bool). told_of (session_status s) x first) put_is ∙ synced_is s b first)
-
-  pub done_and_put : (counts : SessionCounts) (status : ℕ) → session ≡ Ok counts → put ≡ true → status ≡ first_status first → status ≡ told_of (session_status session) put first
-  done_and_put counts status is is_put given = given ∙ from (Ok counts) true is is_put
-
-  pub done_not_put : (counts : SessionCounts) → session ≡ Ok counts → put ≡ false → 4 ≡ told_of (session_status session) put first
-  done_not_put counts is not_put = from (Ok counts) false is not_put
-
-  pub ended_and_put : (end : SessionEnd) (status : ℕ) → session ≡ Err end → put ≡ true → status ≡ end_status end → status ≡ told_of (session_status session) put first
-  ended_and_put end status is is_put given = given ∙ same end ∙ from (Err end) true is is_put where
-    same : (e : SessionEnd) → end_status e ≡ synced_status (Err e) true first
-    same ending.NoMemory = refl
-    same ending.LinkRead = refl
-    same e = refl
-
-  pub ended_not_put : (end : SessionEnd) (status : ℕ) → session ≡ Err end → put ≡ false → status ≡ told_of (session_status (Err end)) false None → status ≡ told_of (session_status session) put first
-  ended_not_put end status is not_put given = given ∙ synced_is (Err end) false None ∙ same end ∙ from (Err end) false is not_put where
-    same : (e : SessionEnd) → synced_status (Err e) false None ≡ synced_status (Err e) false first
-    same ending.NoMemory = refl
-    same ending.LinkRead = refl
-    same e = refl
 
 -- ---- the status of a server
 

@@ -1,5 +1,5 @@
 -- The status and the report's lines for each end of a run.
-use Rattle.std.specs.Prelude.{◌≡◌, ℕ, ◌+◌, nat_le, Bool, true, false, ◌&&◌, if◌then◌else◌, is_ok, ◌⊎◌, List, [], ◌∷◌, ◌++◌, codes, Option, Some, None, Result, Ok, Err}
+use Rattle.std.specs.Prelude.{◌≡◌, ℕ, ◌+◌, ◌==◌, nat_le, Bool, true, false, ◌&&◌, if◌then◌else◌, is_ok, ◌⊎◌, List, [], ◌∷◌, ◌++◌, codes, Option, Some, None, Result, Ok, Err}
 use Rattle.std.specs.Fmt.{decimal}
 use Rattle.std.specs.List.{list_all}
 use Rattle.std.specs.String.{string_bytes}
@@ -16,9 +16,11 @@ use Rattle.peer_stage.specs.declared.outcome.JoinCounts.{JoinCounts}
 use Rattle.peer_stage.specs.declared.outcome.ShowCounts.{ShowCounts}
 use Rattle.peer_stage.specs.declared.outcome.SideCounts.{SideCounts}
 use Rattle.peer_stage.specs.declared.outcome.MeetCounts.{MeetCounts}
+use Rattle.peer_stage.specs.declared.outcome.FollowCounts.{FollowCounts}
 use Rattle.peer_stage.specs.declared.outcome.SessionCounts.{SessionCounts}
 use Rattle.peer_stage.specs.declared.outcome.Synced.{Synced}
 use Rattle.peer_stage.specs.declared.outcome.Served.{Served}
+use Rattle.peer_stage.specs.declared.outcome.WatchCounts.{WatchCounts}
 use Rattle.mc_cap.specs.declared.refusal.RefusedRow.{RefusedRow}
 use Rattle.peer_stage.specs.declared.outcome.Origin.{Origin}
 use Rattle.peer_stage.specs.declared.outcome.Origin.TheVariants as origin
@@ -34,8 +36,12 @@ abbrev pub line : List ℕ → List ℕ
 line text = text ++ 10 ∷ []
 
 -- `rows N stored S kept K refused R`, the numbers in decimal
+abbrev pub numbers_line : ℕ → ℕ → ℕ → ℕ → List ℕ
+numbers_line rows stored kept refused = line (codes "rows " ++ (decimal rows ++ (codes " stored " ++ (decimal stored ++ (codes " kept " ++ (decimal kept ++ (codes " refused " ++ decimal refused)))))))
+
+-- that line of a join
 abbrev pub rows_line : JoinCounts → List ℕ
-rows_line counts = line (codes "rows " ++ (decimal counts.rows ++ (codes " stored " ++ (decimal counts.stored ++ (codes " kept " ++ (decimal counts.kept ++ (codes " refused " ++ decimal counts.refused)))))))
+rows_line counts = numbers_line counts.rows counts.stored counts.kept counts.refused
 
 -- `rows N refused R`
 abbrev pub shown_line : ShowCounts → List ℕ
@@ -77,19 +83,37 @@ abbrev pub session_line : Result SessionCounts SessionEnd → List ℕ
 session_line (Ok counts) = counts_line counts
 session_line (Err end) = line (session_end_text end)
 
--- the row that is told as the first refused one: where the session was done and the image put, so at status 1 alone
-abbrev pub told_first : Result SessionCounts SessionEnd → Bool → Option RefusedRow → Option RefusedRow
-told_first (Ok counts) true first = first
-told_first session put first = None
+-- `followed N stored S kept K refused R` of a feed that was read whole, or how else the following ended; no line where
+-- nothing was followed
+abbrev pub followed_line : Option (Result FollowCounts SessionEnd) → List ℕ
+followed_line None = []
+followed_line (Some (Ok counts)) = line (codes "followed " ++ (decimal counts.read ++ (codes " stored " ++ (decimal counts.stored ++ (codes " kept " ++ (decimal counts.kept ++ (codes " refused " ++ decimal counts.refused)))))))
+followed_line (Some (Err end)) = line (session_end_text end)
+
+-- the row that is told as the first refused one: where the session and the feed behind it were done and the image put, so
+-- at status 1 alone
+abbrev pub told_first : Result SessionCounts SessionEnd → Option (Result FollowCounts SessionEnd) → Bool → Option RefusedRow → Option RefusedRow
+told_first (Ok counts) None true first = first
+told_first (Ok counts) (Some (Ok feed)) true first = first
+told_first session followed put first = None
+
+-- `left N`, where at least one watcher left
+abbrev pub left_line : ℕ → List ℕ
+left_line left = if left == 0 then [] else line (codes "left " ++ decimal left)
+
+-- `kept N`, where a log was kept
+abbrev pub kept_line : Option ℕ → List ℕ
+kept_line None = []
+kept_line (Some rows) = line (codes "kept " ++ decimal rows)
 
 -- `write fault` where the image was not put
 abbrev pub put_line : Bool → List ℕ
 put_line true = []
 put_line false = line (codes "write fault")
 
--- the lines of a call: how its session ended, the first refused row, and whether the image was put
+-- the lines of a call: how its session ended, what came of following, the first refused row, and whether the image was put
 abbrev pub synced_lines : Synced → List ℕ
-synced_lines s = session_line s.session ++ (first_line (told_first s.session s.put s.first) ++ put_line s.put)
+synced_lines s = session_line s.session ++ (followed_line s.followed ++ (first_line (told_first s.session s.followed s.put s.first) ++ put_line s.put))
 
 -- `link I: ` and how the session of that link ended
 abbrev pub link_line : ℕ → Result SessionCounts SessionEnd → List ℕ
@@ -110,9 +134,14 @@ abbrev pub accept_line : Bool → List ℕ
 accept_line true = []
 accept_line false = line (codes "read fault")
 
--- the lines of a server: one of each link, the first refused row, whether all links came, and whether the image was put
+-- the lines of a server: one of each link, the watchers that left, the first refused row, what the log keeps, whether all
+-- links came, and whether the image was put
 abbrev pub served_lines : Served → List ℕ
-served_lines s = link_lines 1 s.sessions.items ++ (first_line (served_first s) ++ (accept_line s.all_came ++ put_line s.put))
+served_lines s = link_lines 1 s.sessions.items ++ (left_line s.left ++ (first_line (served_first s) ++ (kept_line s.kept ++ (accept_line s.all_came ++ put_line s.put))))
+
+-- the lines of a watch: its numbers, the watchers that left, and the first refused row
+abbrev pub watched_lines : WatchCounts → List ℕ
+watched_lines counts = numbers_line counts.rows counts.stored counts.kept counts.refused ++ (left_line counts.left ++ first_line counts.first)
 
 -- the name of what bytes came from, `-` for the input
 abbrev pub name_text : Origin → List ℕ
@@ -138,6 +167,7 @@ done_lines (done.Shown counts) = shown_line counts ++ first_line counts.first
 done_lines (done.Met counts) = met_lines counts ++ first_line counts.first
 done_lines (done.Synced s) = synced_lines s
 done_lines (done.Served s) = served_lines s
+done_lines (done.Watched counts) = watched_lines counts
 done_lines done.Made = []
 
 -- the line of a stop
@@ -185,10 +215,11 @@ pub record IsReportFault (old new : SinkFacts) (end : Result Done Stop) (status 
   pub written : IsPartlyWritten old new (report_of end)
   pub fault : Rose old.faults new.faults
 
--- no memory was found for the lines, of which not all are written
+-- no memory was found for the lines, of which not all are written, and no write of it failed
 pub record IsReportWithoutMemory (old new : SinkFacts) (end : Result Done Stop) (status : ℕ) : Type 0 where
   pub status_is : status ≡ 7
   pub written : IsPartlyWritten old new (report_of end)
+  pub unfailed : new.faults ≡ old.faults
 
 -- how the report stands after a run that ended so, and with which status
 abbrev pub Reports : SinkFacts → SinkFacts → Result Done Stop → ℕ → Type 0

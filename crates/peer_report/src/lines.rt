@@ -1,14 +1,15 @@
 //! The report's lines for each end of a run.
 
-ghost use Rattle.std.specs.Prelude.{◌≡◌, ◌<◌, ◌++◌, length, Err, IfOk, OnOk, OnErr};
+ghost use Rattle.std.specs.Prelude.{◌≡◌, ◌<◌, ◌++◌, length, Some, Ok, Err, IfOk, OnOk, OnErr};
 ghost use Rattle.peer_stage.specs.declared.outcome.Done.TheVariants as done;
 ghost use Rattle.peer_stage.specs.declared.outcome.Stop.TheVariants as stop;
-ghost use Rattle.peer_report.specs.Report.{report_of, stop_line, rows_line, shown_line, side_line, exchange_line, met_lines, first_line, session_line, counts_line, log_text, items_line, told_first, put_line, synced_lines, name_text, refused_line, bad_input_line, not_rising_line, pruned_line};
+ghost use Rattle.peer_report.specs.Report.{report_of, stop_line, numbers_line, rows_line, shown_line, side_line, exchange_line, met_lines, first_line, session_line, counts_line, log_text, items_line, followed_line, told_first, left_line, put_line, synced_lines, watched_lines, name_text, refused_line, bad_input_line, not_rising_line, pruned_line};
 
 use crate::links::served_lines;
 use mc_cap::{RefusedRow, RowRefusal};
 use peer_stage::{
-    Done, JoinCounts, MeetCounts, Origin, SessionCounts, ShowCounts, SideCounts, Stop, Synced,
+    Done, FollowCounts, JoinCounts, MeetCounts, Origin, SessionCounts, ShowCounts, SideCounts,
+    Stop, Synced, WatchCounts,
 };
 use peer_text::{row_refusal_text, session_end_text};
 use session_end::SessionEnd;
@@ -26,6 +27,7 @@ pub(crate) fn report_of(alloc: Global, end: &Result<Done, Stop>) -> Result<Vec<u
         Ok(Done::Met(counts)) => met_lines(alloc, counts),
         Ok(Done::Synced(synced)) => synced_lines(alloc, synced),
         Ok(Done::Served(served)) => served_lines(alloc, served),
+        Ok(Done::Watched(counts)) => watched_lines(alloc, counts),
         Ok(Done::Made) => Ok(Vec::new(alloc)),
         Err(stop) => stop_line(alloc, stop),
     }
@@ -42,10 +44,53 @@ fn joined_lines(alloc: Global, counts: &JoinCounts) -> Result<Vec<u8>, NoMemory>
         refused,
         first,
     } = *counts;
-    let line = format!(in alloc; "rows {rows} stored {stored} kept {kept} refused {refused}\n")?;
-    let mut text = line.into_bytes();
+    let mut text = numbers_line(alloc, rows, stored, kept, refused)?;
     put_first_line(alloc, first, &mut text)?;
     Ok(text)
+}
+
+// How many rows were read, and what came of them.
+fn numbers_line(
+    alloc: Global,
+    rows: u64,
+    stored: u64,
+    kept: u64,
+    refused: u64,
+) -> Result<Vec<u8>, NoMemory>
+    ensures { IfOk result (λ text. text.items ≡ numbers_line rows stored kept refused) }
+{
+    let line = format!(in alloc; "rows {rows} stored {stored} kept {kept} refused {refused}\n")?;
+    Ok(line.into_bytes())
+}
+
+// The numbers of a watch, the watchers that left, and the first refused row.
+fn watched_lines(alloc: Global, counts: &WatchCounts) -> Result<Vec<u8>, NoMemory>
+    ensures { IfOk result (λ text. text.items ≡ watched_lines counts.now) }
+{
+    let WatchCounts {
+        rows,
+        stored,
+        kept,
+        refused,
+        first,
+        left,
+    } = *counts;
+    let mut text = numbers_line(alloc, rows, stored, kept, refused)?;
+    put_left_line(alloc, left, &mut text)?;
+    put_first_line(alloc, first, &mut text)?;
+    Ok(text)
+}
+
+/// Appends how many watchers left, where one did.
+pub(crate) fn put_left_line(alloc: Global, left: u32, text: &mut Vec<u8>) -> Result<(), NoMemory>
+    ensures text { OnOk result (text.new.items ≡ text.old.items ++ left_line left) }
+    ensures some { OnErr result (0 < length (left_line left)) }
+{
+    if left == 0 {
+        return Ok(());
+    }
+    let line = format!(in alloc; "left {left}\n")?.into_bytes();
+    put_bytes(text, &line)
 }
 
 // The numbers of a listing, and the first refused row.
@@ -91,12 +136,14 @@ fn exchange_line(alloc: Global, items: u32, turns: u64) -> Result<Vec<u8>, NoMem
     Ok(format!(in alloc; "items {items} turns {turns}\n")?.into_bytes())
 }
 
-// How the session of a call ended, the first refused row where nothing else is told, and that the image was not put.
+// How the session of a call ended, what came of following, the first refused row where nothing else is told, and that
+// the image was not put.
 fn synced_lines(alloc: Global, synced: &Synced) -> Result<Vec<u8>, NoMemory>
     ensures text { IfOk result (λ text. text.items ≡ synced_lines synced.now) }
     ensures some { 0 < length (synced_lines synced.now) }
 {
     let mut text = ended_line(alloc, &synced.session)?;
+    put_followed_line(alloc, &synced.followed, &mut text)?;
     put_first_line(alloc, told_first(synced), &mut text)?;
     if !synced.put {
         put_bytes(&mut text, b"write fault\n")?;
@@ -156,12 +203,51 @@ fn items_line(alloc: Global, counts: &SessionCounts) -> Result<Vec<u8>, NoMemory
     Ok(line.into_bytes())
 }
 
-// The row that is told as the first refused one: none, unless the session was done and the image put.
-fn told_first(synced: &Synced) -> Option<RefusedRow>
-    ensures { result ≡ told_first synced.now.session synced.now.put synced.now.first }
+// Appends the numbers of the feed that was followed, or how else the following ended.
+fn put_followed_line(
+    alloc: Global,
+    followed: &Option<Result<FollowCounts, SessionEnd>>,
+    text: &mut Vec<u8>,
+) -> Result<(), NoMemory>
+    ensures { OnOk result (text.new.items ≡ text.old.items ++ followed_line followed.now) }
 {
-    match synced.session {
-        Ok(_) if synced.put => synced.first,
+    match followed {
+        None => Ok(()),
+        Some(Ok(counts)) => {
+            let line = feed_line(alloc, counts)?;
+            put_bytes(text, &line)
+        }
+        Some(Err(end)) => {
+            let line = end_line(alloc, end)?;
+            put_bytes(text, &line)
+        }
+    }
+}
+
+// The numbers of a feed.
+fn feed_line(alloc: Global, counts: &FollowCounts) -> Result<Vec<u8>, NoMemory>
+    ensures { IfOk result (λ text. text.items ≡ followed_line (Some (Ok counts.now))) }
+{
+    let FollowCounts {
+        read,
+        stored,
+        kept,
+        refused,
+    } = *counts;
+    let line = format!(in alloc;
+        "followed {read} stored {stored} kept {kept} refused {refused}\n"
+    )?;
+    Ok(line.into_bytes())
+}
+
+// The row that is told as the first refused one: none, unless the session and the feed behind it were done and the image
+// put.
+fn told_first(synced: &Synced) -> Option<RefusedRow>
+    ensures { result ≡ told_first synced.now.session synced.now.followed synced.now.put synced.now.first }
+{
+    match (&synced.session, &synced.followed) {
+        (Ok(_), None) if synced.put => synced.first,
+        (Ok(_), Some(Ok(_))) if synced.put => synced.first,
         _ => None,
     }
 }

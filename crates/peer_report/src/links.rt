@@ -2,24 +2,26 @@
 
 ghost use Rattle.std.specs.Prelude.{◌≡◌, ◌<◌, ◌++◌, length, is_ok, IfOk, OnOk, OnErr};
 ghost use Rattle.std.specs.List.{list_all};
-ghost use Rattle.peer_report.specs.Report.{accept_line, link_line, link_lines, put_line, served_first, served_lines};
+ghost use Rattle.peer_report.specs.Report.{accept_line, kept_line, left_line, link_line, link_lines, put_line, served_first, served_lines};
 
-use crate::lines::{ended_line, put_first_line};
+use crate::lines::{ended_line, put_first_line, put_left_line};
 use mc_cap::RefusedRow;
 use peer_stage::{Served, SessionCounts};
 use session_end::SessionEnd;
 use spelling::{NoMemory, put_bytes};
 use std::alloc::Global;
 
-/// How the session of each link ended, the first refused row where nothing else is told, that not all links came, and
-/// that the image was not put.
+/// How the session of each link ended, the watchers that left, the first refused row where nothing else is told, what the
+/// log keeps, that not all links came, and that the image was not put.
 pub(crate) fn served_lines(alloc: Global, served: &Served) -> Result<Vec<u8>, NoMemory>
     ensures text { IfOk result (λ text. text.items ≡ served_lines served.now) }
     ensures some { OnErr result (0 < length (served_lines served.now)) }
 {
     let mut text = Vec::new(alloc);
     put_link_lines(alloc, &served.sessions, &mut text)?;
+    put_left_line(alloc, served.left, &mut text)?;
     put_first_line(alloc, served_first(served), &mut text)?;
+    put_kept_line(alloc, served.kept, &mut text)?;
     put_accept_line(served.all_came, &mut text)?;
     put_put_line(served.put, &mut text)?;
     Ok(text)
@@ -71,6 +73,20 @@ fn all_done(sessions: &[Result<SessionCounts, SessionEnd>]) -> bool
     ensures { result ≡ list_all is_ok sessions.now }
 {
     sessions.iter().all(|session| session.is_ok())
+}
+
+// Appends how many rows the file of the log holds, where one is kept.
+fn put_kept_line(alloc: Global, kept: Option<u64>, text: &mut Vec<u8>) -> Result<(), NoMemory>
+    ensures text { OnOk result (text.new.items ≡ text.old.items ++ kept_line kept) }
+    ensures some { OnErr result (0 < length (kept_line kept)) }
+{
+    match kept {
+        None => Ok(()),
+        Some(rows) => {
+            let line = format!(in alloc; "kept {rows}\n")?.into_bytes();
+            put_bytes(text, &line)
+        }
+    }
 }
 
 // Appends a read fault's line, unless all links came.

@@ -1,14 +1,14 @@
 //! The status of a run, and its report.
 
-ghost use Rattle.std.specs.Prelude.{◌≡◌, ◌≤◌, ◌==◌, false, None, Ok, Err};
+ghost use Rattle.std.specs.Prelude.{◌≡◌, ◌≤◌, ◌==◌, Ok};
 ghost use Rattle.std.specs.List.{list_any};
-ghost use Rattle.peer_stage.specs.Status.{status_of, statuses_met, stop_status, refused_status, first_status, accept_status, put_status, session_status, end_status};
+ghost use Rattle.peer_stage.specs.Status.{status_of, statuses_met, first_met, told_order, stop_status, refused_status, first_status, accept_status, put_status, session_status, followed_status, end_status};
 ghost use Rattle.peer_stage.specs.declared.outcome.Done.TheVariants as done;
 ghost use Rattle.peer_report.specs.Report.{after_report_fault, others_met, Reports};
 
 use crate::lines::report_of;
 use mc_cap::RefusedRow;
-use peer_stage::{Done, Served, SessionCounts, Stop, Synced, write_output};
+use peer_stage::{Done, FollowCounts, Served, SessionCounts, Stop, Synced, write_output};
 use session_end::SessionEnd;
 use std::alloc::Global;
 use willow_outside::Sink;
@@ -33,38 +33,41 @@ fn done_status(done: &Done) -> u8
         Done::Met(counts) => first_status(counts.first),
         Done::Synced(synced) => synced_status(synced),
         Done::Served(served) => served_status(served),
+        Done::Watched(counts) => first_status(counts.first),
         Done::Made => 0,
     }
 }
 
-/// The status of a call: the first of 7, 3, 4, 6, 8 and 1 that its session, the put of the image or a refused row gave.
+/// The status of a call: the first of 7, 3, 4, 6, 8 and 1 that its session, the following behind it, the put of the image
+/// or a refused row gave.
 fn synced_status(synced: &Synced) -> u8
     ensures { result ≡ status_of (Ok (done.Synced synced.now)) }
 {
-    match &synced.session {
-        Ok(_) if synced.put => first_status(synced.first),
-        Ok(_) => 4,
-        Err(end) if synced.put => end_status(end),
-        Err(end) => unput_status(end),
-    }
+    first_told(&[
+        session_status(&synced.session),
+        followed_status(&synced.followed),
+        put_status(synced.put),
+        first_status(synced.first),
+    ])
 }
 
-/// The status of a session that was not done, behind which the image was not put.
-#[tactic(auto, unfolding(peer_stage::specs::Status::first_met))]
-fn unput_status(end: &SessionEnd) -> u8
-    ensures { result ≡ status_of (Ok (done.Synced (record { session = Err end.now; first = None; put = false }))) }
+/// The first of 7, 3, 4, 6, 8 and 1 that was met; 0 where none was.
+fn first_told(met: &[u8]) -> u8
+    ensures { result ≡ first_met told_order met.now }
 {
-    match end {
-        SessionEnd::LinkRead => 3,
-        SessionEnd::LinkWrite => 4,
-        SessionEnd::ClosedEarly { .. } => 4,
-        SessionEnd::BadMessage { .. } => 4,
-        SessionEnd::Hello(_) => 4,
-        SessionEnd::Core(_) => 4,
-        SessionEnd::SignFault => 4,
-        SessionEnd::LogFull { .. } => 4,
-        SessionEnd::NoMemory => 7,
+    for status in [7, 3, 4, 6, 8, 1] {
+        if was_met(met, status) {
+            return status;
+        }
     }
+    0
+}
+
+/// Whether this status was met.
+fn was_met(met: &[u8], status: u8) -> bool
+    ensures { result ≡ list_any (λ m. m == status) met.now }
+{
+    met.iter().any(|m| *m == status)
 }
 
 /// The status of a session that was not done.
@@ -129,6 +132,17 @@ fn session_status(session: &Result<SessionCounts, SessionEnd>) -> u8
     match session {
         Ok(_) => 0,
         Err(end) => end_status(end),
+    }
+}
+
+/// 0 where nothing was followed, or a feed was read whole; else the status of how the following ended.
+fn followed_status(followed: &Option<Result<FollowCounts, SessionEnd>>) -> u8
+    ensures { result ≡ followed_status followed.now }
+{
+    match followed {
+        None => 0,
+        Some(Ok(_)) => 0,
+        Some(Err(end)) => end_status(end),
     }
 }
 

@@ -1,15 +1,15 @@
 -- Commands whose last part may run a session: what it owes goes by the status of its end. The steps before it leave the door
 -- as it was, so what is told of a link that is back is told of the whole command.
-use Rattle.std.proofs.Common.{◌≡◌, ◌≢◌, ◌∙◌, inl, inr, ap, arith}
+use Rattle.std.proofs.Common.{◌≡◌, ◌≢◌, ◌∙◌, ◌⊎◌, inl, inr, ap, arith}
 use Rattle.std.specs.Prelude.{Result, Ok, Err}
 use Rattle.willow_outside.specs.Facts.{ShelfFacts, NoiseFacts}
 use Rattle.peer_stage.specs.World.{World, NeverFall, Unfailed}
 use Rattle.peer_stage.specs.Status.{status_of}
-use Rattle.peer_stage.specs.Steps.{Step, Then, Inside, OnShelf, OnNoise}
+use Rattle.peer_stage.specs.Steps.{Step, Then, IsPassed, Inside, OnShelf, OnNoise}
 use Rattle.peer_stage.specs.declared.outcome.Done.{Done}
 use Rattle.peer_stage.specs.declared.outcome.Stop.{Stop}
 use Rattle.peer_stage.specs.declared.outcome.Stop.TheVariants as stop
-use Rattle.peer_stage.proofs.Faults.{no_fault}
+use Rattle.peer_stage.proofs.Faults.{no_fault, no_fault_at_want}
 use Rattle.peer_stage.proofs.Owing.{Owes, onward, unfailed_on}
 
 -- ---- the door
@@ -48,9 +48,10 @@ owes_more reads writes reads' writes' needs leaves step more_read more_written o
     }
 
 -- What a step owes that ends a command, by the status of its end.
-pub record Closes (reads writes : World → World → Type 0) (step : Step Done) : Type 0 where
+pub record Closes (reads writes wants_later : World → World → Type 0) (step : Step Done) : Type 0 where
   pub counts : (old new : World) (end : Result Done Stop) → step old new end → NeverFall old new
   pub unfailed : (old new : World) (end : Result Done Stop) → step old new end → status_of end ≢ 3 → status_of end ≢ 4 → status_of end ≢ 7 → Unfailed old new
+  pub want : (old new : World) (end : Result Done Stop) → step old new end → status_of end ≡ 7 → Unfailed old new ⊎ wants_later old new
   pub usage : (old new : World) (end : Result Done Stop) → step old new end → status_of end ≡ 2 → ⊥
   pub read_fault : (old new : World) (end : Result Done Stop) → step old new end → status_of end ≡ 3 → reads old new
   pub write_fault : (old new : World) (end : Result Done Stop) → step old new end → status_of end ≡ 4 → writes old new
@@ -59,8 +60,12 @@ pub record Closes (reads writes : World → World → Type 0) (step : Step Done)
 abbrev pub LastsAtDoor : (World → World → Type 0) → Type 0
 LastsAtDoor rose = (old between new : World) → NeverFall old between → between.door ≡ old.door → rose between new → rose old new
 
-module _ {A : Type 0} (reads writes : World → World → Type 0) (needs : World → Type 0) (leaves : A → World → Type 0) (first : Step A) (next : A → Step Done)
-    (reads_last : LastsAtDoor reads) (writes_last : LastsAtDoor writes) (one : Owes reads writes needs leaves first) (keeps : KeepsDoor first) (two : (a : A) → Closes reads writes (next a)) where
+-- what was counted behind steps that left the door as it was, without a fault, was counted in all
+abbrev pub LastsBehind : (World → World → Type 0) → Type 0
+LastsBehind rose = (old between new : World) → Unfailed old between → between.door ≡ old.door → rose between new → rose old new
+
+module _ {A : Type 0} (reads writes wants_later : World → World → Type 0) (needs : World → Type 0) (leaves : A → World → Type 0) (first : Step A) (next : A → Step Done)
+    (reads_last : LastsAtDoor reads) (writes_last : LastsAtDoor writes) (want_lasts : LastsBehind wants_later) (one : Owes reads writes needs leaves first) (keeps : KeepsDoor first) (two : (a : A) → Closes reads writes wants_later (next a)) where
   counts : (old new : World) (end : Result Done Stop) → Then first next old new end → NeverFall old new
   counts old new (Ok d) p = onward old p.between new (one.counts old p.between (Ok p.value) p.given) ((two p.value).counts p.between new (Ok d) p.rest)
   counts old new (Err e) (inl s) = one.counts old new (Err e) s
@@ -68,8 +73,22 @@ module _ {A : Type 0} (reads writes : World → World → Type 0) (needs : World
 
   unfailed : (old new : World) (end : Result Done Stop) → Then first next old new end → status_of end ≢ 3 → status_of end ≢ 4 → status_of end ≢ 7 → Unfailed old new
   unfailed old new (Ok d) p three four seven = unfailed_on old p.between new (one.unfailed old p.between (Ok p.value) tt p.given) ((two p.value).unfailed p.between new (Ok d) p.rest three four seven)
-  unfailed old new (Err e) (inl s) three four seven = one.unfailed old new (Err e) (no_fault (Err e) three four seven) s
+  unfailed old new (Err e) (inl s) three four seven = one.unfailed old new (Err e) (no_fault (Err e) three four) s
   unfailed old new (Err e) (inr p) three four seven = unfailed_on old p.between new (one.unfailed old p.between (Ok p.value) tt p.given) ((two p.value).unfailed p.between new (Err e) p.rest three four seven)
+
+  -- nothing is hidden behind a step without a fault
+  wanted : (old new : World) (end : Result Done Stop) (p : IsPassed first next old new end) → status_of end ≡ 7 → Unfailed old new ⊎ wants_later old new
+  wanted old new end p seven =
+      let stood = one.unfailed old p.between (Ok p.value) tt p.given in
+      elim ((two p.value).want p.between new end p.rest seven) [
+        | inl same ↦ inl (unfailed_on old p.between new stood same)
+        | inr later ↦ inr (want_lasts old p.between new stood (keeps old p.between (Ok p.value) p.given) later)
+      ]
+
+  want : (old new : World) (end : Result Done Stop) → Then first next old new end → status_of end ≡ 7 → Unfailed old new ⊎ wants_later old new
+  want old new (Ok d) p seven = wanted old new (Ok d) p seven
+  want old new (Err e) (inl s) seven = inl (one.unfailed old new (Err e) (no_fault_at_want (Err e) seven) s)
+  want old new (Err e) (inr p) seven = wanted old new (Err e) p seven
 
   -- a stop of the first step
   stopped_usage : (old new : World) (e : Stop) → first old new (Err e) → status_of (Err e) ≡ 2 → ⊥
@@ -99,5 +118,5 @@ module _ {A : Type 0} (reads writes : World → World → Type 0) (needs : World
   write_fault old new (Err e) (inl s) is = stopped_write old new e s is
   write_fault old new (Err e) (inr p) is = writes_last old p.between new (one.counts old p.between (Ok p.value) p.given) (keeps old p.between (Ok p.value) p.given) ((two p.value).write_fault p.between new (Err e) p.rest is)
 
-  pub then_closes : Closes reads writes (Then first next)
-  then_closes = record { counts = counts; unfailed = unfailed; usage = usage; read_fault = read_fault; write_fault = write_fault }
+  pub then_closes : Closes reads writes wants_later (Then first next)
+  then_closes = record { counts = counts; unfailed = unfailed; want = want; usage = usage; read_fault = read_fault; write_fault = write_fault }

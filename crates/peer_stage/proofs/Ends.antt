@@ -1,5 +1,5 @@
 -- From the status of an end back to the end.
-use Rattle.std.proofs.Common.{◌≡◌, ◌≢◌, ℕ, ◌≤◌, ◌<◌, Bool, true, false, cond, eqb, List, [], ◌∷◌, Option, Some, None, refl, sym, arith}
+use Rattle.std.proofs.Common.{◌≡◌, ◌≢◌, ℕ, ◌≤◌, ◌<◌, Bool, true, false, cond, eqb, List, [], ◌∷◌, Option, Some, None, refl, sym, ap, arith}
 use Rattle.std.specs.Prelude.{Result, Ok, Err}
 use Rattle.std.specs.List.{list_any}
 use Rattle.std.proofs.lemmas.Bool.{eqb-true}
@@ -7,7 +7,8 @@ use Rattle.std.proofs.lemmas.Bool.Decides.{nat_tests}
 use Rattle.mc_cap.specs.declared.refusal.RefusedRow.{RefusedRow}
 use Rattle.session_end.specs.declared.end.SessionEnd.{SessionEnd}
 use Rattle.session_end.specs.declared.end.SessionEnd.TheVariants as ending
-use Rattle.peer_stage.specs.Status.{status_of, refused_status, first_status, end_status, session_status, put_status, statuses_met, first_met, told_order}
+use Rattle.peer_stage.specs.Status.{status_of, refused_status, first_status, end_status, session_status, followed_status, put_status, statuses_met, first_met, told_order}
+use Rattle.peer_stage.specs.declared.outcome.FollowCounts.{FollowCounts}
 use Rattle.peer_stage.specs.declared.outcome.SessionCounts.{SessionCounts}
 use Rattle.peer_stage.specs.declared.outcome.Synced.{Synced}
 use Rattle.peer_stage.specs.declared.outcome.Served.{Served}
@@ -75,6 +76,7 @@ done_small (done.Shown counts) is = rw (refused_only counts.refused) (refused_sm
 done_small (done.Met counts) is = rw (first_only counts.first) (first_small counts.first)
 done_small (done.Synced s) is = absurd is
 done_small (done.Served s) is = absurd is
+done_small (done.Watched counts) is = rw (first_only counts.first) (first_small counts.first)
 done_small done.Made is = rw none_met (omega arith)
 
 -- ---- sessions
@@ -91,6 +93,11 @@ synced_status (Ok counts) true first = first_status first
 -- the statuses of a session, and the first of them that is told
 abbrev pub told_of : ℕ → Bool → Option RefusedRow → ℕ
 told_of session put first = first_met told_order (session ∷ (put_status put ∷ (first_status first ∷ [])))
+
+-- where nothing was followed, nothing else is told
+pub unfollowed : (s : Synced) → s.followed ≡ None → status_of (Ok (done.Synced s)) ≡ told_of (session_status s.session) s.put s.first
+unfolding first_met
+unfollowed s none = ap (λ (f : Option (Result FollowCounts SessionEnd)). first_met told_order (session_status s.session ∷ (followed_status f ∷ (put_status s.put ∷ (first_status s.first ∷ []))))) none
 
 done_told : (put : Bool) (first : Option RefusedRow) → told_of 0 put first ≡ cond put (first_status first) 4
 unfolding first_met
@@ -189,6 +196,7 @@ known (Ok (done.Served s)) = omega (arith, (served_known s).small)
 known (Ok (done.Joined counts)) = omega (arith, done_small (done.Joined counts) tt)
 known (Ok (done.Shown counts)) = omega (arith, done_small (done.Shown counts) tt)
 known (Ok (done.Met counts)) = omega (arith, done_small (done.Met counts) tt)
+known (Ok (done.Watched counts)) = omega (arith, done_small (done.Watched counts) tt)
 known (Ok done.Made) = omega (arith, done_small done.Made tt)
 known (Err stop.NoMemory) = omega arith
 known (Err e) = omega arith

@@ -9,31 +9,32 @@ use Rattle.peer_stage.specs.declared.outcome.Stop.TheVariants as stop
 
 -- ---- ends that tell no fault
 
--- neither a fault nor want of memory is told
+-- no fault is told
 abbrev pub TellsNoFault : Stop → Type 0
 TellsNoFault stop.ReadFault = ⊥
 TellsNoFault stop.WriteFault = ⊥
-TellsNoFault stop.NoMemory = ⊥
 TellsNoFault e = Unit {0}
 
 abbrev pub EndsUnfailed : {A : Type 0} → Result A Stop → Type 0
 EndsUnfailed (Ok value) = Unit {0}
 EndsUnfailed (Err e) = TellsNoFault e
 
--- but with 3, 4 and 7 an end tells none
-pub no_fault : (end : Result Done Stop) → status_of end ≢ 3 → status_of end ≢ 4 → status_of end ≢ 7 → EndsUnfailed end
-no_fault (Ok d) three four seven = tt
-no_fault (Err stop.ReadFault) three four seven = three refl
-no_fault (Err stop.WriteFault) three four seven = four refl
-no_fault (Err stop.NoMemory) three four seven = seven refl
-no_fault (Err e) three four seven = tt
+-- but with 3 and 4 an end tells none
+pub no_fault : (end : Result Done Stop) → status_of end ≢ 3 → status_of end ≢ 4 → EndsUnfailed end
+no_fault (Ok d) three four = tt
+no_fault (Err stop.ReadFault) three four = three refl
+no_fault (Err stop.WriteFault) three four = four refl
+no_fault (Err e) three four = tt
+
+-- nor with 7
+pub no_fault_at_want : (end : Result Done Stop) → status_of end ≡ 7 → EndsUnfailed end
+no_fault_at_want end seven = no_fault end (λ three. omega (arith, seven, three)) (λ four. omega (arith, seven, four))
 
 -- ---- counts
 
 stop_rises : (before now : ℕ) (e : Stop) → CountsStop before now e → before ≤ now
 stop_rises before now stop.ReadFault counts = counts
 stop_rises before now stop.WriteFault counts = counts
-stop_rises before now stop.NoMemory counts = counts
 stop_rises before now e counts = omega (arith, counts)
 
 -- the count never falls
@@ -44,7 +45,6 @@ never_falls before now (Err e) counts = stop_rises before now e counts
 stop_stood : (before now : ℕ) (e : Stop) → TellsNoFault e → CountsStop before now e → now ≡ before
 stop_stood before now stop.ReadFault none counts = absurd none
 stop_stood before now stop.WriteFault none counts = absurd none
-stop_stood before now stop.NoMemory none counts = absurd none
 stop_stood before now e none counts = counts
 
 -- it is as before where no fault is told
@@ -55,7 +55,6 @@ stood before now (Err e) none counts = stop_stood before now e none counts
 pub stop_stands : (before now : ℕ) (e : Stop) → now ≡ before → CountsStop before now e
 stop_stands before now stop.ReadFault same = omega (arith, same)
 stop_stands before now stop.WriteFault same = omega (arith, same)
-stop_stands before now stop.NoMemory same = omega (arith, same)
 stop_stands before now e same = same
 
 -- a count that is as before fits every end

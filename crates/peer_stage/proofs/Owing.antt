@@ -12,7 +12,7 @@ use Rattle.peer_stage.specs.declared.outcome.Done.{Done}
 use Rattle.peer_stage.specs.declared.outcome.Stop.{Stop}
 use Rattle.peer_stage.specs.declared.outcome.Stop.TheVariants as stop
 use Rattle.peer_stage.proofs.Ends.{IsCondition, IsLocal, done_small}
-use Rattle.peer_stage.proofs.Faults.{EndsUnfailed, no_fault, never_falls, stood}
+use Rattle.peer_stage.proofs.Faults.{EndsUnfailed, no_fault, no_fault_at_want, never_falls, stood}
 
 -- ---- counts
 
@@ -227,7 +227,8 @@ module _ (deed : Deed) (needs : World → Type 0) (leaves : Done → World → T
   lawful =
       record {
         counts = owes.counts;
-        unfailed = λ old new end meets three four seven. owes.unfailed old new end (no_fault end three four seven) meets;
+        unfailed = λ old new end meets three four seven. owes.unfailed old new end (no_fault end three four) meets;
+        want = λ old new end meets seven. inl (owes.unfailed old new end (no_fault_at_want end seven) meets);
         usage = λ old new end meets is. absurd (no_usage old new end meets is);
         no_run = λ old new end meets unbuilt. absurd (built unbuilt);
         read_fault = read;
@@ -250,6 +251,7 @@ not_built_is_lawful =
     record {
       counts = λ old new end meets. subst (λ (w : World). NeverFall old w) (sym (unbuilt_same old new end meets)) (stands old);
       unfailed = λ old new end meets three four seven. subst (λ (w : World). Unfailed old w) (sym (unbuilt_same old new end meets)) (unfailed_same old);
+      want = λ old new end meets seven. inl (subst (λ (w : World). Unfailed old w) (sym (unbuilt_same old new end meets)) (unfailed_same old));
       usage = λ old new end meets is. (tt, unbuilt_same old new end meets);
       no_run = λ old new end meets unbuilt. unbuilt_status old new end meets;
       read_fault = λ old new end meets is. omega (arith, is, unbuilt_status old new end meets);

@@ -1,14 +1,16 @@
--- From the status of what is done back to what was met on the way, for a server.
-use Rattle.std.proofs.Common.{◌≡◌, ◌≢◌, ◌∙◌, ◌⊎◌, inl, inr, ℕ, ◌≤◌, ◌==◌, ◌||◌, ◌&&◌, Bool, true, false, cond, if◌then◌else◌, List, [], ◌∷◌, map, refl, sym, ap, arith}
+-- From the status of what is done back to what was met on the way, for a call and for a server.
+use Rattle.std.proofs.Common.{◌≡◌, ◌≢◌, ◌∙◌, ◌⊎◌, inl, inr, ℕ, ◌<◌, ◌≤◌, ◌==◌, ◌||◌, ◌&&◌, Bool, true, false, cond, if◌then◌else◌, List, [], ◌∷◌, map, refl, sym, ap, arith}
 use Rattle.std.specs.Prelude.{Option, Some, None, Result, Ok, Err, is_ok}
 use Rattle.std.specs.List.{list_any, list_all}
+use Rattle.std.proofs.lemmas.Bool.{eqb-true, false≢true}
 use Rattle.std.proofs.lemmas.List.Folds.{list_any-append}
 use Rattle.mc_cap.specs.declared.refusal.RefusedRow.{RefusedRow}
 use Rattle.session_end.specs.declared.end.SessionEnd.{SessionEnd}
 use Rattle.session_end.specs.declared.end.SessionEnd.TheVariants as ending
-use Rattle.peer_stage.specs.Status.{status_of, statuses_met, first_met, told_order, session_status, accept_status, put_status, first_status}
+use Rattle.peer_stage.specs.Status.{status_of, statuses_met, first_met, told_order, session_status, followed_status, accept_status, put_status, first_status}
 use Rattle.peer_stage.specs.declared.outcome.SessionCounts.{SessionCounts}
 use Rattle.peer_stage.specs.declared.outcome.Served.{Served}
+use Rattle.peer_stage.specs.declared.outcome.Synced.{Synced}
 use Rattle.peer_stage.specs.declared.outcome.Done.TheVariants as done
 
 -- a status was met
@@ -65,6 +67,34 @@ or_false false b e = (refl, e)
 any_of_map : {A B : Type 0} (p : B → Bool) (f : A → B) (xs : List A) → list_any p (map f xs) ≡ list_any (λ x. p (f x)) xs
 any_of_map p f [] = refl
 any_of_map p f (x ∷ xs) = ap (λ b. p (f x) || b) (any_of_map p f xs)
+
+-- ---- a call
+
+-- the put of an image and a refused row give no more than 4
+few_behind : (put : Bool) (first : Option RefusedRow) (status : ℕ) → 4 < status → met_in status (put_status put ∷ (first_status first ∷ [])) ≡ true → ⊥
+few_behind put first status high e = elim (or_true (put_status put == status) (met_in status (first_status first ∷ [])) e) [
+  | inl is ↦ omega (arith, high, put_few put, eqb-true _ _ is)
+  | inr is ↦ elim (or_true (first_status first == status) false is) [ inl last ↦ omega (arith, high, first_few first, eqb-true _ _ last) | inr none ↦ false≢true none ]
+] where
+  put_few : (b : Bool) → put_status b ≤ 4
+  put_few true = omega arith
+  put_few false = omega arith
+
+  first_few : (f : Option RefusedRow) → first_status f ≤ 1
+  first_few None = omega arith
+  first_few (Some row) = omega arith
+
+-- a status of a call above 4 is that of its session, or of the feed behind it
+pub synced_from : (s : Synced) (status : ℕ) → status_of (Ok (done.Synced s)) ≡ status → 4 < status → (session_status s.session ≡ status) ⊎ (followed_status s.followed ≡ status)
+synced_from s status is high =
+    let met = told_was_met told_order (statuses_met (done.Synced s)) status is (λ e. omega (arith, e, high)) in
+    let behind : List ℕ = put_status s.put ∷ (first_status s.first ∷ []) in
+    elim (or_true (session_status s.session == status) (met_in status (followed_status s.followed ∷ behind)) met) [
+      | inl own ↦ inl (eqb-true _ _ own)
+      | inr rest ↦ elim (or_true (followed_status s.followed == status) (met_in status behind) rest) [ inl feed ↦ inr (eqb-true _ _ feed) | inr other ↦ absurd (few_behind s.put s.first status high other) ]
+    ]
+
+-- ---- what a server met
 
 -- what a server met beside its sessions
 abbrev pub beside : Served → List ℕ

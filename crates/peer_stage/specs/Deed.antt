@@ -1,5 +1,5 @@
 -- A command as a value: what it does, what it needs, and which counts tell its faults.
-use Rattle.std.specs.Prelude.{◌≡◌, ◌≢◌, ◌≤◌, Result, Err}
+use Rattle.std.specs.Prelude.{◌≡◌, ◌≢◌, ◌≤◌, ◌⊎◌, Result, Err}
 use Rattle.peer_stage.specs.World.{World, NeverFall, Unfailed}
 use Rattle.peer_stage.specs.Status.{status_of}
 use Rattle.peer_stage.specs.declared.outcome.Done.{Done}
@@ -16,6 +16,8 @@ pub record Deed : Type 1 where
   pub reads : World → World → Type 0
   -- a count of what it writes rose
   pub writes : World → World → Type 0
+  -- a fault was counted that stopped nothing, and memory was wanting behind it
+  pub wants_later : World → World → Type 0
   -- it is not built yet
   pub unbuilt : Type 0
 
@@ -26,6 +28,8 @@ pub record IsLawful (deed : Deed) : Type 0 where
   -- no fault is passed over: but with 3, 4 and 7 every count of faults is as before
   pub unfailed : (old new : World) (end : Result Done Stop) → deed.meets old new end
       → status_of end ≢ 3 → status_of end ≢ 4 → status_of end ≢ 7 → Unfailed old new
+  -- want of memory hides no fault: with 7 too, but for what it went on from
+  pub want : (old new : World) (end : Result Done Stop) → deed.meets old new end → status_of end ≡ 7 → Unfailed old new ⊎ deed.wants_later old new
   -- it ends with 2 exactly where it is not built, and then touches nothing
   pub usage : (old new : World) (end : Result Done Stop) → deed.meets old new end → status_of end ≡ 2 → deed.unbuilt × (new ≡ old)
   pub no_run : (old new : World) (end : Result Done Stop) → deed.meets old new end → deed.unbuilt → status_of end ≡ 2
@@ -50,5 +54,6 @@ not_built =
       ready = λ old new. ⊥;
       reads = λ old new. ⊥;
       writes = λ old new. ⊥;
+      wants_later = λ old new. ⊥;
       unbuilt = Unit {0};
     }

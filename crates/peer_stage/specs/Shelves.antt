@@ -1,11 +1,13 @@
 -- What the stages that get and put bytes do to the shelf.
-use Rattle.std.specs.Prelude.{◌≡◌, ℕ, ◌⊎◌, List, Some, None, Result, Ok, Err}
+use Rattle.std.specs.Prelude.{◌≡◌, ℕ, ◌⊎◌, List, Option, Some, None, Result, Ok, Err}
 use Rattle.std.specs.Option.{option_map}
 use Rattle.std.specs.String.{string_bytes}
 use Rattle.std.specs.declared.string.String.{String}
 use Rattle.std.specs.Global.{Vec}
 use Rattle.std.specs.declared.alloc.Global.{Global}
 use Rattle.willow_outside.specs.Counts.{Rose}
+use Rattle.willow_outside.specs.declared.fault.Fault.{Fault}
+use Rattle.willow_outside.specs.declared.fault.Fault.TheVariants as fault
 use Rattle.willow_outside.specs.Facts.{ShelfFacts}
 use Rattle.willow_outside.specs.Names.{GetsName, name_put}
 use Rattle.peer_stage.specs.declared.outcome.Origin.{Origin}
@@ -35,6 +37,13 @@ GetsBytes name old new (Err stop.ReadFault) = Rose old.read_faults new.read_faul
 GetsBytes name old new (Err (stop.Missing other)) = (other ≡ name) × HoldsNone (string_bytes name) old new
 GetsBytes name old new (Err stop.NoMemory) = new.names ≡ old.names
 GetsBytes name old new (Err e) = ⊥
+
+-- what is told of what the shelf answered under a name; want of memory is told of no other answer
+abbrev pub bytes_told : String Global → Result (Option (Vec ℕ)) Fault → Result (String Global × Vec ℕ) Stop
+bytes_told name (Ok (Some bytes)) = Ok (name, bytes)
+bytes_told name (Ok None) = Err (stop.Missing name)
+bytes_told name (Err fault.Failed) = Err stop.ReadFault
+bytes_told name (Err fault.NoMemory) = Err stop.NoMemory
 
 -- ---- what is put
 

@@ -35,6 +35,13 @@ pub record IsReadToFault (limit : ℕ) (old new : SourceFacts) (bytes : List ℕ
 abbrev pub IsReadSomewhat : SourceFacts → SourceFacts → Type 0
 IsReadSomewhat old new = (bytes : List ℕ) × Consumes old.left new.left bytes
 
+-- bytes were taken within the limit, and the end was not met
+pub record IsReadShort (limit : ℕ) (old new : SourceFacts) : Type 0 where
+  pub bytes : List ℕ
+  pub taken : Consumes old.left new.left bytes
+  pub within : length bytes ≤ limit
+  pub not_ended : new.ends ≡ old.ends
+
 -- the bytes came from the input
 abbrev pub IsInput : Origin → Type 0
 IsInput origin.Input = Unit {0}

@@ -4,6 +4,7 @@ use Rattle.std.specs.List.{list_any}
 use Rattle.mc_cap.specs.declared.refusal.RefusedRow.{RefusedRow}
 use Rattle.session_end.specs.declared.end.SessionEnd.{SessionEnd}
 use Rattle.session_end.specs.declared.end.SessionEnd.TheVariants as ending
+use Rattle.peer_stage.specs.declared.outcome.FollowCounts.{FollowCounts}
 use Rattle.peer_stage.specs.declared.outcome.SessionCounts.{SessionCounts}
 use Rattle.peer_stage.specs.declared.outcome.Done.{Done}
 use Rattle.peer_stage.specs.declared.outcome.Done.TheVariants as done
@@ -39,6 +40,12 @@ abbrev pub session_status : Result SessionCounts SessionEnd → ℕ
 session_status (Ok counts) = 0
 session_status (Err end) = end_status end
 
+-- the same of a feed that was followed, and 0 where none was
+abbrev pub followed_status : Option (Result FollowCounts SessionEnd) → ℕ
+followed_status None = 0
+followed_status (Some (Ok counts)) = 0
+followed_status (Some (Err end)) = end_status end
+
 -- 4 where the image was not put, else 0
 abbrev pub put_status : Bool → ℕ
 put_status true = 0
@@ -49,13 +56,15 @@ abbrev pub accept_status : Bool → ℕ
 accept_status true = 0
 accept_status false = 3
 
--- the statuses of what was met on the way to what is done, which stopped nothing
+-- the statuses of what was met on the way to what is done, which stopped nothing; a refused row counts alike whether it
+-- was read in the image, the file of a log, the input, a session or a feed
 abbrev pub statuses_met : Done → List ℕ
 statuses_met (done.Joined counts) = refused_status counts.refused ∷ []
 statuses_met (done.Shown counts) = refused_status counts.refused ∷ []
 statuses_met (done.Met counts) = first_status counts.first ∷ []
-statuses_met (done.Synced s) = session_status s.session ∷ (put_status s.put ∷ (first_status s.first ∷ []))
+statuses_met (done.Synced s) = session_status s.session ∷ (followed_status s.followed ∷ (put_status s.put ∷ (first_status s.first ∷ [])))
 statuses_met (done.Served s) = map session_status s.sessions.items ++ (accept_status s.all_came ∷ (put_status s.put ∷ (first_status s.first ∷ [])))
+statuses_met (done.Watched counts) = first_status counts.first ∷ []
 statuses_met done.Made = []
 
 -- the first of these statuses that was met, 0 where none was

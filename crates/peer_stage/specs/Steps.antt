@@ -21,7 +21,7 @@ abbrev pub Then : {A B : Type 0} → Step A → (A → Step B) → Step B
 Then first next old new (Ok b) = IsPassed first next old new (Ok b)
 Then first next old new (Err e) = first old new (Err e) ⊎ IsPassed first next old new (Err e)
 
--- ---- steps that touch at most one object, whose counts of faults move only where a fault or want of memory is told
+-- ---- steps that touch at most one object, whose counts of faults move only where a fault is told
 
 -- nothing outside is touched
 abbrev pub Inside : {A : Type 0} → (Result A Stop → Type 0) → Step A

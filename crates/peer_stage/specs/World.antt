@@ -21,6 +21,16 @@ pub record NeverFall (old new : World) : Type 0 where
   pub door_faults : old.door.faults ≤ new.door.faults
   pub noise_faults : old.noise.faults ≤ new.noise.faults
 
+-- every object's counts of faults are as before, but for the door's, which did not fall
+pub record UnfailedInside (old new : World) : Type 0 where
+  pub shelf_reads : new.shelf.read_faults ≡ old.shelf.read_faults
+  pub shelf_writes : new.shelf.write_faults ≡ old.shelf.write_faults
+  pub input : new.input.faults ≡ old.input.faults
+  pub output : new.output.faults ≡ old.output.faults
+  pub report : new.report.faults ≡ old.report.faults
+  pub door : old.door.faults ≤ new.door.faults
+  pub noise : new.noise.faults ≡ old.noise.faults
+
 -- every object's counts of faults are as before
 pub record Unfailed (old new : World) : Type 0 where
   pub shelf_reads : new.shelf.read_faults ≡ old.shelf.read_faults

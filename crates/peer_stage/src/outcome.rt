@@ -82,13 +82,49 @@ pub struct SessionCounts {
     pub read: u32,
 }
 
-/// What came of a call: how its session ended, which stops nothing, and whether the image was put behind it.
+/// The numbers of a feed that was read whole behind a session: every row of it, those stored when they came, those that
+/// a row of the log covered, and those that are not authorised.
+#[derive(Clone, Copy)]
+pub struct FollowCounts {
+    /// All rows of the feed.
+    pub read: u32,
+    /// Rows of it that were stored.
+    pub stored: u32,
+    /// Rows of it that a row of the log covered.
+    pub kept: u32,
+    /// Rows of it that are not authorised.
+    pub refused: u32,
+}
+
+/// The numbers of a watch: those of the rows of the input, as in a join, the first row that is not authorised, and how
+/// many watchers left.
+#[derive(Clone, Copy)]
+pub struct WatchCounts {
+    /// All rows of the input.
+    pub rows: u64,
+    /// Authorised rows of the input that no row of the image and no earlier one covered.
+    pub stored: u64,
+    /// Authorised rows of the input that a row of the image or an earlier one covered.
+    pub kept: u64,
+    /// Rows of the input that are not authorised.
+    pub refused: u64,
+    /// The first row that is not authorised, counted over the image and then the input; None where there is none.
+    pub first: Option<RefusedRow>,
+    /// Watchers that left in the run.
+    pub left: u32,
+}
+
+/// What came of a call: how its session ended, which stops nothing, what came of following behind it, and whether the
+/// image was put behind both.
 #[derive(Clone, Copy)]
 pub struct Synced {
     /// The numbers of the session, or how else it ended.
     pub session: Result<SessionCounts, SessionEnd>,
-    /// The first row that is not authorised, counted over the image and then the rows that came; None where there is
-    /// none.
+    /// The numbers of the feed that was read behind the session, or how else the following ended; None where nothing
+    /// was followed.
+    pub followed: Option<Result<FollowCounts, SessionEnd>>,
+    /// The first row that is not authorised, counted over the image, then the rows that came in the session, and then
+    /// those of the feed; None where there is none.
     pub first: Option<RefusedRow>,
     /// Whether the image was put; where it was not, writing failed.
     pub put: bool,
@@ -102,10 +138,14 @@ pub struct Served {
     pub sessions: Vec<Result<SessionCounts, SessionEnd>>,
     /// Whether as many links came as were asked for; where not, accepting one failed.
     pub all_came: bool,
-    /// The first row that is not authorised, counted over the image and then the rows that came, link by link; None
-    /// where there is none.
+    /// The first row that is not authorised, counted over the image, then the file of the log, and then the rows that
+    /// came, link by link; None where there is none.
     pub first: Option<RefusedRow>,
-    /// Whether the image was put; where it was not, writing failed.
+    /// Watchers that left in the run.
+    pub left: u32,
+    /// How many rows the file of the log held when it was last made, opened or written; None where no log was kept.
+    pub kept: Option<u64>,
+    /// Whether the image was put, and with a log every row kept before; where not, writing failed.
     pub put: bool,
 }
 
@@ -123,6 +163,8 @@ pub enum Done {
     Synced(Synced),
     /// Links were served, and the image put or tried to be put.
     Served(Served),
+    /// The rows of the input were told as they came, and the image was put.
+    Watched(WatchCounts),
     /// What was to be made is written; there is nothing to report.
     Made,
 }

@@ -2,7 +2,7 @@
 
 ghost use Rattle.std.specs.Prelude.{◌≡◌};
 ghost use Rattle.peer_stage.specs.Faults.{CountsStep};
-ghost use Rattle.peer_stage.specs.Shelves.{GetsBytes, PutsBytes};
+ghost use Rattle.peer_stage.specs.Shelves.{GetsBytes, PutsBytes, bytes_told};
 
 use crate::outcome::Stop;
 use willow_outside::{Fault, Shelf};
@@ -13,7 +13,18 @@ pub fn get_bytes<H: Shelf>(shelf: &mut H, name: String) -> Result<(String, Vec<u
     ensures read_faults { CountsStep (H.facts shelf.old).read_faults (H.facts shelf.new).read_faults result }
     ensures write_faults { (H.facts shelf.new).write_faults ≡ (H.facts shelf.old).write_faults }
 {
-    match shelf.get(name.as_str()) {
+    let found = shelf.get(name.as_str());
+    tell_bytes(name, found)
+}
+
+// What is told of what the shelf found under the name: want of memory only where the shelf told it.
+fn tell_bytes(
+    name: String,
+    found: Result<Option<Vec<u8>>, Fault>,
+) -> Result<(String, Vec<u8>), Stop>
+    ensures { result ≡ bytes_told name found }
+{
+    match found {
         Ok(Some(bytes)) => Ok((name, bytes)),
         Ok(None) => Err(Stop::Missing { name }),
         Err(Fault::Failed) => Err(Stop::ReadFault),

@@ -1,8 +1,9 @@
 //! The stages that commands share: reading the input and writing the output.
 
-ghost use Rattle.std.specs.Prelude.{◌≤◌, ◌++◌};
+ghost use Rattle.std.specs.Prelude.{◌≤◌, ◌++◌, IsErrOf};
 ghost use Rattle.peer_stage.specs.Faults.{CountsStep};
-ghost use Rattle.peer_stage.specs.Stages.{ReadsInput, WritesOutput};
+ghost use Rattle.peer_stage.specs.declared.outcome.Stop.TheVariants as stop;
+ghost use Rattle.peer_stage.specs.Stages.{IsReadShort, ReadsInput, WritesOutput};
 
 use crate::outcome::Stop;
 use spelling::End;
@@ -12,9 +13,11 @@ use willow_outside::{Fault, ReadEnd, Sink, Source, read_all, write_whole};
 /// The greatest number of bytes that a command takes from the input.
 pub const INPUT_LIMIT: u64 = 4_294_967_295;
 
-/// All of the input, which has at most `limit` bytes. Where it has, or has more, no read failed.
+/// All of the input, which has at most `limit` bytes. Where it has, or has more, no read failed, and want of memory is not
+/// told of it.
 pub fn read_input<I: Source>(alloc: Global, input: &mut I, limit: u64) -> Result<Vec<u8>, Stop>
     ensures reads { ReadsInput limit (I.facts input.old) (I.facts input.new) result }
+    ensures memory { IsErrOf result stop.NoMemory → IsReadShort limit (I.facts input.old) (I.facts input.new) }
     ensures faults { CountsStep (I.facts input.old).faults (I.facts input.new).faults result }
     ensures ends { (I.facts input.old).ends ≤ (I.facts input.new).ends }
 {

@@ -1,14 +1,15 @@
 -- Where want of memory is passed on, memory was asked for.
-use Rattle.std.proofs.Common.{◌≡◌, ℕ, ◌%◌, ◌≤◌, ◌⊎◌, List, length, get_or, drop, Result, Ok, Err, inl, inr, sym, ap, ◌∙◌, subst}
+use Rattle.std.proofs.Common.{◌≡◌, ℕ, ◌%◌, ◌≤◌, ◌⊎◌, List, length, get_or, drop, Option, Some, None, Result, Ok, Err, String, inl, inr, sym, ap, ◌∙◌, subst}
 use Rattle.std.specs.List.{position_or_len}
 use Rattle.std.specs.Result.{IsErrAnd}
 use Rattle.std.proofs.lemmas.Result.{err_from_is_err_and}
+use Rattle.std.specs.declared.alloc.Global.{Global}
 use Rattle.hex.specs.Hex.{decode_of}
 use Rattle.hex.proofs.HexLemmas.{decode_of-ok}
 use Rattle.spelling.specs.declared.ending.End.{End}
 use Rattle.spelling.specs.declared.ending.End.TheVariants.{NoMemory}
 use Rattle.peer_words.specs.Memory.{IsSetAs, PathWordAsks}
-use Rattle.peer_words.specs.Options.{Setting, IsSetTo}
+use Rattle.peer_words.specs.Options.{Setting, IsSetTo, MayBeSet}
 use Rattle.peer_words.specs.Values.{IsName, IsNameWord}
 use Rattle.peer_words.specs.declared.command.Usage.{Usage}
 use Rattle.peer_words.specs.declared.name.Name.{Name}
@@ -36,3 +37,8 @@ path_asks word left n (inl same) some slash end even =
     let front : PathWordAsks left = record { behind = drop 1 left; spelled = front_of left some slash; even = ap (λ (m : ℕ). m % 2) (sym end) ∙ even } in
     subst (λ (w : List ℕ). PathWordAsks w) same front
 path_asks word left n (inr asks) some slash end even = asks
+
+-- where no name is given in a field of its own, none is given
+pub no_name : (settings : List Setting) (name : List ℕ) → ((x : Option Name) → MayBeSet (λ word (n : Name). IsNameWord word n.0) settings name x → ⊥) → (y : Option (String Global)) → MayBeSet IsNameWord settings name y → ⊥
+no_name settings name none None given = none None given
+no_name settings name none (Some y) given = none (Some (record { 0 = y })) given

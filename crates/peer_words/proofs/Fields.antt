@@ -1,5 +1,6 @@
 -- A command of a given word has the fields of that command.
 use Rattle.std.proofs.Common.{ℕ, List, Option, codes, String}
+use Rattle.std.specs.Prelude.{Bool}
 use Rattle.std.specs.declared.alloc.Global.{Global}
 use Rattle.lms_core.specs.declared.height.Height.{Height}
 use Rattle.mc_cap.specs.declared.capability.Mode.{Mode}
@@ -45,16 +46,16 @@ pub of_drill : (P : Command → Type 0) (settings : List Setting) (command : Com
 of_drill P settings (cmd.Drill rows) is found = found rows is.1
 of_drill P settings command is found = absurd (cc is.0)
 
-pub of_meet : (P : Command → Type 0) (settings : List Setting) (command : Command) → IsOf verbs.Meet settings command → ((left : String Global) (right : String Global) (left_cap : String Global) (right_cap : String Global) (left_out : String Global) (right_out : String Global) (area : AreaWords) → HasMeet settings left right left_cap right_cap left_out right_out area → P (cmd.Meet left right left_cap right_cap left_out right_out area)) → P command
-of_meet P settings (cmd.Meet left right left_cap right_cap left_out right_out area) is found = found left right left_cap right_cap left_out right_out area is.1
+pub of_meet : (P : Command → Type 0) (settings : List Setting) (command : Command) → IsOf verbs.Meet settings command → ((left : String Global) (right : String Global) (left_cap : String Global) (right_cap : String Global) (left_out : String Global) (right_out : String Global) (area : AreaWords) (newest bytes : Option ℕ) → HasMeet settings left right left_cap right_cap left_out right_out area newest bytes → P (cmd.Meet left right left_cap right_cap left_out right_out area newest bytes)) → P command
+of_meet P settings (cmd.Meet left right left_cap right_cap left_out right_out area newest bytes) is found = found left right left_cap right_cap left_out right_out area newest bytes is.1
 of_meet P settings command is found = absurd (cc is.0)
 
-pub of_sync : (P : Command → Type 0) (settings : List Setting) (command : Command) → IsOf verbs.Sync settings command → ((image : String Global) (cap : String Global) (key : SignerWord) (to : String Global) (area : AreaWords) → HasSync settings image cap key to area → P (cmd.Sync image cap key to area)) → P command
-of_sync P settings (cmd.Sync image cap key to area) is found = found image cap key to area is.1
+pub of_sync : (P : Command → Type 0) (settings : List Setting) (command : Command) → IsOf verbs.Sync settings command → ((image : String Global) (cap : String Global) (key : SignerWord) (to : String Global) (area : AreaWords) (newest bytes : Option ℕ) (follow : Bool) → HasSync settings image cap key to area newest bytes follow → P (cmd.Sync image cap key to area newest bytes follow)) → P command
+of_sync P settings (cmd.Sync image cap key to area newest bytes follow) is found = found image cap key to area newest bytes follow is.1
 of_sync P settings command is found = absurd (cc is.0)
 
-pub of_serve : (P : Command → Type 0) (settings : List Setting) (command : Command) → IsOf verbs.Serve settings command → ((image : String Global) (cap : String Global) (key : SignerWord) (at : String Global) (links : ℕ) (area : AreaWords) → HasServe settings image cap key at links area → P (cmd.Serve image cap key at links area)) → P command
-of_serve P settings (cmd.Serve image cap key at links area) is found = found image cap key at links area is.1
+pub of_serve : (P : Command → Type 0) (settings : List Setting) (command : Command) → IsOf verbs.Serve settings command → ((image : String Global) (cap : String Global) (key : SignerWord) (at : String Global) (links : ℕ) (area : AreaWords) (newest bytes : Option ℕ) (follow : Bool) (log : Option (String Global)) → HasServe settings image cap key at links area newest bytes follow log → P (cmd.Serve image cap key at links area newest bytes follow log)) → P command
+of_serve P settings (cmd.Serve image cap key at links area newest bytes follow log) is found = found image cap key at links area newest bytes follow log is.1
 of_serve P settings command is found = absurd (cc is.0)
 
 pub of_watch : (P : Command → Type 0) (settings : List Setting) (command : Command) → IsOf verbs.Watch settings command → ((image : String Global) (area : AreaWords) → HasWatch settings image area → P (cmd.Watch image area)) → P command

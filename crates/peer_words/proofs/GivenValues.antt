@@ -1,10 +1,10 @@
 -- What is read of the value behind a name.
-use Rattle.std.proofs.Common.{◌≡◌, ℕ, List, true, false, Option, Some, None, MatchOption, Result, Ok, Err, Bor, sym, subst}
+use Rattle.std.proofs.Common.{◌≡◌, ℕ, Bool, List, true, false, Option, Some, None, MatchOption, Result, Ok, Err, Bor, codes, sym, subst}
 use Rattle.std.specs.Option.{is_some}
 use Rattle.std.proofs.lemmas.Bool.{false≢true}
 use Rattle.spelling.specs.declared.ending.End.{End}
 use Rattle.spelling.specs.declared.ending.End.TheVariants.{Refused, NoMemory}
-use Rattle.peer_words.specs.Options.{Setting, HaveOwnNames, IsSet, IsSetTo, MayBeSet}
+use Rattle.peer_words.specs.Options.{Setting, HaveOwnNames, IsSet, IsSetTo, MayBeSet, IsAsked}
 use Rattle.peer_words.specs.Words.{Reads}
 use Rattle.peer_words.specs.declared.command.Usage.{Usage}
 use Rattle.peer_words.proofs.SetOnce.{one_word}
@@ -46,3 +46,14 @@ pub may_give_nothing : {A : Type 0} (P : List ℕ → A → Type 0) (settings : 
     → ((x : A) → P value x → ⊥) → (y : Option A) → MayBeSet P settings name y → ⊥
 may_give_nothing P settings name value is only none None may = may value is
 may_give_nothing P settings name value is only none (Some x) gives = none x (subst (λ (word : List ℕ). P word x) (only gives.0 gives.1) gives.2)
+
+-- ---- whether a name stands, with the value `yes`
+
+pub yes_asked : (settings : List Setting) (name value : List ℕ) → IsSet settings name value → value ≡ codes "yes" → IsSet settings name (codes "yes")
+yes_asked settings name value is same = subst (λ (word : List ℕ). IsSet settings name word) same is
+
+-- another value says nothing
+pub other_asked : (settings : List Setting) (name value : List ℕ) → IsSet settings name value → ((word : List ℕ) → IsSet settings name word → word ≡ value) → (value ≡ codes "yes" → ⊥)
+    → (asked : Bool) → IsAsked settings name asked → ⊥
+other_asked settings name value is only other true asks = other (sym (only (codes "yes") asks))
+other_asked settings name value is only other false none = none value is

@@ -12,10 +12,10 @@ use Rattle.mc_cap.specs.declared.capability.Mode.TheVariants as mode
 use Rattle.scheme_core.specs.Open.{is_communal}
 use Rattle.willow_path.specs.declared.key.Digest.{Digest}
 use Rattle.peer_words.specs.declared.limits.TheConstants.{MOST_LINKS, MOST_ROWS}
-use Rattle.peer_words.specs.Alike.{AreSameText, AreSameSigner, AreSameIfAny, AreAlike}
+use Rattle.peer_words.specs.Alike.{AreSameText, AreSameSigner, AreSameIfAny, AreSameTextIfAny, AreAlike}
 use Rattle.peer_words.specs.Areas.{HasArea}
-use Rattle.peer_words.specs.Commands.{verb_of, HasGrant, HasValues, IsOf, IsWords}
-use Rattle.peer_words.specs.Options.{Setting, HaveOwnNames, IsSetTo, MayBeSet}
+use Rattle.peer_words.specs.Commands.{verb_of, HasGrant, HasInterest, HasValues, IsOf, IsWords}
+use Rattle.peer_words.specs.Options.{Setting, HaveOwnNames, IsSetTo, MayBeSet, IsAsked}
 use Rattle.peer_words.specs.Signers.{IsSignerWord}
 use Rattle.peer_words.specs.Values.{IsKeyWord, IsAnyOrKey, IsDigestWord, IsNumber, IsNumberOrNone, IsNumberWithin, IsCount, IsLinks, IsNameWord, IsPlaceWord, IsHeight, IsMode, AreParts, IsPathWord}
 use Rattle.peer_words.specs.declared.command.AreaWords.{AreaWords}
@@ -145,6 +145,24 @@ signer_if_there settings own name None (Some y) a b = a b.0 b.1
 signer_if_there settings own name (Some x) None a b = b a.0 a.1
 signer_if_there settings own name (Some x) (Some y) a b = signer_there settings own name x y a b
 
+name_if_there : (settings : List Setting) → HaveOwnNames settings → (name : List ℕ) (x y : Option (String Global)) → MayBeSet IsNameWord settings name x → MayBeSet IsNameWord settings name y → AreSameTextIfAny x y
+name_if_there settings own name None None a b = tt
+name_if_there settings own name None (Some y) a b = a b.0 b.1
+name_if_there settings own name (Some x) None a b = b a.0 a.1
+name_if_there settings own name (Some x) (Some y) a b = name_there settings own name x y a b
+
+one_newest : (settings : List Setting) → HaveOwnNames settings → (x y bytes others : Option ℕ) → HasInterest settings x bytes → HasInterest settings y others → x ≡ y
+one_newest settings own x y bytes others a b = may_give_one IsCount (one_within 1 MOST_ROWS) settings own (codes "--newest") x y a.newest_given b.newest_given
+
+one_bytes : (settings : List Setting) → HaveOwnNames settings → (newest others x y : Option ℕ) → HasInterest settings newest x → HasInterest settings others y → x ≡ y
+one_bytes settings own newest others x y a b = may_give_one IsNumber one_number settings own (codes "--bytes") x y a.bytes_given b.bytes_given
+
+one_asked : (settings : List Setting) (name : List ℕ) (x y : Bool) → IsAsked settings name x → IsAsked settings name y → x ≡ y
+one_asked settings name true true a b = refl
+one_asked settings name false false a b = refl
+one_asked settings name true false a b = absurd (b (codes "yes") a)
+one_asked settings name false true a b = absurd (a (codes "yes") b)
+
 not_itself : (b : Bool) → b ≡ not b → ⊥
 not_itself true same = false≢true (sym same)
 not_itself false same = false≢true same
@@ -190,29 +208,38 @@ alike s own (cmd.Write k p t n d r) other has is = of_write (AreAlike (cmd.Write
 ))
 alike s own (cmd.Gen a) other has is = of_generate (AreAlike (cmd.Gen a)) s other is (λ b had. gives_one IsCount (one_within 1 MOST_ROWS) s own (codes "--rows") a b has had)
 alike s own (cmd.Drill a) other has is = of_drill (AreAlike (cmd.Drill a)) s other is (λ b had. gives_one IsCount (one_within 1 MOST_ROWS) s own (codes "--rows") a b has had)
-alike s own (cmd.Meet a b c d e f g) other has is = of_meet (AreAlike (cmd.Meet a b c d e f g)) s other is (λ h i j k l m n had. (
+alike s own (cmd.Meet a b c d e f g n o) other has is = of_meet (AreAlike (cmd.Meet a b c d e f g n o)) s other is (λ h i j k l m p q r had. (
   name_there s own (codes "--left") a h has.left_given had.left_given,
   name_there s own (codes "--right") b i has.right_given had.right_given,
   name_there s own (codes "--left-cap") c j has.left_cap_given had.left_cap_given,
   name_there s own (codes "--right-cap") d k has.right_cap_given had.right_cap_given,
   name_there s own (codes "--left-out") e l has.left_out_given had.left_out_given,
   name_there s own (codes "--right-out") f m has.right_out_given had.right_out_given,
-  one_area s own g n has.area_given had.area_given,
+  one_area s own g p has.area_given had.area_given,
+  one_newest s own n q o r has.interest_given had.interest_given,
+  one_bytes s own n q o r has.interest_given had.interest_given,
 ))
-alike s own (cmd.Sync a b c d e) other has is = of_sync (AreAlike (cmd.Sync a b c d e)) s other is (λ f g h i j had. (
+alike s own (cmd.Sync a b c d e n o u) other has is = of_sync (AreAlike (cmd.Sync a b c d e n o u)) s other is (λ f g h i j q r v had. (
   name_there s own (codes "--image") a f has.image_given had.image_given,
   name_there s own (codes "--cap") b g has.cap_given had.cap_given,
   signer_there s own (codes "--key") c h has.key_given had.key_given,
   place_there s own (codes "--to") d i has.to_given had.to_given,
   one_area s own e j has.area_given had.area_given,
+  one_newest s own n q o r has.interest_given had.interest_given,
+  one_bytes s own n q o r has.interest_given had.interest_given,
+  one_asked s (codes "--follow") u v has.follow_given had.follow_given,
 ))
-alike s own (cmd.Serve a b c d e f) other has is = of_serve (AreAlike (cmd.Serve a b c d e f)) s other is (λ g h i j k l had. (
+alike s own (cmd.Serve a b c d e f n o u w) other has is = of_serve (AreAlike (cmd.Serve a b c d e f n o u w)) s other is (λ g h i j k l q r v x had. (
   name_there s own (codes "--image") a g has.image_given had.image_given,
   name_there s own (codes "--cap") b h has.cap_given had.cap_given,
   signer_there s own (codes "--key") c i has.key_given had.key_given,
   place_there s own (codes "--at") d j has.at_given had.at_given,
   gives_one IsLinks (one_within 1 MOST_LINKS) s own (codes "--links") e k has.links_given had.links_given,
   one_area s own f l has.area_given had.area_given,
+  one_newest s own n q o r has.interest_given had.interest_given,
+  one_bytes s own n q o r has.interest_given had.interest_given,
+  one_asked s (codes "--follow") u v has.follow_given had.follow_given,
+  name_if_there s own (codes "--log") w x has.log_given had.log_given,
 ))
 alike s own (cmd.Watch a b) other has is = of_watch (AreAlike (cmd.Watch a b)) s other is (λ c d had. (
   name_there s own (codes "--image") a c has.image_given had.image_given,

@@ -24,6 +24,13 @@ AreSameIfAny (Some a) (Some b) = AreSameSigner a b
 AreSameIfAny None (Some b) = ⊥
 AreSameIfAny (Some a) None = ⊥
 
+-- the same text, or none twice
+abbrev pub AreSameTextIfAny : Option (String Global) → Option (String Global) → Type 0
+AreSameTextIfAny None None = Unit {0}
+AreSameTextIfAny (Some a) (Some b) = AreSameText a b
+AreSameTextIfAny None (Some b) = ⊥
+AreSameTextIfAny (Some a) None = ⊥
+
 -- the same command, with the same fields
 abbrev pub AreAlike : Command → Command → Type 0
 AreAlike (cmd.Join a) (cmd.Join b) = a ≡ b
@@ -34,10 +41,11 @@ AreAlike (cmd.Delegate k u a) (cmd.Delegate l v b) = AreSameSigner k l × (u ≡
 AreAlike (cmd.Write k p t n d s) (cmd.Write l q u m e r) = AreSameSigner k l × (p ≡ q) × (t ≡ u) × (n ≡ m) × (d ≡ e) × (s ≡ r)
 AreAlike (cmd.Gen a) (cmd.Gen b) = a ≡ b
 AreAlike (cmd.Drill a) (cmd.Drill b) = a ≡ b
-AreAlike (cmd.Meet a b c d e f g) (cmd.Meet h i j k l m n) =
-    AreSameText a h × AreSameText b i × AreSameText c j × AreSameText d k × AreSameText e l × AreSameText f m × (g ≡ n)
-AreAlike (cmd.Sync a b c d e) (cmd.Sync f g h i j) = AreSameText a f × AreSameText b g × AreSameSigner c h × AreSameText d i × (e ≡ j)
-AreAlike (cmd.Serve a b c d e f) (cmd.Serve g h i j k l) =
-    AreSameText a g × AreSameText b h × AreSameSigner c i × AreSameText d j × (e ≡ k) × (f ≡ l)
+AreAlike (cmd.Meet a b c d e f g n o) (cmd.Meet h i j k l m p q r) =
+    AreSameText a h × AreSameText b i × AreSameText c j × AreSameText d k × AreSameText e l × AreSameText f m × (g ≡ p) × (n ≡ q) × (o ≡ r)
+AreAlike (cmd.Sync a b c d e n o s) (cmd.Sync f g h i j q r t) =
+    AreSameText a f × AreSameText b g × AreSameSigner c h × AreSameText d i × (e ≡ j) × (n ≡ q) × (o ≡ r) × (s ≡ t)
+AreAlike (cmd.Serve a b c d e f n o s u) (cmd.Serve g h i j k l q r t v) =
+    AreSameText a g × AreSameText b h × AreSameSigner c i × AreSameText d j × (e ≡ k) × (f ≡ l) × (n ≡ q) × (o ≡ r) × (s ≡ t) × AreSameTextIfAny u v
 AreAlike (cmd.Watch a b) (cmd.Watch c d) = AreSameText a c × (b ≡ d)
 AreAlike one other = ⊥

@@ -1,5 +1,5 @@
 -- Which words are which command.
-use Rattle.std.specs.Prelude.{◌≡◌, ◌≢◌, ℕ, List, ◌∷◌, Option, Some, is_some, not, Result, codes, String}
+use Rattle.std.specs.Prelude.{◌≡◌, ◌≢◌, ℕ, Bool, List, ◌∷◌, Option, Some, is_some, not, Result, codes, String}
 use Rattle.std.specs.declared.alloc.Global.{Global}
 use Rattle.spelling.specs.declared.ending.End.{End}
 use Rattle.lms_core.specs.declared.height.Height.{Height}
@@ -7,7 +7,7 @@ use Rattle.mc_cap.specs.declared.capability.Mode.{Mode}
 use Rattle.scheme_core.specs.Open.{is_communal}
 use Rattle.willow_path.specs.declared.key.Digest.{Digest}
 use Rattle.peer_words.specs.Areas.{HasArea}
-use Rattle.peer_words.specs.Options.{Setting, IsSpelled, IsSetTo, MayBeSet}
+use Rattle.peer_words.specs.Options.{Setting, IsSpelled, IsSetTo, MayBeSet, IsAsked}
 use Rattle.peer_words.specs.Signers.{IsSignerWord}
 use Rattle.peer_words.specs.Values.{IsKeyWord, IsCount, IsLinks, IsNumber, IsDigestWord, IsNameWord, IsPlaceWord, IsHeight, IsMode, IsPathWord}
 use Rattle.peer_words.specs.Verbs.{verb_at, names_of}
@@ -30,9 +30,9 @@ verb_of (cmd.Delegate key to area) = verbs.Delegate
 verb_of (cmd.Write key path time length digest subspace) = verbs.Write
 verb_of (cmd.Gen rows) = verbs.Gen
 verb_of (cmd.Drill rows) = verbs.Drill
-verb_of (cmd.Meet left right left_cap right_cap left_out right_out area) = verbs.Meet
-verb_of (cmd.Sync image cap key to area) = verbs.Sync
-verb_of (cmd.Serve image cap key at links area) = verbs.Serve
+verb_of (cmd.Meet left right left_cap right_cap left_out right_out area newest bytes) = verbs.Meet
+verb_of (cmd.Sync image cap key to area newest bytes follow) = verbs.Sync
+verb_of (cmd.Serve image cap key at links area newest bytes follow log) = verbs.Serve
 verb_of (cmd.Watch image area) = verbs.Watch
 
 -- a new key file
@@ -63,8 +63,13 @@ pub record HasWrite (settings : List Setting) (key : SignerWord) (path : List (L
   pub digest_given : IsSetTo IsDigestWord settings (codes "--digest") digest
   pub subspace_given : MayBeSet IsKeyWord settings (codes "--subspace") subspace
 
+-- How much is offered: the newest rows, so many at most, and the bytes of their payloads together.
+pub record HasInterest (settings : List Setting) (newest bytes : Option ℕ) : Type 0 where
+  pub newest_given : MayBeSet IsCount settings (codes "--newest") newest
+  pub bytes_given : MayBeSet IsNumber settings (codes "--bytes") bytes
+
 -- two images that meet
-pub record HasMeet (settings : List Setting) (left right left_cap right_cap left_out right_out : String Global) (area : AreaWords) : Type 0 where
+pub record HasMeet (settings : List Setting) (left right left_cap right_cap left_out right_out : String Global) (area : AreaWords) (newest bytes : Option ℕ) : Type 0 where
   pub left_given : IsSetTo IsNameWord settings (codes "--left") left
   pub right_given : IsSetTo IsNameWord settings (codes "--right") right
   pub left_cap_given : IsSetTo IsNameWord settings (codes "--left-cap") left_cap
@@ -72,23 +77,29 @@ pub record HasMeet (settings : List Setting) (left right left_cap right_cap left
   pub left_out_given : IsSetTo IsNameWord settings (codes "--left-out") left_out
   pub right_out_given : IsSetTo IsNameWord settings (codes "--right-out") right_out
   pub area_given : HasArea settings area
+  pub interest_given : HasInterest settings newest bytes
 
 -- a session as caller
-pub record HasSync (settings : List Setting) (image cap : String Global) (key : SignerWord) (to : String Global) (area : AreaWords) : Type 0 where
+pub record HasSync (settings : List Setting) (image cap : String Global) (key : SignerWord) (to : String Global) (area : AreaWords) (newest bytes : Option ℕ) (follow : Bool) : Type 0 where
   pub image_given : IsSetTo IsNameWord settings (codes "--image") image
   pub cap_given : IsSetTo IsNameWord settings (codes "--cap") cap
   pub key_given : IsSetTo IsSignerWord settings (codes "--key") key
   pub to_given : IsSetTo IsPlaceWord settings (codes "--to") to
   pub area_given : HasArea settings area
+  pub interest_given : HasInterest settings newest bytes
+  pub follow_given : IsAsked settings (codes "--follow") follow
 
 -- sessions as answerer
-pub record HasServe (settings : List Setting) (image cap : String Global) (key : SignerWord) (at : String Global) (links : ℕ) (area : AreaWords) : Type 0 where
+pub record HasServe (settings : List Setting) (image cap : String Global) (key : SignerWord) (at : String Global) (links : ℕ) (area : AreaWords) (newest bytes : Option ℕ) (follow : Bool) (log : Option (String Global)) : Type 0 where
   pub image_given : IsSetTo IsNameWord settings (codes "--image") image
   pub cap_given : IsSetTo IsNameWord settings (codes "--cap") cap
   pub key_given : IsSetTo IsSignerWord settings (codes "--key") key
   pub at_given : IsSetTo IsPlaceWord settings (codes "--at") at
   pub links_given : IsSetTo IsLinks settings (codes "--links") links
   pub area_given : HasArea settings area
+  pub interest_given : HasInterest settings newest bytes
+  pub follow_given : IsAsked settings (codes "--follow") follow
+  pub log_given : MayBeSet IsNameWord settings (codes "--log") log
 
 -- Rows of an area that are told as they come. The area's times do not end at 0.
 pub record HasWatch (settings : List Setting) (image : String Global) (area : AreaWords) : Type 0 where
@@ -106,9 +117,9 @@ HasValues settings (cmd.Delegate key to area) = HasDelegate settings key to area
 HasValues settings (cmd.Write key path time length digest subspace) = HasWrite settings key path time length digest subspace
 HasValues settings (cmd.Gen rows) = IsSetTo IsCount settings (codes "--rows") rows
 HasValues settings (cmd.Drill rows) = IsSetTo IsCount settings (codes "--rows") rows
-HasValues settings (cmd.Meet left right left_cap right_cap left_out right_out area) = HasMeet settings left right left_cap right_cap left_out right_out area
-HasValues settings (cmd.Sync image cap key to area) = HasSync settings image cap key to area
-HasValues settings (cmd.Serve image cap key at links area) = HasServe settings image cap key at links area
+HasValues settings (cmd.Meet left right left_cap right_cap left_out right_out area newest bytes) = HasMeet settings left right left_cap right_cap left_out right_out area newest bytes
+HasValues settings (cmd.Sync image cap key to area newest bytes follow) = HasSync settings image cap key to area newest bytes follow
+HasValues settings (cmd.Serve image cap key at links area newest bytes follow log) = HasServe settings image cap key at links area newest bytes follow log
 HasValues settings (cmd.Watch image area) = HasWatch settings image area
 
 -- it is this command, with what the options give

@@ -1,10 +1,10 @@
 -- Where reading words asks for memory.
-use Rattle.std.specs.Prelude.{◌≡◌, ℕ, ◌%◌, ◌==◌, ◌⊎◌, List, ◌∷◌, ◌++◌, Option, Some, codes}
+use Rattle.std.specs.Prelude.{◌≡◌, ℕ, ◌%◌, ◌==◌, ◌⊎◌, Bool, List, ◌∷◌, ◌++◌, Option, Some, codes}
 use Rattle.std.specs.List.{position_or_len}
 use Rattle.peer_words.specs.Areas.{AreRising}
-use Rattle.peer_words.specs.Options.{Setting, IsSpelled, IsSet, IsSetTo, MayBeSet}
+use Rattle.peer_words.specs.Options.{Setting, IsSpelled, IsSet, IsSetTo, MayBeSet, IsAsked}
 use Rattle.peer_words.specs.Signers.{IsSignerWord}
-use Rattle.peer_words.specs.Values.{IsKeyWord, IsAnyOrKey, IsNumber, IsNumberOrNone, IsLinks, IsDigestWord, IsName, IsHeight, IsMode}
+use Rattle.peer_words.specs.Values.{IsKeyWord, IsAnyOrKey, IsNumber, IsNumberOrNone, IsCount, IsLinks, IsDigestWord, IsName, IsHeight, IsMode}
 use Rattle.peer_words.specs.Verbs.{verb_at, names_of}
 use Rattle.peer_words.specs.declared.verb.Verb.{Verb}
 use Rattle.peer_words.specs.declared.verb.Verb.TheVariants as verbs
@@ -51,6 +51,14 @@ pub record AreaWordsAsk (settings : List Setting) : Type 0 where
 abbrev pub SignerWordAsksOr : List Setting → Type 0 → Type 0
 SignerWordAsksOr settings more = IsSetAs SignerWordAsks settings (codes "--key") ⊎ (IsGiven IsSignerWord settings (codes "--key") × more)
 
+-- how much is offered is as it should be, and needs no memory
+abbrev pub InterestMayBeGiven : List Setting → Type 0
+InterestMayBeGiven settings = MayBeGiven IsCount settings (codes "--newest") × MayBeGiven IsNumber settings (codes "--bytes")
+
+-- so is whether it follows
+abbrev pub FollowMayBeGiven : List Setting → Type 0
+FollowMayBeGiven settings = (follow : Bool) × IsAsked settings (codes "--follow") follow
+
 -- ---- each command
 
 -- a new key file asks for its name, behind its height
@@ -73,9 +81,17 @@ WriteAsks settings =
     IsGiven IsNumber settings (codes "--time") × IsGiven IsNumber settings (codes "--length") × IsGiven IsDigestWord settings (codes "--digest")
     × MayBeGiven IsKeyWord settings (codes "--subspace") × SignerWordAsksOr settings (IsSetAs PathWordAsks settings (codes "--path"))
 
--- sessions as answerer ask for the name of their image, behind the number of links
+-- two images that meet ask for the name of the left one, behind how much is offered
+abbrev pub MeetAsks : List Setting → Type 0
+MeetAsks settings = InterestMayBeGiven settings × IsSetAs IsName settings (codes "--left")
+
+-- a session as caller asks for the name of its image, behind how much is offered and whether it follows
+abbrev pub SyncAsks : List Setting → Type 0
+SyncAsks settings = InterestMayBeGiven settings × FollowMayBeGiven settings × IsSetAs IsName settings (codes "--image")
+
+-- sessions as answerer ask for the name of their image, behind the number of links and what a caller says before
 abbrev pub ServeAsks : List Setting → Type 0
-ServeAsks settings = IsGiven IsLinks settings (codes "--links") × IsSetAs IsName settings (codes "--image")
+ServeAsks settings = IsGiven IsLinks settings (codes "--links") × SyncAsks settings
 
 -- What the options of a command give before memory is asked for, and what then asks. Some commands never ask.
 abbrev pub AsksOf : Verb → List Setting → Type 0
@@ -87,8 +103,8 @@ AsksOf verbs.Delegate settings = DelegateAsks settings
 AsksOf verbs.Write settings = WriteAsks settings
 AsksOf verbs.Gen settings = ⊥
 AsksOf verbs.Drill settings = ⊥
-AsksOf verbs.Meet settings = IsSetAs IsName settings (codes "--left")
-AsksOf verbs.Sync settings = IsSetAs IsName settings (codes "--image")
+AsksOf verbs.Meet settings = MeetAsks settings
+AsksOf verbs.Sync settings = SyncAsks settings
 AsksOf verbs.Serve settings = ServeAsks settings
 AsksOf verbs.Watch settings = IsSetAs IsName settings (codes "--image")
 

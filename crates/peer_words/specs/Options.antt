@@ -1,5 +1,5 @@
 -- Options: pairs of words, a name and a value, behind the word of a command.
-use Rattle.std.specs.Prelude.{◌≡◌, ◌≢◌, ℕ, ◌<◌, List, [], ◌∷◌, length, slice_index, Option, Some, None, All, AllPairs, Contains, flat_map}
+use Rattle.std.specs.Prelude.{◌≡◌, ◌≢◌, ℕ, ◌<◌, Bool, true, false, List, [], ◌∷◌, length, slice_index, Option, Some, None, All, AllPairs, Contains, codes, flat_map}
 
 -- an option that is set: its name and its value
 pub record Setting : Type 0 where
@@ -42,3 +42,8 @@ IsSetTo P settings name x = (word : List ℕ) × IsSet settings name word × P w
 abbrev pub MayBeSet : {A : Type 0} → (List ℕ → A → Type 0) → List Setting → List ℕ → Option A → Type 0
 MayBeSet P settings name None = (word : List ℕ) → IsSet settings name word → ⊥
 MayBeSet P settings name (Some x) = IsSetTo P settings name x
+
+-- whether the name stands: its value is then `yes`
+abbrev pub IsAsked : List Setting → List ℕ → Bool → Type 0
+IsAsked settings name true = IsSet settings name (codes "yes")
+IsAsked settings name false = (word : List ℕ) → IsSet settings name word → ⊥

@@ -24,9 +24,17 @@ verb_at word =
 abbrev pub area_names : List (List ℕ)
 area_names = codes "--subspace" ∷ codes "--under" ∷ codes "--from" ∷ codes "--until" ∷ []
 
+-- the options that say how much is offered
+abbrev pub interest_names : List (List ℕ)
+interest_names = codes "--newest" ∷ codes "--bytes" ∷ []
+
 -- the options of `meet` that name its files
 abbrev pub meet_names : List (List ℕ)
 meet_names = codes "--left" ∷ codes "--right" ∷ codes "--left-cap" ∷ codes "--right-cap" ∷ codes "--left-out" ∷ codes "--right-out" ∷ []
+
+-- the options of `serve`, but for those that say an area and how much is offered
+abbrev pub serve_names : List (List ℕ)
+serve_names = codes "--image" ∷ codes "--cap" ∷ codes "--key" ∷ codes "--at" ∷ codes "--links" ∷ codes "--follow" ∷ codes "--log" ∷ []
 
 -- the options of each command
 abbrev pub names_of : Verb → List (List ℕ)
@@ -38,7 +46,7 @@ names_of Delegate = codes "--key" ∷ codes "--to" ∷ area_names
 names_of Write = codes "--key" ∷ codes "--path" ∷ codes "--time" ∷ codes "--length" ∷ codes "--digest" ∷ codes "--subspace" ∷ []
 names_of Gen = codes "--rows" ∷ []
 names_of Drill = codes "--rows" ∷ []
-names_of Meet = meet_names ++ area_names
-names_of Sync = codes "--image" ∷ codes "--cap" ∷ codes "--key" ∷ codes "--to" ∷ area_names
-names_of Serve = codes "--image" ∷ codes "--cap" ∷ codes "--key" ∷ codes "--at" ∷ codes "--links" ∷ area_names
+names_of Meet = meet_names ++ (interest_names ++ area_names)
+names_of Sync = codes "--image" ∷ codes "--cap" ∷ codes "--key" ∷ codes "--to" ∷ codes "--follow" ∷ (interest_names ++ area_names)
+names_of Serve = serve_names ++ (interest_names ++ area_names)
 names_of Watch = codes "--image" ∷ area_names

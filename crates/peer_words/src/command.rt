@@ -82,7 +82,9 @@ pub enum Command {
     Drill {
         rows: u32,
     },
-    /// Lets two images meet: their names, those of the capabilities, and those of the new images.
+    /// Lets two images meet: their names, those of the capabilities, and those of the new images. Each side offers
+    /// only the newest rows of the area, from 1 to 65,536 of them at most, whose payloads have at most so many bytes
+    /// together; a limit that is None limits nothing.
     Meet {
         left: String,
         right: String,
@@ -91,17 +93,25 @@ pub enum Command {
         left_out: String,
         right_out: String,
         area: AreaWords,
+        newest: Option<u32>,
+        bytes: Option<u64>,
     },
     /// Calls a peer at a place, with an image and a capability of these names, and a signer that is meant to be
-    /// the receiver of the capability.
+    /// the receiver of the capability. What it offers is limited as in `Meet`. Where it follows, it takes what came
+    /// into the peer's log since, behind the session.
     Sync {
         image: String,
         cap: String,
         key: SignerWord,
         to: String,
         area: AreaWords,
+        newest: Option<u32>,
+        bytes: Option<u64>,
+        follow: bool,
     },
-    /// Answers so many peers, from 1 to 64, at a place; image, capability and signer are as in `Sync`.
+    /// Answers so many peers, from 1 to 64, at a place; image, capability, signer and limits are as in `Sync`. Where it
+    /// follows, it gives each peer what came into its log since, behind the session. Where there is a log, rows are kept
+    /// in the file of this name as they come.
     Serve {
         image: String,
         cap: String,
@@ -109,6 +119,10 @@ pub enum Command {
         at: String,
         links: u32,
         area: AreaWords,
+        newest: Option<u32>,
+        bytes: Option<u64>,
+        follow: bool,
+        log: Option<String>,
     },
     /// Tells the rows of an area of an image of this name as they come. The times of the area do not end at 0.
     Watch {

@@ -3,7 +3,7 @@
 ghost use Rattle.std.specs.Prelude.{◌≡◌, ℕ, List, MatchBool, MatchOption, IsErrOf};
 ghost use Rattle.spelling.specs.declared.ending.End.TheVariants as ends;
 ghost use Rattle.peer_words.specs.Memory.{IsSetAs};
-ghost use Rattle.peer_words.specs.Options.{Setting, IsValue, HaveOwnNames, AreSettings, IsSpelled, IsSet, IsSetTo, MayBeSet};
+ghost use Rattle.peer_words.specs.Options.{Setting, IsValue, HaveOwnNames, AreSettings, IsSpelled, IsSet, IsSetTo, MayBeSet, IsAsked};
 ghost use Rattle.peer_words.specs.Pairs.{settings_of};
 ghost use Rattle.peer_words.specs.Verbs.{names_of};
 ghost use Rattle.peer_words.specs.Words.{texts, Reads};
@@ -88,6 +88,22 @@ impl<'a> Options<'a> {
         match self.value_of(name) {
             Some(word) => Ok(Some(T::of_word(alloc, word)?)),
             None => Ok(None),
+        }
+    }
+
+    /// Whether the name stands; refused where its value is not `yes`.
+    pub(crate) fn asked(&self, name: &str) -> Result<bool, End<Usage>>
+        ensures reads { Reads (IsAsked self.now name.now) result }
+        ensures no_memory { IsErrOf result ends.NoMemory → ⊥ }
+    {
+        match self.value_of(name) {
+            Some(word) => {
+                if word == "yes" {
+                    return Ok(true);
+                }
+                Err(End::Refused(Usage))
+            }
+            None => Ok(false),
         }
     }
 }

@@ -1,9 +1,11 @@
 //! Words to commands.
 
-ghost use Rattle.std.specs.Prelude.{◌≡◌, List, not, IsErrOf};
+ghost use Rattle.std.specs.Prelude.{◌≡◌, List, codes, not, IsErrOf};
 ghost use Rattle.spelling.specs.declared.ending.End.TheVariants as ends;
 ghost use Rattle.peer_words.specs.Commands.{IsOf, ReadsWords};
 ghost use Rattle.peer_words.specs.Memory.{AskForMemory, AsksOf};
+ghost use Rattle.peer_words.specs.Options.{MayBeSet};
+ghost use Rattle.peer_words.specs.Values.{IsNameWord};
 ghost use Rattle.peer_words.specs.Words.{Reads, texts};
 ghost use Rattle.peer_words.specs.declared.verb.Verb.TheVariants as verbs;
 
@@ -157,6 +159,8 @@ fn meet(alloc: Global, options: &Options) -> Result<Command, End<Usage>>
     ensures reads { Reads (IsOf verbs.Meet options.now) result }
     ensures asked { IsErrOf result ends.NoMemory → AsksOf verbs.Meet options.now }
 {
+    let newest = options.given_if::<u32>(alloc, "--newest")?;
+    let bytes = options.given_if::<u64>(alloc, "--bytes")?;
     let left = options.given::<Name>(alloc, "--left")?.0;
     let right = options.given::<Name>(alloc, "--right")?.0;
     let left_cap = options.given::<Name>(alloc, "--left-cap")?.0;
@@ -172,6 +176,8 @@ fn meet(alloc: Global, options: &Options) -> Result<Command, End<Usage>>
         left_out,
         right_out,
         area,
+        newest,
+        bytes,
     })
 }
 
@@ -179,6 +185,9 @@ fn sync(alloc: Global, options: &Options) -> Result<Command, End<Usage>>
     ensures reads { Reads (IsOf verbs.Sync options.now) result }
     ensures asked { IsErrOf result ends.NoMemory → AsksOf verbs.Sync options.now }
 {
+    let newest = options.given_if::<u32>(alloc, "--newest")?;
+    let bytes = options.given_if::<u64>(alloc, "--bytes")?;
+    let follow = options.asked("--follow")?;
     let image = options.given::<Name>(alloc, "--image")?.0;
     let cap = options.given::<Name>(alloc, "--cap")?.0;
     let key = options.given::<SignerWord>(alloc, "--key")?;
@@ -190,6 +199,9 @@ fn sync(alloc: Global, options: &Options) -> Result<Command, End<Usage>>
         key,
         to,
         area,
+        newest,
+        bytes,
+        follow,
     })
 }
 
@@ -198,10 +210,14 @@ fn serve(alloc: Global, options: &Options) -> Result<Command, End<Usage>>
     ensures asked { IsErrOf result ends.NoMemory → AsksOf verbs.Serve options.now }
 {
     let links = options.given::<Links>(alloc, "--links")?.0;
+    let newest = options.given_if::<u32>(alloc, "--newest")?;
+    let bytes = options.given_if::<u64>(alloc, "--bytes")?;
+    let follow = options.asked("--follow")?;
     let image = options.given::<Name>(alloc, "--image")?.0;
     let cap = options.given::<Name>(alloc, "--cap")?.0;
     let key = options.given::<SignerWord>(alloc, "--key")?;
     let at = options.given::<Place>(alloc, "--at")?.0;
+    let log = log_of(alloc, options)?;
     let area = area_of(alloc, options)?;
     Ok(Command::Serve {
         image,
@@ -210,7 +226,21 @@ fn serve(alloc: Global, options: &Options) -> Result<Command, End<Usage>>
         at,
         links,
         area,
+        newest,
+        bytes,
+        follow,
+        log,
     })
+}
+
+// The name of a log's file, where one is given.
+fn log_of(alloc: Global, options: &Options) -> Result<Option<String>, End<Usage>>
+    ensures { Reads (MayBeSet IsNameWord options.now (codes "--log")) result }
+{
+    match options.given_if::<Name>(alloc, "--log")? {
+        Some(name) => Ok(Some(name.0)),
+        None => Ok(None),
+    }
 }
 
 fn watch(alloc: Global, options: &Options) -> Result<Command, End<Usage>>

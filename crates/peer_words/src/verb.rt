@@ -3,7 +3,7 @@
 ghost use Rattle.std.specs.Prelude.{◌≡◌};
 ghost use Rattle.std.specs.List.{list_any};
 ghost use Rattle.std.specs.Str.{bytes_eq};
-ghost use Rattle.peer_words.specs.Verbs.{verb_at, area_names, meet_names, names_of};
+ghost use Rattle.peer_words.specs.Verbs.{verb_at, area_names, interest_names, meet_names, serve_names, names_of};
 ghost use Rattle.peer_words.specs.declared.verb.Verb.TheVariants as verbs;
 
 /// Which command the words ask for.
@@ -58,14 +58,15 @@ impl Verb {
             Verb::Write => is_write_option(name),
             Verb::Gen => ["--rows"].contains(&name),
             Verb::Drill => ["--rows"].contains(&name),
-            Verb::Meet => is_meet_option(name) || is_area_option(name),
+            Verb::Meet => {
+                is_meet_option(name) || (is_interest_option(name) || is_area_option(name))
+            }
             Verb::Sync => {
-                ["--image", "--cap", "--key", "--to"].contains(&name) || is_area_option(name)
+                ["--image", "--cap", "--key", "--to", "--follow"].contains(&name)
+                    || (is_interest_option(name) || is_area_option(name))
             }
-            Verb::Serve => {
-                ["--image", "--cap", "--key", "--at", "--links"].contains(&name)
-                    || is_area_option(name)
-            }
+            Verb::Serve => is_serve_option(name)
+                || (is_interest_option(name) || is_area_option(name)),
             Verb::Watch => ["--image"].contains(&name) || is_area_option(name),
         }
     }
@@ -76,6 +77,23 @@ fn is_area_option(name: &str) -> bool
     ensures { result ≡ list_any (λ option. bytes_eq option name.now) area_names }
 {
     ["--subspace", "--under", "--from", "--until"].contains(&name)
+}
+
+// Whether it is the name of an option that says how much is offered.
+fn is_interest_option(name: &str) -> bool
+    ensures { result ≡ list_any (λ option. bytes_eq option name.now) interest_names }
+{
+    ["--newest", "--bytes"].contains(&name)
+}
+
+// Whether it is the name of an option of `serve` alone.
+fn is_serve_option(name: &str) -> bool
+    ensures { result ≡ list_any (λ option. bytes_eq option name.now) serve_names }
+{
+    [
+        "--image", "--cap", "--key", "--at", "--links", "--follow", "--log",
+    ]
+    .contains(&name)
 }
 
 // Whether it is the name of an option of `write`.

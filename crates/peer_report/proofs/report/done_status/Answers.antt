@@ -1,5 +1,5 @@
 use Rattle.peer_stage.specs.declared.outcome.Done.TheVariants as done
-use Rattle.peer_report.proofs.Statuses.{joined_status, shown_status, met_status, same_status, made_status}
+use Rattle.peer_report.proofs.Statuses.{joined_status, shown_status, met_status, watched_status, same_status, made_status}
 use Rattle.peer_report.proofs.report.done_status.Goals as goal
 
 pub returns-in-Joined : goal.returns-in-Joined
@@ -19,3 +19,6 @@ returns-in-Synced c = same_status c.args.done.now (done.Synced c.in-Synced.synce
 
 pub returns-in-Served : goal.returns-in-Served
 returns-in-Served c = same_status c.args.done.now (done.Served c.in-Served.served) c.served_status.result c.in-Served.is c.served_status.ensures
+
+pub returns-in-Watched : goal.returns-in-Watched
+returns-in-Watched c = watched_status c.args.done.now c.in-Watched.counts c.first_status-in-Watched.result c.in-Watched.is c.first_status-in-Watched.ensures
