@@ -6,7 +6,7 @@ pub mod Falls
 pub mod InOrder
 pub mod LastFronts
 pub mod OrderBehind
-pub mod Stops
+pub mod OneStops
 pub mod ReadParts
 pub mod Misordered
 pub mod ReadBack
@@ -15,7 +15,10 @@ pub mod TwoHeads
 pub mod TwoRising
 pub mod TwoStops
 pub mod TwoReading
+pub mod TwoParts
 pub mod TwoPlaces
 pub mod TwoRows
 pub mod TwoSame
+pub mod TwoForm
 pub mod TwoAlike
+pub mod Stops

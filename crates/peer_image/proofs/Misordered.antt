@@ -9,7 +9,7 @@ use Rattle.cap_codec.specs.Rows.{RawValue}
 use Rattle.peer_image.specs.declared.refusal.ImageRefusal.{ImageRefusal}
 use Rattle.peer_image.specs.declared.refusal.ImageRefusal.TheVariants.{BadImage, NotRising, Pruned}
 use Rattle.peer_image.specs.Order.{fall_after, first_fall, pruned_by, pruned_after, order_refusal}
-use Rattle.peer_image.specs.ImageReading.{raw_rows, IsImage, ReadsImage}
+use Rattle.peer_image.specs.ImageOneReading.{raw_rows, IsImageOne, ReadsImageOne}
 use Rattle.peer_image.specs.ImageTwoReading.{IsImageTwo, ReadsImageTwo}
 
 abbrev IsForOrder : Option ImageRefusal → Type 0
@@ -51,7 +51,7 @@ order_for_order : (rows : List RowValue) → IsForOrder (order_refusal rows)
 order_for_order rows = either (first_fall rows) (pruned_after [] rows) (first_for_order rows) (pruned_for_order [] rows)
 
 -- an image whose rows are refused for their order is refused so
-pub misordered : (bytes n : List ℕ) (rows : List RawValue) (refusal : ImageRefusal) → IsImage bytes n rows → order_refusal (raw_rows rows) ≡ Some refusal → ReadsImage bytes (Err (Refused refusal))
+pub misordered : (bytes n : List ℕ) (rows : List RawValue) (refusal : ImageRefusal) → IsImageOne bytes n rows → order_refusal (raw_rows rows) ≡ Some refusal → ReadsImageOne bytes (Err (Refused refusal))
 misordered bytes n rows (BadImage at) i e = absurd (subst IsForOrder e (order_for_order (raw_rows rows)))
 misordered bytes n rows (NotRising at) i e = record { namespace = n; rows = rows; is_image = i; refused = e }
 misordered bytes n rows (Pruned at by) i e = record { namespace = n; rows = rows; is_image = i; refused = e }

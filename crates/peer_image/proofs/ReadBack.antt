@@ -14,11 +14,11 @@ use Rattle.cap_codec.specs.Rows.{RawValue, row_of, IsRawRow, FitsFrame}
 use Rattle.peer_image.specs.declared.read.Image.{Image}
 use Rattle.peer_image.specs.declared.refusal.ImageRefusal.{ImageRefusal}
 use Rattle.peer_image.specs.declared.refusal.ImageRefusal.TheVariants.{BadImage, NotRising, Pruned}
-use Rattle.peer_image.specs.Image.{image}
+use Rattle.peer_image.specs.ImageOne.{image_one}
 use Rattle.peer_image.specs.Order.{order_refusal, AreOf}
-use Rattle.peer_image.specs.ImageReading.{raw_rows, IsImage, IsMisordered, ReadsImage, IsBack, ReadsBack}
+use Rattle.peer_image.specs.ImageOneReading.{raw_rows, IsImageOne, IsMisorderedOne, ReadsImageOne, IsBack, ReadsBackOne}
 use Rattle.peer_image.proofs.InOrder.{order_of_live}
-use Rattle.peer_image.proofs.Stops.{one_image, never_both}
+use Rattle.peer_image.proofs.OneStops.{one_image, never_both}
 
 -- ---- rows read out
 
@@ -65,27 +65,27 @@ framed_rows (r ∷ rows) f = (f.0.short, framed_rows rows f.1)
 pub some_not_none : (e : ImageRefusal) (o : Option ImageRefusal) → o ≡ Some e → o ≡ None → ⊥
 some_not_none e o h k = cc
 
-in_order : (n : List ℕ) (raws : List RawValue) (e : ImageRefusal) → IsImage (image n (raw_rows raws)) n raws → order_refusal (raw_rows raws) ≡ None → IsMisordered (image n (raw_rows raws)) e → ⊥
+in_order : (n : List ℕ) (raws : List RawValue) (e : ImageRefusal) → IsImageOne (image_one n (raw_rows raws)) n raws → order_refusal (raw_rows raws) ≡ None → IsMisorderedOne (image_one n (raw_rows raws)) e → ⊥
 in_order n raws e i ok m =
-    let same = one_image (image n (raw_rows raws)) n m.namespace raws m.rows i m.is_image in
+    let same = one_image (image_one n (raw_rows raws)) n m.namespace raws m.rows i m.is_image in
     some_not_none e (order_refusal (raw_rows raws)) (ap (λ (l : List RawValue). order_refusal (raw_rows l)) same.1 ∙ m.refused) ok
 
-back : (n : List ℕ) (raws : List RawValue) (result : Result Image (End ImageRefusal)) → IsImage (image n (raw_rows raws)) n raws → order_refusal (raw_rows raws) ≡ None
-    → ReadsImage (image n (raw_rows raws)) result → IsBack n (raw_rows raws) result
+back : (n : List ℕ) (raws : List RawValue) (result : Result Image (End ImageRefusal)) → IsImageOne (image_one n (raw_rows raws)) n raws → order_refusal (raw_rows raws) ≡ None
+    → ReadsImageOne (image_one n (raw_rows raws)) result → IsBack n (raw_rows raws) result
 back n raws (Ok found) i ok told =
-    let same = one_image (image n (raw_rows raws)) found.namespace n found.rows.items raws told.0 i in
+    let same = one_image (image_one n (raw_rows raws)) found.namespace n found.rows.items raws told.0 i in
     (same.0, ap raw_rows same.1)
-back n raws (Err (Refused (BadImage at))) i ok told = absurd (never_both (image n (raw_rows raws)) n raws at i told)
+back n raws (Err (Refused (BadImage at))) i ok told = absurd (never_both (image_one n (raw_rows raws)) n raws at i told)
 back n raws (Err (Refused (NotRising at))) i ok told = absurd (in_order n raws (NotRising at) i ok told)
 back n raws (Err (Refused (Pruned at by))) i ok told = absurd (in_order n raws (Pruned at by) i ok told)
 back n raws (Err NoMemory) i ok told = refl
 
-pub image_here : (n : List ℕ) (raws : List RawValue) → IsKey n → AllByRecursion FitsFrame raws → length (raw_rows raws) < 2 ^ 32 → IsImage (image n (raw_rows raws)) n raws
+pub image_here : (n : List ℕ) (raws : List RawValue) → IsKey n → AllByRecursion FitsFrame raws → length (raw_rows raws) < 2 ^ 32 → IsImageOne (image_one n (raw_rows raws)) n raws
 image_here n raws key fit few = record { key = key; fit = fit; count = omega (arith, few, length-map raws row_of); spelled = refl }
 
-pub reads_back : ReadsBack
+pub reads_back : ReadsBackOne
 reads_back n m rows result key one readable short few is_live told =
     let r = raws_of rows readable short in
-    let P : List RowValue → Type 0 = λ l. AreOf m l → length l < 2 ^ 32 → live l ≡ l → ReadsImage (image n l) result → IsBack n l result in
+    let P : List RowValue → Type 0 = λ l. AreOf m l → length l < 2 ^ 32 → live l ≡ l → ReadsImageOne (image_one n l) result → IsBack n l result in
     let here : P (raw_rows r.raws) = λ o f v t. back n r.raws result (image_here n r.raws key r.fit f) ((order_of_live m (raw_rows r.raws) o).1 v) t in
     subst P r.same here one few is_live told

@@ -5,8 +5,8 @@ use Rattle.std.proofs.lemmas.Grind.{flat_map-append}
 use Rattle.spelling.proofs.Lists.{All-append}
 use Rattle.cap_codec.specs.Rows.{RawValue, FitsFrame, frame}
 use Rattle.cap_codec.proofs.Frames.{frame_long}
-use Rattle.peer_image.specs.Image.{magic}
-use Rattle.peer_image.specs.ImageReading.{IsFront}
+use Rattle.peer_image.specs.ImageOne.{magic_one}
+use Rattle.peer_image.specs.ImageOneReading.{IsFront}
 use Rattle.peer_image.specs.Parts.{IsHead, IsPart}
 
 -- behind the head no frame was read
@@ -20,9 +20,9 @@ front_on bytes n rows left most more rest f p = record {
   fit = All-append FitsFrame rows more f.fit p.fit;
   parts =
       f.parts
-      ∙ ap (λ (l : List ℕ). (magic ++ n) ++ (flat_map frame rows ++ l)) p.parts
-      ∙ ap (λ (l : List ℕ). (magic ++ n) ++ l) (sym (append_assoc (flat_map frame rows) (flat_map frame more) rest))
-      ∙ ap (λ (l : List ℕ). (magic ++ n) ++ (l ++ rest)) (sym (flat_map-append frame rows more));
+      ∙ ap (λ (l : List ℕ). (magic_one ++ n) ++ (flat_map frame rows ++ l)) p.parts
+      ∙ ap (λ (l : List ℕ). (magic_one ++ n) ++ l) (sym (append_assoc (flat_map frame rows) (flat_map frame more) rest))
+      ∙ ap (λ (l : List ℕ). (magic_one ++ n) ++ (l ++ rest)) (sym (flat_map-append frame rows more));
 }
 
 -- a part with a row takes bytes

@@ -1,159 +1,130 @@
--- Bytes have one front of frames that nothing goes on from, so they are one image, or go wrong at one place.
-use Rattle.std.proofs.Common.{◌≡◌, inl, inr, ℕ, ◌<◌, ◌^◌, List, [], ◌∷◌, ◌++◌, length, refl, sym, ap, subst, ◌∙◌, append_assoc, arith}
-use Rattle.std.specs.List.{flat_map}
-use Rattle.std.specs.Int.{w32, to_be_bytes}
-use Rattle.std.proofs.lemmas.List.{length-append, length-map, append_cancel_left}
-use Rattle.spelling.specs.Front.{Whole}
-use Rattle.spelling.specs.Form.{IsForm}
-use Rattle.spelling.specs.Reader.{IsReader}
-use Rattle.spelling.specs.Reading.{Fails}
-use Rattle.spelling.specs.declared.input.Unread.{Unread}
-use Rattle.spelling.specs.declared.input.Unread.TheVariants as unread
-use Rattle.spelling.proofs.Reader.{reader}
-use Rattle.spelling.proofs.Joining.{Reads, Reads-then, Reads-is, any_follows, one_spelling, whole_value, whole_not_part, whole_not_wrong}
-use Rattle.spelling.proofs.Exact.{exactly-reads}
-use Rattle.spelling.proofs.Repeated.{text-reads}
-use Rattle.willow_path.specs.Key.{IsKey, key_at}
-use Rattle.willow_path.proofs.PathReads.{key-reads}
-use Rattle.willow_entry.specs.EntryForm.{entry_spelling}
-use Rattle.willow_entry.specs.Frame.{row_frame}
-use Rattle.willow_entry.specs.RowBody.{row_body}
-use Rattle.willow_entry.specs.declared.frame.TheConstants.{MAX_FRAME}
-use Rattle.cap_codec.specs.Rows.{RawValue, IsRaw, row_of, raw_spelling, frame}
-use Rattle.cap_codec.specs.Streams.{HasNoFrame, AreAllFrames}
-use Rattle.cap_codec.proofs.CapReads.{zero_key, zero_key_fits}
-use Rattle.cap_codec.proofs.Frames.{length-reads, body_at, frame_again, same_frames}
-use Rattle.peer_image.specs.Image.{image, magic, trailer}
-use Rattle.peer_image.specs.ImageReading.{header_at, header_spelling, raw_rows, image_spelling, HasNoHeader, FitsImage, IsImage, IsFront, ImageStopsAt, IsWrong, Told}
+-- Bytes are an image of one version, told by their first four bytes, and so one image, or go wrong at one place.
+use Rattle.std.proofs.Common.{◌≡◌, ◌⊎◌, inl, inr, ℕ, ◌<◌, ◌^◌, Bool, true, false, List, [], ◌∷◌, length, map, take, get_or, Result, Ok, Err, refl, sym, ap, subst, ◌∙◌, arith}
+use Rattle.std.specs.Cmp.Lexicographic.{bytes_decides}
+use Rattle.std.specs.List.{AllByRecursion}
+use Rattle.std.proofs.lemmas.List.{length-map}
+use Rattle.spelling.specs.declared.ending.End.{End}
+use Rattle.spelling.specs.declared.ending.End.TheVariants.{Refused, NoMemory}
+use Rattle.willow_entry.specs.Entry.{same_bytes}
+use Rattle.willow_entry.specs.Row.{RowValue}
+use Rattle.mc_cap.specs.declared.capability.Capability.{Capability}
+use Rattle.cap_codec.specs.declared.numbered.NumberedRow.{NumberedRow}
+use Rattle.cap_codec.specs.Numbered.{FitsCapability}
+use Rattle.cap_codec.specs.Rows.{FitsFrame, IsRaw, RawValue}
+use Rattle.peer_image.specs.declared.read.Image.{Image}
+use Rattle.peer_image.specs.declared.refusal.ImageRefusal.{ImageRefusal}
+use Rattle.peer_image.specs.declared.refusal.ImageRefusal.TheVariants.{BadImage, NotRising, Pruned}
+use Rattle.peer_image.specs.Image.{image, magic_two}
+use Rattle.peer_image.specs.ImageOneReading.{IsImageOne, IsMisorderedOne, ReadsImageOne}
+use Rattle.peer_image.specs.ImageReading.{HaveOneImage, HaveOnePlace, ImagesNeverGoWrong, IsImage, IsMisordered, IsOfVersionTwo, ReadsBack, ReadsImage}
+use Rattle.peer_image.specs.ImageTwoReading.{FitsBelow, IsImageTwo, IsMisorderedTwo, ReadsImageTwo, row_among}
+use Rattle.peer_image.proofs.OneStops as one
+use Rattle.peer_image.proofs.TwoAlike.{reads_back_two}
+use Rattle.peer_image.proofs.TwoForm.{raw_among}
+use Rattle.peer_image.proofs.TwoStops.{never_both_two, one_image_two, one_place_two}
 
--- ---- the header
+-- ---- versions
 
-pub header-reads : Reads header_at (λ n. magic ++ n) IsKey
-unfolding header_at
-header-reads =
-    Reads-is (Reads-then (λ (t : Unit {0} × List ℕ). key_at t.1) (λ (n : List ℕ). tt) (exactly-reads magic) (λ t. key-reads) (λ t n f. refl) (any_follows (exactly-reads magic) (λ t f. (zero_key, zero_key_fits))))
-    (λ n. refl) (λ n f. f.1) (λ n f. (tt, f))
+false_not_true : false ≡ true → ⊥
+false_not_true e = cc
 
-pub header_reader : IsReader header_at header_spelling IsKey
-header_reader = reader header-reads
+version_cases : (bytes : List ℕ) → IsOfVersionTwo bytes ⊎ (IsOfVersionTwo bytes → ⊥)
+version_cases bytes = by (same_bytes (take 4 bytes) magic_two) refl where
+  by : (b : Bool) → same_bytes (take 4 bytes) magic_two ≡ b → IsOfVersionTwo bytes ⊎ (IsOfVersionTwo bytes → ⊥)
+  by true e = inl ((bytes_decides (take 4 bytes) magic_two).0 e)
+  by false e = inr (λ is. false_not_true (sym e ∙ (bytes_decides (take 4 bytes) magic_two).1 is))
 
--- where none was read, none is there
-pub headless : (u : Unread) (bytes input : List ℕ) → input ≡ bytes → (u ≡ unread.NoMemory → ⊥) → Fails u (header_at input) → HasNoHeader bytes
-headless unread.NoMemory bytes input is sure e n left key parts = sure refl
-headless unread.Part bytes input is sure e n left key parts =
-    whole_not_part n left (header_at bytes) (ap header_at parts ∙ header-reads.again n left key) (ap header_at (sym is) ∙ e)
-headless unread.Wrong bytes input is sure e n left key parts =
-    whole_not_wrong n left (header_at bytes) (ap header_at parts ∙ header-reads.again n left key) (ap header_at (sym is) ∙ e)
+two_headed : (bytes n : List ℕ) (rows : List RawValue) → IsImageTwo bytes n rows → IsOfVersionTwo bytes
+two_headed bytes n rows i = ap (take 4) i.spelled
 
--- a header that is read is there
-pub headed : (bytes n rest : List ℕ) → IsKey n → bytes ≡ (magic ++ n) ++ rest → HasNoHeader bytes → ⊥
-headed bytes n rest key parts none = none n rest key parts
+one_headed : (bytes n : List ℕ) (rows : List RawValue) → IsImageOne bytes n rows → IsOfVersionTwo bytes → ⊥
+one_headed bytes n rows i two =
+    let first = sym (ap (take 4) (one.front_of_image bytes n rows i).parts) ∙ two in
+    omega (arith, ap (λ (l : List ℕ). get_or l 3 0) first)
 
--- ---- what begins with no frame
-
-pub behind_key : (a b c : List ℕ) → length a ≡ 33 → [] ≡ (a ++ b) ++ c → ⊥
-behind_key a b c h e = omega (arith, h, ap length e, length-append (a ++ b) c, length-append a b)
-
-body_some : (r : RawValue) → IsRaw r → [] ≡ raw_spelling r → ⊥
-unfolding entry_spelling
-body_some r f e = behind_key r.entry.namespace _ _ f.entry_fits.namespace.whole e
-
-pub zero_body : (rest : List ℕ) → body_at (0 ∷ 0 ∷ 0 ∷ 0 ∷ rest) ≡ Whole [] rest
-zero_body rest = (text-reads MAX_FRAME (omega arith) length-reads).again [] rest (omega arith, tt)
-
--- four bytes 00
-pub zeros_left : (rest : List ℕ) → HasNoFrame (0 ∷ 0 ∷ 0 ∷ 0 ∷ rest)
-zeros_left rest r others f e = body_some r f.raw (whole_value [] (raw_spelling r) rest others (sym (zero_body rest) ∙ ap body_at e ∙ frame_again r others f))
-
--- the end of an image
-pub trailer_left : (k : ℕ) → HasNoFrame (trailer k)
-trailer_left k = zeros_left (to_be_bytes w32 k)
-
--- ---- fronts
-
-pub record SameFronts (n m : List ℕ) (rows others : List RawValue) (a b : List ℕ) : Type 0 where
-  pub namespace : n ≡ m
-  pub rows_same : rows ≡ others
-  pub left_same : a ≡ b
-
-pub same_fronts : (bytes n m : List ℕ) (rows others : List RawValue) (a b : List ℕ) → IsFront bytes n rows a → IsFront bytes m others b → HasNoFrame a → HasNoFrame b → SameFronts n m rows others a b
-same_fronts bytes n m rows others a b f g na nb =
-    let both = one_spelling header-reads n m (flat_map frame rows ++ a) (flat_map frame others ++ b) f.key g.key (sym f.parts ∙ g.parts) in
-    let more = same_frames rows others a b f.fit g.fit na nb both.1 in
-    record { namespace = both.0; rows_same = more.0; left_same = more.1 }
-
--- ---- images
-
-framed : (rows : List RawValue) → flat_map row_frame (raw_rows rows) ≡ flat_map frame rows
-unfolding row_body
-framed [] = refl
-framed (r ∷ rows) = ap (λ (l : List ℕ). frame r ++ l) (framed rows)
-
-pub image_is : (n : List ℕ) (rows : List RawValue) → image n (raw_rows rows) ≡ (magic ++ n) ++ (flat_map frame rows ++ trailer (length rows))
+pub image_of_version_two : (n : List ℕ) (rows : List RowValue) → IsOfVersionTwo (image n rows)
 unfolding image
-image_is n rows =
-    ap (λ (l : List ℕ). (magic ++ n) ++ (l ++ trailer (length (raw_rows rows)))) (framed rows)
-    ∙ ap (λ (k : ℕ). (magic ++ n) ++ (flat_map frame rows ++ trailer k)) (length-map rows row_of)
-
-pub front_of_image : (bytes n : List ℕ) (rows : List RawValue) → IsImage bytes n rows → IsFront bytes n rows (trailer (length rows))
-front_of_image bytes n rows i = record { key = i.key; fit = i.fit; parts = i.spelled ∙ image_is n rows }
-
-pub image_of_front : (bytes n : List ℕ) (rows : List RawValue) (left : List ℕ) → IsFront bytes n rows left → length rows < 2 ^ 32 → left ≡ trailer (length rows) → IsImage bytes n rows
-image_of_front bytes n rows left f few is = record {
-  key = f.key;
-  fit = f.fit;
-  count = few;
-  spelled = f.parts ∙ ap (λ (l : List ℕ). (magic ++ n) ++ (flat_map frame rows ++ l)) is ∙ sym (image_is n rows);
-}
-
--- an image has a header
-pub image_headed : (bytes n : List ℕ) (rows : List RawValue) → IsImage bytes n rows → HasNoHeader bytes → ⊥
-image_headed bytes n rows i none = none n _ i.key (front_of_image bytes n rows i).parts
-
--- the frames behind a header
-pub front_behind : (bytes n behind : List ℕ) (rows : List RawValue) (left : List ℕ) → IsKey n → bytes ≡ (magic ++ n) ++ behind → AreAllFrames behind rows left → IsFront bytes n rows left
-front_behind bytes n behind rows left key is all = record { key = key; fit = all.fit; parts = is ∙ ap (λ (l : List ℕ). (magic ++ n) ++ l) all.parts }
+image_of_version_two n rows = refl
 
 -- ---- the laws
 
-image_in_front : (n : List ℕ) (rows : List RawValue) (a : List ℕ) → image n (raw_rows rows) ++ a ≡ (magic ++ n) ++ (flat_map frame rows ++ (trailer (length rows) ++ a))
-image_in_front n rows a =
-    ap (λ (l : List ℕ). l ++ a) (image_is n rows)
-    ∙ append_assoc (magic ++ n) (flat_map frame rows ++ trailer (length rows)) a
-    ∙ ap (λ (l : List ℕ). (magic ++ n) ++ l) (append_assoc (flat_map frame rows) (trailer (length rows)) a)
+pub one_image : HaveOneImage
+one_image bytes n m rows others (inl i) (inl j) = one_image_two bytes n m rows others i j
+one_image bytes n m rows others (inl i) (inr j) = absurd (one_headed bytes m others j (two_headed bytes n rows i))
+one_image bytes n m rows others (inr i) (inl j) = absurd (one_headed bytes n rows i (two_headed bytes m others j))
+one_image bytes n m rows others (inr i) (inr j) = one.one_image bytes n m rows others i j
 
-told_same : (t u : Told) → t.namespace ≡ u.namespace → t.rows ≡ u.rows → t ≡ u
-told_same t u n r = λ i. record { namespace = n i; rows = r i }
+pub never_both : ImagesNeverGoWrong
+never_both bytes n rows at (inl i) w = never_both_two bytes n rows at i (w.two (two_headed bytes n rows i))
+never_both bytes n rows at (inr i) w = one.never_both bytes n rows at i (w.one (one_headed bytes n rows i))
 
--- an image in front tells what it tells, and what stands behind it
-pub image_form : IsForm image_spelling FitsImage
-image_form t u a b f g e =
-    let both = one_spelling header-reads t.namespace u.namespace (flat_map frame t.rows ++ (trailer (length t.rows) ++ a)) (flat_map frame u.rows ++ (trailer (length u.rows) ++ b)) f.key g.key
-    (sym (image_in_front t.namespace t.rows a) ∙ e ∙ image_in_front u.namespace u.rows b) in
-    let same = same_frames t.rows u.rows (trailer (length t.rows) ++ a) (trailer (length u.rows) ++ b) f.fit g.fit
-    (zeros_left (to_be_bytes w32 (length t.rows) ++ a)) (zeros_left (to_be_bytes w32 (length u.rows) ++ b)) both.1 in
-    (told_same t u both.0 same.0, append_cancel_left (trailer (length t.rows)) a b (same.1 ∙ ap (λ (l : List RawValue). trailer (length l) ++ b) (sym same.0)))
+pub one_place : HaveOnePlace
+one_place bytes at other w v = elim (version_cases bytes) [
+  | inl two ↦ one_place_two bytes at other (w.two two) (v.two two)
+  | inr not ↦ one.one_place bytes at other (w.one not) (v.one not)
+]
 
-pub one_image : (bytes n m : List ℕ) (rows others : List RawValue) → IsImage bytes n rows → IsImage bytes m others → (n ≡ m) × (rows ≡ others)
-one_image bytes n m rows others i j =
-    let same = same_fronts bytes n m rows others _ _ (front_of_image bytes n rows i) (front_of_image bytes m others j) (trailer_left (length rows)) (trailer_left (length others)) in
-    (same.namespace, same.rows_same)
+-- ---- what is known of the rows
 
--- what stops is no image
-stuck_image : (bytes n : List ℕ) (rows : List RawValue) (at : ℕ) → IsImage bytes n rows → ImageStopsAt bytes at → ⊥
-stuck_image bytes n rows at i s =
-    let same = same_fronts bytes n s.namespace rows s.rows (trailer (length rows)) s.left (front_of_image bytes n rows i) s.front (trailer_left (length rows)) s.stuck.no_frame in
-    s.stuck.no_trailer (subst (λ (l : List RawValue). length l < 2 ^ 32) same.rows_same i.count)
-    (sym same.left_same ∙ ap (λ (l : List RawValue). trailer (length l)) same.rows_same)
+numbered_raw : (told : List Capability) (numbered : List NumberedRow) → AllByRecursion FitsCapability told → AllByRecursion (FitsBelow (length told)) numbered → AllByRecursion IsRaw (map (row_among told) numbered)
+numbered_raw told [] all fit = tt
+numbered_raw told (r ∷ numbered) all fit = (raw_among told r all fit.0, numbered_raw told numbered all fit.1)
 
-pub never_both : (bytes n : List ℕ) (rows : List RawValue) (at : ℕ) → IsImage bytes n rows → IsWrong bytes at → ⊥
-never_both bytes n rows at i (inl w) = w.0 n _ i.key (front_of_image bytes n rows i).parts
-never_both bytes n rows at i (inr s) = stuck_image bytes n rows at i s
+framed_raw : (rows : List RawValue) → AllByRecursion FitsFrame rows → AllByRecursion IsRaw rows
+framed_raw [] fit = tt
+framed_raw (r ∷ rows) fit = (fit.0.raw, framed_raw rows fit.1)
 
-pub one_place : (bytes : List ℕ) (at other : ℕ) → IsWrong bytes at → IsWrong bytes other → at ≡ other
-one_place bytes at other (inl w) (inl v) = w.1 ∙ sym v.1
-one_place bytes at other (inl w) (inr s) = absurd (w.0 s.namespace _ s.front.key s.front.parts)
-one_place bytes at other (inr s) (inl v) = absurd (v.0 s.namespace _ s.front.key s.front.parts)
-one_place bytes at other (inr s) (inr t) =
-    let same = same_fronts bytes s.namespace t.namespace s.rows t.rows s.left t.left s.front t.front s.stuck.no_frame t.stuck.no_frame in
-    omega (arith, s.place, t.place, ap length same.left_same)
+-- each is within its limits
+pub image_raw : (bytes n : List ℕ) (rows : List RawValue) → IsImage bytes n rows → AllByRecursion IsRaw rows
+image_raw bytes n rows (inl i) = subst (AllByRecursion IsRaw) (sym i.rows_are) (numbered_raw i.told i.numbered i.told_fit i.fit)
+image_raw bytes n rows (inr i) = framed_raw rows i.fit
+
+-- four bytes can tell their number
+pub image_few : (bytes n : List ℕ) (rows : List RawValue) → IsImage bytes n rows → length rows < 2 ^ 32
+image_few bytes n rows (inl i) = omega (arith, i.count, ap length i.rows_are, length-map i.numbered (row_among i.told))
+image_few bytes n rows (inr i) = i.count
+
+-- ---- what is read
+
+ordered_two : (bytes : List ℕ) (e : ImageRefusal) → IsMisorderedTwo bytes e → IsMisordered bytes e
+ordered_two bytes e m = record { namespace = m.namespace; rows = m.rows; is_image = inl m.is_image; refused = m.refused }
+
+ordered_one : (bytes : List ℕ) (e : ImageRefusal) → IsMisorderedOne bytes e → IsMisordered bytes e
+ordered_one bytes e m = record { namespace = m.namespace; rows = m.rows; is_image = inr m.is_image; refused = m.refused }
+
+-- an image of version 2 is read as one of either
+pub reads_two : (bytes : List ℕ) (result : Result Image (End ImageRefusal)) → IsOfVersionTwo bytes → ReadsImageTwo bytes result → ReadsImage bytes result
+reads_two bytes (Ok found) two r = (inl r.0, r.1)
+reads_two bytes (Err (Refused (BadImage at))) two r = record { two = λ is. r; one = λ not. absurd (not two) }
+reads_two bytes (Err (Refused (NotRising at))) two r = ordered_two bytes (NotRising at) r
+reads_two bytes (Err (Refused (Pruned at by))) two r = ordered_two bytes (Pruned at by) r
+reads_two bytes (Err NoMemory) two r = tt
+
+-- so is one of version 1
+pub reads_one : (bytes : List ℕ) (result : Result Image (End ImageRefusal)) → (IsOfVersionTwo bytes → ⊥) → ReadsImageOne bytes result → ReadsImage bytes result
+reads_one bytes (Ok found) not r = (inr r.0, r.1)
+reads_one bytes (Err (Refused (BadImage at))) not r = record { two = λ is. absurd (not is); one = λ is. r }
+reads_one bytes (Err (Refused (NotRising at))) not r = ordered_one bytes (NotRising at) r
+reads_one bytes (Err (Refused (Pruned at by))) not r = ordered_one bytes (Pruned at by) r
+reads_one bytes (Err NoMemory) not r = tt
+
+misordered_two : (bytes : List ℕ) (e : ImageRefusal) → IsOfVersionTwo bytes → IsMisordered bytes e → IsMisorderedTwo bytes e
+misordered_two bytes e two m = by m.is_image where
+  by : IsImage bytes m.namespace m.rows → IsMisorderedTwo bytes e
+  by (inl i) = record { namespace = m.namespace; rows = m.rows; is_image = i; refused = m.refused }
+  by (inr i) = absurd (one_headed bytes m.namespace m.rows i two)
+
+two_image : (bytes n : List ℕ) (rows : List RawValue) → IsOfVersionTwo bytes → IsImage bytes n rows → IsImageTwo bytes n rows
+two_image bytes n rows two (inl i) = i
+two_image bytes n rows two (inr i) = absurd (one_headed bytes n rows i two)
+
+two_reads : (bytes : List ℕ) (result : Result Image (End ImageRefusal)) → IsOfVersionTwo bytes → ReadsImage bytes result → ReadsImageTwo bytes result
+two_reads bytes (Ok found) two r = (two_image bytes found.namespace found.rows.items two r.0, r.1)
+two_reads bytes (Err (Refused (BadImage at))) two r = r.two two
+two_reads bytes (Err (Refused (NotRising at))) two r = misordered_two bytes (NotRising at) two r
+two_reads bytes (Err (Refused (Pruned at by))) two r = misordered_two bytes (Pruned at by) two r
+two_reads bytes (Err NoMemory) two r = tt
+
+pub reads_back : ReadsBack
+reads_back n m rows result key of readable short few is_live told =
+    reads_back_two n m rows result key of readable short few is_live (two_reads (image n rows) result (image_of_version_two n rows) told)

@@ -1,17 +1,19 @@
 -- Images of both versions spell equal values.
-use Rattle.std.proofs.Common.{◌≡◌, ℕ, ◌<◌, ◌^◌, List, length, None, Some, Result, Ok, Err, refl, sym, ap, subst, ◌∙◌, arith}
+use Rattle.std.proofs.Common.{◌≡◌, ℕ, ◌<◌, ◌^◌, List, length, None, Result, Ok, Err, refl, ap, subst, ◌∙◌, arith}
 use Rattle.std.specs.List.{AllByRecursion}
 use Rattle.std.proofs.lemmas.List.{length-map}
 use Rattle.spelling.specs.declared.ending.End.{End}
 use Rattle.spelling.specs.declared.ending.End.TheVariants.{Refused, NoMemory}
+use Rattle.willow_path.specs.Key.{IsKey}
 use Rattle.willow_entry.specs.Row.{RowValue, live}
-use Rattle.cap_codec.specs.Rows.{RawValue, row_of}
+use Rattle.willow_entry.specs.Frame.{HasFrame}
+use Rattle.cap_codec.specs.Rows.{IsRawRow, RawValue, row_of}
 use Rattle.peer_image.specs.declared.read.Image.{Image}
 use Rattle.peer_image.specs.declared.refusal.ImageRefusal.{ImageRefusal}
 use Rattle.peer_image.specs.declared.refusal.ImageRefusal.TheVariants.{BadImage, NotRising, Pruned}
-use Rattle.peer_image.specs.ImageAny.{ReadBackAlike, SpellTheSame}
-use Rattle.peer_image.specs.ImageReading.{IsBack, raw_rows}
-use Rattle.peer_image.specs.ImageTwo.{image_two}
+use Rattle.peer_image.specs.ImageReading.{ReadBackAlike, SpellTheSame}
+use Rattle.peer_image.specs.ImageOneReading.{IsBack, raw_rows}
+use Rattle.peer_image.specs.Image.{image}
 use Rattle.peer_image.specs.ImageTwoReading.{IsImageTwo, IsMisorderedTwo, ReadsImageTwo}
 use Rattle.peer_image.specs.Order.{AreOf, order_refusal}
 use Rattle.peer_image.proofs.InOrder.{order_of_live}
@@ -36,10 +38,15 @@ back bytes n raws (Err (Refused (NotRising at))) i ok told = absurd (in_order by
 back bytes n raws (Err (Refused (Pruned at by))) i ok told = absurd (in_order bytes n raws (Pruned at by) i ok told)
 back bytes n raws (Err NoMemory) i ok told = refl
 
+pub reads_back_two : (n m : List ℕ) (rows : List RowValue) (result : Result Image (End ImageRefusal)) → IsKey n → AreOf m rows → AllByRecursion IsRawRow rows → AllByRecursion HasFrame rows → length rows < 2 ^ 32 → live rows ≡ rows → ReadsImageTwo (image n rows) result
+    → IsBack n rows result
+reads_back_two n m rows result key of readable short few is_live told =
+    let r = raws_of rows readable short in
+    let P : List RowValue → Type 0 = λ l. AreOf m l → length l < 2 ^ 32 → live l ≡ l → ReadsImageTwo (image n l) result → IsBack n l result in
+    let here : P (raw_rows r.raws) = λ o f v t.
+    back (image n (raw_rows r.raws)) n r.raws result (image_two_here n r.raws key r.fit (omega (arith, f, length-map r.raws row_of))) ((order_of_live m (raw_rows r.raws) o).1 v) t in
+    subst P r.same here of few is_live told
+
 pub read_back_alike : ReadBackAlike
 read_back_alike n m rows one two key of readable short few is_live told_one told_two =
-    let r = raws_of rows readable short in
-    let P : List RowValue → Type 0 = λ l. AreOf m l → length l < 2 ^ 32 → live l ≡ l → ReadsImageTwo (image_two n l) two → IsBack n l two in
-    let here : P (raw_rows r.raws) = λ o f v t.
-    back (image_two n (raw_rows r.raws)) n r.raws two (image_two_here n r.raws key r.fit (omega (arith, f, length-map r.raws row_of))) ((order_of_live m (raw_rows r.raws) o).1 v) t in
-    (reads_back n m rows one key of readable short few is_live told_one, subst P r.same here of few is_live told_two)
+    (reads_back n m rows one key of readable short few is_live told_one, reads_back_two n m rows two key of readable short few is_live told_two)

@@ -12,7 +12,7 @@ use Rattle.willow_path.specs.Key.{IsKey, key_at}
 use Rattle.willow_path.proofs.PathReads.{key-reads}
 use Rattle.cap_codec.proofs.CapReads.{zero_key, zero_key_fits}
 use Rattle.peer_image.specs.declared.known.ImageHead.{ImageHead}
-use Rattle.peer_image.specs.ImageTwo.{magic_two}
+use Rattle.peer_image.specs.Image.{magic_two}
 use Rattle.peer_image.specs.ImageTwoReading.{head_two_at, head_two_spelling, IsImageHead, HasNoHead}
 
 abbrev head : List ℕ → ℕ → ImageHead

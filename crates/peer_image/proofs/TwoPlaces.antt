@@ -1,6 +1,5 @@
 -- The capabilities of rows, and their places.
-use Rattle.std.proofs.Common.{◌≡◌, ◌⊎◌, inl, inr, ℕ, zero, suc, ◌+◌, ◌<◌, ◌≤◌, ◌^◌, Bool, true, false, cond, List, [], ◌∷◌, ◌++◌, length, map, get_or, Contains, Result, Ok, Err, refl, sym, ap, subst, ◌∙◌, append_assoc, arith, Ordering, Less, Equal, Greater, is_lt, Bor}
-use Rattle.std.specs.Cmp.{IsTotalOrder}
+use Rattle.std.proofs.Common.{◌≡◌, inl, inr, ℕ, zero, suc, ◌+◌, ◌<◌, ◌≤◌, Bool, true, false, cond, List, [], ◌∷◌, ◌++◌, length, map, get_or, Contains, Ok, Err, refl, sym, ap, subst, ◌∙◌, append_assoc, arith, Ordering, Less, Equal, Greater, is_lt, Bor}
 use Rattle.std.specs.Cmp.Lexicographic.{bytes_decides, on_texts, on_texts_equal, texts_ties}
 use Rattle.std.specs.List.{AllByRecursion, dedup, flat_map}
 use Rattle.std.specs.List.Sorted.{IsStrictlySortedBy, IsPermutation, IsSorted, IsBinarySearchResult}
@@ -9,7 +8,6 @@ use Rattle.std.proofs.lemmas.Bool.{cases_lt}
 use Rattle.std.proofs.lemmas.Cmp.{nat_list_cmp_total, tied_itself}
 use Rattle.std.proofs.lemmas.List.{length-map}
 use Rattle.std.proofs.Math.ListN.{get_or-map}
-use Rattle.std.proofs.lemmas.List.Filters.{dedup_is}
 use Rattle.std.proofs.lemmas.List.Kept.{Any-dedup, Contains-from_dedup, IsStrictlySortedBy-dedup}
 use Rattle.std.proofs.lemmas.List.Sorted.{Contains-permutation, IsPermutation-sym, searchable_from_sorted}
 use Rattle.willow_entry.specs.Entry.{bytes_cmp, same_bytes}
@@ -18,8 +16,7 @@ use Rattle.willow_entry.proofs.Members.{Member, contains_from_member, member_fro
 use Rattle.willow_entry.proofs.Ranks.{bytes_tie}
 use Rattle.willow_entry.proofs.Rising.{IsApart, member_from_rising, member_rising, rising-rises, same_rising, Less≢Equal}
 use Rattle.willow_entry.specs.Row.{RowValue}
-use Rattle.peer_image.specs.Image.{trailer}
-use Rattle.peer_image.specs.ImageTwo.{bytes_frame, capabilities, capability_bytes, head_two, image_two, place_in, placed_frame}
+use Rattle.peer_image.specs.Image.{bytes_frame, capabilities, capability_bytes, head_two, image, place_in, placed_frame, trailer}
 
 -- ---- all of what is placed
 
@@ -209,8 +206,8 @@ written h cs rs t = append_assoc (h ++ cs) rs t ∙ append_assoc h cs (rs ++ t)
 
 -- the head and the capabilities, then the rows, then the end
 pub image_written : (n : List ℕ) (rows : List RowValue) (told one two : List Text) (start a b c : List ℕ) (count : ℕ) → now_of told ≡ capabilities rows → one ≡ told → two ≡ told → start ≡ []
-    → a ≡ start ++ (head_two n (length one) ++ flat_map bytes_frame (now_of one)) → b ≡ a ++ flat_map (placed_frame (now_of two)) rows → c ≡ b ++ trailer count → count ≡ length rows → c ≡ image_two n rows
-unfolding image_two
+    → a ≡ start ++ (head_two n (length one) ++ flat_map bytes_frame (now_of one)) → b ≡ a ++ flat_map (placed_frame (now_of two)) rows → c ≡ b ++ trailer count → count ≡ length rows → c ≡ image n rows
+unfolding image
 image_written n rows told one two start a b c count told_is one_is two_is start_is a_is b_is c_is count_is =
     let now : Text → List ℕ = λ x. x.now in
     let long : length one ≡ length (capabilities rows) = ap length one_is ∙ sym (length-map told now) ∙ ap length told_is in

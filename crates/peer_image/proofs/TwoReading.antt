@@ -1,13 +1,12 @@
 -- How the reader of an image of version 2 goes on.
-use Rattle.std.proofs.Common.{◌≡◌, ◌↔◌, inl, inr, ◌⊎◌, ℕ, zero, suc, ◌-◌, ◌+◌, ◌<◌, ◌≤◌, ◌^◌, Bool, true, false, cond, List, [], ◌∷◌, ◌++◌, length, map, take, drop, set, get_or, Contains, Ok, Err, refl, sym, ap, subst, ◌∙◌, append_assoc, append-nil, arith, Ordering, Less, Equal, Greater, is_lt}
+use Rattle.std.proofs.Common.{◌≡◌, ◌↔◌, inl, inr, ◌⊎◌, ℕ, zero, suc, ◌-◌, ◌+◌, ◌<◌, ◌≤◌, ◌^◌, Bool, true, false, List, [], ◌∷◌, ◌++◌, length, map, take, drop, set, get_or, Contains, Ok, Err, refl, sym, ap, subst, ◌∙◌, append_assoc, append-nil, arith, Ordering, Less, Equal, Greater, is_lt}
 use Rattle.std.specs.Prelude.{IsTrue}
-use Rattle.std.specs.List.{flat_map, AllByRecursion, between, list_all}
+use Rattle.std.specs.List.{flat_map, AllByRecursion, list_all}
 use Rattle.std.specs.List.Sorted.{IsStrictlySortedBy}
 use Rattle.std.specs.Int.{w32, to_be_bytes}
 use Rattle.std.proofs.lemmas.Cmp.{nat_list_cmp_total}
-use Rattle.std.proofs.lemmas.List.{length-append, length-map, length-set, map-append, take-append-drop, drop_at, get_or-set_same, get_or-set_other, get_or_push, get_or_append_left}
+use Rattle.std.proofs.lemmas.List.{length-append, length-map, length-set, map-append, take-append-drop, get_or-set_same, get_or-set_other, get_or_push, get_or_append_left}
 use Rattle.std.proofs.lemmas.List.Elements.{Contains-append_left, Contains-push, Contains-push_cases}
-use Rattle.std.proofs.lemmas.Option.{get_or_from_slice_get}
 use Rattle.std.proofs.lemmas.Bool.{and_parts, and_from, cases_eq, cases_lt}
 use Rattle.std.proofs.lemmas.Grind.{flat_map-append}
 use Rattle.std.proofs.lemmas.Slice.{between_is}
@@ -25,7 +24,7 @@ use Rattle.mc_cap.specs.Signature.{signature_spelling}
 use Rattle.mc_cap.specs.declared.capability.Capability.{Capability}
 use Rattle.cap_codec.specs.declared.numbered.NumberedRow.{NumberedRow}
 use Rattle.cap_codec.specs.Memory.{CapabilityAsks}
-use Rattle.cap_codec.specs.Numbered.{CapabilityFrameAsks, FitsCapability, FitsNumbered, IsNumbered, capability_frame, numbered_frame, numbered_spelling}
+use Rattle.cap_codec.specs.Numbered.{CapabilityFrameAsks, FitsCapability, FitsNumbered, IsNumberedRow, capability_frame, numbered_frame, numbered_spelling}
 use Rattle.cap_codec.specs.Reading.{form_at}
 use Rattle.cap_codec.specs.Rows.{RawValue}
 use Rattle.cap_codec.proofs.CapReads.{capability-reads}
@@ -34,9 +33,8 @@ use Rattle.cap_codec.proofs.Framed.{framed_again, framed_form}
 use Rattle.cap_codec.proofs.NumberedReads.{numbered-reads}
 use Rattle.peer_image.specs.declared.known.ImageHead.{ImageHead}
 use Rattle.peer_image.specs.declared.refusal.ImageRefusal.{ImageRefusal}
-use Rattle.peer_image.specs.Image.{trailer}
-use Rattle.peer_image.specs.ImageTwo.{head_two}
-use Rattle.peer_image.specs.ImageTwoParts.{AllRowsSo, AreMarked, GoesBadAt, IsRowInFront, RowsSo, TellsNext}
+use Rattle.peer_image.specs.Image.{head_two, trailer}
+use Rattle.peer_image.specs.ImageTwoParts.{AreMarked, GoesBadAt, IsPartTwo, IsRowInFront, RowsSo, TellsNext}
 use Rattle.peer_image.specs.ImageTwoReading.{AreRising, AreToldInFront, AreAllTold, FirstIsWhole, FitsBelow, HasNoHigher, HasNoRow, ImageTwoAsks, IsImageHead, IsImageTwo, IsToldBy, ReadsRowsTwo, RowsStopAt, ToldStopAt, head_two_spelling, head_two_at, row_among}
 use Rattle.peer_image.proofs.LastFronts.{EndsIn}
 use Rattle.peer_image.proofs.TwoHeads.{head-reads}
@@ -180,12 +178,19 @@ marks_on marks count rows r number m below is = record {
 
 -- ---- rows that were read
 
-pub rows_none : (told : List Capability) (bytes : List ℕ) (marks : List Bool) → AreMarked marks (length told) [] → RowsSo told bytes [] marks bytes
-rows_none told bytes marks m = record { numbered = []; fit = tt; parts = refl; rows_are = refl; marked = m }
+pub rows_none : (told : List Capability) (bytes : List ℕ) (marks : List Bool) → RowsSo told bytes marks [] marks bytes
+rows_none told bytes marks = record {
+  numbered = [];
+  fit = tt;
+  parts = refl;
+  rows_are = refl;
+  marked = λ before m. subst (AreMarked marks (length told)) (sym (append-nil before)) m;
+}
 
-pub rows_on : (told : List Capability) (bytes : List ℕ) (rows : List RawValue) (marks : List Bool) (left : List ℕ) (row : RawValue) (number taken : ℕ) → RowsSo told bytes rows marks left → IsRowInFront told left row number taken
-    → RowsSo told bytes (rows ++ row ∷ []) (set marks number true) (drop taken left)
-rows_on told bytes rows marks left row number taken so next = record {
+-- one row more
+pub rows_on : (told : List Capability) (bytes : List ℕ) (old : List Bool) (rows : List RawValue) (marks : List Bool) (left : List ℕ) (row : RawValue) (number taken : ℕ) → RowsSo told bytes old rows marks left → IsRowInFront told left row number taken
+    → RowsSo told bytes old (rows ++ row ∷ []) (set marks number true) (drop taken left)
+rows_on told bytes old rows marks left row number taken so next = record {
   numbered = so.numbered ++ next.numbered ∷ [];
   fit = All-append (FitsBelow (length told)) so.numbered (next.numbered ∷ []) so.fit (next.fits, tt);
   parts = parts_on numbered_frame bytes left so.numbered next.numbered taken so.parts next.spelled;
@@ -193,12 +198,51 @@ rows_on told bytes rows marks left row number taken so next = record {
       ap (λ (l : List RawValue). l ++ row ∷ []) so.rows_are
       ∙ ap (λ (x : RawValue). map (row_among told) so.numbered ++ x ∷ []) next.row_is
       ∙ sym (map-append (row_among told) so.numbered (next.numbered ∷ []));
-  marked = marks_on marks (length told) so.numbered next.numbered number so.marked next.fits.below next.number_is;
+  marked = λ before m.
+      subst (AreMarked (set marks number true) (length told)) (append_assoc before so.numbered (next.numbered ∷ []))
+      (marks_on marks (length told) (before ++ so.numbered) next.numbered number (so.marked before m) next.fits.below next.number_is);
+}
+
+-- further rows
+pub rows_more : (told : List Capability) (bytes : List ℕ) (old : List Bool) (rows : List RawValue) (marks : List Bool) (left : List ℕ) (more : List RawValue) (new : List Bool) (rest : List ℕ) → RowsSo told bytes old rows marks left → RowsSo told left marks more new rest
+    → RowsSo told bytes old (rows ++ more) new rest
+rows_more told bytes old rows marks left more new rest a b = record {
+  numbered = a.numbered ++ b.numbered;
+  fit = All-append (FitsBelow (length told)) a.numbered b.numbered a.fit b.fit;
+  parts =
+      a.parts
+      ∙ ap (λ (l : List ℕ). flat_map numbered_frame a.numbered ++ l) b.parts
+      ∙ sym (append_assoc (flat_map numbered_frame a.numbered) (flat_map numbered_frame b.numbered) rest)
+      ∙ ap (λ (l : List ℕ). l ++ rest) (sym (flat_map-append numbered_frame a.numbered b.numbered));
+  rows_are =
+      ap (λ (l : List RawValue). l ++ more) a.rows_are
+      ∙ ap (λ (l : List RawValue). map (row_among told) a.numbered ++ l) b.rows_are
+      ∙ sym (map-append (row_among told) a.numbered b.numbered);
+  marked = λ before m. subst (AreMarked new (length told)) (append_assoc before a.numbered b.numbered) (b.marked (before ++ a.numbered) (a.marked before m));
 }
 
 -- a row's number has a mark
-pub mark_there : (told : List Capability) (bytes : List ℕ) (rows : List RawValue) (marks : List Bool) (left : List ℕ) (row : RawValue) (number taken : ℕ) → RowsSo told bytes rows marks left → IsRowInFront told left row number taken → number < length marks
-mark_there told bytes rows marks left row number taken so next = omega (arith, next.fits.below, next.number_is, so.marked.long)
+pub mark_there : (told : List Capability) (marks : List Bool) (left : List ℕ) (row : RawValue) (number taken : ℕ) → length marks ≡ length told → IsRowInFront told left row number taken → number < length marks
+mark_there told marks left row number taken long next = omega (arith, next.fits.below, next.number_is, long)
+
+numbered_long : (r : NumberedRow) → 4 ≤ length (numbered_frame r)
+numbered_long r = omega (arith, length-append (to_be_bytes w32 (length (numbered_spelling r))) (numbered_spelling r))
+
+frames_long : (rows : List NumberedRow) → length rows ≤ length (flat_map numbered_frame rows)
+frames_long [] = omega arith
+frames_long (r ∷ rows) = omega (arith, numbered_long r, frames_long rows, length-append (numbered_frame r) (flat_map numbered_frame rows))
+
+rows_short : (told : List Capability) (bytes : List ℕ) (old : List Bool) (rows : List RawValue) (marks : List Bool) (left : List ℕ) (so : RowsSo told bytes old rows marks left) → length rows + length left ≤ length bytes
+rows_short told bytes old rows marks left so =
+    omega (arith, ap length so.rows_are, length-map so.numbered (row_among told), frames_long so.numbered, ap length so.parts, length-append (flat_map numbered_frame so.numbered) left)
+
+-- a part with a row takes bytes
+pub part_two_shorter : (told : List Capability) (bytes : List ℕ) (most : ℕ) (old : List Bool) (rows : List RawValue) (marks : List Bool) (left : List ℕ) → IsPartTwo told bytes most old rows marks left → 0 < length rows → length left < length bytes
+part_two_shorter told bytes most old rows marks left p some = omega (arith, some, rows_short told bytes old rows marks left p.so)
+
+-- a part that may have more rows than there are bytes ends where no row stands
+pub part_whole : (told : List Capability) (bytes : List ℕ) (most : ℕ) (old : List Bool) (rows : List RawValue) (marks : List Bool) (left : List ℕ) → IsPartTwo told bytes most old rows marks left → length bytes < most → HasNoRow (length told) left
+part_whole told bytes most old rows marks left p above = p.ended (omega (arith, above, rows_short told bytes old rows marks left p.so))
 
 -- where a row was read, there is a capability
 pub row_told : (told : List Capability) (left : List ℕ) (row : RawValue) (number taken : ℕ) → IsRowInFront told left row number taken → 0 < length told
@@ -209,8 +253,8 @@ asks_by : (told : List Capability) (bytes left : List ℕ) (rows : List Numbered
 asks_by told bytes left [] fit parts asks = inr (subst FrameAsks (sym parts) asks)
 asks_by told bytes left (r ∷ rows) fit parts asks = inl (omega (arith, fit.0.below))
 
-pub rows_ask : (told : List Capability) (bytes : List ℕ) (rows : List RawValue) (marks : List Bool) (left : List ℕ) → RowsSo told bytes rows marks left → FrameAsks left → (0 < length told) ⊎ FrameAsks bytes
-rows_ask told bytes rows marks left so asks = asks_by told bytes left so.numbered so.fit so.parts asks
+pub rows_ask : (told : List Capability) (bytes : List ℕ) (old : List Bool) (rows : List RawValue) (marks : List Bool) (left : List ℕ) → RowsSo told bytes old rows marks left → FrameAsks left → (0 < length told) ⊎ FrameAsks bytes
+rows_ask told bytes old rows marks left so asks = asks_by told bytes left so.numbered so.fit so.parts asks
 
 -- ---- marks that are all set
 
@@ -265,7 +309,7 @@ no_row_at told bytes r taken fits spelled above s rest f parts =
 numbered_asks : (r : NumberedRow) (rest : List ℕ) → FitsNumbered r → FrameAsks (numbered_frame r ++ rest)
 numbered_asks r rest fits =
     let behind = to_be_bytes w32 r.number ++ signature_spelling r.signature in
-    rw (framed_again {spell = numbered_spelling} {fits = IsNumbered} r rest fits)
+    rw (framed_again {spell = numbered_spelling} {fits = IsNumberedRow} r rest fits)
     (entry_asks (numbered_spelling r) r.entry behind (entry-reads.again r.entry behind fits.value_fits.entry_fits))
 
 -- a row that was read asked
@@ -302,49 +346,49 @@ image_asks bytes n rows i some =
     head_asks bytes h behind (record { key = i.key; count_fits = i.told_count }) i.spelled
     (some_told behind i.told (flat_map numbered_frame i.numbered ++ trailer (length i.numbered)) i.told_fit refl (rows_some i.told i.numbered rows i.fit i.rows_are some))
 
-module _ (bytes : List ℕ) (h : ImageHead) (behind : List ℕ) (told : List Capability) (middle : List ℕ) (rows : List RawValue) (marks : List Bool) (left : List ℕ)
-    (fits : IsImageHead h) (parts : bytes ≡ head_two_spelling h ++ behind) (are : AreToldInFront behind h.count told middle) (all : length told ≡ h.count) (so : AllRowsSo told middle rows marks left) where
-  as_many : length rows ≡ length so.so.numbered
-  as_many = ap length so.so.rows_are ∙ length-map so.so.numbered (row_among told)
+module _ (bytes : List ℕ) (h : ImageHead) (behind : List ℕ) (told : List Capability) (middle : List ℕ) (old : List Bool) (rows : List RawValue) (marks : List Bool) (left : List ℕ)
+    (fits : IsImageHead h) (parts : bytes ≡ head_two_spelling h ++ behind) (are : AreToldInFront behind h.count told middle) (all : length told ≡ h.count) (unset : AreMarked old (length told) []) (so : RowsSo told middle old rows marks left) where
+  as_many : length rows ≡ length so.numbered
+  as_many = ap length so.rows_are ∙ length-map so.numbered (row_among told)
 
   -- all was read to the end
   pub image_from : (flags : List Bool) (count : ℕ) → flags ≡ marks → count ≡ length rows → (count < 2 ^ 32) × (left ≡ trailer count) × (list_all (λ x. x) flags ≡ true) → IsImageTwo bytes h.namespace rows
   image_from flags count flags_are count_is e = record {
     told = told;
-    numbered = so.so.numbered;
+    numbered = so.numbered;
     key = fits.key;
     told_count = omega (arith, fits.count_fits, all);
     told_fit = are.fit;
     up = are.up;
-    fit = so.so.fit;
-    used = used_from_set marks (length told) so.so.numbered so.so.marked (sym (ap (list_all (λ x. x)) flags_are) ∙ e.2);
+    fit = so.fit;
+    used = used_from_set marks (length told) so.numbered (so.marked [] unset) (sym (ap (list_all (λ x. x)) flags_are) ∙ e.2);
     count = omega (arith, e.0, count_is, as_many);
     spelled =
         parts
         ∙ ap (λ (k : ℕ). head_two h.namespace k ++ behind) (sym all)
         ∙ ap (λ (l : List ℕ). head_two h.namespace (length told) ++ l) are.parts
-        ∙ ap (λ (l : List ℕ). head_two h.namespace (length told) ++ (flat_map capability_frame told ++ l)) so.so.parts
-        ∙ ap (λ (l : List ℕ). head_two h.namespace (length told) ++ (flat_map capability_frame told ++ (flat_map numbered_frame so.so.numbered ++ l))) (e.1 ∙ ap trailer (count_is ∙ as_many));
-    rows_are = so.so.rows_are;
+        ∙ ap (λ (l : List ℕ). head_two h.namespace (length told) ++ (flat_map capability_frame told ++ l)) so.parts
+        ∙ ap (λ (l : List ℕ). head_two h.namespace (length told) ++ (flat_map capability_frame told ++ (flat_map numbered_frame so.numbered ++ l))) (e.1 ∙ ap trailer (count_is ∙ as_many));
+    rows_are = so.rows_are;
   }
 
   -- what is left is not the end
-  pub wrong_from : (flags : List Bool) (count : ℕ) (e : End ImageRefusal) → flags ≡ marks → count ≡ length rows → (count < 2 ^ 32 → left ≡ trailer count → list_all (λ x. x) flags ≡ true → ⊥) → GoesBadAt bytes left e → ReadsRowsTwo bytes (Err e)
-  wrong_from flags count e flags_are count_is none bad =
-      let same : count ≡ length so.so.numbered = count_is ∙ as_many in
+  pub wrong_from : (flags : List Bool) (count : ℕ) (e : End ImageRefusal) → HasNoRow (length told) left → flags ≡ marks → count ≡ length rows → (count < 2 ^ 32 → left ≡ trailer count → list_all (λ x. x) flags ≡ true → ⊥) → GoesBadAt bytes left e → ReadsRowsTwo bytes (Err e)
+  wrong_from flags count e none_there flags_are count_is none bad =
+      let same : count ≡ length so.numbered = count_is ∙ as_many in
       let stop : RowsStopAt bytes bad.at = record {
         head = h;
         behind = behind;
         told = told;
         middle = middle;
-        numbered = so.so.numbered;
+        numbered = so.numbered;
         left = left;
         head_fits = fits;
         parts = parts;
         are_told = are;
         all = all;
-        are_numbered = record { fit = so.so.fit; parts = so.so.parts; no_row = so.no_row };
-        no_end = λ few used is. none (omega (arith, few, same)) (is ∙ ap trailer (sym same)) (ap (list_all (λ x. x)) flags_are ∙ set_from_used marks (length told) so.so.numbered so.so.marked used);
+        are_numbered = record { fit = so.fit; parts = so.parts; no_row = none_there };
+        no_end = λ few used is. none (omega (arith, few, same)) (is ∙ ap trailer (sym same)) (ap (list_all (λ x. x)) flags_are ∙ set_from_used marks (length told) so.numbered (so.marked [] unset) used);
         place = bad.place;
       } in
       subst (λ (x : End ImageRefusal). ReadsRowsTwo bytes (Err x)) (sym bad.is) (inr (inr stop))

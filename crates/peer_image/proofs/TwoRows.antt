@@ -11,7 +11,7 @@ use Rattle.mc_cap.specs.Forms.{IsCapability, capability_spelling, chain_spelling
 use Rattle.mc_cap.specs.declared.capability.Capability.{Capability}
 use Rattle.cap_codec.specs.Spelled.{token_of}
 use Rattle.cap_codec.specs.TokenParts.{SpellsToken, capability_in, signature_in}
-use Rattle.peer_image.specs.ImageTwo.{capability_bytes}
+use Rattle.peer_image.specs.Image.{capability_bytes}
 
 -- a capability has more bytes than a number
 pub capability_long : (c : Capability) → IsCapability c → 4 ≤ length (capability_spelling c)

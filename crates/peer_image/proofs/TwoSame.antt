@@ -1,12 +1,11 @@
 -- What is written as an image of version 2 is the image of just these rows.
-use Rattle.std.proofs.Common.{◌≡◌, inl, inr, ℕ, zero, suc, ◌+◌, ◌<◌, ◌≤◌, ◌^◌, List, [], ◌∷◌, ◌++◌, length, map, get_or, Contains, refl, sym, ap, subst, ◌∙◌, append-nil, arith}
+use Rattle.std.proofs.Common.{◌≡◌, inl, inr, ℕ, ◌<◌, ◌≤◌, ◌^◌, List, [], ◌∷◌, ◌++◌, length, map, get_or, refl, sym, ap, subst, ◌∙◌, append-nil, arith}
 use Rattle.std.specs.List.{AllByRecursion, flat_map}
 use Rattle.std.specs.List.Sorted.{IsStrictlySortedBy}
 use Rattle.std.specs.Int.{w32, to_be_bytes}
 use Rattle.std.proofs.lemmas.Cmp.{nat_list_cmp_total}
 use Rattle.std.proofs.lemmas.List.{get_or_default, length-append, length-map}
 use Rattle.std.proofs.Math.ListN.{get_or-map}
-use Rattle.spelling.specs.Spelling.{text_spelling}
 use Rattle.spelling.proofs.Joining.{one_spelling}
 use Rattle.willow_path.specs.Key.{IsKey}
 use Rattle.willow_entry.specs.Entry.{bytes_cmp}
@@ -21,15 +20,13 @@ use Rattle.mc_cap.specs.Signature.{signature_spelling}
 use Rattle.mc_cap.specs.declared.capability.Capability.{Capability}
 use Rattle.cap_codec.specs.declared.numbered.NumberedRow.{NumberedRow}
 use Rattle.cap_codec.specs.Numbered.{FitsCapability, capability_frame, numbered_frame, numbered_spelling, row_with}
-use Rattle.cap_codec.specs.Rows.{FitsFrame, IsRaw, RawValue, raw_spelling, row_of, token_spelling}
+use Rattle.cap_codec.specs.Rows.{FitsFrame, RawValue, row_of, token_spelling}
 use Rattle.cap_codec.specs.Spelled.{no_token}
-use Rattle.cap_codec.specs.TokenParts.{capability_in, signature_in}
 use Rattle.cap_codec.proofs.CapReads.{capability-reads}
 use Rattle.cap_codec.proofs.Spelled.{capability_again, signature_again}
-use Rattle.peer_image.specs.Image.{trailer}
-use Rattle.peer_image.specs.ImageReading.{raw_rows}
-use Rattle.peer_image.specs.ImageTwo.{bytes_frame, capabilities, capability_bytes, head_two, image_two, numbered_as, place_in, placed_frame}
-use Rattle.peer_image.specs.ImageTwoReading.{AreRising, AreAllTold, FitsBelow, IsImageTwo, row_among}
+use Rattle.peer_image.specs.ImageOneReading.{raw_rows}
+use Rattle.peer_image.specs.Image.{bytes_frame, capabilities, capability_bytes, head_two, image, numbered_as, place_in, placed_frame, trailer}
+use Rattle.peer_image.specs.ImageTwoReading.{AreAllTold, FitsBelow, IsImageTwo, row_among}
 use Rattle.peer_image.proofs.TwoRows.{capability_long}
 use Rattle.peer_image.proofs.TwoPlaces.{all_at, all_rising, place_at, rising_short}
 
@@ -90,7 +87,7 @@ spelled_texts : (rows : List RawValue) → AllByRecursion FitsFrame rows → All
 spelled_texts [] f = tt
 spelled_texts (r ∷ rows) f = ((r.token.capability, record { value_fits = f.0.raw.token_fits.capability_fits; short = text_short r f.0 }, refl), spelled_texts rows f.1)
 
-flat_mapped : {A B : Type 0} (f : B → List ℕ) (g : A → B) (xs : List A) → flat_map f (map g xs) ≡ flat_map (λ x. f (g x)) xs
+pub flat_mapped : {A B : Type 0} (f : B → List ℕ) (g : A → B) (xs : List A) → flat_map f (map g xs) ≡ flat_map (λ x. f (g x)) xs
 flat_mapped f g [] = refl
 flat_mapped f g (x ∷ xs) = ap (λ (l : List ℕ). f (g x) ++ l) (flat_mapped f g xs)
 
@@ -99,7 +96,7 @@ mapped_member g [] x m = absurd m
 mapped_member g (y ∷ xs) x (inl e) = inl (ap g e)
 mapped_member g (y ∷ xs) x (inr m) = inr (mapped_member g xs x m)
 
-member_mapped : {A B : Type 0} (g : A → B) (xs : List A) (z : B) → Member (map g xs) z → (x : A) × Member xs x × (g x ≡ z)
+pub member_mapped : {A B : Type 0} (g : A → B) (xs : List A) (z : B) → Member (map g xs) z → (x : A) × Member xs x × (g x ≡ z)
 member_mapped g [] z m = absurd m
 member_mapped g (y ∷ xs) z (inl e) = (y, inl refl, e)
 member_mapped g (y ∷ xs) z (inr m) = let r = member_mapped g xs z m in (r.0, inr r.1, r.2)
@@ -201,8 +198,8 @@ module _ (rows : List RawValue) (f : AllByRecursion FitsFrame rows) where
   texts_few : length (texts_of rows) ≤ length rows
   texts_few = omega (arith, ap length texts_rising, rising_short bytes_cmp (map text_of rows), length-map rows text_of)
 
-pub image_two_here : (n : List ℕ) (rows : List RawValue) → IsKey n → AllByRecursion FitsFrame rows → length rows < 2 ^ 32 → IsImageTwo (image_two n (raw_rows rows)) n rows
-unfolding image_two
+pub image_two_here : (n : List ℕ) (rows : List RawValue) → IsKey n → AllByRecursion FitsFrame rows → length rows < 2 ^ 32 → IsImageTwo (image n (raw_rows rows)) n rows
+unfolding image
 image_two_here n rows key f few =
     let r = texts_read rows f in
     let up = texts_up rows f in

@@ -2,14 +2,12 @@
 use Rattle.std.proofs.Common.{◌≡◌, inl, inr, ℕ, ◌<◌, ◌≤◌, ◌^◌, List, [], ◌∷◌, ◌++◌, length, map, refl, sym, ap, subst, ◌∙◌, append_assoc, append-nil, arith}
 use Rattle.std.specs.List.{flat_map, AllByRecursion}
 use Rattle.std.specs.Int.{w32, to_be_bytes}
-use Rattle.std.proofs.lemmas.List.{length-append}
-use Rattle.spelling.specs.Front.{Whole}
+use Rattle.std.proofs.lemmas.List.{append_cancel_left, length-append}
 use Rattle.spelling.proofs.Joining.{one_spelling, whole_value}
-use Rattle.mc_cap.specs.Forms.{IsCapability, capability_spelling}
 use Rattle.mc_cap.specs.declared.capability.Capability.{Capability}
 use Rattle.willow_entry.specs.EntryForm.{entry_spelling}
 use Rattle.cap_codec.specs.declared.numbered.NumberedRow.{NumberedRow}
-use Rattle.cap_codec.specs.Numbered.{FitsCapability, FitsNumbered, IsNumbered, capability_frame, numbered_frame, numbered_spelling}
+use Rattle.cap_codec.specs.Numbered.{FitsCapability, IsNumberedRow, capability_frame, numbered_frame, numbered_spelling}
 use Rattle.cap_codec.specs.Rows.{RawValue}
 use Rattle.cap_codec.proofs.CapReads.{capability-reads}
 use Rattle.cap_codec.proofs.Frames.{body_at}
@@ -17,9 +15,8 @@ use Rattle.cap_codec.proofs.Framed.{framed_again, framed_form}
 use Rattle.cap_codec.proofs.NumberedReads.{numbered-reads}
 use Rattle.peer_image.specs.declared.known.ImageHead.{ImageHead}
 use Rattle.peer_image.specs.Image.{trailer}
-use Rattle.peer_image.specs.ImageTwo.{head_two}
-use Rattle.peer_image.specs.ImageTwoReading.{AreNumbered, AreRising, AreToldInFront, AreAllTold, FitsBelow, HasNoHead, HasNoHigher, HasNoRow, IsImageHead, IsImageTwo, IsWrongTwo, RowsStopAt, ToldStopAt, head_two_spelling, row_among}
-use Rattle.peer_image.proofs.Stops.{behind_key, zero_body}
+use Rattle.peer_image.specs.ImageTwoReading.{AreNumbered, AreRising, AreToldInFront, AreAllTold, FitsBelow, HasNoHigher, HasNoRow, IsImageHead, IsImageTwo, IsWrongTwo, RowsStopAt, ToldStopAt, head_two_spelling, row_among}
+use Rattle.peer_image.proofs.OneStops.{behind_key, zero_body}
 use Rattle.peer_image.proofs.TwoHeads.{head-reads}
 use Rattle.peer_image.proofs.TwoRising.{rising_left}
 
@@ -70,14 +67,14 @@ same_told bytes others_bytes count other_count told others a b is counted f g =
 
 -- ---- rows
 
-numbered_some : (r : NumberedRow) → IsNumbered r → [] ≡ numbered_spelling r → ⊥
+numbered_some : (r : NumberedRow) → IsNumberedRow r → [] ≡ numbered_spelling r → ⊥
 unfolding entry_spelling
 numbered_some r f e = behind_key r.entry.namespace _ _ f.entry_fits.namespace.whole e
 
 -- four bytes 00
 pub zeros_no_row : (count : ℕ) (rest : List ℕ) → HasNoRow count (0 ∷ 0 ∷ 0 ∷ 0 ∷ rest)
 zeros_no_row count rest r others f e =
-    numbered_some r f.fits.value_fits (whole_value [] (numbered_spelling r) rest others (sym (zero_body rest) ∙ ap body_at e ∙ framed_again {spell = numbered_spelling} {fits = IsNumbered} r others f.fits))
+    numbered_some r f.fits.value_fits (whole_value [] (numbered_spelling r) rest others (sym (zero_body rest) ∙ ap body_at e ∙ framed_again {spell = numbered_spelling} {fits = IsNumberedRow} r others f.fits))
 
 same_rows : (count : ℕ) (rows others : List NumberedRow) (a b : List ℕ) → AllByRecursion (FitsBelow count) rows → AllByRecursion (FitsBelow count) others → HasNoRow count a → HasNoRow count b
     → flat_map numbered_frame rows ++ a ≡ flat_map numbered_frame others ++ b → (rows ≡ others) × (a ≡ b)
@@ -131,6 +128,25 @@ front_of_image bytes n rows i = record {
   are_numbered = record { fit = i.fit; parts = refl; no_row = zeros_no_row (length i.told) (to_be_bytes w32 (length i.numbered)) };
 }
 
+-- so it does with more bytes behind it
+front_before : (bytes n : List ℕ) (rows : List RawValue) (rest : List ℕ) (i : IsImageTwo bytes n rows) → IsFrontTwo (bytes ++ rest) (head_of n i.told) i.told i.numbered (trailer (length i.numbered) ++ rest)
+front_before bytes n rows rest i =
+    let caps = flat_map capability_frame i.told in
+    let frames = flat_map numbered_frame i.numbered in
+    let end = trailer (length i.numbered) in
+    record {
+      behind = caps ++ (frames ++ (end ++ rest));
+      middle = frames ++ (end ++ rest);
+      head_fits = record { key = i.key; count_fits = i.told_count };
+      parts =
+          ap (λ (l : List ℕ). l ++ rest) i.spelled
+          ∙ append_assoc (head_two_spelling (head_of n i.told)) (caps ++ (frames ++ end)) rest
+          ∙ ap (λ (l : List ℕ). head_two_spelling (head_of n i.told) ++ l) (append_assoc caps (frames ++ end) rest ∙ ap (λ (l : List ℕ). caps ++ l) (append_assoc frames end rest));
+      are_told = record { fit = i.told_fit; up = i.up; within = omega arith; parts = refl; ended = λ few. absurd (omega (arith, few)) };
+      all = refl;
+      are_numbered = record { fit = i.fit; parts = refl; no_row = zeros_no_row (length i.told) (to_be_bytes w32 (length i.numbered) ++ rest) };
+    }
+
 front_of_stop : (bytes : List ℕ) (at : ℕ) (s : RowsStopAt bytes at) → IsFrontTwo bytes s.head s.told s.numbered s.left
 front_of_stop bytes at s = record { behind = s.behind; middle = s.middle; head_fits = s.head_fits; parts = s.parts; are_told = s.are_told; all = s.all; are_numbered = s.are_numbered }
 
@@ -144,12 +160,18 @@ told_not_all bytes at h told rows left s f =
 
 -- ---- the laws
 
-pub one_image_two : (bytes n m : List ℕ) (rows others : List RawValue) → IsImageTwo bytes n rows → IsImageTwo bytes m others → (n ≡ m) × (rows ≡ others)
-one_image_two bytes n m rows others i j =
-    let same = same_fronts bytes (head_of n i.told) (head_of m j.told) i.told j.told i.numbered j.numbered _ _ (front_of_image bytes n rows i) (front_of_image bytes m others j) in (
+-- an image in front tells its namespace, its rows, and what stands behind it
+pub same_images : (bytes others n m : List ℕ) (rows more : List RawValue) (a b : List ℕ) → IsImageTwo bytes n rows → IsImageTwo others m more → bytes ++ a ≡ others ++ b → (n ≡ m) × (rows ≡ more) × (a ≡ b)
+same_images bytes others n m rows more a b i j e =
+    let there = subst (λ (l : List ℕ). IsFrontTwo l (head_of m j.told) j.told j.numbered (trailer (length j.numbered) ++ b)) (sym e) (front_before others m more b j) in
+    let same = same_fronts (bytes ++ a) (head_of n i.told) (head_of m j.told) i.told j.told i.numbered j.numbered _ _ (front_before bytes n rows a i) there in (
       ap (λ (x : ImageHead). x.namespace) same.heads,
       i.rows_are ∙ ap (λ (l : List Capability). map (row_among l) i.numbered) same.told_are ∙ ap (map (row_among j.told)) same.rows_are ∙ sym j.rows_are,
+      append_cancel_left (trailer (length i.numbered)) a b (same.left_same ∙ ap (λ (l : List NumberedRow). trailer (length l) ++ b) (sym same.rows_are)),
     )
+
+pub one_image_two : (bytes n m : List ℕ) (rows others : List RawValue) → IsImageTwo bytes n rows → IsImageTwo bytes m others → (n ≡ m) × (rows ≡ others)
+one_image_two bytes n m rows others i j = let same = same_images bytes bytes n m rows others [] [] i j refl in (same.0, same.1)
 
 not_end : (bytes n : List ℕ) (rows : List RawValue) (at : ℕ) → IsImageTwo bytes n rows → RowsStopAt bytes at → ⊥
 not_end bytes n rows at i s =

@@ -1,75 +1,34 @@
--- Bytes that are an image, and where bytes that are none go wrong.
-use Rattle.std.specs.Prelude.{◌≡◌, ℕ, ◌+◌, ◌<◌, ◌^◌, ◌⊎◌, List, ◌++◌, length, map, Some, None, Result, Ok, Err}
-use Rattle.std.specs.List.{flat_map, AllByRecursion}
-use Rattle.spelling.specs.Front.{Front, ◌>>=◌}
-use Rattle.spelling.specs.Memory.{Behind}
-use Rattle.spelling.specs.Reading.{exactly_at}
+-- Images of either version, told apart by their first four bytes.
+use Rattle.std.specs.Prelude.{◌≡◌, ℕ, ◌<◌, ◌^◌, ◌⊎◌, List, length, take, Some, None, Result, Ok, Err}
+use Rattle.std.specs.List.{AllByRecursion}
 use Rattle.spelling.specs.declared.ending.End.{End}
 use Rattle.spelling.specs.declared.ending.End.TheVariants.{Refused, NoMemory}
-use Rattle.willow_path.specs.Key.{IsKey, key_at}
+use Rattle.willow_path.specs.Key.{IsKey}
 use Rattle.willow_entry.specs.Row.{RowValue, live}
-use Rattle.willow_entry.specs.Frame.{FrameAsks, HasFrame}
-use Rattle.cap_codec.specs.Rows.{RawValue, row_of, IsRawRow, FitsFrame, frame}
-use Rattle.cap_codec.specs.Streams.{HasNoFrame}
+use Rattle.willow_entry.specs.Frame.{HasFrame}
+use Rattle.cap_codec.specs.Rows.{RawValue, FitsFrame, IsRawRow}
 use Rattle.peer_image.specs.declared.refusal.ImageRefusal.{ImageRefusal}
 use Rattle.peer_image.specs.declared.refusal.ImageRefusal.TheVariants.{BadImage, NotRising, Pruned}
 use Rattle.peer_image.specs.declared.read.Image.{Image}
-use Rattle.peer_image.specs.Image.{image, magic, trailer}
-use Rattle.peer_image.specs.Order.{order_refusal, AreOf}
+use Rattle.peer_image.specs.Image.{image, magic_two}
+use Rattle.peer_image.specs.ImageOne.{image_one}
+pub use Rattle.peer_image.specs.ImageOneReading.{raw_rows}
+use Rattle.peer_image.specs.ImageOneReading.{ImageOneAsks, IsBack, IsImageOne, IsWrongOne, ReadsImageOne, Told}
+use Rattle.peer_image.specs.ImageTwoReading.{ImageTwoAsks, IsImageTwo, IsWrongTwo, ReadsImageTwo}
+use Rattle.peer_image.specs.Order.{AreOf, order_refusal}
 
--- what a store sees of the rows
-abbrev pub raw_rows : List RawValue → List RowValue
-raw_rows = map row_of
+-- the first four bytes are the text WIM2
+abbrev pub IsOfVersionTwo : List ℕ → Type 0
+IsOfVersionTwo bytes = take 4 bytes ≡ magic_two
 
--- the text WIM1 and a key
-abbrev pub header_spelling : List ℕ → List ℕ
-header_spelling n = magic ++ n
+-- the bytes are the image of these rows, of version 2 or of version 1
+abbrev pub IsImage : List ℕ → List ℕ → List RawValue → Type 0
+IsImage bytes n rows = IsImageTwo bytes n rows ⊎ IsImageOne bytes n rows
 
--- the same, read
-unfoldable pub header_at : List ℕ → Front (List ℕ)
-header_at bytes = do
-  text ← exactly_at magic bytes
-  key_at text.1
-
--- an image asks for memory behind its header, where the first frame does
-abbrev pub ImageAsks : List ℕ → Type 0
-ImageAsks bytes = Behind (header_at bytes) (λ key rest. FrameAsks rest)
-
--- the bytes are the image of rows that frames may carry, fewer than a count of four bytes can tell
-pub record IsImage (bytes n : List ℕ) (rows : List RawValue) : Type 0 where
-  pub key : IsKey n
-  pub fit : AllByRecursion FitsFrame rows
-  pub count : length rows < 2 ^ 32
-  pub spelled : bytes ≡ image n (raw_rows rows)
-
--- the text WIM1, a key and the frames of these rows stand in front of what is left
-pub record IsFront (bytes n : List ℕ) (rows : List RawValue) (left : List ℕ) : Type 0 where
-  pub key : IsKey n
-  pub fit : AllByRecursion FitsFrame rows
-  pub parts : bytes ≡ (magic ++ n) ++ (flat_map frame rows ++ left)
-
--- no text WIM1 with a key behind it stands in front
-abbrev pub HasNoHeader : List ℕ → Type 0
-HasNoHeader bytes = (n left : List ℕ) → IsKey n → bytes ≡ (magic ++ n) ++ left → ⊥
-
--- behind these rows stands neither a further frame nor the end of an image
-pub record IsStuck (rows : List RawValue) (left : List ℕ) : Type 0 where
-  pub no_frame : HasNoFrame left
-  pub no_trailer : length rows < 2 ^ 32 → left ≡ trailer (length rows) → ⊥
-
--- the bytes go wrong behind their frames, from byte `at` on
-pub record ImageStopsAt (bytes : List ℕ) (at : ℕ) : Type 0 where
-  pub namespace : List ℕ
-  pub rows : List RawValue
-  pub left : List ℕ
-  pub front : IsFront bytes namespace rows left
-  pub stuck : IsStuck rows left
-  pub place : at + length left ≡ length bytes
-
--- the bytes are no image: they have no header, and go wrong from their first byte on, or they go wrong
--- behind their frames
-abbrev pub IsWrong : List ℕ → ℕ → Type 0
-IsWrong bytes at = (HasNoHeader bytes × (at ≡ 0)) ⊎ ImageStopsAt bytes at
+-- from byte `at` on the bytes are no image of the version that the first four of them tell
+pub record IsWrong (bytes : List ℕ) (at : ℕ) : Type 0 where
+  pub two : IsOfVersionTwo bytes → IsWrongTwo bytes at
+  pub one : (IsOfVersionTwo bytes → ⊥) → IsWrongOne bytes at
 
 -- the bytes are an image of rows that are refused for their order
 pub record IsMisordered (bytes : List ℕ) (refusal : ImageRefusal) : Type 0 where
@@ -86,28 +45,15 @@ ReadsImage bytes (Err (Refused (NotRising at))) = IsMisordered bytes (NotRising 
 ReadsImage bytes (Err (Refused (Pruned at by))) = IsMisordered bytes (Pruned at by)
 ReadsImage bytes (Err NoMemory) = Unit {0}
 
--- the same of bytes whose rows' order is not looked at
-abbrev pub ReadsRows : List ℕ → Result Image (End ImageRefusal) → Type 0
-ReadsRows bytes (Ok found) = IsImage bytes found.namespace found.rows.items
-ReadsRows bytes (Err (Refused (BadImage at))) = IsWrong bytes at
-ReadsRows bytes (Err (Refused (NotRising at))) = ⊥
-ReadsRows bytes (Err (Refused (Pruned at by))) = ⊥
-ReadsRows bytes (Err NoMemory) = Unit {0}
+-- bytes of version 2 are read as such, others as an image of version 1
+pub record ReadsItsVersion (bytes : List ℕ) (result : Result Image (End ImageRefusal)) : Type 0 where
+  pub two : IsOfVersionTwo bytes → ReadsImageTwo bytes result
+  pub one : (IsOfVersionTwo bytes → ⊥) → ReadsImageOne bytes result
 
--- what an image tells: a namespace and rows
-pub record Told : Type 0 where
-  pub namespace : List ℕ
-  pub rows : List RawValue
-
--- a key, and rows that frames may carry, fewer than a count of four bytes can tell
-pub record FitsImage (t : Told) : Type 0 where
-  pub key : IsKey t.namespace
-  pub fit : AllByRecursion FitsFrame t.rows
-  pub count : length t.rows < 2 ^ 32
-
--- the image that tells it
-abbrev pub image_spelling : Told → List ℕ
-image_spelling t = image t.namespace (raw_rows t.rows)
+-- where an image of either version asks for memory
+pub record ImageAsks (bytes : List ℕ) : Type 0 where
+  pub two : IsOfVersionTwo bytes → ImageTwoAsks bytes
+  pub one : (IsOfVersionTwo bytes → ⊥) → ImageOneAsks bytes
 
 -- bytes are the image of at most one list of rows, of one namespace
 abbrev pub HaveOneImage : Type 0
@@ -121,10 +67,41 @@ HaveOnePlace = (bytes : List ℕ) (at other : ℕ) → IsWrong bytes at → IsWr
 abbrev pub ImagesNeverGoWrong : Type 0
 ImagesNeverGoWrong = (bytes n : List ℕ) (rows : List RawValue) (at : ℕ) → IsImage bytes n rows → IsWrong bytes at → ⊥
 
--- what was read is these rows of this namespace, or there was no memory
-abbrev pub IsBack : List ℕ → List RowValue → Result Image (End ImageRefusal) → Type 0
-IsBack n rows (Ok found) = (found.namespace ≡ n) × (raw_rows found.rows.items ≡ rows)
-IsBack n rows (Err e) = e ≡ NoMemory
+-- bytes are the image of version 2 of at most one list of rows, of one namespace
+abbrev pub HaveOneImageTwo : Type 0
+HaveOneImageTwo = (bytes n m : List ℕ) (rows others : List RawValue) → IsImageTwo bytes n rows → IsImageTwo bytes m others → (n ≡ m) × (rows ≡ others)
+
+-- bytes go wrong as an image of version 2 at one place at most
+abbrev pub HaveOnePlaceTwo : Type 0
+HaveOnePlaceTwo = (bytes : List ℕ) (at other : ℕ) → IsWrongTwo bytes at → IsWrongTwo bytes other → at ≡ other
+
+-- no bytes both are an image of version 2 and go wrong
+abbrev pub ImagesTwoNeverGoWrong : Type 0
+ImagesTwoNeverGoWrong = (bytes n : List ℕ) (rows : List RawValue) (at : ℕ) → IsImageTwo bytes n rows → IsWrongTwo bytes at → ⊥
+
+-- Bytes that are an image of version 2 are the one spelling of its namespace and rows: read and written again, they are
+-- the same.
+abbrev pub HaveOneSpellingTwo : Type 0
+HaveOneSpellingTwo = (bytes n : List ℕ) (rows : List RawValue) → IsImageTwo bytes n rows → bytes ≡ image n (raw_rows rows)
+
+-- the image of version 2 that tells it
+abbrev pub image_two_spelling : Told → List ℕ
+image_two_spelling t = image t.namespace (raw_rows t.rows)
+
+-- an image of version 2 may tell it
+abbrev pub FitsImageTwo : Told → Type 0
+FitsImageTwo t = IsImageTwo (image_two_spelling t) t.namespace t.rows
+
+-- The two spellings of a namespace and rows that frames may carry are images of just these.
+abbrev pub SpellTheSame : Type 0
+SpellTheSame = (n : List ℕ) (rows : List RawValue) → IsKey n → AllByRecursion FitsFrame rows → length rows < 2 ^ 32
+    → IsImageOne (image_one n (raw_rows rows)) n rows × IsImageTwo (image n (raw_rows rows)) n rows
+
+-- Live rows of one namespace, whose tokens can be read, and whose bodies frames may carry, are read back from either
+-- spelling.
+abbrev pub ReadBackAlike : Type 0
+ReadBackAlike = (n m : List ℕ) (rows : List RowValue) (one two : Result Image (End ImageRefusal)) → IsKey n → AreOf m rows → AllByRecursion IsRawRow rows → AllByRecursion HasFrame rows
+    → length rows < 2 ^ 32 → live rows ≡ rows → ReadsImageOne (image_one n rows) one → ReadsImageTwo (image n rows) two → IsBack n rows one × IsBack n rows two
 
 -- The image of live rows of one namespace, whose tokens can be read, and whose bodies frames may carry, is read
 -- back as these.

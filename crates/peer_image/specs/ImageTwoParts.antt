@@ -10,7 +10,7 @@ use Rattle.cap_codec.specs.Numbered.{FitsCapability, capability_frame, numbered_
 use Rattle.cap_codec.specs.Rows.{RawValue}
 use Rattle.peer_image.specs.declared.refusal.ImageRefusal.{ImageRefusal}
 use Rattle.peer_image.specs.declared.refusal.ImageRefusal.TheVariants.{BadImage}
-use Rattle.peer_image.specs.ImageTwoReading.{AreNumbered, AreRising, FitsBelow, HasNoHigher, HasNoRow, IsToldBy, row_among}
+use Rattle.peer_image.specs.ImageTwoReading.{AreRising, FitsBelow, HasNoHigher, HasNoRow, IsToldBy, row_among}
 
 -- a capability that stands above those told is told in front of the bytes, or none is
 abbrev pub TellsNext : List Capability → List ℕ → Result (Capability × ℕ) (End NotHere) → Type 0
@@ -38,18 +38,28 @@ pub record AreMarked (marks : List Bool) (count : ℕ) (numbered : List Numbered
   pub long : length marks ≡ count
   pub marked : (k : ℕ) → k < count → (slice_index_or marks k false ≡ true) ↔ IsToldBy numbered k
 
--- some rows stand in front of what is left; of the capabilities those that they tell are marked
-pub record RowsSo (told : List Capability) (bytes : List ℕ) (rows : List RawValue) (marks : List Bool) (left : List ℕ) : Type 0 where
+-- Some rows stand in front of what is left. Where marks tell the capabilities of rows before them, these marks tell those of
+-- all.
+pub record RowsSo (told : List Capability) (bytes : List ℕ) (old : List Bool) (rows : List RawValue) (marks : List Bool) (left : List ℕ) : Type 0 where
   pub numbered : List NumberedRow
   pub fit : AllByRecursion (FitsBelow (length told)) numbered
   pub parts : bytes ≡ flat_map numbered_frame numbered ++ left
   pub rows_are : rows ≡ map (row_among told) numbered
-  pub marked : AreMarked marks (length told) numbered
+  pub marked : (before : List NumberedRow) → AreMarked old (length told) before → AreMarked marks (length told) (before ++ numbered)
 
--- these are all
-pub record AllRowsSo (told : List Capability) (bytes : List ℕ) (rows : List RawValue) (marks : List Bool) (left : List ℕ) : Type 0 where
-  pub so : RowsSo told bytes rows marks left
-  pub no_row : HasNoRow (length told) left
+-- they are at most so many, and where they are fewer, no further row stands behind them
+pub record IsPartTwo (told : List Capability) (bytes : List ℕ) (most : ℕ) (old : List Bool) (rows : List RawValue) (marks : List Bool) (left : List ℕ) : Type 0 where
+  pub so : RowsSo told bytes old rows marks left
+  pub within : length rows ≤ most
+  pub ended : length rows < most → HasNoRow (length told) left
+
+-- some rows, at most so many, stand in front of the bytes, and marks that told capabilities of rows before them tell those
+-- of these too
+pub record HasMarkedSome (told : List Capability) (bytes : List ℕ) (most : ℕ) (old marks : List Bool) : Type 0 where
+  pub rows : List RawValue
+  pub left : List ℕ
+  pub so : RowsSo told bytes old rows marks left
+  pub within : length rows ≤ most
 
 -- the bytes go wrong where these are left
 pub record GoesBadAt (bytes left : List ℕ) (e : End ImageRefusal) : Type 0 where

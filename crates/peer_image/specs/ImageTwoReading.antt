@@ -21,9 +21,8 @@ use Rattle.peer_image.specs.declared.known.ImageHead.{ImageHead}
 use Rattle.peer_image.specs.declared.refusal.ImageRefusal.{ImageRefusal}
 use Rattle.peer_image.specs.declared.refusal.ImageRefusal.TheVariants.{BadImage, NotRising, Pruned}
 use Rattle.peer_image.specs.declared.read.Image.{Image}
-use Rattle.peer_image.specs.Image.{trailer}
-use Rattle.peer_image.specs.ImageTwo.{magic_two, head_two}
-use Rattle.peer_image.specs.ImageReading.{raw_rows}
+use Rattle.peer_image.specs.Image.{magic_two, head_two, trailer}
+use Rattle.peer_image.specs.ImageOneReading.{raw_rows}
 use Rattle.peer_image.specs.Order.{order_refusal}
 
 -- ---- the head

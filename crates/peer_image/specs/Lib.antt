@@ -1,9 +1,9 @@
 pub mod Image
+pub mod ImageOne
 pub mod Order
 pub mod Fronts
-pub mod ImageReading
+pub mod ImageOneReading
 pub mod Parts
-pub mod ImageTwo
 pub mod ImageTwoReading
 pub mod ImageTwoParts
-pub mod ImageAny
+pub mod ImageReading

@@ -95,7 +95,7 @@ pub fn capabilities_in_front<'a>(
     count: u32,
 ) -> Result<(Vec<KnownCapability<'a>>, &'a [u8]), NoMemory>
     ensures reads { IfOk result (λ read. AreToldInFront bytes.now count read.0.items read.1.now) }
-    ensures asked { OnErr result (FirstIsWhole bytes.now) }
+    ensures asked { OnErr result ((0 < count) × FirstIsWhole bytes.now) }
 {
     let mut told = Vec::new(alloc);
     let mut left = bytes;

@@ -2,15 +2,15 @@
 
 ghost use Rattle.peer_image.specs.Fronts.{FrontsDecideOrder, FrontsGoOn};
 ghost use Rattle.peer_image.specs.Order.{IsOrder, IsOrderOfLive};
-ghost use Rattle.peer_image.specs.ImageReading.{header_at, header_spelling, image_spelling, ImagesNeverGoWrong, FitsImage, HaveOneImage, HaveOnePlace, ReadsBack};
-ghost use Rattle.peer_image.specs.ImageAny.{HaveOneImageTwo, HaveOnePlaceTwo, ImagesTwoNeverGoWrong, ReadBackAlike, SpellTheSame};
+ghost use Rattle.peer_image.specs.ImageOneReading.{header_at, header_spelling, image_one_spelling, ImagesOneNeverGoWrong, FitsImage, HaveOneImageOne, HaveOnePlaceOne, ReadsBackOne};
+ghost use Rattle.peer_image.specs.ImageReading.{image_two_spelling, FitsImageTwo, HaveOneImage, HaveOneImageTwo, HaveOnePlace, HaveOnePlaceTwo, HaveOneSpellingTwo, ImagesNeverGoWrong, ImagesTwoNeverGoWrong, ReadBackAlike, ReadsBack, SpellTheSame};
 ghost use Rattle.spelling.specs.Form.{IsForm};
 ghost use Rattle.spelling.specs.Reader.{IsReader};
 ghost use Rattle.willow_path.specs.Key.{IsKey};
 
-/// The reader of an image's header goes by the spelling alone: the text WIM1 and a key are whole exactly where they
+/// The reader of the header of an image of version 1 goes by the spelling alone: the text WIM1 and a key are whole exactly where they
 /// stand in front, a part exactly where the bytes begin them and more is due, and wrong exactly where none begins so.
-#[tactic(auto, using(crate::proofs::Stops::header_reader))]
+#[tactic(auto, using(crate::proofs::OneStops::header_reader))]
 pub fn header()
     ensures { IsReader header_at header_spelling IsKey }
 {}
@@ -37,12 +37,7 @@ pub fn fronts_go_on()
     ensures { FrontsGoOn }
 {}
 
-/// A namespace with rows has one image, which begins that of no other.
-pub fn one_form()
-    ensures { IsForm image_spelling FitsImage }
-{}
-
-/// Bytes are the image of at most one list of rows, of one namespace.
+/// Bytes are the image of at most one list of rows, of one namespace, in whatever version.
 pub fn one_image()
     ensures { HaveOneImage }
 {}
@@ -60,6 +55,41 @@ pub fn never_both()
 /// The image of live rows of one namespace is read back as just these.
 pub fn spells()
     ensures { ReadsBack }
+{}
+
+/// A namespace with rows has one image of version 1, which begins that of no other.
+pub fn one_form()
+    ensures { IsForm image_one_spelling FitsImage }
+{}
+
+/// Bytes are the image of version 1 of at most one list of rows, of one namespace.
+pub fn one_image_one()
+    ensures { HaveOneImageOne }
+{}
+
+/// Bytes that are no image of version 1 go wrong at one place.
+pub fn one_place_one()
+    ensures { HaveOnePlaceOne }
+{}
+
+/// An image of version 1 goes wrong nowhere.
+pub fn never_both_one()
+    ensures { ImagesOneNeverGoWrong }
+{}
+
+/// The image of version 1 of live rows of one namespace is read back as just these.
+pub fn spells_one()
+    ensures { ReadsBackOne }
+{}
+
+/// A namespace with rows has one image of version 2, which begins that of no other.
+pub fn one_form_two()
+    ensures { IsForm image_two_spelling FitsImageTwo }
+{}
+
+/// An image of version 2 that is read and written again has the same bytes.
+pub fn one_spelling_two()
+    ensures { HaveOneSpellingTwo }
 {}
 
 /// Bytes are the image of version 2 of at most one list of rows, of one namespace.

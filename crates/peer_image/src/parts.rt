@@ -3,7 +3,7 @@
 ghost use Rattle.std.specs.Prelude.{IfOk, MatchOption, OnErr};
 ghost use Rattle.spelling.specs.Reading.{Gives, NeedsNoMemory};
 ghost use Rattle.willow_entry.specs.Frame.{FrameAsks};
-ghost use Rattle.peer_image.specs.ImageReading.{header_at, HasNoHeader};
+ghost use Rattle.peer_image.specs.ImageOneReading.{header_at, HasNoHeader};
 ghost use Rattle.peer_image.specs.Parts.{IsHead, IsPart};
 
 use cap_codec::{RawRow, behind, decode_frame};
@@ -23,7 +23,7 @@ pub fn image_head(bytes: &[u8]) -> Option<(NamespaceKey, &[u8])>
 }
 
 // The text WIM1, and the key behind it.
-#[tactic(auto, unfolding(crate::specs::ImageReading::header_at))]
+#[tactic(auto, unfolding(crate::specs::ImageOneReading::header_at))]
 fn read_header(input: &mut Input) -> Result<NamespaceKey, Unread>
     ensures gives { Gives (λ key. key) result input.new (header_at input.old) }
     ensures sure { NeedsNoMemory result }

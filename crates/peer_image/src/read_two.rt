@@ -5,7 +5,7 @@ ghost use Rattle.std.specs.List.{list_all};
 ghost use Rattle.spelling.specs.declared.ending.End.TheVariants as ends;
 ghost use Rattle.willow_entry.specs.Frame.{FrameAsks};
 ghost use Rattle.peer_image.specs.Image.{trailer};
-ghost use Rattle.peer_image.specs.ImageTwoParts.{AllRowsSo, AreMarked, GoesBadAt, ReadsRow};
+ghost use Rattle.peer_image.specs.ImageTwoParts.{AreMarked, GoesBadAt, HasMarkedSome, IsPartTwo, ReadsRow};
 ghost use Rattle.peer_image.specs.ImageTwoReading.{AreToldInFront, FirstIsWhole, ImageTwoAsks, IsImageHead, ReadsImageTwo, ReadsRowsTwo, head_two_spelling};
 
 use crate::known::{ImageHead, KnownCapability, capabilities_in_front, image_two_head};
@@ -21,7 +21,7 @@ use willow_path::NamespaceKey;
 /// four bytes, the capabilities, the rows, four bytes 00, the number of rows in four bytes, and nothing else. Each
 /// capability and each row has its length in four bytes, at most `MAX_FRAME`, before it. The capabilities rise strictly by
 /// their bytes, and each is told by a row. A row is an entry, the number of its capability in four bytes, counted from 0,
-/// and a signature field. The order of the rows, and which refusal goes first, are as in `read_image`. Memory is asked for
+/// and a signature field. The order of the rows, and which refusal goes first, are as in `read_image_one`. Memory is asked for
 /// behind the head, where the first length is above zero and so many bytes are there.
 pub fn read_image_two(alloc: Global, bytes: &[u8]) -> Result<Image, End<ImageRefusal>>
     ensures image { ReadsImageTwo bytes.now result }
@@ -95,7 +95,13 @@ fn read_behind_told(
     ensures rows { ReadsRowsTwo bytes.now result }
     ensures asked { IsErrOf result ends.NoMemory → FirstIsWhole behind.now }
 {
-    let (rows, marks, left) = match rows_among(alloc, told, middle) {
+    let mut marks = match no_marks(alloc, told) {
+        Ok(marks) => marks,
+        Err(NoMemory) => return Err(End::NoMemory),
+    };
+    // Each row takes bytes, so that there are fewer.
+    let most = middle.len() + 1;
+    let (rows, left) = match rows_among(alloc, told, &mut marks, middle, most) {
         Ok(read) => read,
         Err(NoMemory) => return Err(End::NoMemory),
     };
@@ -109,8 +115,8 @@ fn read_behind_told(
     }
 }
 
-// Whether the bytes are the end of an image of so many rows, and all marks are set.
-fn is_end_two(bytes: &[u8], count: usize, marks: &[bool]) -> bool
+/// Whether the bytes are the end of an image of so many rows, and all marks are set.
+pub fn is_end_two(bytes: &[u8], count: usize, marks: &[bool]) -> bool
     ensures { MatchBool result ((count < 2 ^ 32) × (bytes.now ≡ trailer count) × (list_all (λ x. x) marks.now ≡ true))
         (count < 2 ^ 32 → bytes.now ≡ trailer count → list_all (λ x. x) marks.now ≡ true → ⊥) }
 {
@@ -126,34 +132,39 @@ fn bad_at(bytes: &[u8], left: &[u8]) -> End<ImageRefusal>
     End::Refused(ImageRefusal::BadImage { at: at as u64 })
 }
 
-// All rows in front of the bytes that tell capabilities among those told, marks for the capabilities that they tell, and the
-// bytes behind them.
-fn rows_among<'a>(
+/// The rows of the first frames in front of the bytes that tell capabilities among those told, at most so many, and the bytes
+/// behind these frames. There is a mark for each capability; those of the capabilities that the rows tell are set. Memory is
+/// asked for where a capability is told, or the first frame asks. Without memory the marks of the capabilities that some of
+/// the first rows tell were set, and no other.
+pub fn rows_among<'a>(
     alloc: Global,
     told: &[KnownCapability],
+    marks: &mut [bool],
     bytes: &'a [u8],
-) -> Result<(Vec<RawRow>, Vec<bool>, &'a [u8]), NoMemory>
-    ensures reads { IfOk result (λ read. AllRowsSo told.now bytes.now read.0.items read.1.items read.2.now) }
+    most: usize,
+) -> Result<(Vec<RawRow>, &'a [u8]), NoMemory>
+    requires { length marks.old ≡ length told.now }
+    ensures reads { IfOk result (λ read. IsPartTwo told.now bytes.now most marks.old read.0.items marks.new read.1.now) }
     ensures asked { OnErr result ((0 < length told.now) ⊎ FrameAsks bytes.now) }
+    ensures short { OnErr result (HasMarkedSome told.now bytes.now most marks.old marks.new) }
 {
-    let mut marks = unset(alloc, told)?;
     let mut rows = Vec::new(alloc);
     let mut left = bytes;
-    'rows: while left.len() > 0 {
+    'rows: while rows.len() < most {
         let (row, number, taken) = match next_row(alloc, told, left) {
             Ok(read) => read,
-            Err(End::Refused(NotHere)) => return Ok((rows, marks, left)),
+            Err(End::Refused(NotHere)) => return Ok((rows, left)),
             Err(End::NoMemory) => return Err(NoMemory),
         };
         marks[number] = true;
         rows.push(row)?;
         left = behind(left, taken);
     }
-    Ok((rows, marks, left))
+    Ok((rows, left))
 }
 
-// A mark for each capability, none of which is set.
-fn unset(alloc: Global, told: &[KnownCapability]) -> Result<Vec<bool>, NoMemory>
+/// A mark for each capability, none of which is set.
+pub fn no_marks(alloc: Global, told: &[KnownCapability]) -> Result<Vec<bool>, NoMemory>
     ensures unset { IfOk result (λ marks. AreMarked marks.items (length told.now) []) }
     ensures some { OnErr result (0 < length told.now) }
 {

@@ -10,9 +10,10 @@ use Rattle.willow_entry.proofs.Members.{Member, member_from_contains, contains_f
 use Rattle.willow_entry.proofs.Rising.{all_member, all_from_members}
 use Rattle.lms_core.specs.Use.{peer_rules}
 use Rattle.mc_cap.specs.declared.refusal.RowRefusal.{RowRefusal}
-use Rattle.cap_codec.specs.Rows.{RawValue, row_of, FitsFrame}
+use Rattle.cap_codec.specs.Rows.{RawValue, row_of, IsRaw}
 use Rattle.cap_codec.proofs.RowReads.{body_short}
 use Rattle.auth_entry.specs.Authorised.{is_authorised, row_refusal}
+use Rattle.auth_entry.proofs.Lengths.{fits_frame}
 use Rattle.auth_entry.proofs.Meaning.{authorised_means}
 use Rattle.peer_image.specs.ImageReading.{raw_rows}
 use Rattle.peer_image.specs.Order.{AreOf, IsInnerRising, IsInOrder, order_refusal}
@@ -55,8 +56,8 @@ module _ (n : List ℕ) where
   pub of_namespace : (rows : List RawValue) → AreOf n (authorised_rows n rows)
   of_namespace rows = authorised_all (λ r. r.entry.namespace ≡ n) rows (own rows)
 
-  pub authorised_framed : (rows : List RawValue) → AllByRecursion FitsFrame rows → AllByRecursion HasFrame (authorised_rows n rows)
-  authorised_framed rows fit = authorised_all HasFrame rows (all_weaker FitsFrame (λ r. row_refusal peer_rules n r ≡ None → HasFrame (row_of r)) (λ r fits e. body_short r fits) rows fit)
+  pub authorised_framed : (rows : List RawValue) → AllByRecursion IsRaw rows → AllByRecursion HasFrame (authorised_rows n rows)
+  authorised_framed rows fit = authorised_all HasFrame rows (all_weaker IsRaw (λ r. row_refusal peer_rules n r ≡ None → HasFrame (row_of r)) (λ r fits e. body_short r (fits_frame peer_rules n r fits e)) rows fit)
 
   pub authorised_parts : (rows more : List RawValue) → authorised_rows n (rows ++ more) ≡ authorised_rows n rows ++ authorised_rows n more
   authorised_parts rows more =

@@ -7,16 +7,17 @@ use Rattle.peer_stage.specs.declared.outcome.Stop.TheVariants as stop
 use Rattle.peer_rows.specs.Images.{LogsImage}
 use Rattle.peer_rows.specs.Logged.{PassesLog}
 use Rattle.peer_rows.specs.Stored.{AdmitsRow, HasTakenIn, JudgesAll}
+use Rattle.peer_rows.specs.declared.log.Log.{Log}
 use Rattle.peer_rows.specs.declared.intake.Intake.{Intake}
 use Rattle.peer_rows.proofs.Offered.{PassesLog-longer}
 use Rattle.peer_rows.proofs.Waiting.{none_waits}
 
 -- judging the rows that wait is a way to take in the last of them
-pub judged_admits : (namespace : List ℕ) (rows : List RawValue) (intake : Intake) (result : Result (Unit {0}) Stop) → JudgesAll namespace rows intake result → AdmitsRow namespace rows intake result
-judged_admits namespace rows intake (Ok tt) judged = none_waits namespace rows intake judged
-judged_admits namespace rows intake (Err stop.LogFull) judged = judged
-judged_admits namespace rows intake (Err stop.NoMemory) judged = tt
-judged_admits namespace rows intake (Err e) judged = absurd judged
+pub judged_admits : (namespace : List ℕ) (rows : List RawValue) (before : Log) (intake : Intake) (result : Result (Unit {0}) Stop) → JudgesAll namespace rows before intake result → AdmitsRow namespace rows before intake result
+judged_admits namespace rows before intake (Ok tt) judged = none_waits namespace rows intake judged
+judged_admits namespace rows before intake (Err stop.LogFull) judged = judged
+judged_admits namespace rows before intake (Err stop.NoMemory) judged = judged
+judged_admits namespace rows before intake (Err e) judged = absurd judged
 
 -- of all these rows the first were taken in, and these are left, for a checker that judges in the namespace
 pub record HasTakenSome (namespace : List ℕ) (all taken left : List RawValue) (judged_in : List ℕ) (intake : Intake) : Type 0 where
@@ -30,14 +31,14 @@ all_taken namespace all taken left judged_in intake h none =
     subst (λ (rows : List RawValue). HasTakenIn namespace rows intake) (sym (h.whole ∙ ap (λ (l : List RawValue). taken ++ l) none ∙ append-nil taken)) h.taken_in
 
 -- a log that is full before all rows came is full behind them
-pub admitting_stops : (namespace : List ℕ) (all taken left : List RawValue) (row : RawValue) (intake : Intake) (e : Stop) → all ≡ taken ++ row ∷ left → AdmitsRow namespace (taken ++ row ∷ []) intake (Err e) → LogsImage namespace all (Err e)
-admitting_stops namespace all taken left row intake stop.LogFull is past =
+pub admitting_stops : (namespace : List ℕ) (all taken left : List RawValue) (row : RawValue) (before : Log) (intake : Intake) (e : Stop) → all ≡ taken ++ row ∷ left → AdmitsRow namespace (taken ++ row ∷ []) before intake (Err e) → LogsImage namespace all (Err e)
+admitting_stops namespace all taken left row before intake stop.LogFull is past =
     subst (PassesLog namespace) (append_assoc taken (row ∷ []) left ∙ sym is) (PassesLog-longer namespace (taken ++ row ∷ []) left past)
-admitting_stops namespace all taken left row intake stop.NoMemory is past = tt
-admitting_stops namespace all taken left row intake e is past = absurd past
+admitting_stops namespace all taken left row before intake stop.NoMemory is past = tt
+admitting_stops namespace all taken left row before intake e is past = absurd past
 
 -- how the judging of the last rows ends
-pub judging_ends : (namespace : List ℕ) (rows : List RawValue) (intake : Intake) (e : Stop) → JudgesAll namespace rows intake (Err e) → LogsImage namespace rows (Err e)
-judging_ends namespace rows intake stop.LogFull past = past
-judging_ends namespace rows intake stop.NoMemory past = tt
-judging_ends namespace rows intake e past = absurd past
+pub judging_ends : (namespace : List ℕ) (rows : List RawValue) (before : Log) (intake : Intake) (e : Stop) → JudgesAll namespace rows before intake (Err e) → LogsImage namespace rows (Err e)
+judging_ends namespace rows before intake stop.LogFull past = past
+judging_ends namespace rows before intake stop.NoMemory past = tt
+judging_ends namespace rows before intake e past = absurd past

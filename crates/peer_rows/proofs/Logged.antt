@@ -109,4 +109,4 @@ IsLogOf-offered n seen kept kept' counts r stored e same goes on log =
 pub offered_past : (n : List ℕ) (seen : List RawValue) (r : RawValue) (log : StateValue AuthorisedValue) (counts : JoinCounts) (e : End LogFull) → row_refusal peer_rules n r ≡ None
     → OffersRow entry_row (authorised_rows n seen) (row_of r) log (Err e) → Offers n seen r log counts (Err e)
 offered_past n seen r log counts (Refused full) fine past = subst ArePastLog (sym (authorised_rows-more n seen r (authorised_none n r fine))) past
-offered_past n seen r log counts NoMemory fine past = tt
+offered_past n seen r log counts NoMemory fine none_past = λ past. none_past (subst ArePastLog (authorised_rows-more n seen r (authorised_none n r fine)) past)

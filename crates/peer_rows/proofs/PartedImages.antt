@@ -1,22 +1,26 @@
 -- Images whose rows came into a log a part at a time.
-use Rattle.std.proofs.Common.{◌≡◌, ℕ, ◌≤◌, ◌<◌, ◌^◌, Bool, true, false, cond, List, [], ◌∷◌, ◌++◌, length, filter, Option, Some, None, refl, sym, ap, ◌∙◌, subst, append-nil, arith}
-use Rattle.std.specs.List.{last_or}
+use Rattle.std.proofs.Common.{◌≡◌, inl, inr, ℕ, ◌≤◌, ◌<◌, ◌^◌, Bool, true, false, cond, List, [], ◌∷◌, ◌++◌, length, filter, Option, Some, None, refl, sym, ap, ◌∙◌, subst, append-nil, arith}
+use Rattle.std.specs.List.{last_or, list_all}
 use Rattle.std.proofs.lemmas.List.{length-map, map-append}
 use Rattle.willow_entry.specs.Row.{RowValue}
+use Rattle.mc_cap.specs.declared.capability.Capability.{Capability}
 use Rattle.cap_codec.specs.Rows.{RawValue, row_of}
+use Rattle.peer_image.specs.declared.known.ImageHead.{ImageHead}
 use Rattle.peer_image.specs.Fronts.{at_prefixes_of, last_fronts}
 use Rattle.peer_image.specs.Image.{trailer}
-use Rattle.peer_image.specs.ImageReading.{raw_rows, IsFront}
+use Rattle.peer_image.specs.ImageOneReading.{IsFront}
+use Rattle.peer_image.specs.ImageReading.{raw_rows}
 use Rattle.peer_image.specs.Order.{order_refusal, first_fall, pruned_after}
 use Rattle.peer_image.specs.Parts.{IsHead}
 use Rattle.peer_image.proofs.LastFronts.{fronts_decide_order, fronts_go_on}
 use Rattle.peer_image.proofs.ReadParts.{front_none, front_on}
-use Rattle.peer_image.proofs.Stops.{image_of_front}
+use Rattle.peer_image.proofs.TwoParts.{IsFrontRows, front_rows_on, image_of_rows}
+use Rattle.peer_image.proofs.OneStops.{image_of_front}
 use Rattle.peer_rows.specs.declared.parts.TheConstants.{PART}
 use Rattle.peer_rows.specs.declared.parts.Taken.{Taken}
 use Rattle.peer_rows.specs.Images.{IsImageInOrder}
 use Rattle.peer_rows.specs.Stored.{IsWholeLog}
-use Rattle.peer_rows.specs.Parts.{HasTakenPart, HasTakenRows, HaveFronts, IsLoggedImage}
+use Rattle.peer_rows.specs.Parts.{HasTakenPart, HasTakenPartTwo, HasTakenRows, HaveFronts, IsLoggedImage}
 use Rattle.peer_rows.proofs.Offered.{IsLogOf-start, no_counts}
 
 -- ---- fronts
@@ -100,7 +104,51 @@ read_whole bytes judged_in left taken many h counted few ends =
     record {
       rows = h.seen;
       is_image = subst (λ (n : List ℕ). IsImageInOrder bytes n h.seen) here
-          (record { is_image = image_of_front bytes h.namespace h.seen left h.front (omega (arith, few, long)) (ends ∙ ap trailer long); in_order = h.all_taken.fronts.in_order });
+          (record { is_image = inr (image_of_front bytes h.namespace h.seen left h.front (omega (arith, few, long)) (ends ∙ ap trailer long)); in_order = h.all_taken.fronts.in_order });
+      whole = subst (λ (n : List ℕ). IsWholeLog n h.seen taken.log) here
+          (record { is_log = log; fits_log = omega (arith, h.all_taken.fits, log.counted.stored) });
+    }
+
+-- ---- parts of an image of version 2
+
+-- it begins with rows that were taken, in the namespace that the checker judges in; their capabilities are marked, and these
+-- bytes are left
+pub record HasReadSomeTwo (bytes judged_in : List ℕ) (head : ImageHead) (told : List Capability) (marks : List Bool) (taken : Taken) (left : List ℕ) : Type 0 where
+  pub seen : List RawValue
+  pub front : IsFrontRows bytes head told seen marks left
+  pub all_taken : HasTakenRows head.namespace seen taken
+  pub checks : judged_in ≡ head.namespace
+
+pub read_none_two : (bytes judged_in : List ℕ) (head : ImageHead) (told : List Capability) (marks : List Bool) (taken : Taken) (left : List ℕ) → IsFrontRows bytes head told [] marks left → judged_in ≡ head.namespace → taken.log.kept ≡ record { namespace = head.namespace; log = [] }
+    → taken.log.counts ≡ no_counts → taken.fronts.items ≡ [] → HasReadSomeTwo bytes judged_in head told marks taken left
+read_none_two bytes judged_in head told marks taken left front checks empty counts none = record {
+  seen = [];
+  front = front;
+  all_taken = record { is_log = IsLogOf-start head.namespace taken.log empty counts; fits = rw counts (omega arith); fronts = no_fronts taken.fronts.items none };
+  checks = checks;
+}
+
+-- one part more
+pub read_on_two : (bytes judged_in judged_in' : List ℕ) (head : ImageHead) (told : List Capability) (marks marks' : List Bool) (taken taken' : Taken) (left rest : List ℕ) (h : HasReadSomeTwo bytes judged_in head told marks taken left) → judged_in' ≡ judged_in
+    → HasTakenPartTwo told marks head.namespace h.seen left rest marks' taken' → HasReadSomeTwo bytes judged_in' head told marks' taken' rest
+read_on_two bytes judged_in judged_in' head told marks marks' taken taken' left rest h same part = record {
+  seen = h.seen ++ part.rows;
+  front = front_rows_on bytes head told h.seen marks left PART part.rows marks' rest h.front part.part;
+  all_taken = part.all_taken;
+  checks = same ∙ h.checks;
+}
+
+-- where its end is left and all capabilities are marked, all is read
+pub read_whole_two : (bytes judged_in : List ℕ) (head : ImageHead) (told : List Capability) (marks : List Bool) (taken : Taken) (left : List ℕ) (flags : List Bool) (many : ℕ) → HasReadSomeTwo bytes judged_in head told marks taken left → flags ≡ marks → many ≡ taken.log.counts.rows
+    → (many < 2 ^ 32) × (left ≡ trailer many) × (list_all (λ x. x) flags ≡ true) → IsLoggedImage bytes taken.log
+read_whole_two bytes judged_in head told marks taken left flags many h same counted ends =
+    let log = h.all_taken.is_log in
+    let long : many ≡ length h.seen = counted ∙ log.counted.all in
+    let here : head.namespace ≡ taken.log.kept.namespace = sym log.of_namespace in
+    record {
+      rows = h.seen;
+      is_image = subst (λ (n : List ℕ). IsImageInOrder bytes n h.seen) here
+          (record { is_image = inl (image_of_rows bytes head told h.seen marks left flags many h.front same long ends); in_order = h.all_taken.fronts.in_order });
       whole = subst (λ (n : List ℕ). IsWholeLog n h.seen taken.log) here
           (record { is_log = log; fits_log = omega (arith, h.all_taken.fits, log.counted.stored) });
     }

@@ -18,6 +18,7 @@ use Rattle.peer_stage.specs.declared.outcome.Stop.TheVariants as stop
 use Rattle.row_stream.proofs.Longer.{stream_on, wrong_on}
 use Rattle.peer_rows.specs.Logged.{PassesLog}
 use Rattle.peer_rows.specs.Stored.{offset_of, HasTakenIn, JudgesAll, HasSeen, IsPastLog, FeedsPiece, TakesPiece}
+use Rattle.peer_rows.specs.declared.log.Log.{Log}
 use Rattle.peer_rows.specs.declared.intake.Intake.{Intake}
 use Rattle.peer_rows.proofs.Offered.{no_counts}
 use Rattle.peer_rows.proofs.Waiting.{none_taken_in, none_waits, judged_may_wait}
@@ -67,8 +68,8 @@ module _ (namespace bytes : List ℕ) (state : StreamState) (intake : Intake) (h
   }
 
   -- the rows that wait are judged
-  pub seen_judged : (intake' : Intake) → JudgesAll namespace h.seen intake' (Ok tt) → TakesPiece namespace bytes state intake' (Ok tt)
-  seen_judged intake' judged = (
+  pub seen_judged : (before : Log) (intake' : Intake) → JudgesAll namespace h.seen before intake' (Ok tt) → TakesPiece namespace bytes state intake' (Ok tt)
+  seen_judged before intake' judged = (
     record {
       seen = h.seen;
       fit = h.fit;
@@ -80,11 +81,11 @@ module _ (namespace bytes : List ℕ) (state : StreamState) (intake : Intake) (h
     judged_may_wait namespace h.seen intake' judged,
   )
 
-  pub judged_so : (intake' : Intake) (result : Result (Unit {0}) Stop) → JudgesAll namespace h.seen intake' result → TakesPiece namespace bytes state intake' result
-  judged_so intake' (Ok tt) judged = seen_judged intake' judged
-  judged_so intake' (Err stop.LogFull) judged = past_log judged
-  judged_so intake' (Err stop.NoMemory) judged = tt
-  judged_so intake' (Err e) judged = absurd judged
+  pub judged_so : (before : Log) (intake' : Intake) (result : Result (Unit {0}) Stop) → JudgesAll namespace h.seen before intake' result → TakesPiece namespace bytes state intake' result
+  judged_so before intake' (Ok tt) judged = seen_judged before intake' judged
+  judged_so before intake' (Err stop.LogFull) judged = past_log judged
+  judged_so before intake' (Err stop.NoMemory) judged = tt
+  judged_so before intake' (Err e) judged = absurd judged
 
   module _ (state' : StreamState) (piece : List ℕ) where
     pub goes_wrong : (refusal : StreamRefusal) → Breaks IsRawRow state piece refusal → GoesWrong IsRawRow 0 (bytes ++ piece) refusal

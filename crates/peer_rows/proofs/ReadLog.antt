@@ -17,6 +17,7 @@ use Rattle.peer_stage.specs.declared.stage.TheConstants.{INPUT_LIMIT}
 use Rattle.peer_rows.specs.Logged.{FitsLog}
 use Rattle.peer_rows.specs.Join.{AreRightSoFar, IsLongStream, IsWrongStream, JoinsInput}
 use Rattle.peer_rows.specs.Stored.{offset_of, HasJudged, JudgesAll, MayWait, HasSeen, AreWrong, TakesPiece, EndsStream, IsLogRead}
+use Rattle.peer_rows.specs.declared.log.Log.{Log}
 use Rattle.peer_rows.specs.declared.intake.Intake.{Intake}
 use Rattle.peer_rows.proofs.Waiting.{waiting_fit}
 use Rattle.peer_rows.proofs.RawStreams.{whole_frames, cut_stops, right_so_far}
@@ -169,7 +170,7 @@ module _ (namespace : List ℕ) (old now new : SourceFacts) (left : ℕ) (stream
     end_stops e t = absurd t
 
     -- none of the rows that wait meets a full log
-    pub judging_stops : (intake' : Intake) (e : Stop) → JudgesAll namespace h.seen.seen intake' (Err e) → JoinsInput namespace old new (Err e)
-    judging_stops intake' stop.LogFull passes = absurd (omega (arith, passes, fits_all))
-    judging_stops intake' stop.NoMemory t = (h.bytes, read_whole.taken)
-    judging_stops intake' e t = absurd t
+    pub judging_stops : (before : Log) (intake' : Intake) (e : Stop) → JudgesAll namespace h.seen.seen before intake' (Err e) → JoinsInput namespace old new (Err e)
+    judging_stops before intake' stop.LogFull passes = absurd (omega (arith, passes, fits_all))
+    judging_stops before intake' stop.NoMemory t = (h.bytes, read_whole.taken)
+    judging_stops before intake' e t = absurd t

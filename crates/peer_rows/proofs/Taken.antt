@@ -15,7 +15,7 @@ use Rattle.ns_state.specs.declared.live_log.LogFull.{LogFull}
 use Rattle.ns_state.specs.declared.live_log.TheConstants.{LOG_LIMIT}
 use Rattle.ns_state.proofs.NewRows.{covering_of_new, new_covering, new-with_covered, new-with_uncovered}
 use Rattle.peer_rows.specs.RowLogs.{HasTaken, ArePastLog, GoesOn, IsRefusal, OffersRow}
-use Rattle.peer_rows.proofs.NewRows.{new_after-longer}
+use Rattle.peer_rows.proofs.NewRows.{new_after-longer, new_after-more}
 
 module _ {R : Type 0} (value : R → RowValue) (seen : List RowValue) (log : StateValue R) (taken : HasTaken value seen log) where
   -- what is live of a log is what is live of the rows that were offered
@@ -52,7 +52,7 @@ module _ {R : Type 0} (value : R → RowValue) (seen : List RowValue) (old log :
   -- where it is refused it is one too many
   pub refused_row : (e : End LogFull) → IsGrown value old.log offered log.log (Err e) → OffersRow value seen row log (Err e)
   refused_row (Refused full) is = rw (new-with_uncovered seen row (uncovered_seen is.0.uncovered)) (omega (arith, taken_many value seen old taken, is.0.length_is, length-append (new seen) (row ∷ [])))
-  refused_row NoMemory is = tt
+  refused_row NoMemory is = λ past. omega (arith, past, new_after-more is_covering [] seen (row ∷ []), taken_many value seen old taken, is.1)
 
 -- how long a log is then
 pub placed_many : {R : Type 0} (value : R → RowValue) (log log' : List (LogRow R)) (offered : LogRow R) (at : Option ℕ) (stored : Bool) → stored ≡ is_some at → IsPlaced value log offered log' at

@@ -1,10 +1,10 @@
 -- Rows that wait, and what the log is when they are judged.
-use Rattle.std.proofs.Common.{◌≡◌, ℕ, ◌≤◌, List, [], ◌++◌, length, sym, ap, subst, ◌∙◌, append_assoc, append-nil, arith}
+use Rattle.std.proofs.Common.{◌≡◌, ℕ, ◌≤◌, inl, List, [], ◌∷◌, ◌++◌, length, sym, ap, subst, ◌∙◌, append_assoc, append-nil, arith}
 use Rattle.willow_entry.specs.Row.{is_covering}
 use Rattle.cap_codec.specs.Rows.{RawValue}
 use Rattle.ns_state.specs.declared.live_log.TheConstants.{LOG_LIMIT}
 use Rattle.peer_rows.specs.Logged.{authorised_rows, IsLogOf, FitsLog}
-use Rattle.peer_rows.specs.Stored.{HasTakenIn, HasJudged, MayWait}
+use Rattle.peer_rows.specs.Stored.{HasTakenIn, HasJudged, LacksMemory, MayWait}
 use Rattle.peer_rows.specs.declared.log.Log.{Log}
 use Rattle.peer_rows.specs.declared.intake.Intake.{Intake}
 use Rattle.peer_rows.proofs.AuthorisedRows.{authorised_parts, authorised_few}
@@ -34,6 +34,16 @@ module _ (namespace : List ℕ) (rows : List RawValue) (intake : Intake) (h : Ha
     parts = ap (λ (l : List RawValue). l ++ more) h.parts ∙ append_assoc h.judged intake.waiting.items more ∙ ap (λ (l : List RawValue). h.judged ++ l) (sym waits);
     is_log = subst (λ (log : Log). IsLogOf namespace h.judged log.kept log.counts) (sym same) h.is_log;
     fits = subst (λ (log : Log). log.counts.stored ≤ LOG_LIMIT) (sym same) h.fits;
+  }
+
+  -- no memory was found for one more, and nothing was judged
+  pub waits_no_more : (row : RawValue) (log : Log) → log ≡ intake.log → LacksMemory namespace (rows ++ row ∷ []) intake.log log
+  waits_no_more row log same = record {
+    front = h.judged;
+    left = intake.waiting.items ++ row ∷ [];
+    parts = ap (λ (l : List RawValue). l ++ row ∷ []) h.parts ∙ append_assoc h.judged intake.waiting.items (row ∷ []);
+    is_log = subst (λ (l : Log). IsLogOf namespace h.judged l.kept l.counts) (sym same) h.is_log;
+    cause = inl same;
   }
 
   -- of rows that wait none is stored before it is judged, so with room for all of them none meets a full log

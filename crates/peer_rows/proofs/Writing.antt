@@ -1,5 +1,5 @@
 -- How the writing of bytes in pieces goes on, and how it ends.
-use Rattle.std.proofs.Common.{◌≡◌, ℕ, ◌+◌, ◌<◌, List, [], ◌∷◌, ◌++◌, length, map, take, refl, sym, ap, subst, ◌∙◌, append_assoc, append-nil, arith, length-append}
+use Rattle.std.proofs.Common.{◌≡◌, ℕ, zero, suc, ◌+◌, ◌<◌, List, [], ◌∷◌, ◌++◌, length, get_or, take, refl, sym, ap, subst, ◌∙◌, append_assoc, append-nil, arith, length-append}
 use Rattle.std.specs.Prelude.{Result, Err}
 use Rattle.std.specs.Io.KnownBytes.{Appends}
 use Rattle.std.proofs.KnownBytes.{Appends-nil, Appends-trans}
@@ -8,27 +8,20 @@ use Rattle.std.proofs.lemmas.List.{take-append-le}
 use Rattle.std.proofs.lemmas.List.Concat.{flat_map-cons}
 use Rattle.std.specs.List.{flat_map}
 use Rattle.willow_entry.specs.Row.{RowValue}
-use Rattle.willow_entry.specs.Frame.{row_frame}
-use Rattle.peer_image.specs.Image.{trailer}
+use Rattle.peer_image.specs.Image.{bytes_frame, capabilities, head_two, image, placed_frame, trailer}
 use Rattle.willow_outside.specs.Facts.{SinkFacts}
 use Rattle.peer_stage.specs.Stages.{IsWritten, IsPartlyWritten, WritesOutput}
 use Rattle.peer_stage.specs.declared.outcome.Stop.{Stop}
 use Rattle.peer_stage.specs.declared.outcome.Stop.TheVariants as stop
 use Rattle.peer_stage.proofs.Pieces.{both_end}
+use Rattle.peer_rows.specs.Writing.{IsWritingOut}
 
--- of all the bytes a front was written, without a fault; behind it come those of the piece, and the rest
-pub record IsWriting (old now : SinkFacts) (whole piece rest : List ℕ) : Type 0 where
-  pub written : List ℕ
-  pub appended : Appends old.held now.held written
-  pub parts : whole ≡ written ++ (piece ++ rest)
-  pub no_fault : now.faults ≡ old.faults
-
-pub nothing_written : (output : SinkFacts) (whole piece rest : List ℕ) → whole ≡ piece ++ rest → IsWriting output output whole piece rest
+pub nothing_written : (output : SinkFacts) (whole piece rest : List ℕ) → whole ≡ piece ++ rest → IsWritingOut output output whole piece rest
 nothing_written output whole piece rest parts = record { written = []; appended = Appends-nil output.held; parts = parts; no_fault = refl }
 
 module _ (old now : SinkFacts) (whole piece : List ℕ) where
   -- some of the rest came into the piece
-  pub piece_grows : (grown more rest : List ℕ) → IsWriting old now whole piece (more ++ rest) → grown ≡ piece ++ more → IsWriting old now whole grown rest
+  pub piece_grows : (grown more rest : List ℕ) → IsWritingOut old now whole piece (more ++ rest) → grown ≡ piece ++ more → IsWritingOut old now whole grown rest
   piece_grows grown more rest w goes = record {
     written = w.written;
     appended = w.appended;
@@ -37,7 +30,7 @@ module _ (old now : SinkFacts) (whole piece : List ℕ) where
   }
 
   -- the piece was written, and emptied
-  pub piece_written : (new : SinkFacts) (given emptied rest : List ℕ) → IsWriting old now whole piece rest → given ≡ piece → IsWritten now new given → new.faults ≡ now.faults → emptied ≡ [] → IsWriting old new whole emptied rest
+  pub piece_written : (new : SinkFacts) (given emptied rest : List ℕ) → IsWritingOut old now whole piece rest → given ≡ piece → IsWritten now new given → new.faults ≡ now.faults → emptied ≡ [] → IsWritingOut old new whole emptied rest
   piece_written new given emptied rest w same goes faults none = record {
     written = w.written ++ piece;
     appended = Appends-trans old.held now.held new.held w.written piece w.appended (subst (λ (bytes : List ℕ). IsWritten now new bytes) same goes);
@@ -46,14 +39,14 @@ module _ (old now : SinkFacts) (whole piece : List ℕ) where
   }
 
   -- there was no memory, and there is more to write
-  pub writing_unpaid : (rest : List ℕ) → IsWriting old now whole piece rest → 0 < length rest → IsPartlyWritten old now whole
+  pub writing_unpaid : (rest : List ℕ) → IsWritingOut old now whole piece rest → 0 < length rest → IsPartlyWritten old now whole
   writing_unpaid rest w more = record {
     count = length w.written;
     within = omega (arith, more, ap length w.parts, length-append w.written (piece ++ rest), length-append piece rest);
     written = subst (λ (bytes : List ℕ). Appends old.held now.held bytes) (sym (ap (take (length w.written)) w.parts ∙ take-append_seam w.written (piece ++ rest))) w.appended;
   }
 
-  partly : (new : SinkFacts) (rest : List ℕ) → IsWriting old now whole piece rest → IsPartlyWritten now new piece → IsPartlyWritten old new whole
+  partly : (new : SinkFacts) (rest : List ℕ) → IsWritingOut old now whole piece rest → IsPartlyWritten now new piece → IsPartlyWritten old new whole
   partly new rest w h = record {
     count = length w.written + h.count;
     within = omega (arith, h.within, ap length w.parts, length-append w.written (piece ++ rest), length-append piece rest);
@@ -64,31 +57,73 @@ module _ (old now : SinkFacts) (whole piece : List ℕ) where
   }
 
   -- the piece's writing was stopped
-  stops : (new : SinkFacts) (rest : List ℕ) (e : Stop) → IsWriting old now whole piece rest → WritesOutput now new piece (Err e) → WritesOutput old new whole (Err e)
+  stops : (new : SinkFacts) (rest : List ℕ) (e : Stop) → IsWritingOut old now whole piece rest → WritesOutput now new piece (Err e) → WritesOutput old new whole (Err e)
   stops new rest stop.WriteFault w h = (partly new rest w h.0, omega (arith, w.no_fault, h.1))
   stops new rest stop.NoMemory w h = partly new rest w h
   stops new rest e w h = absurd h
 
-  pub writing_stops : (new : SinkFacts) (given rest : List ℕ) (e : Stop) → IsWriting old now whole piece rest → given ≡ piece → WritesOutput now new given (Err e) → WritesOutput old new whole (Err e)
+  pub writing_stops : (new : SinkFacts) (given rest : List ℕ) (e : Stop) → IsWritingOut old now whole piece rest → given ≡ piece → WritesOutput now new given (Err e) → WritesOutput old new whole (Err e)
   writing_stops new given rest e w same h = stops new rest e w (subst (λ (bytes : List ℕ). WritesOutput now new bytes (Err e)) same h)
 
+  -- nothing is left of it
+  pub writing_rest : (rest : List ℕ) → IsWritingOut old now whole piece rest → rest ≡ [] → IsWritingOut old now whole piece []
+  writing_rest rest w none = subst (λ (l : List ℕ). IsWritingOut old now whole piece l) none w
+
   -- the last piece decides
-  pub writing_ends : (new : SinkFacts) (given : List ℕ) (result : Result (Unit {0}) Stop) → IsWriting old now whole piece [] → given ≡ piece → WritesOutput now new given result → WritesOutput old new whole result
+  pub writing_ends : (new : SinkFacts) (given : List ℕ) (result : Result (Unit {0}) Stop) → IsWritingOut old now whole piece [] → given ≡ piece → WritesOutput now new given result → WritesOutput old new whole result
   writing_ends new given result w same h =
       subst (λ (bytes : List ℕ). WritesOutput old new bytes result) (sym (w.parts ∙ ap (λ (l : List ℕ). w.written ++ l) (append-nil piece)))
       (both_end old now new w.written piece result w.appended w.no_fault (subst (λ (bytes : List ℕ). WritesOutput now new bytes result) same h))
 
 -- ---- the frames of rows, and what comes behind
 
-module _ {R : Type 0} (value : R → RowValue) where
-  pub rows_left : (left more : List R) (row : R) (behind : List ℕ) → left ≡ row ∷ more → flat_map row_frame (map value left) ++ behind ≡ row_frame (value row) ++ (flat_map row_frame (map value more) ++ behind)
-  rows_left left more row behind is =
-      ap (λ (rows : List R). flat_map row_frame (map value rows) ++ behind) is
-      ∙ ap (λ (l : List ℕ). l ++ behind) (flat_map-cons row_frame (value row) (map value more))
-      ∙ append_assoc (row_frame (value row)) (flat_map row_frame (map value more)) behind
+module _ {R : Type 0} (frame : R → List ℕ) where
+  pub frames_left : (left more : List R) (row : R) (behind : List ℕ) → left ≡ row ∷ more → flat_map frame left ++ behind ≡ frame row ++ (flat_map frame more ++ behind)
+  frames_left left more row behind is =
+      ap (λ (rows : List R). flat_map frame rows ++ behind) is
+      ∙ ap (λ (l : List ℕ). l ++ behind) (flat_map-cons frame row more)
+      ∙ append_assoc (frame row) (flat_map frame more) behind
 
-  pub no_rows_left : (left : List R) (behind : List ℕ) → left ≡ [] → flat_map row_frame (map value left) ++ behind ≡ behind ++ []
-  no_rows_left left behind none = ap (λ (rows : List R). flat_map row_frame (map value rows) ++ behind) none ∙ sym (append-nil behind)
+  pub no_frames_left : (left : List R) (behind : List ℕ) → left ≡ [] → flat_map frame left ++ behind ≡ behind
+  no_frames_left left behind none = ap (λ (rows : List R). flat_map frame rows ++ behind) none
 
-pub trailer_left : (rows : List ℕ) (count : ℕ) → 0 < length (rows ++ trailer count)
-trailer_left rows count = omega (arith, length-append rows (trailer count))
+-- within a list no default is read
+pub same_item : {X : Type 0} (xs : List X) (k : ℕ) (d e : X) → k < length xs → get_or xs k d ≡ get_or xs k e
+same_item [] k d e below = absurd (omega (arith, below))
+same_item (x ∷ xs) zero d e below = refl
+same_item (x ∷ xs) (suc k) d e below = same_item xs k d e (omega (arith, below))
+
+pub some_behind : (front behind : List ℕ) → 0 < length behind → 0 < length (front ++ behind)
+some_behind front behind some = omega (arith, some, length-append front behind)
+
+-- ---- an image
+
+pub trailer_some : (count : ℕ) → 0 < length (trailer count)
+trailer_some count = omega arith
+
+image_parts : (n : List ℕ) (rows same : List RowValue) (one two : List (List ℕ)) (count : ℕ) → one ≡ capabilities rows → two ≡ capabilities rows → count ≡ length one → same ≡ rows
+    → image n rows ≡ head_two n count ++ (flat_map bytes_frame one ++ (flat_map (placed_frame two) same ++ trailer (length rows)))
+unfolding image
+image_parts n rows same one two count one_is two_is many same_is =
+    let end = trailer (length rows) in
+    let told = capabilities rows in
+    ap (λ (k : ℕ). head_two n k ++ (flat_map bytes_frame told ++ (flat_map (placed_frame told) rows ++ end))) (ap length (sym one_is) ∙ sym many)
+    ∙ ap (λ (l : List (List ℕ)). head_two n count ++ (flat_map bytes_frame l ++ (flat_map (placed_frame told) rows ++ end))) (sym one_is)
+    ∙ ap (λ (l : List (List ℕ)). head_two n count ++ (flat_map bytes_frame one ++ (flat_map (placed_frame l) rows ++ end))) (sym two_is)
+    ∙ ap (λ (l : List RowValue). head_two n count ++ (flat_map bytes_frame one ++ (flat_map (placed_frame two) l ++ end))) (sym same_is)
+
+-- its head stands in the piece
+pub image_begun : (output : SinkFacts) (n : List ℕ) (rows same : List RowValue) (one two : List (List ℕ)) (count : ℕ) (start piece : List ℕ) → one ≡ capabilities rows → two ≡ capabilities rows → count ≡ length one → same ≡ rows → start ≡ [] → piece ≡ start ++ head_two n count
+    → IsWritingOut output output (image n rows) piece (flat_map bytes_frame one ++ (flat_map (placed_frame two) same ++ trailer (length rows)))
+image_begun output n rows same one two count start piece one_is two_is many same_is start_is put =
+    let rest = flat_map bytes_frame one ++ (flat_map (placed_frame two) same ++ trailer (length rows)) in
+    nothing_written output (image n rows) piece rest
+    (image_parts n rows same one two count one_is two_is many same_is ∙ ap (λ (l : List ℕ). l ++ rest) (sym (put ∙ ap (λ (l : List ℕ). l ++ head_two n count) start_is)))
+
+image_some : (n : List ℕ) (rows : List RowValue) → 0 < length (image n rows)
+unfolding image
+image_some n rows = omega arith
+
+-- there was no memory to begin with
+pub image_unpaid : (output : SinkFacts) (n : List ℕ) (rows : List RowValue) → IsPartlyWritten output output (image n rows)
+image_unpaid output n rows = writing_unpaid output output (image n rows) [] (image n rows) (nothing_written output (image n rows) [] (image n rows) refl) (image_some n rows)

@@ -29,6 +29,7 @@ join_deed namespace =
       ready = λ old new. CanJoin namespace old.input;
       reads = λ old new. Rose old.input.faults new.input.faults;
       writes = λ old new. Rose old.output.faults new.output.faults;
+      wants_later = λ old new. ⊥;
       unbuilt = ⊥;
     }
 
@@ -51,6 +52,7 @@ show_deed asked =
       ready = λ old new. CanShow old.input;
       reads = λ old new. Rose old.input.faults new.input.faults;
       writes = λ old new. Rose old.output.faults new.output.faults;
+      wants_later = λ old new. ⊥;
       unbuilt = ⊥;
     }
 
@@ -63,5 +65,6 @@ gen_deed rows =
       ready = λ old new. Unit {0};
       reads = λ old new. ⊥;
       writes = λ old new. Rose old.output.faults new.output.faults;
+      wants_later = λ old new. ⊥;
       unbuilt = ⊥;
     }

@@ -9,3 +9,4 @@ pub mod Show
 pub mod Listed
 pub mod Generate
 pub mod Deeds
+pub mod Writing

@@ -87,8 +87,8 @@ abbrev pub PassesLog : List ℕ → List RawValue → Type 0
 PassesLog namespace rows = ArePastLog (authorised_rows namespace rows)
 
 -- how the offer of a row ends, over the rows seen before it: the log is that of the rows with this one, or
--- the row would be stored and is one too many
+-- the row would be stored and is one too many, which is not told as want of memory
 abbrev pub Offers : List ℕ → List RawValue → RawValue → StateValue AuthorisedValue → JoinCounts → Result (Unit {0}) (End LogFull) → Type 0
 Offers namespace seen row log counts (Ok u) = IsLogOf namespace (seen ++ row ∷ []) log counts
 Offers namespace seen row log counts (Err (Refused e)) = PassesLog namespace (seen ++ row ∷ [])
-Offers namespace seen row log counts (Err NoMemory) = Unit {0}
+Offers namespace seen row log counts (Err NoMemory) = PassesLog namespace (seen ++ row ∷ []) → ⊥

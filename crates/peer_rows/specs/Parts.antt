@@ -1,10 +1,12 @@
 -- Images that are taken a part at a time, as long as their rows are in order.
-use Rattle.std.specs.Prelude.{◌≡◌, ℕ, ◌<◌, ◌≤◌, List, ◌++◌, length, None}
+use Rattle.std.specs.Prelude.{◌≡◌, ℕ, ◌<◌, ◌≤◌, Bool, List, ◌++◌, length, None}
+use Rattle.mc_cap.specs.declared.capability.Capability.{Capability}
 use Rattle.cap_codec.specs.Rows.{RawValue}
 use Rattle.ns_state.specs.declared.live_log.TheConstants.{LOG_LIMIT}
 use Rattle.peer_image.specs.Fronts.{last_fronts}
 use Rattle.peer_image.specs.ImageReading.{raw_rows}
 use Rattle.peer_image.specs.Order.{order_refusal}
+use Rattle.peer_image.specs.ImageTwoParts.{IsPartTwo}
 use Rattle.peer_image.specs.Parts.{IsPart}
 use Rattle.peer_rows.specs.Images.{IsImageInOrder}
 use Rattle.peer_rows.specs.Logged.{IsLogOf}
@@ -28,6 +30,14 @@ pub record HasTakenRows (namespace : List ℕ) (rows : List RawValue) (taken : T
 pub record HasTakenPart (namespace : List ℕ) (seen : List RawValue) (bytes left : List ℕ) (taken : Taken) : Type 0 where
   pub rows : List RawValue
   pub part : IsPart bytes PART rows left
+  pub all_taken : HasTakenRows namespace (seen ++ rows) taken
+  pub shorter : length left < length bytes
+
+-- The same of rows that tell capabilities among those told. The marks tell the capabilities of these rows beside those that
+-- the old ones told.
+pub record HasTakenPartTwo (told : List Capability) (old : List Bool) (namespace : List ℕ) (seen : List RawValue) (bytes left : List ℕ) (marks : List Bool) (taken : Taken) : Type 0 where
+  pub rows : List RawValue
+  pub part : IsPartTwo told bytes PART old rows marks left
   pub all_taken : HasTakenRows namespace (seen ++ rows) taken
   pub shorter : length left < length bytes
 

@@ -24,14 +24,22 @@ abbrev pub IsRefusal : End LogFull → Type 0
 IsRefusal (Refused full) = Unit {0}
 IsRefusal NoMemory = ⊥
 
--- how the offer of a row ends, behind those that were offered before
+-- Behind those that were offered before one of these rows was reached, and up to it none is one too many.
+pub record ReachesRoom (seen rows : List RowValue) : Type 0 where
+  pub front : List RowValue
+  pub row : RowValue
+  pub left : List RowValue
+  pub parts : rows ≡ front ++ row ∷ left
+  pub room : ArePastLog (seen ++ (front ++ row ∷ [])) → ⊥
+
+-- how the offer of a row ends, behind those that were offered before: no full log is told as want of memory
 abbrev pub OffersRow : {R : Type 0} → (R → RowValue) → List RowValue → RowValue → StateValue R → Result Bool (End LogFull) → Type 0
 OffersRow value seen row log (Ok stored) = HasTaken value (seen ++ row ∷ []) log × GoesOn seen row stored
 OffersRow value seen row log (Err (Refused full)) = ArePastLog (seen ++ row ∷ [])
-OffersRow value seen row log (Err NoMemory) = Unit {0}
+OffersRow value seen row log (Err NoMemory) = ArePastLog (seen ++ row ∷ []) → ⊥
 
 -- how the offer of several ends
 abbrev pub OffersRows : {R : Type 0} → (R → RowValue) → List RowValue → List RowValue → StateValue R → Result (Unit {0}) (End LogFull) → Type 0
 OffersRows value seen rows log (Ok u) = HasTaken value (seen ++ rows) log
 OffersRows value seen rows log (Err (Refused full)) = ArePastLog (seen ++ rows)
-OffersRows value seen rows log (Err NoMemory) = Unit {0}
+OffersRows value seen rows log (Err NoMemory) = ReachesRoom seen rows

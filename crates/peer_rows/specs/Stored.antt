@@ -1,5 +1,5 @@
 -- The log of the rows of a stream that is read in pieces, and the rows that wait to be judged for it.
-use Rattle.std.specs.Prelude.{◌≡◌, ℕ, ◌+◌, ◌<◌, ◌≤◌, List, [], ◌++◌, length, map, None, Result, Ok, Err}
+use Rattle.std.specs.Prelude.{◌≡◌, ◌⊎◌, ℕ, ◌+◌, ◌<◌, ◌≤◌, List, [], ◌∷◌, ◌++◌, length, map, None, Result, Ok, Err}
 use Rattle.std.specs.List.{AllByRecursion}
 use Rattle.spelling.specs.declared.ending.End.{End}
 use Rattle.spelling.specs.declared.ending.End.TheVariants as ends
@@ -22,12 +22,26 @@ use Rattle.peer_rows.specs.declared.intake.TheConstants.{TOGETHER}
 use Rattle.ns_state.specs.declared.live_log.LogFull.{LogFull}
 use Rattle.ns_state.specs.declared.live_log.TheConstants.{LOG_LIMIT}
 
--- how the offers of rows end, over the rows seen before them: the log is that of all of them, or one of them is one
--- too many
-abbrev pub OffersAll : List ℕ → List RawValue → List RawValue → Log → Result (Unit {0}) (End LogFull) → Type 0
-OffersAll namespace seen rows log (Ok u) = IsLogOf namespace (seen ++ rows) log.kept log.counts
-OffersAll namespace seen rows log (Err (ends.Refused full)) = PassesLog namespace (seen ++ rows)
-OffersAll namespace seen rows log (Err ends.NoMemory) = Unit {0}
+-- behind these rows comes one, and with it they are not too many
+abbrev pub HasRoomNext : List ℕ → List RawValue → List RawValue → Type 0
+HasRoomNext namespace seen [] = ⊥
+HasRoomNext namespace seen (row ∷ rows) = PassesLog namespace (seen ++ row ∷ []) → ⊥
+
+-- Memory was wanting before any row more was taken, or at a row for which the log had room: the log is that of the rows
+-- in front of it.
+pub record LacksMemory (namespace : List ℕ) (rows : List RawValue) (before log : Log) : Type 0 where
+  pub front : List RawValue
+  pub left : List RawValue
+  pub parts : rows ≡ front ++ left
+  pub is_log : IsLogOf namespace front log.kept log.counts
+  pub cause : (log ≡ before) ⊎ HasRoomNext namespace front left
+
+-- how the offers of rows end, over the rows seen before them and their log: the log is that of all of them, or one of them
+-- is one too many, or memory was wanting
+abbrev pub OffersAll : List ℕ → List RawValue → List RawValue → Log → Log → Result (Unit {0}) (End LogFull) → Type 0
+OffersAll namespace seen rows before log (Ok u) = IsLogOf namespace (seen ++ rows) log.kept log.counts
+OffersAll namespace seen rows before log (Err (ends.Refused full)) = PassesLog namespace (seen ++ rows)
+OffersAll namespace seen rows before log (Err ends.NoMemory) = LacksMemory namespace (seen ++ rows) before log
 
 -- ---- rows that wait
 
@@ -50,19 +64,19 @@ pub record HasJudged (namespace : List ℕ) (rows : List RawValue) (intake : Int
   pub fits : intake.log.counts.stored ≤ LOG_LIMIT
   pub none_wait : intake.waiting.items ≡ []
 
--- how the judging of the rows that wait ends, where these are all that were taken in
-abbrev pub JudgesAll : List ℕ → List RawValue → Intake → Result (Unit {0}) Stop → Type 0
-JudgesAll namespace rows intake (Ok u) = HasJudged namespace rows intake
-JudgesAll namespace rows intake (Err stop.LogFull) = PassesLog namespace rows
-JudgesAll namespace rows intake (Err stop.NoMemory) = Unit {0}
-JudgesAll namespace rows intake (Err e) = ⊥
+-- how the judging of the rows that wait ends, where these are all that were taken in, and this was the log
+abbrev pub JudgesAll : List ℕ → List RawValue → Log → Intake → Result (Unit {0}) Stop → Type 0
+JudgesAll namespace rows before intake (Ok u) = HasJudged namespace rows intake
+JudgesAll namespace rows before intake (Err stop.LogFull) = PassesLog namespace rows
+JudgesAll namespace rows before intake (Err stop.NoMemory) = LacksMemory namespace rows before intake.log
+JudgesAll namespace rows before intake (Err e) = ⊥
 
--- how the taking of one more row ends, where these are all with this one
-abbrev pub AdmitsRow : List ℕ → List RawValue → Intake → Result (Unit {0}) Stop → Type 0
-AdmitsRow namespace rows intake (Ok u) = HasTakenIn namespace rows intake
-AdmitsRow namespace rows intake (Err stop.LogFull) = PassesLog namespace rows
-AdmitsRow namespace rows intake (Err stop.NoMemory) = Unit {0}
-AdmitsRow namespace rows intake (Err e) = ⊥
+-- how the taking of one more row ends, where these are all with this one, and this was the log
+abbrev pub AdmitsRow : List ℕ → List RawValue → Log → Intake → Result (Unit {0}) Stop → Type 0
+AdmitsRow namespace rows before intake (Ok u) = HasTakenIn namespace rows intake
+AdmitsRow namespace rows before intake (Err stop.LogFull) = PassesLog namespace rows
+AdmitsRow namespace rows before intake (Err stop.NoMemory) = LacksMemory namespace rows before intake.log
+AdmitsRow namespace rows before intake (Err e) = ⊥
 
 -- ---- pieces
 

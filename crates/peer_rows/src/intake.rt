@@ -93,7 +93,7 @@ impl Intake {
         requires namespace { C.judged_in checker.old ≡ self.old.log.kept.namespace }
         requires few { (namespace : List ℕ) × (rows : List RawValue) × HasTakenIn namespace rows self.old × (length rows + 1 < 2 ^ 64) }
         ensures namespace { C.judged_in checker.new ≡ C.judged_in checker.old }
-        ensures admits { (namespace : List ℕ) (rows : List RawValue) → HasTakenIn namespace rows self.old → AdmitsRow namespace (rows ++ row ∷ []) self.new result }
+        ensures admits { (namespace : List ℕ) (rows : List RawValue) → HasTakenIn namespace rows self.old → AdmitsRow namespace (rows ++ row ∷ []) self.old.log self.new result }
     {
         self.hold(row)?;
         if self.waiting.len() < TOGETHER {
@@ -121,7 +121,7 @@ impl Intake {
         requires namespace { C.judged_in checker.old ≡ self.old.log.kept.namespace }
         requires few { (namespace : List ℕ) × (rows : List RawValue) × HasTakenIn namespace rows self.old × (length rows < 2 ^ 64) }
         ensures namespace { C.judged_in checker.new ≡ C.judged_in checker.old }
-        ensures judges { (namespace : List ℕ) (rows : List RawValue) → HasTakenIn namespace rows self.old → JudgesAll namespace rows self.new result }
+        ensures judges { (namespace : List ℕ) (rows : List RawValue) → HasTakenIn namespace rows self.old → JudgesAll namespace rows self.old.log self.new result }
     {
         let rows = mem::replace(&mut self.waiting, Vec::new(alloc));
         match offer_all(rt, alloc, checker, &mut self.log, rows) {

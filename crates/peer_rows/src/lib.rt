@@ -13,6 +13,7 @@ mod listing;
 mod log;
 mod offering;
 mod parts;
+mod parts_two;
 mod row_log;
 mod showing;
 

@@ -1,6 +1,6 @@
 //! What one namespace keeps of the rows that are offered to it: the live ones, with the numbers of a join.
 
-ghost use Rattle.std.specs.Prelude.{◌≡◌, ℕ, ◌+◌, ◌-◌, ◌^◌, ◌<◌, ◌≤◌, [], List, length, None, Some, OnOk};
+ghost use Rattle.std.specs.Prelude.{◌≡◌, ℕ, ◌+◌, ◌-◌, ◌^◌, ◌<◌, ◌≤◌, [], List, length, None, Some, OnOk, OnErr};
 ghost use Rattle.spelling.specs.Answers.{or_else};
 ghost use Rattle.cap_codec.specs.Rows.{RawValue};
 ghost use Rattle.auth_entry.specs.Authorised.{row_refusal, verdict};
@@ -56,6 +56,7 @@ impl Log {
         ensures offers { (namespace : List ℕ) (seen : List RawValue) (row : RawValue) → judged ≡ verdict peer_rules namespace row
             → IsLogOf namespace seen self.old.kept self.old.counts → Offers namespace seen row self.new.kept self.new.counts result }
         ensures fits { OnOk result (self.new.counts.stored ≤ LOG_LIMIT) }
+        ensures err { OnErr result (self.new ≡ self.old) }
     {
         match judged {
             Ok(entry) => self.keep(entry),
@@ -91,6 +92,7 @@ impl Log {
         ensures offers { (namespace : List ℕ) (seen : List RawValue) → IsLogOf namespace seen self.old.kept self.old.counts
             → Offers namespace seen entry.row self.new.kept self.new.counts result }
         ensures fits { OnOk result (self.new.counts.stored ≤ LOG_LIMIT) }
+        ensures err { OnErr result (self.new ≡ self.old) }
     {
         let stored = offer_row(&mut self.kept, entry)?;
         self.counts = offered(&self.counts, stored);

@@ -28,7 +28,7 @@ pub(crate) fn offer_all<C: Checker<PeerScheme>, R: Threads + Sync>(
     requires fits { log.old.counts.stored ≤ LOG_LIMIT }
     ensures namespace { C.judged_in checker.new ≡ C.judged_in checker.old }
     ensures offers { (namespace : List ℕ) (seen : List RawValue) → IsLogOf namespace seen log.old.kept log.old.counts
-        → OffersAll namespace seen rows.items log.new result }
+        → OffersAll namespace seen rows.items log.old log.new result }
     ensures fits { OnOk result (log.new.counts.stored ≤ LOG_LIMIT) }
 {
     let verdicts = checker.check_all(rt, alloc, rows)?;

@@ -1,41 +1,59 @@
 //! The logs of images whose rows are in order, taken a part at a time: no list of all rows stands in memory beside the log.
 
-ghost use Rattle.std.specs.Prelude.{◌≡◌, ℕ, ◌+◌, ◌<◌, ◌^◌, ◌++◌, List, length, IfOk, IfSome, IsTrue};
+ghost use Rattle.std.specs.Prelude.{◌≡◌, ℕ, ◌+◌, ◌<◌, ◌≤◌, ◌^◌, ◌++◌, List, length, IfOk, IfSome, IsTrue};
 ghost use Rattle.cap_codec.specs.Rows.{RawValue};
 ghost use Rattle.peer_rows.specs.Parts.{HasTakenPart, HasTakenRows, HaveFronts, IsLoggedImage};
 
 use crate::log::Log;
 use crate::offering::offer_all;
+use crate::parts_two::log_of_two;
 use auth_entry::{Checker, NewChecker};
 use cap_codec::RawRow;
 use lms_core::PeerScheme;
 use ns_state::LogFull;
-use peer_image::{are_in_order, image_head, is_trailer, last_fronts, rows_in_front};
+use peer_image::{
+    are_in_order, image_head, is_of_version_two, is_trailer, last_fronts, rows_in_front,
+};
 use spelling::{End, NoMemory};
 use std::alloc::Global;
 use std::thread::Threads;
 
 /// How many bytes an image has behind its frames.
-const TRAILER: usize = 8;
+pub(crate) const TRAILER: usize = 8;
 
 /// How many rows are taken together at most: so few that what is made of them stays in the caches of a processor.
-const PART: usize = 512;
+pub(crate) const PART: usize = 512;
 
 /// Behind so many rows one part more may have more rows than the end of an image can count.
-const MOST: u64 = (1 << 32) - PART as u64;
+pub(crate) const MOST: u64 = (1 << 32) - PART as u64;
 
 /// Rows of an image, in order: the log of them, and those that stand at prefixes of the last. By these alone it shows whether
 /// further rows are in order behind all of them.
 #[derive(Drop)]
-struct Taken {
-    log: Log,
-    fronts: Vec<RawRow>,
+pub(crate) struct Taken {
+    pub(crate) log: Log,
+    pub(crate) fronts: Vec<RawRow>,
 }
 
 /// The log of the authorised rows of the image that the bytes are, with the numbers of all its rows, where these are in order
 /// and the log has room. Else the answer is None, at the first part with a row that is not so: why, that is for `image_from`
 /// and `log_image` to tell. A checker of the given kind judges the rows.
 pub(crate) fn log_in_parts<C: NewChecker<PeerScheme>, R: Threads + Sync>(
+    rt: &R,
+    alloc: Global,
+    bytes: &[u8],
+) -> Result<Option<Log>, NoMemory>
+    ensures { IfOk result (λ found. IfSome found (λ log. IsLoggedImage bytes.now log)) }
+{
+    if is_of_version_two(bytes) {
+        log_of_two::<C, R>(rt, alloc, bytes)
+    } else {
+        log_of_one::<C, R>(rt, alloc, bytes)
+    }
+}
+
+// The same of an image of version 1.
+fn log_of_one<C: NewChecker<PeerScheme>, R: Threads + Sync>(
     rt: &R,
     alloc: Global,
     bytes: &[u8],
@@ -82,12 +100,36 @@ fn take_part<'a, C: Checker<PeerScheme>, R: Threads + Sync>(
         → IfOk result (λ found. IfSome found (λ left. HasTakenPart namespace seen bytes.now left.now taken.new)) }
 {
     let (rows, left) = rows_in_front(alloc, bytes, PART)?;
+    if take_rows(rt, alloc, checker, taken, rows)? {
+        Ok(Some(left))
+    } else {
+        Ok(None)
+    }
+}
+
+/// Takes further rows, and answers whether there are some, they are in order and each finds room.
+pub(crate) fn take_rows<C: Checker<PeerScheme>, R: Threads + Sync>(
+    rt: &R,
+    alloc: Global,
+    checker: &mut C,
+    taken: &mut Taken,
+    rows: Vec<RawRow>,
+) -> Result<bool, NoMemory>
+    requires namespace { C.judged_in checker.old ≡ taken.old.log.kept.namespace }
+    requires taken { (namespace : List ℕ) × (seen : List RawValue) × HasTakenRows namespace seen taken.old }
+    requires few { taken.old.log.counts.rows < MOST }
+    requires part { length rows.items ≤ PART }
+    ensures judged_in { C.judged_in checker.new ≡ C.judged_in checker.old }
+    ensures some { IfOk result (λ takes. IsTrue takes → 0 < length rows.items) }
+    ensures takes { (namespace : List ℕ) (seen : List RawValue) → HasTakenRows namespace seen taken.old
+        → IfOk result (λ takes. IsTrue takes → HasTakenRows namespace (seen ++ rows.items) taken.new) }
+{
     if rows.is_empty() || !go_on(alloc, &mut taken.fronts, &rows)? {
-        return Ok(None);
+        return Ok(false);
     }
     match offer_all(rt, alloc, checker, &mut taken.log, rows) {
-        Ok(()) => Ok(Some(left)),
-        Err(End::Refused(LogFull { front: _ })) => Ok(None),
+        Ok(()) => Ok(true),
+        Err(End::Refused(LogFull { front: _ })) => Ok(false),
         Err(End::NoMemory) => Err(NoMemory),
     }
 }

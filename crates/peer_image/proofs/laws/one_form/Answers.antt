@@ -1,4 +1,4 @@
-use Rattle.peer_image.proofs.Stops.{image_form}
+use Rattle.peer_image.proofs.OneStops.{image_form}
 use Rattle.peer_image.proofs.laws.one_form.Goals as goal
 
 pub returns : goal.returns

@@ -1,5 +1,5 @@
 use Rattle.std.proofs.Common.{◌≡◌, Some, sym, ap, ◌∙◌}
-use Rattle.peer_image.specs.ImageReading.{raw_rows}
+use Rattle.peer_image.specs.ImageOneReading.{raw_rows}
 use Rattle.peer_image.specs.Order.{order_refusal}
 use Rattle.peer_image.proofs.Misordered.{misordered_two}
 use Rattle.peer_image.proofs.read_two.in_order_two.Goals as goal

@@ -4,7 +4,8 @@ use Rattle.cap_codec.specs.Rows.{frame}
 use Rattle.peer_listing.specs.Generator.{generated}
 use Rattle.peer_rows.specs.Generate.{generated_frames}
 use Rattle.peer_rows.proofs.Generated.{frames_from, all_left, frames_left, none_left, some_left}
-use Rattle.peer_rows.proofs.Writing.{IsWriting, nothing_written, piece_grows, piece_written, writing_unpaid, writing_stops, writing_ends}
+use Rattle.peer_rows.proofs.Writing.{nothing_written, piece_grows, piece_written, writing_unpaid, writing_stops, writing_ends}
+use Rattle.peer_rows.specs.Writing.{IsWritingOut}
 use Rattle.peer_rows.proofs.generating.write_frames.Goals as goal
 use Rattle.peer_rows.proofs.generating.write_frames.Goals.{then-len-ge-PIECE+in_ok-write_output, else-len-ge-PIECE}
 
@@ -22,13 +23,13 @@ rows-preserved g c =
     let o = g.O.Sink.facts c.args.output.now in
     let whole = generated_frames c.args.rows in
     let rest = frames_from c.rows.i c.args.rows in
-    let here : IsWriting o (g.O.Sink.facts c.if-len-ge-PIECE.output) whole c.if-len-ge-PIECE.piece.items rest =
+    let here : IsWritingOut o (g.O.Sink.facts c.if-len-ge-PIECE.output) whole c.if-len-ge-PIECE.piece.items rest =
     elim c.if-len-ge-PIECE.branch [
       | then-len-ge-PIECE+in_ok-write_output w ↦ rw (w.output-is, w.piece-is) (piece_written o (g.O.Sink.facts c.rows.output) whole c.rows.piece.items (g.O.Sink.facts w.write_output.new.output) w.deref.result.now w.clear.new.self.items rest c.rows.invariant w.deref.ensures.value w.in_ok-write_output.ensures.writes w.in_ok-write_output.ensures.faults w.clear.ensures.items)
       | else-len-ge-PIECE w ↦ rw (w.output-is, w.piece-is) c.rows.invariant
     ] in
     piece_grows o (g.O.Sink.facts c.if-len-ge-PIECE.output) whole c.if-len-ge-PIECE.piece.items c.put.new.out.items (frame (generated c.rows.i)) (frames_from (c.rows.i + 1) c.args.rows)
-    (subst (λ (l : List ℕ). IsWriting o (g.O.Sink.facts c.if-len-ge-PIECE.output) whole c.if-len-ge-PIECE.piece.items l) (frames_left c.rows.i c.args.rows c.rows-test.true) here)
+    (subst (λ (l : List ℕ). IsWritingOut o (g.O.Sink.facts c.if-len-ge-PIECE.output) whole c.if-len-ge-PIECE.piece.items l) (frames_left c.rows.i c.args.rows c.rows-test.true) here)
     c.in_ok-put.ensures
 
 pub returns-in_err-put-clause-writes : goal.returns-in_err-put-clause-writes
@@ -37,7 +38,7 @@ returns-in_err-put-clause-writes g c =
     let o = g.O.Sink.facts c.args.output.now in
     let whole = generated_frames c.args.rows in
     let rest = frames_from c.rows.i c.args.rows in
-    let here : IsWriting o (g.O.Sink.facts c.if-len-ge-PIECE.output) whole c.if-len-ge-PIECE.piece.items rest =
+    let here : IsWritingOut o (g.O.Sink.facts c.if-len-ge-PIECE.output) whole c.if-len-ge-PIECE.piece.items rest =
     elim c.if-len-ge-PIECE.branch [
       | then-len-ge-PIECE+in_ok-write_output w ↦ rw (w.output-is, w.piece-is) (piece_written o (g.O.Sink.facts c.rows.output) whole c.rows.piece.items (g.O.Sink.facts w.write_output.new.output) w.deref.result.now w.clear.new.self.items rest c.rows.invariant w.deref.ensures.value w.in_ok-write_output.ensures.writes w.in_ok-write_output.ensures.faults w.clear.ensures.items)
       | else-len-ge-PIECE w ↦ rw (w.output-is, w.piece-is) c.rows.invariant
@@ -50,5 +51,5 @@ returns-clause-writes g c =
     let o' = g.O.Sink.facts c.rows.output in
     let whole = generated_frames c.args.rows in
     writing_ends o o' whole c.rows.piece.items (g.O.Sink.facts c.write_output-2.new.output) c.deref-2.result.now c.write_output-2.result
-    (subst (λ (l : List ℕ). IsWriting o o' whole c.rows.piece.items l) (none_left c.rows.i c.args.rows (omega (arith, c.rows-test.false))) c.rows.invariant)
+    (subst (λ (l : List ℕ). IsWritingOut o o' whole c.rows.piece.items l) (none_left c.rows.i c.args.rows (omega (arith, c.rows-test.false))) c.rows.invariant)
     c.deref-2.ensures.value c.write_output-2.ensures.writes

@@ -29,7 +29,7 @@ returns-in_err-admit-clause-logs g c =
     let so_far = c.loop-row.invariant in
     let next : into_iter_items c.loop-row.row-iterator ≡ c.in-Some.row ∷ into_iter_items c.next.new.self = c.in-Some.ensures.steps.0 in
     let p = err_from_is_err_and c.from_residual-in_err-admit.result c.from_residual-in_err-admit.ensures.1 in
-    rw (p.1, p.2) (admitting_stops c.args.image.namespace c.args.image.rows.items c.loop-row.yielded (into_iter_items c.next.new.self) c.in-Some.row c.admit.new.self c.in_err-admit.field-0.0
+    rw (p.1, p.2) (admitting_stops c.args.image.namespace c.args.image.rows.items c.loop-row.yielded (into_iter_items c.next.new.self) c.in-Some.row c.loop-row.intake.log c.admit.new.self c.in_err-admit.field-0.0
     (so_far.whole ∙ ap (λ (l : List RawValue). c.loop-row.yielded ++ l) next) (c.in_err-admit.ensures.admits c.args.image.namespace c.loop-row.yielded so_far.taken_in))
 
 pub returns-in_err-judge-clause-logs : goal.returns-in_err-judge-clause-logs
@@ -37,7 +37,7 @@ returns-in_err-judge-clause-logs g c =
     let none : into_iter_items c.loop-row.row-iterator ≡ [] = nil_from_length (into_iter_items c.loop-row.row-iterator) (omega (arith, c.in-None.ensures.steps.0)) in
     let taken = all_taken c.args.image.namespace c.args.image.rows.items c.loop-row.yielded (into_iter_items c.loop-row.row-iterator) (g.C.Checker.judged_in c.loop-row.checker) c.loop-row.intake c.loop-row.invariant none in
     let p = err_from_is_err_and c.from_residual-in_err-judge.result c.from_residual-in_err-judge.ensures.1 in
-    rw (p.1, p.2) (judging_ends c.args.image.namespace c.args.image.rows.items c.judge.new.self c.in_err-judge.field-0.0 (c.in_err-judge.ensures.judges c.args.image.namespace c.args.image.rows.items taken))
+    rw (p.1, p.2) (judging_ends c.args.image.namespace c.args.image.rows.items c.loop-row.intake.log c.judge.new.self c.in_err-judge.field-0.0 (c.in_err-judge.ensures.judges c.args.image.namespace c.args.image.rows.items taken))
 
 pub returns-clause-logs : goal.returns-clause-logs
 returns-clause-logs g c =

@@ -56,7 +56,7 @@ returns-in_err-judge-in-Ok-eq0-clause-logs g c =
     let p = err_from_is_err_and c.from_residual-in_err-judge-in-Ok-eq0.result c.from_residual-in_err-judge-in-Ok-eq0.ensures.1 in
     rw (p.1, p.2) (judging_stops c.args.namespace.now (g.I.Source.facts c.args.input.now) i i' c.pieces.left c.pieces.stream c.pieces.intake read
     (subst (λ (n : ℕ). Consumes i.left i'.left (take n c.read.new.buf)) none c.in-Ok-eq0.ensures.bytes.0) (c.in-Ok-eq0.ensures.bytes.1 none some) (c.in-Ok-eq0.ensures.end.at_end none some)
-    c.judge.new.self c.in_err-judge-in-Ok-eq0.field-0.0 (c.in_err-judge-in-Ok-eq0.ensures.judges c.args.namespace.now read.seen.seen read.seen.taken_in))
+    c.pieces.intake.log c.judge.new.self c.in_err-judge-in-Ok-eq0.field-0.0 (c.in_err-judge-in-Ok-eq0.ensures.judges c.args.namespace.now read.seen.seen read.seen.taken_in))
 
 pub returns-then-left-eq0-clause-logs : goal.returns-then-left-eq0-clause-logs
 returns-then-left-eq0-clause-logs g c =

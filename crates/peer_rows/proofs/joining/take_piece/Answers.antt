@@ -18,4 +18,4 @@ judge-requires-clause-few g c κs within =
 pub returns-clause-takes : goal.returns-clause-takes
 returns-clause-takes g c = λ n bytes was.
     let h = c.in_ok-feed_piece.ensures.feeds n bytes was in
-    judged_so n (bytes ++ c.args.piece.now) c.feed_piece.new.stream c.feed_piece.new.intake h c.judge.new.self c.judge.result (c.judge.ensures.judges n h.seen h.taken_in)
+    judged_so n (bytes ++ c.args.piece.now) c.feed_piece.new.stream c.feed_piece.new.intake h c.feed_piece.new.intake.log c.judge.new.self c.judge.result (c.judge.ensures.judges n h.seen h.taken_in)

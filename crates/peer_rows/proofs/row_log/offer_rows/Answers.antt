@@ -1,13 +1,14 @@
-use Rattle.std.proofs.Common.{◌≡◌, ◌∷◌, ◌++◌, ◌∙◌, sym, ap, List, map}
+use Rattle.std.proofs.Common.{◌≡◌, ◌∷◌, ◌++◌, ◌∙◌, [], sym, ap, subst, List, map, append_assoc}
 use Rattle.std.specs.Prelude.{Err}
 use Rattle.std.specs.Vec.Iter.{into_iter_items}
+use Rattle.std.proofs.lemmas.List.{map-append}
 use Rattle.std.proofs.lemmas.Result.{err_from_is_err_and}
 use Rattle.spelling.specs.declared.ending.End.{End}
 use Rattle.spelling.specs.declared.ending.End.TheVariants.{Refused, NoMemory}
 use Rattle.willow_entry.specs.Row.{RowValue}
 use Rattle.ns_state.specs.Log.{StateValue}
 use Rattle.ns_state.specs.declared.live_log.LogFull.{LogFull}
-use Rattle.peer_rows.specs.RowLogs.{OffersRow, OffersRows}
+use Rattle.peer_rows.specs.RowLogs.{ArePastLog, OffersRow, OffersRows}
 use Rattle.peer_rows.proofs.Taken.{past_among, next_here}
 use Rattle.peer_rows.proofs.row_log.offer_rows.Goals as goal
 
@@ -15,7 +16,13 @@ use Rattle.peer_rows.proofs.row_log.offer_rows.Goals as goal
 stops : {R : Type 0} (value : R → RowValue) (seen : List RowValue) (all rows left : List R) (row : R) (log : StateValue R) (e : End LogFull) → all ≡ rows ++ row ∷ left
     → OffersRow value (seen ++ map value rows) (value row) log (Err e) → OffersRows value seen (map value all) log (Err e)
 stops value seen all rows left row log (Refused full) is past = past_among value seen all rows left row is past
-stops value seen all rows left row log NoMemory is past = tt
+stops value seen all rows left row log NoMemory is none_past = record {
+  front = map value rows;
+  row = value row;
+  left = map value left;
+  parts = ap (map value) is ∙ map-append value rows (row ∷ left);
+  room = λ past. none_past (subst ArePastLog (sym (append_assoc seen (map value rows) (value row ∷ []))) past);
+}
 
 pub offer_row-requires : goal.offer_row-requires
 offer_row-requires g c =
