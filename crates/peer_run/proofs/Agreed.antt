@@ -1,5 +1,5 @@
 -- What two sides agree on, by the steps of the judging.
-use Rattle.std.proofs.Common.{◌≡◌, ℕ, Bool, true, false, not, List, replicate, Option, Some, None, sym, ap, ◌∙◌}
+use Rattle.std.proofs.Common.{◌≡◌, ℕ, inl, inr, Bool, true, false, not, List, replicate, Option, Some, None, sym, ap, ◌∙◌}
 use Rattle.std.specs.Prelude.{Ok, Err}
 use Rattle.std.specs.Cmp.Lexicographic.{bytes_decides}
 use Rattle.spelling.specs.Answers.{or_else, cause_if}
@@ -37,18 +37,25 @@ module _ (words : AreaWords) (n m : List ℕ) (c d : Capability) where
     unfolding meeting_refusal
     of_hellos = ap (λ (test : Bool). or_else (cause_if test WrongNamespace) either) same
 
+    one : namespaces_refusal n m ≡ None
+    one = ap (λ (test : Bool). cause_if test WrongNamespace) same
+
     pub left_refused : (e : Stop) → Greets n words c (replicate 16 0) (Err e) → Agrees words n m c d (Err e)
     left_refused (stop.SessionRefused refusal) greets = of_hellos ∙ ap (λ (o : Option HelloRefusal). or_else o (own_refusal n (side_hello words d))) greets
-    left_refused stop.NoMemory greets = tt
+    left_refused stop.NoMemory greets = record { one_namespace = one; left = inl greets; right = inl greets }
     left_refused e greets = absurd greets
 
     left_passes : (h : Hello) → Greets n words c (replicate 16 0) (Ok h) → own_refusal n (side_hello words c) ≡ None
     left_passes h greets = sym (ap (own_refusal n) greets.0) ∙ greets.1
 
     pub right_refused : (h : Hello) (e : Stop) → Greets n words c (replicate 16 0) (Ok h) → Greets n words d (replicate 16 0) (Err e) → Agrees words n m c d (Err e)
-    right_refused h (stop.SessionRefused refusal) one greets = of_hellos ∙ ap (λ (o : Option HelloRefusal). or_else o (own_refusal n (side_hello words d))) (left_passes h one) ∙ greets
-    right_refused h stop.NoMemory one greets = tt
-    right_refused h e one greets = absurd greets
+    right_refused h (stop.SessionRefused refusal) passed greets = of_hellos ∙ ap (λ (o : Option HelloRefusal). or_else o (own_refusal n (side_hello words d))) (left_passes h passed) ∙ greets
+    right_refused h stop.NoMemory passed greets = record { one_namespace = one; left = inr (left_passes h passed); right = inr (inl greets) }
+    right_refused h e passed greets = absurd greets
+
+    -- nothing is against either hello, and no memory was found for the area
+    pub unagreed : (h k : Hello) → Greets n words c (replicate 16 0) (Ok h) → Greets n words d (replicate 16 0) (Ok k) → Agrees words n m c d (Err stop.NoMemory)
+    unagreed h k passed other = record { one_namespace = one; left = inr (left_passes h passed); right = inr (inr (sym (ap (own_refusal n) other.0) ∙ other.1)) }
 
     pub agrees : (h k : Hello) (area : Option Area) → Greets n words c (replicate 16 0) (Ok h) → Greets n words d (replicate 16 0) (Ok k) → area ≡ common_area h k → Agrees words n m c d (Ok area)
     agrees h k area one other is = (

@@ -29,7 +29,7 @@ use Rattle.peer_stage.specs.declared.outcome.SessionCounts.{SessionCounts}
 use Rattle.peer_stage.specs.declared.outcome.Stop.{Stop}
 use Rattle.peer_stage.specs.declared.outcome.Stop.TheVariants as stop
 use Rattle.peer_stage.specs.declared.outcome.Synced.{Synced}
-use Rattle.peer_stage.proofs.Ends.{IsCondition, synced_status, synced_is}
+use Rattle.peer_stage.proofs.Ends.{IsCondition, synced_status}
 use Rattle.peer_run.specs.Calling.{Calls}
 use Rattle.peer_run.specs.Closing.{IsForWant, counts_of, put_answer}
 use Rattle.peer_run.specs.Preparing.{nonce_of}
@@ -48,6 +48,7 @@ use Rattle.peer_run.proofs.SideBegun.{has_prepared}
 use Rattle.peer_run.proofs.SideDeeds.{from_none}
 use Rattle.peer_run.proofs.SideEnds.{given_is, prepares_free}
 use Rattle.peer_run.proofs.SyncDeeds.{sync_closes}
+use Rattle.peer_run.proofs.SyncSteps.{synced_as}
 
 -- ---- nothing keeps a call from what it gets and reserves
 
@@ -137,7 +138,7 @@ module _ (words : SyncWords) (old new : World) (can : CanSync words old new) whe
             let had = subst (λ (g : CallGiven). HadSession words g old new x.end) given (had_session words old new c began draw drawn x called begun draws did all_put) in
             let over = session_done x.end had f.0 in
             let told : s.session ≡ Ok (counts_of over.0) = ap (λ (t : Synced). t.session) (f.1 ∙ ap (λ (a : Answer). synced_of c.opening.rows c.opening.first a s.put) over.1) in
-            let is = synced_is s.session s.put s.first in
+            let is = synced_as c.opening.rows c.opening.first x.end s.put s f.1 in
             subst (λ (k : ℕ). k ≤ 1) (sym is) (small_session s.session s.put s.first (counts_of over.0) told (λ e. four (is ∙ e)))
         ended d c began begun draw drawn draws x called did f four = absurd f
 
@@ -160,6 +161,7 @@ sync_is_lawful words =
     record {
       counts = closes.counts;
       unfailed = closes.unfailed;
+      want = closes.want;
       usage = λ old new end meets is. absurd (closes.usage old new end meets is);
       no_run = λ old new end meets unbuilt. absurd unbuilt;
       read_fault = closes.read_fault;

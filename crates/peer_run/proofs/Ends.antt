@@ -6,6 +6,7 @@ use Rattle.willow_outside.specs.Facts.{SinkFacts}
 use Rattle.mc_cap.specs.declared.refusal.RefusedRow.{RefusedRow}
 use Rattle.session_end.specs.declared.end.SessionEnd.{SessionEnd}
 use Rattle.session_end.specs.declared.end.SessionEnd.TheVariants as ending
+use Rattle.peer_stage.specs.declared.outcome.FollowCounts.{FollowCounts}
 use Rattle.peer_stage.specs.declared.outcome.SessionCounts.{SessionCounts}
 use Rattle.peer_stage.specs.declared.outcome.Served.{Served}
 use Rattle.peer_stage.specs.declared.outcome.Synced.{Synced}
@@ -13,12 +14,13 @@ use Rattle.peer_stage.specs.declared.outcome.Done.{Done}
 use Rattle.peer_stage.specs.declared.outcome.Done.TheVariants as done
 use Rattle.peer_stage.specs.declared.outcome.Stop.{Stop}
 use Rattle.peer_stage.specs.declared.outcome.Stop.TheVariants as stop
-use Rattle.peer_stage.specs.Status.{status_of, session_status}
-use Rattle.peer_stage.proofs.Ends.{IsLocal, done_small, synced_status, synced_is, synced_known, served_known}
+use Rattle.peer_stage.specs.Status.{status_of, session_status, followed_status}
+use Rattle.peer_stage.proofs.Ends.{IsLocal, done_small, synced_known, served_known}
+use Rattle.peer_stage.proofs.Told.{synced_from}
 use Rattle.peer_report.specs.Report.{Reports, after_report_fault}
-use Rattle.peer_run.specs.Promises.{IsEnd, IsBadEnd, IsRefusedSession, IsRefusedEnd, IsFullSession, IsFullEnd, IsSpentEnd}
+use Rattle.peer_run.specs.Promises.{IsEnd, IsBadEnd, IsRefusedSession, IsRefusedFeed, IsRefusedEnd, IsFullSession, IsFullFeed, IsFullEnd, IsSpentEnd}
 use Rattle.peer_run.proofs.ServedStatus.{session_gave}
-use Rattle.peer_run.proofs.SignedAll.{IsSigned, SignsAll, SignsEnd}
+use Rattle.peer_run.proofs.SignedAll.{IsSigned, IsSignedFeed, SignsAll, SignsEnd}
 
 -- ---- what a status tells of the end
 
@@ -58,36 +60,10 @@ by_done P local call serve (done.Shown counts) = local (done.Shown counts) tt
 by_done P local call serve (done.Met counts) = local (done.Met counts) tt
 by_done P local call serve (done.Synced s) = call s
 by_done P local call serve (done.Served s) = serve s
+by_done P local call serve (done.Watched counts) = local (done.Watched counts) tt
 by_done P local call serve done.Made = local done.Made tt
 
-refused_session : (session : Result SessionCounts SessionEnd) (put : Bool) (first : Option RefusedRow) → IsSigned session → synced_status session put first ≡ 6 → IsRefusedSession session
-refused_session (Err (ending.ClosedEarly at)) put first signs is = tt
-refused_session (Err (ending.BadMessage at)) put first signs is = tt
-refused_session (Err (ending.Hello refusal)) put first signs is = tt
-refused_session (Err (ending.Core refusal)) put first signs is = tt
-refused_session (Err ending.SignFault) put first signs is = absurd (signs refl)
-refused_session (Err ending.NoMemory) put first signs is = absurd (omega (arith, is))
-refused_session (Err ending.LinkRead) put first signs is = absurd (omega (arith, is))
-refused_session (Err ending.LinkWrite) true first signs is = absurd (omega (arith, is))
-refused_session (Err ending.LinkWrite) false first signs is = absurd (omega (arith, is))
-refused_session (Err (ending.LogFull missed)) true first signs is = absurd (omega (arith, is))
-refused_session (Err (ending.LogFull missed)) false first signs is = absurd (omega (arith, is))
-refused_session (Ok counts) true None signs is = absurd (omega (arith, is))
-refused_session (Ok counts) true (Some first) signs is = absurd (omega (arith, is))
-refused_session (Ok counts) false first signs is = absurd (omega (arith, is))
-
-full_session : (session : Result SessionCounts SessionEnd) (put : Bool) (first : Option RefusedRow) → synced_status session put first ≡ 8 → IsFullSession session
-full_session (Err (ending.LogFull missed)) put first is = tt
-full_session (Err ending.NoMemory) put first is = absurd (omega (arith, is))
-full_session (Err ending.LinkRead) put first is = absurd (omega (arith, is))
-full_session (Err ending.LinkWrite) true first is = absurd (omega (arith, is))
-full_session (Err end) true first is = absurd (omega (arith, is))
-full_session (Err end) false first is = absurd (omega (arith, is))
-full_session (Ok counts) true None is = absurd (omega (arith, is))
-full_session (Ok counts) true (Some first) is = absurd (omega (arith, is))
-full_session (Ok counts) false first is = absurd (omega (arith, is))
-
--- of one of a server's sessions, by its own status
+-- of a session, by its own status
 six_session : (session : Result SessionCounts SessionEnd) → IsSigned session → session_status session ≡ 6 → IsRefusedSession session
 six_session (Err (ending.ClosedEarly at)) signs is = tt
 six_session (Err (ending.BadMessage at)) signs is = tt
@@ -101,6 +77,23 @@ eight_session : (session : Result SessionCounts SessionEnd) → session_status s
 eight_session (Err (ending.LogFull missed)) is = tt
 eight_session (Err end) is = absurd (omega (arith, is))
 eight_session (Ok counts) is = absurd (omega (arith, is))
+
+-- of a feed behind a session
+six_feed : (followed : Option (Result FollowCounts SessionEnd)) → IsSignedFeed followed → followed_status followed ≡ 6 → IsRefusedFeed followed
+six_feed (Some (Err end)) signs is = six_session (Err end) (λ same. let fault : end ≡ ending.SignFault = cc in signs (ap (λ (e : SessionEnd). Some (Err e)) fault)) is
+six_feed (Some (Ok counts)) signs is = absurd (omega (arith, is))
+six_feed None signs is = absurd (omega (arith, is))
+
+eight_feed : (followed : Option (Result FollowCounts SessionEnd)) → followed_status followed ≡ 8 → IsFullFeed followed
+eight_feed (Some (Err end)) is = eight_session (Err end) is
+eight_feed (Some (Ok counts)) is = absurd (omega (arith, is))
+eight_feed None is = absurd (omega (arith, is))
+
+refused_call : (s : Synced) → SignsAll (done.Synced s) → status_of (Ok (done.Synced s)) ≡ 6 → IsRefusedEnd (Ok (done.Synced s))
+refused_call s signs is = elim (synced_from s 6 is (omega arith)) [ inl own ↦ inl (six_session s.session signs.0 own) | inr feed ↦ inr (six_feed s.followed signs.1 feed) ]
+
+full_call : (s : Synced) → status_of (Ok (done.Synced s)) ≡ 8 → IsFullEnd (Ok (done.Synced s))
+full_call s is = elim (synced_from s 8 is (omega arith)) [ inl own ↦ inl (eight_session s.session own) | inr feed ↦ inr (eight_feed s.followed feed) ]
 
 refused_server : (s : Served) → SignsAll (done.Served s) → status_of (Ok (done.Served s)) ≡ 6 → IsRefusedEnd (Ok (done.Served s))
 refused_server s signs is = let session = session_gave s 6 is (omega arith) in (session.0, session.1, six_session session.0 (signs session.0 session.1) session.2)
@@ -121,13 +114,13 @@ bad_end (Err e) is = absurd (omega (arith, is))
 pub refused_end : (end : Result Done Stop) → SignsEnd end → status_of end ≡ 6 → IsRefusedEnd end
 refused_end (Ok d) signs is =
     by_done (λ x. SignsAll x → status_of (Ok x) ≡ 6 → IsRefusedEnd (Ok x)) (λ x local signed e. absurd (omega (arith, done_small x local, e)))
-    (λ s signed e. refused_session s.session s.put s.first signed (sym (synced_is s.session s.put s.first) ∙ e)) refused_server d signs is
+    refused_call refused_server d signs is
 refused_end (Err (stop.SessionRefused refusal)) signs is = tt
 refused_end (Err e) signs is = absurd (omega (arith, is))
 
 pub full_end : (end : Result Done Stop) → status_of end ≡ 8 → IsFullEnd end
 full_end (Ok d) is =
-    by_done (λ x. status_of (Ok x) ≡ 8 → IsFullEnd (Ok x)) (λ x local e. absurd (omega (arith, done_small x local, e))) (λ s e. full_session s.session s.put s.first (sym (synced_is s.session s.put s.first) ∙ e)) full_server d is
+    by_done (λ x. status_of (Ok x) ≡ 8 → IsFullEnd (Ok x)) (λ x local e. absurd (omega (arith, done_small x local, e))) full_call full_server d is
 full_end (Err stop.LogFull) is = tt
 full_end (Err e) is = absurd (omega (arith, is))
 

@@ -10,7 +10,7 @@ use Rattle.willow_outside.specs.Facts.{LinkFacts, DoorFacts}
 use Rattle.willow_outside.specs.declared.fault.Fault.{Fault}
 use Rattle.willow_outside.specs.declared.fault.Fault.TheVariants as fault
 use Rattle.link_host.specs.Visits as hosts
-use Rattle.link_host.specs.Hosted.{IsHosted, CountsStop, list_with_all}
+use Rattle.link_host.specs.Hosted.{IsHosted, CountsStop, accepts_made, counted_on, list_with_all}
 use Rattle.link_host.specs.declared.hosting.Hosted.{Hosted}
 use Rattle.willow_entry.specs.declared.row.LogRow.{LogRow}
 use Rattle.auth_entry.specs.Authorised.{AuthorisedValue}
@@ -179,19 +179,17 @@ as_many_jobs [] [] = refl
 as_many_jobs [] (g ∷ gs) = omega (arith, as_many_jobs [] gs)
 as_many_jobs (v ∷ vs) unused = omega (arith, as_many_jobs vs unused)
 
-accepts_so : (old listened new : DoorFacts) (links came : ℕ) (unused : List Guest) (stopped : Option Fault) (all_came : Bool) → links ≡ came + length unused → listened.faults ≡ old.faults
-    → CountsStop listened.faults new.faults unused stopped → IsAccepted stopped all_came → Accepts links came all_came old new
-accepts_so old listened new links came unused None true all same stops is = (omega (arith, all, ap length stops.0), stops.1 ∙ same)
-accepts_so old listened new links came unused (Some fault.Failed) false all same stops is = (omega (arith, all, stops.0), subst (λ (n : ℕ). HasRisen n new.faults) same stops.1)
-accepts_so old listened new links came unused None false all same stops is = absurd is
-accepts_so old listened new links came unused (Some fault.Failed) true all same stops is = absurd is
-accepts_so old listened new links came unused (Some fault.NoMemory) all_came all same stops is = absurd is
+accepts_so : (old listened new : DoorFacts) (links came : ℕ) (unused : List Guest) (stopped : Option Fault) (all_came : Bool) → links ≡ came + length unused → listened.faults ≡ old.faults → listened.accepts ≡ old.accepts
+    → CountsStop listened.faults new.faults unused stopped → new.accepts ≡ counted_on (accepts_made came stopped) listened.accepts → IsAccepted stopped all_came → Accepts links came all_came old new
+accepts_so old listened new links came unused None true all same none_yet stops made is = (omega (arith, all, ap length stops.0), stops.1 ∙ same, made ∙ ap (counted_on came) none_yet)
+accepts_so old listened new links came unused (Some fault.Failed) false all same none_yet stops made is = (omega (arith, all, stops.0), subst (λ (n : ℕ). HasRisen n new.faults) same stops.1, made ∙ ap (counted_on (came + 1)) none_yet)
+accepts_so old listened new links came unused None false all same none_yet stops made is = absurd is
+accepts_so old listened new links came unused (Some fault.Failed) true all same none_yet stops made is = absurd is
+accepts_so old listened new links came unused (Some fault.NoMemory) all_came all same none_yet stops made is = absurd is
 
--- no count of the door falls while links are accepted
-stops_above : (before now : ℕ) (unused : List Guest) (stopped : Option Fault) → CountsStop before now unused stopped → before ≤ now
-stops_above before now unused None stops = omega (arith, stops.1)
-stops_above before now unused (Some fault.Failed) stops = stops.1.never_falls
-stops_above before now unused (Some fault.NoMemory) stops = omega (arith, stops.1)
+-- an accept that tells want of memory counts no fault
+wants_memory : (before now : ℕ) (unused : List Guest) (stopped : Option Fault) → stopped ≡ Some fault.NoMemory → CountsStop before now unused stopped → now ≡ before
+wants_memory before now unused stopped wants stops = (subst (CountsStop before now unused) wants stops).1
 
 -- ---- all of it
 
@@ -239,15 +237,17 @@ module _ (place : List ℕ) (plan : SessionPlan PeerScheme) (signers : List KeyS
           out = did.out ∙ heard.1;
           back = did.back ∙ ap₂ (λ (links : List LinkFacts) (told : Option (List LinkFacts)). list_with_all links told) (links_of visits) heard.2;
         };
-        accepts = accepts_so old listened new (length signers) (length (map visit_of visits)) unused hosted.stopped x.all_came (links ∙ ap (λ (n : ℕ). n + length unused) (sym many)) heard.3 did.stopped left.accepts;
+        accepts =
+            accepts_so old listened new (length signers) (length (map visit_of visits)) unused hosted.stopped x.all_came (links ∙ ap (λ (n : ℕ). n + length unused) (sym many)) heard.3 heard.4 did.stopped
+            (did.accepts ∙ ap (λ (n : ℕ). counted_on (accepts_made n hosted.stopped) listened.accepts) (sym many)) left.accepts;
       }
 
-  -- and where memory was wanting behind the visits, no count of the door fell
+  -- and where accepting a link told want of memory, no fault of the door was met
   pub attends : (count : ℕ) (old listened new : DoorFacts) (hosted : Hosted Guest Parting) (end : Result Attended Stop) → hall.plan ≡ plan → hall.cell.namespace ≡ state.namespace
       → own ∷ passes_of guests ≡ new_passes hall.cell state.log 0 count → signers_of guests ≡ signers → nonces_of guests ≡ map nonce_of draws
       → Listens place old listened (Ok tt) → IsHosted (DoesVisit hall) guests listened new hosted → Leaves hall own hosted end
       → Attends place (λ draw. planned peer_rules state.namespace plan (nonce_of draw)) signers draws state old new end
   attends count old listened new hosted (Ok x) same_plan same_namespace passes signs nonces heard did left = attended count old listened new hosted x same_plan same_namespace passes signs nonces heard did left
   attends count old listened new hosted (Err stop.NoMemory) same_plan same_namespace passes signs nonces heard did left =
-      (inr (did.asked ∙ heard.0, did.out ∙ heard.1), omega (arith, heard.3, stops_above listened.faults new.faults hosted.unused.items hosted.stopped did.stopped))
+      (inr (did.asked ∙ heard.0, did.out ∙ heard.1), wants_memory listened.faults new.faults hosted.unused.items hosted.stopped left did.stopped ∙ heard.3)
   attends count old listened new hosted (Err e) same_plan same_namespace passes signs nonces heard did left = absurd left

@@ -1,5 +1,5 @@
 -- Why the own hello of a side is refused, by the steps of the check.
-use Rattle.std.proofs.Common.{◌≡◌, ℕ, Bool, true, false, cond, not, List, Option, Some, None, ap, ◌∙◌, subst}
+use Rattle.std.proofs.Common.{◌≡◌, ℕ, inl, inr, Bool, true, false, cond, not, List, Option, Some, None, ap, ◌∙◌, subst}
 use Rattle.std.specs.Prelude.{Result, Ok, Err}
 use Rattle.spelling.specs.Answers.{or_else, cause_if}
 use Rattle.spelling.proofs.Causes.{or_else_both}
@@ -50,7 +50,7 @@ module _ (n : List ℕ) (words : AreaWords) (c : Capability) (nonce : List ℕ) 
     go : (r : Result Hello Stop) → JudgesOwn n (own_hello words c nonce) r → Greets n words c nonce r
     go (Ok hello) j = (j.0, ap (own_refusal n) j.0 ∙ with_times some ∙ j.1)
     go (Err (stop.SessionRefused refusal)) j = with_times some ∙ j
-    go (Err stop.NoMemory) j = tt
+    go (Err stop.NoMemory) j = inr some
     go (Err e) j = absurd j
 
   -- ---- an ask without times
@@ -85,5 +85,5 @@ module _ (n : List ℕ) (words : AreaWords) (c : Capability) (nonce : List ℕ) 
   refuses_first area h e none area_is h_is judges = go e (judges_all area h (Err e) area_is h_is judges) where
     go : (s : Stop) → JudgesOwn n all_granted (Err s) → Greets n words c nonce (Err s)
     go (stop.SessionRefused refusal) j = without_times none ∙ fails_all refusal j
-    go stop.NoMemory j = tt
+    go stop.NoMemory j = inl j.2
     go s j = absurd j

@@ -8,7 +8,7 @@ use Rattle.peer_run.proofs.WholeJoin.{whole_join}
 use Rattle.peer_run.proofs.WholeMeeting.{whole_meeting}
 use Rattle.peer_run.proofs.WholeCall.{sync_promises}
 use Rattle.peer_run.proofs.WholeService.{serve_promises}
-use Rattle.peer_run.proofs.Reported.{counts_stand, none_passed_over, report_stood}
+use Rattle.peer_run.proofs.Reported.{counts_stand, none_passed_over, hides_none, report_stood}
 
 pub keeps : (run : Run) → RunsWords run → run.old.report.faults ≤ run.new.report.faults → KeepsPromises run
 keeps run runs faults =
@@ -29,6 +29,7 @@ keeps run runs faults =
       log_full = log_full run runs;
       key_spent = key_spent run runs;
       unfailed = none_passed_over run runs;
+      want = hides_none run runs;
       report_unfailed = report_stood run runs;
       statuses = statuses run runs;
       counts = counts_stand run runs faults;

@@ -1,5 +1,5 @@
 -- The laws of each command.
-use Rattle.std.proofs.Common.{◌++◌}
+use Rattle.std.proofs.Common.{◌++◌, false, None}
 use Rattle.peer_stage.specs.Deed.{IsLawful}
 use Rattle.peer_stage.specs.declared.outcome.Done.TheVariants as done
 use Rattle.peer_stage.proofs.Owing.{StaysLocal, then_local, writes_local, not_built_is_lawful}
@@ -23,10 +23,10 @@ laws_of (cmd.Delegate key to area) = delegate_is_lawful key to area
 laws_of (cmd.Write key path time payload_length digest subspace) = write_is_lawful key (record { path = path; time = time; payload_length = payload_length; digest = digest; subspace = subspace })
 laws_of (cmd.Gen rows) = gen_is_lawful rows
 laws_of (cmd.Drill rows) = drill_is_lawful rows
-laws_of (cmd.Meet left right left_cap right_cap left_out right_out area) =
+laws_of (cmd.Meet left right left_cap right_cap left_out right_out area None None) =
     meet_is_lawful (record { left = left; right = right; left_cap = left_cap; right_cap = right_cap; left_out = left_out; right_out = right_out; area = area })
-laws_of (cmd.Sync image cap key to area) = sync_is_lawful (record { image = image; cap = cap; key = key; to = to; area = area })
-laws_of (cmd.Serve image cap key at links area) = serve_is_lawful (record { image = image; cap = cap; key = key; at = at; links = links; area = area })
+laws_of (cmd.Sync image cap key to area None None false) = sync_is_lawful (record { image = image; cap = cap; key = key; to = to; area = area })
+laws_of (cmd.Serve image cap key at links area None None false None) = serve_is_lawful (record { image = image; cap = cap; key = key; at = at; links = links; area = area })
 laws_of command = not_built_is_lawful
 
 -- One line a command: any but those that call others stays without sessions.
@@ -39,8 +39,8 @@ stays_local (cmd.Delegate key to area) is = then_local _ _ (λ c. then_local _ _
 stays_local (cmd.Write key path time payload_length digest subspace) is = then_local _ _ (λ c. then_local _ _ (λ signature. then_local _ _ (λ fine. writes_local _ done.Made tt)))
 stays_local (cmd.Gen rows) is = writes_local _ done.Made tt
 stays_local (cmd.Drill rows) is = writes_local _ done.Made tt
-stays_local (cmd.Meet left right left_cap right_cap left_out right_out area) is =
+stays_local (cmd.Meet left right left_cap right_cap left_out right_out area None None) is =
     then_local _ _ (λ s. then_local _ _ (λ agreed. then_local _ _ (λ met. then_local _ _ (λ one. then_local _ _ (λ other. writes_local met.transcript.items (done.Met met.counts) tt)))))
-stays_local (cmd.Sync image grant key to area) is = absurd is
-stays_local (cmd.Serve image grant key at links area) is = absurd is
+stays_local (cmd.Sync image grant key to area newest bytes follow) is = absurd is
+stays_local (cmd.Serve image grant key at links area newest bytes follow log) is = absurd is
 stays_local c is = λ old new d m. absurd m

@@ -9,6 +9,7 @@ pub mod Agreed
 pub mod GotImages
 pub mod BothPass
 pub mod PairDeeds
+pub mod Unbuilt
 pub mod Laws
 pub mod SignedAll
 pub mod Ends

@@ -80,11 +80,15 @@ module _ (n : List ℕ) (seen : List RawValue) (x : Opening) (r : RawValue) (is 
     pub opened_past : (full : LogFull) → IsAnswer entry_row x.state.log offered state.log (Err (Refused full)) → PassesLog n (seen ++ r ∷ [])
     opened_past full answer = subst ArePastLog (sym more) (refused_row entry_row (authorised_rows n seen) x.state state offered is.held (Refused full) answer)
 
+    -- memory is asked for where the log has room
+    pub opened_room : IsAnswer entry_row x.state.log offered state.log (Err NoMemory) → PassesLog n (seen ++ r ∷ []) → ⊥
+    opened_room answer past = refused_row entry_row (authorised_rows n seen) x.state state offered is.held NoMemory answer (subst ArePastLog more past)
+
 -- where it is refused, one too many would be stored
 pub opened_stopped : (n : List ℕ) (seen : List RawValue) (x x' : Opening) (entry : AuthorisedValue) (state : StateValue AuthorisedValue) (e : End LogFull) → row_refusal peer_rules n entry.row ≡ None → IsOpened n seen x
     → IsAnswer entry_row x.state.log (record { pass = 0; row = entry }) state.log (Err e) → TakesRow n seen entry.row x' (Err e)
 opened_stopped n seen x x' entry state (Refused full) fine is answer = opened_past n seen x entry.row is entry state fine refl full answer
-opened_stopped n seen x x' entry state NoMemory fine is answer = tt
+opened_stopped n seen x x' entry state NoMemory fine is answer = opened_room n seen x entry.row is entry state fine refl answer
 
 -- ---- all rows
 

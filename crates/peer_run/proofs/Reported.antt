@@ -1,6 +1,8 @@
 -- No count falls in a run, and no fault is passed over.
-use Rattle.std.proofs.Common.{◌≡◌, ◌≢◌, ℕ, ◌≤◌, inl, inr, sym, ◌∙◌, subst, arith}
-use Rattle.std.specs.Prelude.{Result, Err}
+use Rattle.std.proofs.Common.{◌≡◌, ◌≢◌, ℕ, ◌≤◌, ◌⊎◌, Bool, true, false, refl, inl, inr, sym, ◌∙◌, subst, arith}
+use Rattle.std.specs.Prelude.{Result, Err, nat_eq}
+use Rattle.std.proofs.lemmas.Bool.{eqb-true}
+use Rattle.std.proofs.lemmas.Bool.Decides.{nat_tests}
 use Rattle.willow_outside.specs.Facts.{SinkFacts}
 use Rattle.peer_stage.specs.World.{World, NeverFall, Unfailed}
 use Rattle.peer_stage.specs.Status.{status_of}
@@ -10,6 +12,7 @@ use Rattle.peer_stage.specs.declared.outcome.Stop.TheVariants as stop
 use Rattle.peer_stage.proofs.Owing.{stands, unfailed_same}
 use Rattle.peer_report.specs.Report.{Reports}
 use Rattle.peer_run.specs.Run.{Run, RunsWords, before_report}
+use Rattle.peer_run.specs.Promises.{HidesNone, LacksLines}
 use Rattle.peer_run.proofs.Ends.{after_is, own_status}
 use Rattle.peer_run.proofs.Laws.{laws_of}
 
@@ -48,6 +51,28 @@ none_passed_over run (inl runs) three four seven =
     (laws_of runs.command).unfailed run.old (before_report run) runs.end runs.meets (λ e. three (own ∙ e)) (λ e. four (own ∙ e)) (λ e. seven (own ∙ e))
 none_passed_over run (inr (inl misused)) three four seven = same_unfailed run misused.same
 none_passed_over run (inr (inr unread)) three four seven = same_unfailed run unread.same
+
+-- ---- want of memory hides none
+
+-- where the status is 7 the end has it, or the report found no memory
+own_want : (run : Run) (end : Result Done Stop) → Reports run.old.report run.new.report end run.status → run.status ≡ 7 → (status_of end ≡ 7) ⊎ LacksLines run
+own_want run end (inl told) seven = inl (sym told.status_is ∙ seven)
+own_want run end (inr (inl fault)) seven = elim (after_is run.status (status_of end) fault.status_is) [ inl four ↦ absurd (omega (arith, four, seven)) | inr large ↦ inl (sym large.0 ∙ seven) ]
+own_want run end (inr (inr none)) seven = by (nat_eq (status_of end) 7) refl where
+  by : (b : Bool) → nat_eq (status_of end) 7 ≡ b → (status_of end ≡ 7) ⊎ LacksLines run
+  by true is = inl (eqb-true _ _ is)
+  by false is = inr (record { end = end; other = λ seven. absurd (grind (arith, nat_tests)); lines = none })
+
+pub hides_none : (run : Run) → RunsWords run → run.status ≡ 7 → HidesNone run
+hides_none run (inl runs) seven = elim (own_want run runs.end runs.reports seven) [
+  | inl own ↦ elim ((laws_of runs.command).want run.old (before_report run) runs.end runs.meets own) [
+    | inl stood ↦ inl stood
+    | inr later ↦ inr (inl (runs.command, runs.is_words, later))
+  ]
+  | inr lacks ↦ inr (inr lacks)
+]
+hides_none run (inr (inl misused)) seven = inl (same_unfailed run misused.same)
+hides_none run (inr (inr unread)) seven = inl (same_unfailed run unread.same)
 
 -- with 0 or 1 the report was written without a fault
 written_small : (r r' : SinkFacts) (end : Result Done Stop) (s : ℕ) → Reports r r' end s → s ≤ 1 → r'.faults ≡ r.faults

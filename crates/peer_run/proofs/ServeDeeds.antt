@@ -1,6 +1,7 @@
 -- What `serve` owes as a command, but for its completeness.
-use Rattle.std.proofs.Common.{◌≡◌, ◌≢◌, ◌∙◌, ℕ, ◌≤◌, Bool, true, false, List, map, length, Contains, Option, inl, inr, refl, sym, subst, ap, arith}
+use Rattle.std.proofs.Common.{◌≡◌, ◌≢◌, ◌⊎◌, ◌∙◌, ℕ, ◌≤◌, Bool, true, false, List, map, length, Contains, Option, inl, inr, refl, sym, subst, ap, arith}
 use Rattle.std.specs.Prelude.{Result, Ok, Err}
+use Rattle.std.proofs.lemmas.List.Elements.{All-contains}
 use Rattle.std.specs.String.{string_bytes}
 use Rattle.std.specs.declared.string.String.{String}
 use Rattle.std.specs.declared.alloc.Global.{Global}
@@ -8,6 +9,7 @@ use Rattle.lms_core.specs.Use.{peer_rules}
 use Rattle.mc_cap.specs.declared.refusal.RefusedRow.{RefusedRow}
 use Rattle.willow_outside.specs.Counts.{Rose}
 use Rattle.willow_outside.specs.Facts.{ShelfFacts, DoorFacts}
+use Rattle.willow_outside.specs.Links.{list_with}
 use Rattle.link_host.specs.Hosted.{list_with_all}
 use Rattle.auth_entry.specs.Authorised.{AuthorisedValue}
 use Rattle.ns_state.specs.Log.{StateValue}
@@ -34,20 +36,20 @@ use Rattle.peer_stage.specs.declared.outcome.SessionCounts.{SessionCounts}
 use Rattle.peer_stage.specs.declared.outcome.Served.{Served}
 use Rattle.peer_stage.specs.declared.outcome.Stop.{Stop}
 use Rattle.peer_stage.specs.declared.outcome.Stop.TheVariants as stop
-use Rattle.peer_stage.proofs.Closing.{Closes, KeepsDoor, LastsAtDoor, owes_more, inside_keeps, shelf_keeps, noise_keeps, then_keeps, then_closes}
+use Rattle.peer_stage.proofs.Closing.{Closes, KeepsDoor, LastsAtDoor, LastsBehind, owes_more, inside_keeps, shelf_keeps, noise_keeps, then_keeps, then_closes}
 use Rattle.peer_stage.proofs.Ends.{served_known}
 use Rattle.peer_stage.proofs.Faults.{EndsUnfailed}
 use Rattle.peer_stage.proofs.Owing.{Owes, then_owes, onward, unfailed_on, shelf_counts, shelf_unfailed, noise_counts, noise_unfailed, rose_behind}
-use Rattle.peer_run.specs.Closing.{image_of, put_answer}
+use Rattle.peer_run.specs.Closing.{IsForWant, image_of, put_answer}
 use Rattle.peer_run.specs.Hosting.{Visit, Accepts, Attends, AreAttended}
 use Rattle.peer_run.specs.Meet.{Yields}
 use Rattle.peer_run.specs.Preparing.{nonce_of, plan_of}
 use Rattle.peer_run.specs.Serve.{AtDoor, OpensHouse, ClosesHouse, Serves, IsServed, told_of}
-use Rattle.peer_run.specs.ServeDeed.{ServeReads, ServeWrites}
+use Rattle.peer_run.specs.ServeDeed.{ServeReads, ServeWrites, WantsLater}
 use Rattle.peer_run.specs.declared.hosting.Attended.{Attended}
 use Rattle.peer_run.specs.declared.serving.Server as server
 use Rattle.peer_run.specs.declared.serving.ServeWords.{ServeWords}
-use Rattle.peer_run.proofs.ServedStatus.{HasStatus, contains_map, read_gave, write_gave, all_came, was_put}
+use Rattle.peer_run.proofs.ServedStatus.{HasStatus, contains_map, contains_from_map, read_gave, write_gave, session_gave, all_came, was_put}
 use Rattle.peer_run.proofs.SideDeeds.{Nothing, GotReads, GotWrites, got_reads_last, got_writes_last, inside_owes, preparing_owes, preparing_keeps_door, from_none}
 use Rattle.peer_run.proofs.VisitedLinks.{some_visit, told_visit, told_end}
 
@@ -65,6 +67,29 @@ writes_last : LastsAtDoor ServeWrites
 writes_last old between new counts same (inl rose) = inl (rose_behind _ _ _ counts.shelf_writes rose)
 writes_last old between new counts same (inr failed) =
     inr (record { links = failed.links; back = failed.back ∙ ap (λ (d : DoorFacts). list_with_all failed.links d.back) same; link = failed.link; among = failed.among; rose = failed.rose })
+
+wants_last : (place : List ℕ) → LastsBehind (WantsLater place)
+wants_last place old between new stood same later = record {
+  inside = record {
+    shelf_reads = later.inside.shelf_reads ∙ stood.shelf_reads;
+    shelf_writes = later.inside.shelf_writes ∙ stood.shelf_writes;
+    input = later.inside.input ∙ stood.input;
+    output = later.inside.output ∙ stood.output;
+    report = later.inside.report ∙ stood.report;
+    door = omega (arith, later.inside.door, stood.door);
+    noise = later.inside.noise ∙ stood.noise;
+  };
+  asked = later.asked ∙ ap (λ (d : DoorFacts). list_with place d.asked) same;
+}
+
+-- what is told with 7 is told of want of memory
+is_for_want : (answer : Answer) → session_status (told_of answer) ≡ 7 → IsForWant answer
+is_for_want (Ok report) is = absurd (omega (arith, is))
+is_for_want (Err ending.NoMemory) is = tt
+is_for_want (Err ending.LinkRead) is = absurd (omega (arith, is))
+is_for_want (Err ending.LinkWrite) is = absurd (omega (arith, is))
+is_for_want (Err (ending.LogFull missed)) is = absurd (omega (arith, is))
+is_for_want (Err e) is = absurd (omega (arith, is))
 
 -- ---- signers and draws
 
@@ -248,7 +273,7 @@ module _ (place : List ℕ) (p : List ℕ → List ℕ → Party) (signers : Lis
   door_up : (old new : DoorFacts) (end : Result Attended Stop) → Attends place p signers draws opening old new end → old.faults ≤ new.faults
   door_up old new (Ok x) a = accepts_up (length signers) (length a.visits) x.all_came old new a.accepts
   door_up old new (Err stop.ReadFault) a = a.1.never_falls
-  door_up old new (Err stop.NoMemory) a = a.1
+  door_up old new (Err stop.NoMemory) a = omega (arith, a.1)
   door_up old new (Err e) a = absurd a
 
   attend_counts : (old new : World) (end : Result Attended Stop) → Attend old new end → NeverFall old new
@@ -303,6 +328,46 @@ module _ (place : List ℕ) (p : List ℕ → List ℕ → Party) (signers : Lis
   both_unfailed old new (Err e) (inl s) three four seven = stop_unfailed old new e s three four seven
   both_unfailed old new (Err e) (inr q) three four seven = absurd (behind_stop q.value old q.between new e q.rest seven)
 
+  -- no session that is told was one for which memory was wanting
+  none_wanted : (x : Attended) (between new : World) (d : Done) → Close x between new (Ok d) → status_of (Ok d) ≡ 7 → ⊥
+  none_wanted x between new (done.Served s) f seven =
+      let has = session_gave s 7 seven (omega arith) in
+      let told = contains_from_map told_of x.ends.items has.0 (subst (λ (sessions : List (Result SessionCounts SessionEnd)). Contains sessions has.0) f.1.sessions has.1) in
+      All-contains (λ (answer : Answer). IsForWant answer → ⊥) x.ends.items told.0 f.0 told.1 (is_for_want told.0 (ap session_status told.2 ∙ has.2))
+  none_wanted x between new d f seven = absurd f
+
+  -- the door may have counted faults behind the place that was listened at
+  later_at : (old between new : World) (end : Result Attended Stop) → Attend old between end → old.door.faults ≤ between.door.faults → between.door.asked ≡ list_with place old.door.asked → Unfailed between new → new.door ≡ between.door → WantsLater place old new
+  later_at old between new end s up asked stood same =
+      let others = s.others in
+      record {
+        inside = record {
+          shelf_reads = stood.shelf_reads ∙ ap (λ (w : World). w.shelf.read_faults) others;
+          shelf_writes = stood.shelf_writes ∙ ap (λ (w : World). w.shelf.write_faults) others;
+          input = stood.input ∙ ap (λ (w : World). w.input.faults) others;
+          output = stood.output ∙ ap (λ (w : World). w.output.faults) others;
+          report = stood.report ∙ ap (λ (w : World). w.report.faults) others;
+          door = omega (arith, up, ap (λ (d : DoorFacts). d.faults) same);
+          noise = stood.noise ∙ ap (λ (w : World). w.noise.faults) others;
+        };
+        asked = ap (λ (d : DoorFacts). d.asked) same ∙ asked;
+      }
+
+  stop_want : (old new : World) (e : Stop) → Attend old new (Err e) → status_of (Err e) ≡ 7 → Unfailed old new ⊎ WantsLater place old new
+  stop_want old new stop.NoMemory s seven = inl (at_door_unfailed (Attends place p signers draws opening) old new (Err stop.NoMemory) s.does.1 s)
+  stop_want old new stop.ReadFault s seven = absurd (omega (arith, seven))
+  stop_want old new e s seven = absurd s.does
+
+  behind_want : (x : Attended) (old between new : World) (e : Stop) → Attend old between (Ok x) → Close x between new (Err e) → Unfailed old new ⊎ WantsLater place old new
+  behind_want x old between new stop.NoMemory s f =
+      inr (later_at old between new (Ok x) s (door_up old.door between.door (Ok x) s.does) s.does.back.asked (shelf_unfailed (PutsBytes name (image_of x.state)) between new (Err stop.NoMemory) tt f) (ap (λ (w : World). w.door) f.others))
+  behind_want x old between new e s f = absurd f
+
+  both_want : (old new : World) (end : Result Done Stop) → Then Attend Close old new end → status_of end ≡ 7 → Unfailed old new ⊎ WantsLater place old new
+  both_want old new (Ok d) q seven = absurd (none_wanted q.value q.between new d q.rest seven)
+  both_want old new (Err e) (inl s) seven = stop_want old new e s seven
+  both_want old new (Err e) (inr q) seven = behind_want q.value old q.between new e q.given q.rest
+
   both_usage : (old new : World) (end : Result Done Stop) → Then Attend Close old new end → status_of end ≡ 2 → ⊥
   both_usage old new (Ok d) q is = close_usage q.value q.between new (Ok d) q.rest is
   both_usage old new (Err e) (inl s) is = stop_usage old new e s is
@@ -318,8 +383,8 @@ module _ (place : List ℕ) (p : List ℕ → List ℕ → Party) (signers : Lis
   both_write old new (Err e) (inl s) is = stop_write old new e s is
   both_write old new (Err e) (inr q) is = close_write q.value old q.between new (Err e) (attend_counts old q.between (Ok q.value) q.given) q.given.does q.rest is
 
-  both_closes : Closes ServeReads ServeWrites (Then Attend Close)
-  both_closes = record { counts = both_counts; unfailed = both_unfailed; usage = both_usage; read_fault = both_read; write_fault = both_write }
+  both_closes : Closes ServeReads ServeWrites (WantsLater place) (Then Attend Close)
+  both_closes = record { counts = both_counts; unfailed = both_unfailed; want = both_want; usage = both_usage; read_fault = both_read; write_fault = both_write }
 
 -- ---- the command
 
@@ -334,11 +399,11 @@ module _ (words : ServeWords) where
   abbrev AttendAll : server.Server → List (List ℕ) → Step Attended
   AttendAll s draws = AtDoor (Attends (string_bytes words.at) (λ draw. planned peer_rules s.opening.state.namespace s.plan (nonce_of draw)) s.signers.items draws s.opening.state)
 
-  behind_draws : (s : server.Server) (draws : List (List ℕ)) → Closes ServeReads ServeWrites (Then (AttendAll s draws) (λ x. ClosesHouse (string_bytes words.image) s.opening.rows s.opening.first x))
+  behind_draws : (s : server.Server) (draws : List (List ℕ)) → Closes ServeReads ServeWrites (WantsLater (string_bytes words.at)) (Then (AttendAll s draws) (λ x. ClosesHouse (string_bytes words.image) s.opening.rows s.opening.first x))
   behind_draws s draws =
       both_closes (string_bytes words.at) (λ draw. planned peer_rules s.opening.state.namespace s.plan (nonce_of draw)) s.signers.items draws s.opening.state (string_bytes words.image) s.opening.rows s.opening.first
 
-  pub serve_closes : Closes ServeReads ServeWrites (Serves words)
+  pub serve_closes : Closes ServeReads ServeWrites (WantsLater (string_bytes words.at)) (Serves words)
   serve_closes =
-      then_closes ServeReads ServeWrites Nothing (λ s. Nothing) Open _ reads_last writes_last opened (opening_keeps words.image words.cap words.key words.links words.area)
-      (λ s. then_closes ServeReads ServeWrites Nothing (λ draws. Nothing) (OnNoise (DrawsAll words.links)) _ reads_last writes_last (drawing_owes words.links) (noise_keeps (DrawsAll words.links)) (λ draws. behind_draws s draws.items))
+      then_closes ServeReads ServeWrites (WantsLater (string_bytes words.at)) Nothing (λ s. Nothing) Open _ reads_last writes_last (wants_last (string_bytes words.at)) opened (opening_keeps words.image words.cap words.key words.links words.area)
+      (λ s. then_closes ServeReads ServeWrites (WantsLater (string_bytes words.at)) Nothing (λ draws. Nothing) (OnNoise (DrawsAll words.links)) _ reads_last writes_last (wants_last (string_bytes words.at)) (drawing_owes words.links) (noise_keeps (DrawsAll words.links)) (λ draws. behind_draws s draws.items))

@@ -192,6 +192,7 @@ serve_is_lawful words =
     record {
       counts = closes.counts;
       unfailed = closes.unfailed;
+      want = closes.want;
       usage = λ old new end meets is. absurd (closes.usage old new end meets is);
       no_run = λ old new end meets unbuilt. absurd unbuilt;
       read_fault = closes.read_fault;

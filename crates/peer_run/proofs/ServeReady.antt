@@ -3,6 +3,7 @@
 use Rattle.std.proofs.Common.{◌≡◌, ◌∙◌, ℕ, ◌<◌, ◌≤◌, ◌^◌, List, None, length, sym, ap, subst, arith}
 use Rattle.std.specs.Prelude.{Ok}
 use Rattle.std.specs.List.{All}
+use Rattle.std.specs.String.{string_bytes}
 use Rattle.std.specs.declared.string.String.{String}
 use Rattle.std.specs.declared.alloc.Global.{Global}
 use Rattle.log_rule.specs.Views.{AreOf}
@@ -22,6 +23,7 @@ use Rattle.peer_run.specs.Serve.{OpensHouse}
 use Rattle.peer_run.specs.declared.opening.Opening.{Opening}
 use Rattle.peer_run.specs.declared.serving.Server as server
 use Rattle.peer_run.proofs.CallReady.{plan_passes}
+use Rattle.peer_run.proofs.GotImages.{held_few}
 use Rattle.peer_run.proofs.SideBegun.{HasPrepared, has_prepared}
 
 module _ (image cap : String Global) (key : SignerWord) (links : ℕ) (area : AreaWords) (old new : World) (s : server.Server) (opens : OpensHouse image cap key links area old new (Ok s)) where
@@ -40,7 +42,7 @@ module _ (image cap : String Global) (key : SignerWord) (links : ℕ) (area : Ar
 
   -- there are few of them
   pub house_few : s.opening.rows < 2 ^ 32
-  house_few = omega (arith, opened.counted, has.has_image.is_image.is_image.count)
+  house_few = omega (arith, opened.counted, held_few old.shelf.names (string_bytes image) has.given.namespace has.given.rows.items has.has_image)
 
   -- what it says of itself passes, whatever is drawn
   pub house_hello : (draw : List ℕ) → hello_refusal peer_rules s.opening.state.namespace (plans.own_hello s.plan (nonce_of draw)) ≡ None

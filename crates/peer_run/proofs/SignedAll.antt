@@ -1,5 +1,5 @@
 -- No session of a command failed to sign: a signer of the program counts no faults.
-use Rattle.std.proofs.Common.{◌≡◌, ◌∙◌, ℕ, Bool, List, Contains, map, Option, sym, subst, ap, arith}
+use Rattle.std.proofs.Common.{◌≡◌, ◌∙◌, ℕ, Bool, true, false, List, Contains, map, Option, Some, None, sym, subst, ap, arith}
 use Rattle.std.specs.Prelude.{Result, Ok, Err}
 use Rattle.std.specs.String.{string_bytes}
 use Rattle.willow_outside.specs.Counts.{HasRisen}
@@ -13,6 +13,7 @@ use Rattle.sync_link.specs.Sessions.{Party}
 use Rattle.peer_stage.specs.World.{World}
 use Rattle.peer_stage.specs.declared.outcome.Done.{Done}
 use Rattle.peer_stage.specs.declared.outcome.Done.TheVariants as done
+use Rattle.peer_stage.specs.declared.outcome.FollowCounts.{FollowCounts}
 use Rattle.peer_stage.specs.declared.outcome.SessionCounts.{SessionCounts}
 use Rattle.peer_stage.specs.declared.outcome.Stop.{Stop}
 use Rattle.peer_stage.specs.declared.outcome.Synced.{Synced}
@@ -29,15 +30,20 @@ use Rattle.peer_run.specs.declared.hosting.Attended.{Attended}
 use Rattle.peer_run.specs.declared.serving.ServeWords.{ServeWords}
 use Rattle.peer_run.specs.declared.syncing.SyncWords.{SyncWords}
 use Rattle.peer_run.proofs.Laws.{stays_local}
+use Rattle.peer_run.proofs.SyncSteps.{not_followed}
 use Rattle.peer_run.proofs.VisitedLinks.{some_visit, told_visit, told_end}
 
 -- a session did not fail to sign
 abbrev pub IsSigned : Result SessionCounts SessionEnd → Type 0
 IsSigned session = session ≡ Err ending.SignFault → ⊥
 
--- none of the sessions did
+-- nor did a feed behind one
+abbrev pub IsSignedFeed : Option (Result FollowCounts SessionEnd) → Type 0
+IsSignedFeed followed = followed ≡ Some (Err ending.SignFault) → ⊥
+
+-- none of the sessions and feeds did
 abbrev pub SignsAll : Done → Type 0
-SignsAll (done.Synced s) = IsSigned s.session
+SignsAll (done.Synced s) = IsSigned s.session × IsSignedFeed s.followed
 SignsAll (done.Served s) = (session : Result SessionCounts SessionEnd) → Contains s.sessions.items session → IsSigned session
 SignsAll d = Unit {0}
 
@@ -51,6 +57,7 @@ from_local (done.Shown counts) local = tt
 from_local (done.Met counts) local = tt
 from_local (done.Synced s) local = absurd local
 from_local (done.Served s) local = absurd local
+from_local (done.Watched counts) local = tt
 from_local done.Made local = tt
 
 never_rose : HasRisen 0 0 → ⊥
@@ -67,6 +74,10 @@ told_answer rows first (Err end) put is =
     let same : end ≡ ending.SignFault = cc in
     ap (λ (e : SessionEnd). Err e) same
 
+unsigned_feed : (followed : Option (Result FollowCounts SessionEnd)) → followed ≡ None → IsSignedFeed followed
+unsigned_feed None none = λ is. absurd cc
+unsigned_feed (Some feed) none = absurd cc
+
 sync_signs : (words : SyncWords) (old new : World) (d : Done) → Syncs words old new (Ok d) → SignsAll d
 sync_signs words old new d p =
     let q = p.rest in
@@ -74,7 +85,10 @@ sync_signs words old new d p =
     by d p.value.opening.rows p.value.opening.first r.value r.between r.given.does.ran.counted_faults.signs r.rest
   where
     by : (d : Done) (rows : ℕ) (first : Option RefusedRow) (x : Called) (called : World) → CountsSigns 0 0 x.end → Finishes (string_bytes words.image) rows first x called new (Ok d) → SignsAll d
-    by (done.Synced s) rows first x called counts f = λ is. answer_signed x.end counts (told_answer rows first x.end s.put (sym (ap (λ (t : Synced). t.session) f.1) ∙ is))
+    by (done.Synced s) rows first x called counts f = (
+      (λ is. answer_signed x.end counts (told_answer rows first x.end s.put (sym (ap (λ (t : Synced). t.session) f.1) ∙ is))),
+      unsigned_feed s.followed (ap (λ (t : Synced). t.followed) f.1 ∙ not_followed rows first x.end s.put),
+    )
     by d rows first x called counts f = absurd f
 
 -- ---- a server
@@ -99,8 +113,15 @@ serve_signs words old new d p =
 -- ---- all commands
 
 done_signs : (c : Command) (old new : World) (d : Done) → (deed_of c).meets old new (Ok d) → SignsAll d
-done_signs (cmd.Sync image grant key to area) old new d m = sync_signs (record { image = image; cap = grant; key = key; to = to; area = area }) old new d m
-done_signs (cmd.Serve image grant key at links area) old new d m = serve_signs (record { image = image; cap = grant; key = key; at = at; links = links; area = area }) old new d m
+done_signs (cmd.Sync image grant key to area None None false) old new d m = sync_signs (record { image = image; cap = grant; key = key; to = to; area = area }) old new d m
+done_signs (cmd.Serve image grant key at links area None None false None) old new d m = serve_signs (record { image = image; cap = grant; key = key; at = at; links = links; area = area }) old new d m
+done_signs (cmd.Sync image grant key to area (Some newest) bytes follow) old new d m = absurd m
+done_signs (cmd.Sync image grant key to area None (Some bytes) follow) old new d m = absurd m
+done_signs (cmd.Sync image grant key to area None None true) old new d m = absurd m
+done_signs (cmd.Serve image grant key at links area (Some newest) bytes follow log) old new d m = absurd m
+done_signs (cmd.Serve image grant key at links area None (Some bytes) follow log) old new d m = absurd m
+done_signs (cmd.Serve image grant key at links area None None true log) old new d m = absurd m
+done_signs (cmd.Serve image grant key at links area None None false (Some log)) old new d m = absurd m
 done_signs c old new d m = from_local d (stays_local c tt old new d m)
 
 pub signs_end : (c : Command) (old new : World) (end : Result Done Stop) → (deed_of c).meets old new end → SignsEnd end

@@ -1,5 +1,5 @@
 -- What `sync` owes as a command, but for its completeness.
-use Rattle.std.proofs.Common.{◌≡◌, ◌≢◌, ◌∙◌, ℕ, Bool, true, false, List, Option, None, Some, inl, inr, refl, sym, subst, ap, arith}
+use Rattle.std.proofs.Common.{◌≡◌, ◌≢◌, ◌⊎◌, ◌∙◌, ℕ, Bool, true, false, List, Option, None, Some, inl, inr, refl, sym, subst, ap, arith}
 use Rattle.std.specs.Prelude.{Result, Ok, Err}
 use Rattle.std.specs.String.{string_bytes}
 use Rattle.std.specs.declared.string.String.{String}
@@ -33,13 +33,13 @@ use Rattle.peer_stage.specs.declared.outcome.SessionCounts.{SessionCounts}
 use Rattle.peer_stage.specs.declared.outcome.Stop.{Stop}
 use Rattle.peer_stage.specs.declared.outcome.Stop.TheVariants as stop
 use Rattle.peer_stage.specs.declared.outcome.Synced.{Synced}
-use Rattle.peer_stage.proofs.Closing.{Closes, KeepsDoor, LastsAtDoor, owes_more, inside_keeps, shelf_keeps, noise_keeps, then_keeps, then_closes}
-use Rattle.peer_stage.proofs.Ends.{synced_status, synced_is, synced_known}
-use Rattle.peer_stage.proofs.Faults.{EndsUnfailed}
+use Rattle.peer_stage.proofs.Closing.{Closes, KeepsDoor, LastsAtDoor, LastsBehind, owes_more, inside_keeps, shelf_keeps, noise_keeps, then_keeps, then_closes}
+use Rattle.peer_stage.proofs.Ends.{synced_status, synced_known}
+use Rattle.peer_stage.proofs.Faults.{EndsUnfailed, no_fault_at_want}
 use Rattle.peer_stage.proofs.Owing.{Owes, then_owes, onward, unfailed_on, shelf_counts, shelf_unfailed, noise_counts, noise_unfailed, door_counts, door_unfailed, rose_behind}
 use Rattle.peer_run.specs.Calling.{Calls, IsCalled}
 use Rattle.peer_run.specs.Meet.{Yields}
-use Rattle.peer_run.specs.Closing.{put_answer}
+use Rattle.peer_run.specs.Closing.{IsForWant, put_answer}
 use Rattle.peer_run.specs.Preparing.{nonce_of, plan_of}
 use Rattle.peer_run.specs.Sync.{Begins, Finishes, Syncs, image_behind, synced_of}
 use Rattle.peer_run.specs.SyncDeed.{SyncReads, SyncWrites}
@@ -47,6 +47,7 @@ use Rattle.peer_run.specs.declared.calling.Called.{Called}
 use Rattle.peer_run.specs.declared.syncing.Caller as caller
 use Rattle.peer_run.specs.declared.syncing.SyncWords.{SyncWords}
 use Rattle.peer_run.proofs.SideDeeds.{Nothing, GotReads, GotWrites, got_reads_last, got_writes_last, inside_owes, preparing_owes, preparing_keeps_door, signer_rises, no_usage, from_none}
+use Rattle.peer_run.proofs.SyncSteps.{synced_as}
 
 -- ---- what rose behind
 
@@ -100,6 +101,13 @@ module _ (image cap : String Global) (key : SignerWord) (area : AreaWords) where
       then_keeps _ _ (preparing_keeps_door image cap area) (λ r.
       then_keeps _ _ (shelf_keeps (HandsSigner key)) (λ signer. inside_keeps (Yields (record { opening = r.opening; plan = plan_of Caller r.hello; signer = signer }))))
 
+-- no fault is gone on from
+abbrev NoneLater : World → World → Type 0
+NoneLater old new = ⊥
+
+none_later : LastsBehind NoneLater
+none_later old between new stood same later = later
+
 -- ---- the link
 
 -- a session that ended so is told so
@@ -138,6 +146,17 @@ put_unfailed (Err ending.LinkRead) false first three four seven = three refl
 put_unfailed (Err end) false first three four seven = four refl
 put_unfailed (Ok counts) false first three four seven = four refl
 
+want_session : (session : Result SessionCounts SessionEnd) (put : Bool) (first : Option RefusedRow) → synced_status session put first ≡ 7 → session ≡ Err ending.NoMemory
+want_session (Err ending.NoMemory) put first is = refl
+want_session (Err ending.LinkRead) put first is = absurd (omega (arith, is))
+want_session (Err (ending.LogFull missed)) true first is = absurd (omega (arith, is))
+want_session (Err ending.LinkWrite) true first is = absurd (omega (arith, is))
+want_session (Err end) true first is = absurd (omega (arith, is))
+want_session (Err end) false first is = absurd (omega (arith, is))
+want_session (Ok counts) true None is = absurd (omega (arith, is))
+want_session (Ok counts) true (Some first) is = absurd (omega (arith, is))
+want_session (Ok counts) false first is = absurd (omega (arith, is))
+
 -- ---- the call, and the put behind it
 
 module _ (place : List ℕ) (p : List ℕ → Party) (signer : KeySigner) (opening : StateValue AuthorisedValue) (name : List ℕ) (rows : ℕ) (first : Option RefusedRow) where
@@ -156,10 +175,19 @@ module _ (place : List ℕ) (p : List ℕ → Party) (signer : KeySigner) (openi
 
   finish_unfailed : (x : Called) (old new : World) (end : Result Done Stop) → Finish x old new end → status_of end ≢ 3 → status_of end ≢ 4 → status_of end ≢ 7 → Unfailed old new
   finish_unfailed x old new (Ok (done.Synced s)) f three four seven =
-      let is = synced_is s.session s.put s.first in
+      let is = synced_as rows first x.end s.put s f.1 in
       shelf_unfailed (PutsBytes name (image_behind x)) old new (put_answer s.put) (put_unfailed s.session s.put s.first (λ e. three (is ∙ e)) (λ e. four (is ∙ e)) (λ e. seven (is ∙ e))) f.2
   finish_unfailed x old new (Err stop.NoMemory) f three four seven = absurd (seven refl)
   finish_unfailed x old new end f three four seven = absurd f
+
+  -- behind a session for which there was memory none is wanting but for the image
+  finish_want : (x : Called) (old new : World) (end : Result Done Stop) → Finish x old new end → status_of end ≡ 7 → Unfailed old new
+  finish_want x old new (Ok (done.Synced s)) f seven =
+      let session = want_session s.session s.put s.first (sym (synced_as rows first x.end s.put s f.1) ∙ seven) in
+      let told = told_end rows first x.end s.put ending.NoMemory (ap (λ (t : Synced). t.session) (sym f.1) ∙ session) in
+      absurd (f.0 (subst IsForWant (sym told) tt))
+  finish_want x old new (Err stop.NoMemory) f seven = shelf_unfailed (PutsBytes name (image_behind x)) old new (Err stop.NoMemory) tt f
+  finish_want x old new end f seven = absurd f
 
   finish_usage : (x : Called) (old new : World) (end : Result Done Stop) → Finish x old new end → status_of end ≡ 2 → ⊥
   finish_usage x old new (Ok (done.Synced s)) f is = (synced_known s).no_usage is
@@ -183,7 +211,7 @@ module _ (place : List ℕ) (p : List ℕ → Party) (signer : KeySigner) (openi
 
   finish_read : (x : Called) (old between new : World) (end : Result Done Stop) → IsCalled place p signer opening old.door between.door x → Finish x between new end → status_of end ≡ 3 → SyncReads old new
   finish_read x old between new (Ok (done.Synced s)) called f is =
-      let session = read_session s.session s.put s.first (sym (synced_is s.session s.put s.first) ∙ is) in
+      let session = read_session s.session s.put s.first (sym (synced_as rows first x.end s.put s f.1) ∙ is) in
       let told = ap (λ (t : Synced). t.session) (sym f.1) ∙ session in
       read_failed x old between new (ap (λ (w : World). w.door) f.2.others) called (told_end rows first x.end s.put ending.LinkRead told)
   finish_read x old between new (Err stop.NoMemory) called f is = absurd (omega (arith, is))
@@ -198,7 +226,7 @@ module _ (place : List ℕ) (p : List ℕ → Party) (signer : KeySigner) (openi
       write_failed x old between new (ap (λ (w : World). w.door) puts.others) called (told_end rows first x.end true ending.LinkWrite session)
 
   finish_write : (x : Called) (old between new : World) (end : Result Done Stop) → NeverFall old between → IsCalled place p signer opening old.door between.door x → Finish x between new end → status_of end ≡ 4 → SyncWrites old new
-  finish_write x old between new (Ok (done.Synced s)) counts called f is = finish_unput x old between new s s.put counts called f.1 f.2 (sym (synced_is s.session s.put s.first) ∙ is)
+  finish_write x old between new (Ok (done.Synced s)) counts called f is = finish_unput x old between new s s.put counts called f.1 f.2 (sym (synced_as rows first x.end s.put s f.1) ∙ is)
   finish_write x old between new (Err stop.NoMemory) counts called f is = absurd (omega (arith, is))
   finish_write x old between new end counts called f is = absurd f
 
@@ -235,6 +263,11 @@ module _ (place : List ℕ) (p : List ℕ → Party) (signer : KeySigner) (openi
   call_unfailed old new (Err e) (inl s) three four seven = stop_unfailed old new e s three four seven
   call_unfailed old new (Err e) (inr q) three four seven = unfailed_on old q.between new (door_unfailed (Calls place p signer opening) old q.between (Ok q.value) tt q.given) (finish_unfailed q.value q.between new (Err e) q.rest three four seven)
 
+  call_want : (old new : World) (end : Result Done Stop) → Then Call Finish old new end → status_of end ≡ 7 → Unfailed old new ⊎ ⊥
+  call_want old new (Ok d) q seven = inl (unfailed_on old q.between new (door_unfailed (Calls place p signer opening) old q.between (Ok q.value) tt q.given) (finish_want q.value q.between new (Ok d) q.rest seven))
+  call_want old new (Err e) (inl s) seven = inl (door_unfailed (Calls place p signer opening) old new (Err e) (no_fault_at_want (Err e) seven) s)
+  call_want old new (Err e) (inr q) seven = inl (unfailed_on old q.between new (door_unfailed (Calls place p signer opening) old q.between (Ok q.value) tt q.given) (finish_want q.value q.between new (Err e) q.rest seven))
+
   call_usage : (old new : World) (end : Result Done Stop) → Then Call Finish old new end → status_of end ≡ 2 → ⊥
   call_usage old new (Ok d) q is = finish_usage q.value q.between new (Ok d) q.rest is
   call_usage old new (Err e) (inl s) is = stop_usage old new e s is
@@ -250,8 +283,8 @@ module _ (place : List ℕ) (p : List ℕ → Party) (signer : KeySigner) (openi
   call_write old new (Err e) (inl s) is = stop_write old new e s is
   call_write old new (Err e) (inr q) is = finish_write q.value old q.between new (Err e) (door_counts (Calls place p signer opening) old q.between (Ok q.value) q.given) q.given.does q.rest is
 
-  call_closes : Closes SyncReads SyncWrites (Then Call Finish)
-  call_closes = record { counts = call_counts; unfailed = call_unfailed; usage = call_usage; read_fault = call_read; write_fault = call_write }
+  call_closes : Closes SyncReads SyncWrites NoneLater (Then Call Finish)
+  call_closes = record { counts = call_counts; unfailed = call_unfailed; want = call_want; usage = call_usage; read_fault = call_read; write_fault = call_write }
 
 -- ---- the command
 
@@ -259,11 +292,11 @@ module _ (words : SyncWords) where
   began : Owes SyncReads SyncWrites Nothing (λ c. Nothing) (Begins words.image words.cap words.key words.area)
   began = owes_more GotReads GotWrites SyncReads SyncWrites Nothing (λ c. Nothing) (Begins words.image words.cap words.key words.area) (λ old new rose. inl rose) (λ old new rose. inl rose) (beginning_owes words.image words.cap words.key words.area)
 
-  behind_draw : (c : caller.Caller) (draw : List ℕ) → Closes SyncReads SyncWrites (Then (OnDoor (Calls (string_bytes words.to) (planned peer_rules c.opening.state.namespace c.plan (nonce_of draw)) c.signer c.opening.state)) (λ x. Finishes (string_bytes words.image) c.opening.rows c.opening.first x))
+  behind_draw : (c : caller.Caller) (draw : List ℕ) → Closes SyncReads SyncWrites NoneLater (Then (OnDoor (Calls (string_bytes words.to) (planned peer_rules c.opening.state.namespace c.plan (nonce_of draw)) c.signer c.opening.state)) (λ x. Finishes (string_bytes words.image) c.opening.rows c.opening.first x))
   behind_draw c draw =
       call_closes (string_bytes words.to) (planned peer_rules c.opening.state.namespace c.plan (nonce_of draw)) c.signer c.opening.state (string_bytes words.image) c.opening.rows c.opening.first
 
-  pub sync_closes : Closes SyncReads SyncWrites (Syncs words)
+  pub sync_closes : Closes SyncReads SyncWrites NoneLater (Syncs words)
   sync_closes =
-      then_closes SyncReads SyncWrites Nothing (λ c. Nothing) (Begins words.image words.cap words.key words.area) _ reads_last writes_last began (beginning_keeps words.image words.cap words.key words.area)
-      (λ c. then_closes SyncReads SyncWrites Nothing (λ draw. Nothing) (OnNoise DrawsOne) _ reads_last writes_last drawing_owes (noise_keeps DrawsOne) (λ draw. behind_draw c draw))
+      then_closes SyncReads SyncWrites NoneLater Nothing (λ c. Nothing) (Begins words.image words.cap words.key words.area) _ reads_last writes_last none_later began (beginning_keeps words.image words.cap words.key words.area)
+      (λ c. then_closes SyncReads SyncWrites NoneLater Nothing (λ draw. Nothing) (OnNoise DrawsOne) _ reads_last writes_last none_later drawing_owes (noise_keeps DrawsOne) (λ draw. behind_draw c draw))

@@ -1,5 +1,5 @@
 -- The steps of a call put together from the stages of the code.
-use Rattle.std.proofs.Common.{◌≡◌, ◌∙◌, ℕ, Bool, List, Option, inl, refl, sym, ap, subst, arith}
+use Rattle.std.proofs.Common.{◌≡◌, ◌∙◌, ℕ, Bool, List, Option, None, inl, refl, sym, ap, subst, arith}
 use Rattle.std.specs.Prelude.{Result, Ok, Err}
 use Rattle.std.specs.String.{string_bytes}
 use Rattle.willow_outside.specs.Facts.{ShelfFacts, DoorFacts, NoiseFacts}
@@ -11,6 +11,7 @@ use Rattle.sync_link.specs.declared.plan.SessionReport.{SessionReport}
 use Rattle.peer_make.specs.Making.{DrawsOne}
 use Rattle.peer_stage.specs.Faults.{CountsStep}
 use Rattle.peer_stage.specs.Shelves.{PutsBytes}
+use Rattle.peer_stage.specs.Status.{status_of}
 use Rattle.peer_stage.specs.Steps.{OnShelf}
 use Rattle.peer_stage.specs.World.{World}
 use Rattle.peer_stage.specs.declared.outcome.Done.{Done}
@@ -18,6 +19,7 @@ use Rattle.peer_stage.specs.declared.outcome.Done.TheVariants as done
 use Rattle.peer_stage.specs.declared.outcome.Stop.{Stop}
 use Rattle.peer_stage.specs.declared.outcome.Stop.TheVariants as stop
 use Rattle.peer_stage.specs.declared.outcome.Synced.{Synced}
+use Rattle.peer_stage.proofs.Ends.{synced_is, synced_status, unfollowed}
 use Rattle.peer_stage.proofs.Steps.{passes, noise_on, door_on}
 use Rattle.peer_run.specs.Calling.{Calls}
 use Rattle.peer_run.specs.Closing.{IsForWant, put_answer}
@@ -30,6 +32,16 @@ use Rattle.peer_run.specs.declared.syncing.SyncWords.{SyncWords}
 -- where memory is wanting behind the session, nothing was put
 pub wants_last : (name : List ℕ) (rows : ℕ) (first : Option RefusedRow) (x : Called) (w : World) → Finishes name rows first x w w (Err stop.NoMemory)
 wants_last name rows first x w = record { does = refl; read_faults = omega arith; write_faults = omega arith; others = refl }
+
+-- nothing was followed behind a session
+pub not_followed : (rows : ℕ) (first : Option RefusedRow) (answer : Result SessionReport SessionEnd) (put : Bool) → (synced_of rows first answer put).followed ≡ None
+not_followed rows first (Ok report) put = refl
+not_followed rows first (Err e) put = refl
+
+-- so its status is that of the session and of what is behind it
+pub synced_as : (rows : ℕ) (first : Option RefusedRow) (answer : Result SessionReport SessionEnd) (put : Bool) (s : Synced) → s ≡ synced_of rows first answer put → status_of (Ok (done.Synced s)) ≡ synced_status s.session s.put s.first
+synced_as rows first answer put s told =
+    unfollowed s (ap (λ (t : Synced). t.followed) told ∙ not_followed rows first answer put) ∙ synced_is s.session s.put s.first
 
 put_told : (rows : ℕ) (first : Option RefusedRow) (answer : Result SessionReport SessionEnd) (put : Bool) → (synced_of rows first answer put).put ≡ put
 put_told rows first (Ok report) put = refl

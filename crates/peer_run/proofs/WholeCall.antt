@@ -44,7 +44,7 @@ use Rattle.peer_stage.specs.declared.outcome.SessionCounts.{SessionCounts}
 use Rattle.peer_stage.specs.declared.outcome.Stop.{Stop}
 use Rattle.peer_stage.specs.declared.outcome.Stop.TheVariants as stop
 use Rattle.peer_stage.specs.declared.outcome.Synced.{Synced}
-use Rattle.peer_stage.proofs.Ends.{synced_status, synced_is}
+use Rattle.peer_stage.proofs.Ends.{synced_status}
 use Rattle.peer_words.specs.Alike.{AreAlike, AreSameSigner}
 use Rattle.peer_words.specs.Commands.{IsWords}
 use Rattle.peer_words.specs.declared.command.AreaWords.{AreaWords}
@@ -74,11 +74,12 @@ use Rattle.peer_run.proofs.Ends.{memory_end, own_seven, own_status}
 use Rattle.peer_run.proofs.NeverStops.{Never, then_never, never_prepared}
 use Rattle.peer_run.proofs.SyncDeeds as deeds
 use Rattle.peer_run.proofs.WholeMeeting.{none_first, some_first}
+use Rattle.peer_run.proofs.SyncSteps.{synced_as}
 
 -- ---- one call
 
 abbrev command : SyncWords → Command
-command words = cmd.Sync words.image words.cap words.key words.to words.area
+command words = cmd.Sync words.image words.cap words.key words.to words.area None None false
 
 -- the same texts, the same signer, and the same area
 pub record AreSameWords (words other : SyncWords) : Type 0 where
@@ -95,10 +96,10 @@ pub record IsSameCall (words : SyncWords) (c : Command) : Type 0 where
   pub same : AreSameWords words other
 
 alike_is : (words : SyncWords) (c : Command) → AreAlike (command words) c → IsSameCall words c
-alike_is words (cmd.Sync a b c d e) same =
+alike_is words (cmd.Sync a b c d e n o s) same =
     record {
       other = record { image = a; cap = b; key = c; to = d; area = e };
-      is = refl;
+      is = cc (same.5, same.6, same.7);
       same = record { image = same.0; cap = same.1; key = same.2; to = same.3; area = same.4 };
     }
 alike_is words c same = absurd same
@@ -263,14 +264,14 @@ module _ (words : SyncWords) (run : Run) (c : caller.Caller) (began : World) (dr
   small_session (Ok report) true small = (tt, refl)
   small_session (Ok report) false small =
       let first = (synced_of c.opening.rows c.opening.first (Ok report) false).first in
-      absurd (unput_small (counts_of report) first (subst (λ (k : ℕ). k ≤ 1) (synced_is (Ok (counts_of report)) false first) small))
-  small_session (Err e) put small = absurd (not_small e put c.opening.first (subst (λ (k : ℕ). k ≤ 1) (synced_is (Err e) put c.opening.first) small))
+      absurd (unput_small (counts_of report) first (subst (λ (k : ℕ). k ≤ 1) (synced_as c.opening.rows c.opening.first (Ok report) false _ refl) small))
+  small_session (Err e) put small = absurd (not_small e put c.opening.first (subst (λ (k : ℕ). k ≤ 1) (synced_as c.opening.rows c.opening.first (Err e) put _ refl) small))
 
   -- the first refused row gives the status then
   small_first : (answer : Result SessionReport SessionEnd) (put : Bool) → AnswersOk answer × (put ≡ true) → status_of (Ok (done.Synced (synced_of (length rows) (first_refused n rows) answer put))) ≡ first_status (synced_of (length rows) (first_refused n rows) answer put).first
   small_first (Ok report) true is =
       let t = synced_of (length rows) (first_refused n rows) (Ok report) true in
-      synced_is t.session true t.first
+      synced_as (length rows) (first_refused n rows) (Ok report) true t refl
   small_first (Ok report) false is = absurd cc
   small_first (Err e) put is = absurd is.0
 

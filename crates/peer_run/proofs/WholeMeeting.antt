@@ -64,7 +64,7 @@ pub record AreSameWords (words other : MeetWords) : Type 0 where
   pub area : words.area ≡ other.area
 
 abbrev command : MeetWords → Command
-command words = cmd.Meet words.left words.right words.left_cap words.right_cap words.left_out words.right_out words.area
+command words = cmd.Meet words.left words.right words.left_cap words.right_cap words.left_out words.right_out words.area None None
 
 -- words that are a meeting are no other command, and no meeting with other words
 pub record IsSameMeeting (words : MeetWords) (c : Command) : Type 0 where
@@ -73,10 +73,10 @@ pub record IsSameMeeting (words : MeetWords) (c : Command) : Type 0 where
   pub same : AreSameWords words other
 
 alike_is : (words : MeetWords) (c : Command) → AreAlike (command words) c → IsSameMeeting words c
-alike_is words (cmd.Meet a b c d e f g) same =
+alike_is words (cmd.Meet a b c d e f g n o) same =
     record {
       other = record { left = a; right = b; left_cap = c; right_cap = d; left_out = e; right_out = f; area = g };
-      is = refl;
+      is = cc (same.7, same.8);
       same = record { left = same.0; right = same.1; left_cap = same.2; right_cap = same.3; left_out = same.4; right_out = same.5; area = same.6 };
     }
 alike_is words c same = absurd same

@@ -1,8 +1,9 @@
 -- A run of `serve` kept to the headline.
-use Rattle.std.proofs.Common.{◌≡◌, ◌≢◌, ◌∙◌, ◌⊎◌, ℕ, ◌≤◌, Bool, true, false, List, Option, None, length, map, inl, inr, refl, sym, subst, ap, arith}
-use Rattle.std.specs.Prelude.{All, Result, Ok, Err}
+use Rattle.std.proofs.Common.{◌≡◌, ◌≢◌, ◌∙◌, ◌⊎◌, ℕ, ◌≤◌, Bool, true, false, List, Option, Some, None, length, map, inl, inr, refl, sym, subst, ap, arith}
+use Rattle.std.specs.Prelude.{All, String, Result, Ok, Err}
 use Rattle.std.specs.Global.{Vec}
 use Rattle.std.specs.String.{string_bytes}
+use Rattle.std.specs.declared.alloc.Global.{Global}
 use Rattle.willow_outside.specs.Draws.{IsDraw}
 use Rattle.willow_outside.specs.Facts.{ShelfFacts, DoorFacts, NoiseFacts}
 use Rattle.willow_entry.specs.Row.{RowValue, live}
@@ -37,7 +38,7 @@ use Rattle.peer_stage.specs.declared.outcome.Done.TheVariants as done
 use Rattle.peer_stage.specs.declared.outcome.Served.{Served}
 use Rattle.peer_stage.specs.declared.outcome.Stop.{Stop}
 use Rattle.peer_stage.specs.declared.outcome.Stop.TheVariants as stop
-use Rattle.peer_words.specs.Alike.{AreAlike, AreSameSigner}
+use Rattle.peer_words.specs.Alike.{AreAlike, AreSameSigner, AreSameTextIfAny}
 use Rattle.peer_words.specs.Commands.{IsWords}
 use Rattle.peer_words.specs.declared.command.AreaWords.{AreaWords}
 use Rattle.peer_words.specs.declared.command.Command.{Command}
@@ -69,7 +70,7 @@ use Rattle.peer_run.proofs.WholeMeeting.{none_first, some_first}
 -- ---- one server
 
 abbrev command : ServeWords → Command
-command words = cmd.Serve words.image words.cap words.key words.at words.links words.area
+command words = cmd.Serve words.image words.cap words.key words.at words.links words.area None None false None
 
 -- the same texts, the same signer, as many links, and the same area
 pub record AreSameWords (words other : ServeWords) : Type 0 where
@@ -86,11 +87,15 @@ pub record IsSameService (words : ServeWords) (c : Command) : Type 0 where
   pub is : c ≡ command other
   pub same : AreSameWords words other
 
+no_log : (log : Option (String Global)) → AreSameTextIfAny None log → None ≡ log
+no_log None same = refl
+no_log (Some log) same = absurd same
+
 alike_is : (words : ServeWords) (c : Command) → AreAlike (command words) c → IsSameService words c
-alike_is words (cmd.Serve a b c d e f) same =
+alike_is words (cmd.Serve a b c d e f n o s l) same =
     record {
       other = record { image = a; cap = b; key = c; at = d; links = e; area = f };
-      is = refl;
+      is = cc (same.6, same.7, same.8, no_log l same.9);
       same = record { image = same.0; cap = same.1; key = same.2; at = same.3; links = same.4; area = same.5 };
     }
 alike_is words c same = absurd same

@@ -14,7 +14,7 @@ use Rattle.sync_pair.specs.Meeting.{turn_bytes}
 use Rattle.auth_entry.specs.Authorised.{AuthorisedValue}
 use Rattle.ns_state.specs.Log.{StateValue}
 use Rattle.ns_state.specs.declared.live_log.LogFull.{LogFull}
-use Rattle.peer_rows.specs.RowLogs.{HasTaken, ArePastLog}
+use Rattle.peer_rows.specs.RowLogs.{HasTaken, ArePastLog, ReachesRoom}
 use Rattle.auth_entry.specs.Rows.{entry_row}
 use Rattle.peer_run.specs.declared.exchanging.Came.{Came}
 use Rattle.peer_run.specs.declared.exchanging.Exchanged.{Exchanged}
@@ -42,7 +42,7 @@ pub record HasTakenUp (seen rows : List RowValue) (log : StateValue AuthorisedVa
 abbrev pub Takes : List RowValue → List RowValue → StateValue AuthorisedValue → Result Came (End LogFull) → Type 0
 Takes seen rows log (Ok came) = HasTakenUp seen rows log came
 Takes seen rows log (Err (Refused full)) = ArePastLog (seen ++ rows)
-Takes seen rows log (Err NoMemory) = Unit {0}
+Takes seen rows log (Err NoMemory) = ReachesRoom seen rows
 
 -- The turns in bytes are those of the exchange of two stores, so many items were counted, and each side took what came.
 pub record AreMet (a b : List RowValue) (area : Option Ranges) (left_log right_log : StateValue AuthorisedValue) (x : Exchanged) : Type 0 where

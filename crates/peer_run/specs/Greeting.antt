@@ -1,5 +1,5 @@
 -- The own hello of a side, and why it is refused before anything is compared.
-use Rattle.std.specs.Prelude.{◌≡◌, ℕ, ◌<◌, List, length, Option, Some, None, Result, Ok, Err, if◌then◌else◌}
+use Rattle.std.specs.Prelude.{◌≡◌, ◌⊎◌, ℕ, ◌<◌, false, List, length, Option, Some, None, Result, Ok, Err, if◌then◌else◌}
 use Rattle.spelling.specs.Answers.{or_else}
 use Rattle.lms_core.specs.Use.{peer_rules}
 use Rattle.mc_cap.specs.Grant.{granted}
@@ -33,11 +33,16 @@ empty_refusal n h = or_else (claim_refusal n h) (or_else (capability_refusal pee
 unfoldable pub own_refusal : List ℕ → Hello → Option HelloRefusal
 own_refusal n h = if is_empty h.ask then empty_refusal n h else hello_refusal peer_rules n h
 
--- how the own hello is made and judged
+-- memory is asked for: for the area of a delegation, or for an ask with times
+abbrev pub GreetingAsks : AreaWords → Capability → Type 0
+GreetingAsks words c = (0 < length c.chain) ⊎ (is_empty (completed words (granted c)) ≡ false)
+
+-- how the own hello is made and judged; of an ask without times by a capability without delegations the refusal needs no
+-- memory
 abbrev pub Greets : List ℕ → AreaWords → Capability → List ℕ → Result Hello Stop → Type 0
 Greets n words c nonce (Ok hello) = (hello ≡ own_hello words c nonce) × (own_refusal n hello ≡ None)
 Greets n words c nonce (Err (stop.SessionRefused refusal)) = own_refusal n (own_hello words c nonce) ≡ Some refusal
-Greets n words c nonce (Err stop.NoMemory) = Unit {0}
+Greets n words c nonce (Err stop.NoMemory) = GreetingAsks words c
 Greets n words c nonce (Err e) = ⊥
 
 -- The same of a hello whose ask has times. Memory is asked for where neither the claim nor the beginning of the capability

@@ -38,9 +38,9 @@ pub record DoesVisit (hall : Hall) (guest : Guest) (handed_out : LinkFacts) (par
 
 -- how a place is listened at
 abbrev pub Listens : List ℕ → DoorFacts → DoorFacts → Result (Unit {0}) Stop → Type 0
-Listens place old new (Ok u) = (new.asked ≡ list_with place old.asked) × (new.out ≡ old.out) × (new.back ≡ old.back) × (new.faults ≡ old.faults)
+Listens place old new (Ok u) = (new.asked ≡ list_with place old.asked) × (new.out ≡ old.out) × (new.back ≡ old.back) × (new.faults ≡ old.faults) × (new.accepts ≡ old.accepts)
 Listens place old new (Err stop.ReadFault) = IsUnasked old new × HasRisen old.faults new.faults
-Listens place old new (Err stop.NoMemory) = IsUnasked old new × (old.faults ≤ new.faults)
+Listens place old new (Err stop.NoMemory) = IsUnasked old new × (new.faults ≡ old.faults)
 Listens place old new (Err e) = ⊥
 
 -- ---- behind all visits
@@ -63,8 +63,8 @@ pub record HasLeft (hall : Hall) (own : PassValue AuthorisedValue) (hosted : Hos
   pub is_log : IsLog entry_row hall.cell.namespace x.state.log
   pub of_namespace : x.state.namespace ≡ hall.cell.namespace
 
--- how the hall is left
+-- how the hall is left: memory was wanting where accepting a link told so, and nowhere else
 abbrev pub Leaves : Hall → PassValue AuthorisedValue → Hosted Guest Parting → Result Attended Stop → Type 0
 Leaves hall own hosted (Ok x) = HasLeft hall own hosted x
-Leaves hall own hosted (Err stop.NoMemory) = Unit {0}
+Leaves hall own hosted (Err stop.NoMemory) = hosted.stopped ≡ Some fault.NoMemory
 Leaves hall own hosted (Err e) = ⊥

@@ -5,7 +5,7 @@ use mathlib.Core.List.{IsPrefix}
 use Rattle.willow_outside.specs.Counts.{HasRisen}
 use Rattle.willow_outside.specs.Facts.{LinkFacts, DoorFacts}
 use Rattle.willow_outside.specs.Links.{IsFresh, list_with}
-use Rattle.link_host.specs.Hosted.{list_with_all}
+use Rattle.link_host.specs.Hosted.{counted_on, list_with_all}
 use Rattle.willow_entry.specs.declared.row.LogRow.{LogRow}
 use Rattle.auth_entry.specs.Authorised.{AuthorisedValue}
 use Rattle.log_rule.specs.Views.{rows_of_pass}
@@ -77,10 +77,11 @@ pub record AreBack (place : List ℕ) (old new : DoorFacts) (links : List LinkFa
   pub out : new.out ≡ old.out
   pub back : new.back ≡ list_with_all links old.back
 
--- as many links came as were asked for, or fewer, since accepting one failed
+-- As many links came as were asked for, or fewer, since accepting one failed. One accept was made for each that came, and
+-- one more where not all came.
 abbrev pub Accepts : ℕ → ℕ → Bool → DoorFacts → DoorFacts → Type 0
-Accepts links came true old new = (came ≡ links) × (new.faults ≡ old.faults)
-Accepts links came false old new = (came < links) × HasRisen old.faults new.faults
+Accepts links came true old new = (came ≡ links) × (new.faults ≡ old.faults) × (new.accepts ≡ counted_on came old.accepts)
+Accepts links came false old new = (came < links) × HasRisen old.faults new.faults × (new.accepts ≡ counted_on (came + 1) old.accepts)
 
 -- Those who came to the place were attended: by a side that brings this, by its draw and its signature, and began with the
 -- log of a state; each over a link of its own, up to as many as there are signers.
@@ -94,13 +95,13 @@ pub record AreAttended (place : List ℕ) (p : List ℕ → List ℕ → Party) 
   pub back : AreBack place old new (map (λ (visit : Visit). visit.link) visits)
   pub accepts : Accepts (length signers) (length visits) x.all_came old new
 
--- nothing was asked, or the place was, and all that was handed out is back
+-- nothing was asked, or the place was and all that was handed out is back
 abbrev pub IsAskedAtMost : List ℕ → DoorFacts → DoorFacts → Type 0
 IsAskedAtMost place old new = IsUnasked old new ⊎ ((new.asked ≡ list_with place old.asked) × (new.out ≡ old.out))
 
--- how those who come to a place are attended
+-- how those who come to a place are attended; where memory is wanting, no fault of the door was met
 abbrev pub Attends : List ℕ → (List ℕ → List ℕ → Party) → List KeySigner → List (List ℕ) → StateValue AuthorisedValue → DoorFacts → DoorFacts → Result Attended Stop → Type 0
 Attends place p signers draws opening old new (Ok x) = AreAttended place p signers draws opening old new x
 Attends place p signers draws opening old new (Err stop.ReadFault) = IsUnasked old new × HasRisen old.faults new.faults
-Attends place p signers draws opening old new (Err stop.NoMemory) = IsAskedAtMost place old new × (old.faults ≤ new.faults)
+Attends place p signers draws opening old new (Err stop.NoMemory) = IsAskedAtMost place old new × (new.faults ≡ old.faults)
 Attends place p signers draws opening old new (Err e) = ⊥

@@ -2,7 +2,7 @@
 use Rattle.std.specs.Prelude.{◌≡◌, ◌⊎◌, ℕ, ◌+◌, ◌-◌, ◌<◌, ◌^◌, List, ◌++◌, length, map, Option, Some, None, Result, Ok, Err}
 use Rattle.std.specs.List.{AllByRecursion}
 use Rattle.spelling.specs.Answers.{or_else}
-use Rattle.cap_codec.specs.Rows.{RawValue, FitsFrame}
+use Rattle.cap_codec.specs.Rows.{RawValue, IsRaw}
 use Rattle.exchange_rules.specs.Items.{to_left, to_right, counted}
 use Rattle.mc_cap.specs.declared.refusal.RefusedRow.{RefusedRow}
 use Rattle.willow_area.specs.declared.area.Area.{Area}
@@ -23,9 +23,9 @@ use Rattle.peer_run.specs.declared.exchanging.Came.{Came}
 use Rattle.peer_run.specs.declared.exchanging.Exchanged.{Exchanged}
 use Rattle.peer_run.specs.declared.images_met.Met.{Met}
 
--- what there is to know of the rows of an image: frames can carry them, and their number fits four bytes
+-- what there is to know of the rows of an image: each is within its limits, and their number fits four bytes
 pub record IsImageOfRows (rows : List RawValue) : Type 0 where
-  pub fit : AllByRecursion FitsFrame rows
+  pub fit : AllByRecursion IsRaw rows
   pub count : length rows < 2 ^ 32
 
 -- ---- the numbers

@@ -4,8 +4,8 @@ use Rattle.peer_words.specs.declared.command.Command.TheVariants as cmd
 
 -- any but `sync` and `serve`
 abbrev pub IsLocal : Command → Type 0
-IsLocal (cmd.Sync image cap key to area) = ⊥
-IsLocal (cmd.Serve image cap key at links area) = ⊥
+IsLocal (cmd.Sync image cap key to area newest bytes follow) = ⊥
+IsLocal (cmd.Serve image cap key at links area newest bytes follow log) = ⊥
 IsLocal command = Unit {0}
 
 -- those that make a key, a capability or a row

@@ -1,5 +1,5 @@
 -- What `meet` does: two images meet in an area that two capabilities let both read.
-use Rattle.std.specs.Prelude.{◌≡◌, ℕ, not, List, replicate, Option, Some, None, Result, Ok, Err}
+use Rattle.std.specs.Prelude.{◌≡◌, ◌⊎◌, ℕ, not, List, replicate, Option, Some, None, Result, Ok, Err}
 use Rattle.std.specs.String.{string_bytes}
 use Rattle.std.specs.declared.string.String.{String}
 use Rattle.std.specs.declared.alloc.Global.{Global}
@@ -20,7 +20,7 @@ use Rattle.peer_stage.specs.declared.outcome.Done.TheVariants as done
 use Rattle.peer_stage.specs.declared.outcome.Stop.{Stop}
 use Rattle.peer_stage.specs.declared.outcome.Stop.TheVariants as stop
 use Rattle.peer_run.specs.Getting.{GetsImage, GetsCapability}
-use Rattle.peer_run.specs.Greeting.{own_hello, own_refusal}
+use Rattle.peer_run.specs.Greeting.{GreetingAsks, own_hello, own_refusal}
 use Rattle.peer_run.specs.ImagesMet.{MeetsImages}
 use Rattle.peer_run.specs.declared.images_met.Met.{Met}
 use Rattle.peer_run.specs.declared.meeting.MeetWords.{MeetWords}
@@ -61,11 +61,18 @@ meeting_refusal words n m c d = or_else (namespaces_refusal n m) (or_else (own_r
 abbrev pub agreed_area : AreaWords → Capability → Capability → Option Area
 agreed_area words c d = common_area (side_hello words c) (side_hello words d)
 
+-- Memory was wanting: the namespaces are one. It was for a hello, or nothing is against that one; a hello is judged behind the
+-- one before it.
+pub record IsUnagreed (words : AreaWords) (n m : List ℕ) (c d : Capability) : Type 0 where
+  pub one_namespace : namespaces_refusal n m ≡ None
+  pub left : GreetingAsks words c ⊎ (own_refusal n (side_hello words c) ≡ None)
+  pub right : GreetingAsks words c ⊎ (GreetingAsks words d ⊎ (own_refusal n (side_hello words d) ≡ None))
+
 -- that area, where nothing is against the meeting
 abbrev pub Agrees : AreaWords → List ℕ → List ℕ → Capability → Capability → Result (Option Area) Stop → Type 0
 Agrees words n m c d (Ok area) = (meeting_refusal words n m c d ≡ None) × (area ≡ agreed_area words c d)
 Agrees words n m c d (Err (stop.SessionRefused refusal)) = meeting_refusal words n m c d ≡ Some refusal
-Agrees words n m c d (Err stop.NoMemory) = Unit {0}
+Agrees words n m c d (Err stop.NoMemory) = IsUnagreed words n m c d
 Agrees words n m c d (Err e) = ⊥
 
 -- ---- what is put and written

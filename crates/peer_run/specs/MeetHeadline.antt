@@ -1,7 +1,7 @@
 -- The headline of a meeting. Each side then has the join of its own rows and those that it was sent. Where fingerprints
 -- tell rows apart, that is the join with all that the other has in the area. The rows in the area alone decide what is
 -- said and sent.
-use Rattle.std.specs.Prelude.{◌≡◌, ℕ, ◌≤◌, List, ◌++◌, map, Option, Some, IsNone, IsSome}
+use Rattle.std.specs.Prelude.{◌≡◌, ℕ, ◌≤◌, List, ◌++◌, map, Option, Some, None, IsNone, IsSome}
 use Rattle.std.specs.Option.{option_map}
 use Rattle.std.specs.String.{string_bytes}
 use Rattle.willow_area.specs.Boxes.{Ranges}
@@ -105,5 +105,5 @@ pub record IsWholeMeeting (words : MeetWords) (run : Run) : Type 0 where
 -- A `meet` that ends with status 0 or 1 is such a meeting.
 abbrev pub MeetHeadline : Run → Type 0
 MeetHeadline run =
-    (words : MeetWords) → IsWords run.words (cmd.Meet words.left words.right words.left_cap words.right_cap words.left_out words.right_out words.area)
+    (words : MeetWords) → IsWords run.words (cmd.Meet words.left words.right words.left_cap words.right_cap words.left_out words.right_out words.area None None)
     → run.status ≤ 1 → IsWholeMeeting words run

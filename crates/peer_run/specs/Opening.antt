@@ -34,7 +34,7 @@ OpensLog namespace rows (Err e) = ⊥
 abbrev pub TakesRow : List ℕ → List RawValue → RawValue → Opening → Result (Unit {0}) (End LogFull) → Type 0
 TakesRow namespace seen row x (Ok u) = IsOpened namespace (seen ++ row ∷ []) x
 TakesRow namespace seen row x (Err (Refused full)) = PassesLog namespace (seen ++ row ∷ [])
-TakesRow namespace seen row x (Err NoMemory) = Unit {0}
+TakesRow namespace seen row x (Err NoMemory) = PassesLog namespace (seen ++ row ∷ []) → ⊥
 
 -- the same with one row more that is not authorised
 abbrev pub with_refused : RowRefusal → Opening → Opening

@@ -24,6 +24,7 @@ drill_deed rows =
       ready = λ old new. Unit {0};
       reads = λ old new. ⊥;
       writes = λ old new. Rose old.output.faults new.output.faults;
+      wants_later = λ old new. ⊥;
       unbuilt = ⊥;
     }
 
@@ -73,5 +74,6 @@ meet_deed words =
       ready = λ old new. CanMeet words old.shelf.names;
       reads = λ old new. Rose old.shelf.read_faults new.shelf.read_faults;
       writes = λ old new. Rose old.shelf.write_faults new.shelf.write_faults ⊎ Rose old.output.faults new.output.faults;
+      wants_later = λ old new. ⊥;
       unbuilt = ⊥;
     }

@@ -1,18 +1,19 @@
 -- What every run keeps: the headline, why each status comes, and that a command that is ready comes to its end.
-use Rattle.std.specs.Prelude.{◌≡◌, ◌≢◌, ℕ, ◌≤◌, ◌⊎◌, List, Contains, Result, Ok, Err}
+use Rattle.std.specs.Prelude.{◌≡◌, ◌≢◌, ℕ, ◌≤◌, ◌⊎◌, List, Contains, Option, Some, Result, Ok, Err}
 use Rattle.willow_outside.specs.Counts.{Rose}
 use Rattle.peer_stage.specs.World.{NeverFall, Unfailed}
 use Rattle.peer_stage.specs.Status.{status_of}
 use Rattle.peer_stage.specs.Stages.{IsWritten}
 use Rattle.session_end.specs.declared.end.SessionEnd.{SessionEnd}
 use Rattle.session_end.specs.declared.end.SessionEnd.TheVariants as ending
+use Rattle.peer_stage.specs.declared.outcome.FollowCounts.{FollowCounts}
 use Rattle.peer_stage.specs.declared.outcome.SessionCounts.{SessionCounts}
 use Rattle.peer_stage.specs.declared.outcome.Done.{Done}
 use Rattle.peer_stage.specs.declared.outcome.Done.TheVariants as done
 use Rattle.peer_stage.specs.declared.outcome.Served.{Served}
 use Rattle.peer_stage.specs.declared.outcome.Stop.{Stop}
 use Rattle.peer_stage.specs.declared.outcome.Stop.TheVariants as stop
-use Rattle.peer_report.specs.Report.{report_of}
+use Rattle.peer_report.specs.Report.{IsReportWithoutMemory, report_of}
 use Rattle.peer_words.specs.Commands.{IsWords, IsNoCommand}
 use Rattle.peer_words.specs.declared.command.Command.{Command}
 use Rattle.peer_run.specs.Deeds.{deed_of}
@@ -88,10 +89,15 @@ IsRefusedSession session = ⊥
 abbrev pub HasSession : (Result SessionCounts SessionEnd → Type 0) → Served → Type 0
 HasSession IsOne s = (session : Result SessionCounts SessionEnd) × Contains s.sessions.items session × IsOne session
 
--- a session is refused before it begins or in it
+-- what was read of a feed behind a session is refused so, or ended too early
+abbrev pub IsRefusedFeed : Option (Result FollowCounts SessionEnd) → Type 0
+IsRefusedFeed (Some (Err end)) = IsRefusedSession (Err end)
+IsRefusedFeed followed = ⊥
+
+-- a session is refused before it begins or in it, or a feed behind it
 abbrev pub IsRefusedEnd : Result Done Stop → Type 0
 IsRefusedEnd (Err (stop.SessionRefused refusal)) = Unit {0}
-IsRefusedEnd (Ok (done.Synced s)) = IsRefusedSession s.session
+IsRefusedEnd (Ok (done.Synced s)) = IsRefusedSession s.session ⊎ IsRefusedFeed s.followed
 IsRefusedEnd (Ok (done.Served s)) = HasSession IsRefusedSession s
 IsRefusedEnd end = ⊥
 
@@ -100,10 +106,15 @@ abbrev pub IsFullSession : Result SessionCounts SessionEnd → Type 0
 IsFullSession (Err (ending.LogFull missed)) = Unit {0}
 IsFullSession session = ⊥
 
+-- a feed left such rows
+abbrev pub IsFullFeed : Option (Result FollowCounts SessionEnd) → Type 0
+IsFullFeed (Some (Err end)) = IsFullSession (Err end)
+IsFullFeed followed = ⊥
+
 -- a row that would be stored met a full log
 abbrev pub IsFullEnd : Result Done Stop → Type 0
 IsFullEnd (Err stop.LogFull) = Unit {0}
-IsFullEnd (Ok (done.Synced s)) = IsFullSession s.session
+IsFullEnd (Ok (done.Synced s)) = IsFullSession s.session ⊎ IsFullFeed s.followed
 IsFullEnd (Ok (done.Served s)) = HasSession IsFullSession s
 IsFullEnd end = ⊥
 
@@ -120,6 +131,20 @@ pub record HasStopped (IsOne : Result Done Stop → Type 0) (run : Run) : Type 0
   pub is_one : IsOne end
   pub meets : (deed_of command).meets run.old (before_report run) end
   pub told : HasTold run.old.report run.new.report (report_of end)
+
+-- ---- 7
+
+-- no memory was found for the lines of the report
+pub record LacksLines (run : Run) : Type 0 where
+  pub end : Result Done Stop
+  pub other : status_of end ≢ 7
+  pub lines : IsReportWithoutMemory run.old.report run.new.report end run.status
+
+-- No fault is hidden by want of memory: before the report no count of faults rose; or the words are a server's, which listened at
+-- its place, went on behind a link that failed to come, and wanted memory later; or the report found none for its lines.
+abbrev pub HidesNone : Run → Type 0
+HidesNone run =
+    Unfailed run.old (before_report run) ⊎ (((command : Command) × IsWords run.words command × (deed_of command).wants_later run.old (before_report run)) ⊎ LacksLines run)
 
 -- ---- completeness
 
@@ -170,6 +195,8 @@ pub record KeepsPromises (run : Run) : Type 0 where
   pub key_spent : run.status ≡ 9 → HasStopped IsSpentEnd run
   -- at 0, 1, 2, 5, 6, 8 and 9 no fault was passed over: before the report no count of faults rose of any object
   pub unfailed : run.status ≢ 3 → run.status ≢ 4 → run.status ≢ 7 → Unfailed run.old (before_report run)
+  -- and 7 hides none
+  pub want : run.status ≡ 7 → HidesNone run
   -- and at 0 and 1 that of the report did not rise either
   pub report_unfailed : run.status ≤ 1 → run.new.report.faults ≡ run.old.report.faults
   -- no other status comes but 7, for want of memory

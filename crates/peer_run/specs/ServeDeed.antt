@@ -3,6 +3,7 @@ use Rattle.std.specs.Prelude.{◌≡◌, ℕ, ◌+◌, ◌≤◌, ◌⊎◌, Lis
 use Rattle.std.specs.String.{string_bytes}
 use Rattle.willow_outside.specs.Counts.{Rose}
 use Rattle.willow_outside.specs.Facts.{Names, LinkFacts, DoorFacts, ShelfFacts}
+use Rattle.willow_outside.specs.Links.{list_with}
 use Rattle.link_host.specs.Hosted.{list_with_all}
 use Rattle.willow_entry.specs.Row.{live}
 use Rattle.willow_entry.specs.declared.row.LogRow.{LogRow}
@@ -21,7 +22,7 @@ use Rattle.peer_rows.specs.Logged.{PassesLog, authorised_rows}
 use Rattle.peer_image.specs.Image.{image}
 use Rattle.peer_stage.specs.Deed.{Deed}
 use Rattle.peer_stage.specs.Shelves.{IsPut}
-use Rattle.peer_stage.specs.World.{World}
+use Rattle.peer_stage.specs.World.{World, UnfailedInside}
 use Rattle.peer_words.specs.declared.command.SignerWord.{SignerWord}
 use Rattle.peer_words.specs.declared.command.SignerWord.TheVariants.{OpenKey, LmsFile}
 use Rattle.peer_run.specs.Answered.{AreAnswered, SignsFor}
@@ -46,6 +47,11 @@ ServeReads old new =
 -- a count of the shelf's writes rose, or that of the writes of a link
 abbrev pub ServeWrites : World → World → Type 0
 ServeWrites old new = Rose old.shelf.write_faults new.shelf.write_faults ⊎ HasFailedAmong (λ link. link.write_faults) old.door new.door
+
+-- Memory was wanting behind a place that was listened at: accepting a link may have failed before, which stops nothing.
+pub record WantsLater (place : List ℕ) (old new : World) : Type 0 where
+  pub inside : UnfailedInside old new
+  pub asked : new.door.asked ≡ list_with place old.door.asked
 
 -- ---- what it needs
 
@@ -108,5 +114,6 @@ serve_deed words =
       ready = CanServe words;
       reads = ServeReads;
       writes = ServeWrites;
+      wants_later = WantsLater (string_bytes words.at);
       unbuilt = ⊥;
     }

@@ -3,7 +3,7 @@
 -- link whose session was done said what the link gave, the store lies at or above the join of what that session began with
 -- and of that one's rows in the area that both may read. What was written on a link is a function of the rows with which its
 -- session began in that area and of what was read.
-use Rattle.std.specs.Prelude.{◌≡◌, ◌≢◌, ◌⊎◌, ℕ, ◌≤◌, Bool, true, List, length, map, All, IsNone, IsSome, Ok, Err}
+use Rattle.std.specs.Prelude.{◌≡◌, ◌≢◌, ◌⊎◌, ℕ, ◌≤◌, Bool, true, false, List, length, map, All, None, IsNone, IsSome, Ok, Err}
 use Rattle.std.specs.String.{string_bytes}
 use Rattle.willow_outside.specs.Draws.{IsDraw}
 use Rattle.willow_outside.specs.Facts.{ShelfFacts}
@@ -121,4 +121,4 @@ pub record ServePromises (words : ServeWords) (run : Run) : Type 0 where
   pub whole : run.status ≤ 1 → IsWholeService words run
 
 abbrev pub ServeHeadline : Run → Type 0
-ServeHeadline run = (words : ServeWords) → IsWords run.words (cmd.Serve words.image words.cap words.key words.at words.links words.area) → ServePromises words run
+ServeHeadline run = (words : ServeWords) → IsWords run.words (cmd.Serve words.image words.cap words.key words.at words.links words.area None None false None) → ServePromises words run

@@ -1,5 +1,5 @@
 -- What `sync` does: a session of an image with the one at a place.
-use Rattle.std.specs.Prelude.{◌≡◌, ℕ, Bool, List, Option, Result, Ok, Err}
+use Rattle.std.specs.Prelude.{◌≡◌, ℕ, Bool, List, Option, None, Result, Ok, Err}
 use Rattle.std.specs.String.{string_bytes}
 use Rattle.std.specs.declared.string.String.{String}
 use Rattle.std.specs.declared.alloc.Global.{Global}
@@ -35,10 +35,11 @@ Begins image cap key area =
     Then (OnShelf (HandsSigner key)) (λ signer.
     Inside (Yields (record { opening = r.opening; plan = plan_of Caller r.hello; signer = signer }))))
 
--- what is told of a session behind an image of so many rows, of which this is the first refused one, and of the put
+-- what is told of a session behind an image of so many rows, of which this is the first refused one, and of the put;
+-- nothing is followed
 abbrev pub synced_of : ℕ → Option RefusedRow → Result SessionReport SessionEnd → Bool → Synced
-synced_of rows first (Ok r) put = record { session = Ok (counts_of r); first = or_else first (refused_after rows r.first); put = put }
-synced_of rows first (Err e) put = record { session = Err e; first = first; put = put }
+synced_of rows first (Ok r) put = record { session = Ok (counts_of r); followed = None; first = or_else first (refused_after rows r.first); put = put }
+synced_of rows first (Err e) put = record { session = Err e; followed = None; first = first; put = put }
 
 -- the image of what is live of the log behind a session
 abbrev pub image_behind : Called → List ℕ

@@ -86,5 +86,6 @@ sync_deed words =
       ready = CanSync words;
       reads = SyncReads;
       writes = SyncWrites;
+      wants_later = λ old new. ⊥;
       unbuilt = ⊥;
     }

@@ -1,7 +1,7 @@
 -- The headline of a call, over the link that the door has back. The log behind it is that of the image and of rows that came
 -- and are authorised. Where one who answers said what the link gave, the store lies at or above the join with that one's rows
 -- in the area that both may read. What was written is a function of the opening rows in that area and of what was read.
-use Rattle.std.specs.Prelude.{◌≡◌, ◌≢◌, ◌⊎◌, ℕ, ◌≤◌, Bool, true, false, List, [], ◌∷◌, ◌++◌, length, All, Option, IsNone, IsSome, Ok, Err}
+use Rattle.std.specs.Prelude.{◌≡◌, ◌≢◌, ◌⊎◌, ℕ, ◌≤◌, Bool, true, false, List, [], ◌∷◌, ◌++◌, length, All, Option, None, IsNone, IsSome, Ok, Err}
 use Rattle.std.specs.String.{string_bytes}
 use Rattle.willow_outside.specs.Counts.{Rose}
 use Rattle.willow_outside.specs.Draws.{IsDraw}
@@ -124,4 +124,4 @@ pub record SyncPromises (words : SyncWords) (run : Run) : Type 0 where
   pub whole : run.status ≤ 1 → IsWholeCall words run
 
 abbrev pub SyncHeadline : Run → Type 0
-SyncHeadline run = (words : SyncWords) → IsWords run.words (cmd.Sync words.image words.cap words.key words.to words.area) → SyncPromises words run
+SyncHeadline run = (words : SyncWords) → IsWords run.words (cmd.Sync words.image words.cap words.key words.to words.area None None false) → SyncPromises words run

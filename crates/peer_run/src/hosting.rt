@@ -1,6 +1,6 @@
 //! Sessions with those who come to a place.
 
-ghost use Rattle.std.specs.Prelude.{◌≡◌, ◌≤◌, ◌<◌, ◌+◌, List, ℕ, ◌∷◌, ◌++◌, None, All, IfOk, length, map, vec_len};
+ghost use Rattle.std.specs.Prelude.{◌≡◌, ◌≤◌, ◌<◌, ◌+◌, List, ℕ, ◌∷◌, ◌++◌, None, Some, All, IfOk, OnErr, [], length, map, vec_len, vec_capacity};
 ghost use Rattle.log_rule.specs.Views.{AreOf};
 ghost use Rattle.lms_core.specs.Use.{peer_rules};
 ghost use Rattle.ns_cell.specs.declared.limits.TheConstants.{PASS_LIMIT};
@@ -8,6 +8,7 @@ ghost use Rattle.peer_make.specs.KeySigners.{left_of};
 ghost use Rattle.sync_hello.specs.Checked.{hello_refusal};
 ghost use Rattle.sync_link.specs.Plans.{own_hello, planned};
 ghost use Rattle.ns_cell.specs.Passes.{IsPassOf};
+ghost use Rattle.willow_outside.specs.declared.fault.Fault.TheVariants as fault;
 ghost use Rattle.peer_run.specs.Hall.{IsAccepted, Leaves, Listens};
 ghost use Rattle.peer_run.specs.Hosting.{Attends};
 ghost use Rattle.peer_run.specs.Preparing.{nonce_of};
@@ -122,6 +123,7 @@ pub(crate) fn attend<R: Wait + Threads + Sync, D: Door>(
     let namespace = state.namespace();
     let (cell, passes) = NsCell::new(alloc, state, 1 + signers.len() as u32)?;
     let (own, guests) = guests_of(alloc, passes, signers, draws)?;
+    let (passes, ends) = lists_for(alloc, guests.len())?;
     listen(door, place)?;
     let hall = Hall {
         namespace,
@@ -129,7 +131,28 @@ pub(crate) fn attend<R: Wait + Threads + Sync, D: Door>(
         plan,
     };
     let hosted = host_links(rt, alloc, &hall, guests, door)?;
-    leave(rt, alloc, hall, own, hosted)
+    leave(rt, hall, own, hosted, passes, ends)
+}
+
+// The lists that are filled behind all visits, for so many guests. They are made before the first accept, so that nothing that
+// came is lost for want of their memory.
+fn lists_for(
+    alloc: Global,
+    guests: usize,
+) -> Result<
+    (
+        Vec<Pass<AuthorisedEntry<PeerScheme>>>,
+        Vec<Result<SessionReport, SessionEnd>>,
+    ),
+    NoMemory,
+>
+    requires { guests < PASS_LIMIT }
+    ensures passes { IfOk result (λ r. (r.0.items ≡ []) × (guests < vec_capacity r.0)) }
+    ensures ends { IfOk result (λ r. (r.1.items ≡ []) × (guests ≤ vec_capacity r.1)) }
+{
+    let passes = Vec::with_capacity(alloc, 1 + guests)?;
+    let ends = Vec::with_capacity(alloc, guests)?;
+    Ok((passes, ends))
 }
 
 // The first pass, and a guest for each of the others, with a signer and the nonce of a draw.
@@ -176,18 +199,21 @@ fn listen<D: Door>(door: &mut D, place: &str) -> Result<(), Stop>
     }
 }
 
-// Closes the cell with all passes, and tells how the sessions ended.
+// Closes the cell with all passes, and tells how the sessions ended, in lists that have room for them.
 fn leave<R: Wait>(
     rt: &R,
-    alloc: Global,
     hall: Hall,
     own: Pass<AuthorisedEntry<PeerScheme>>,
     hosted: Hosted<Guest, Parting>,
+    passes: Vec<Pass<AuthorisedEntry<PeerScheme>>>,
+    ends: Vec<Result<SessionReport, SessionEnd>>,
 ) -> Result<Attended, Stop>
     requires own { IsPassOf hall.cell own }
     requires partings { All (λ parting. IsPassOf hall.cell parting.pass) hosted.partings.items }
     requires unused { All (λ guest. IsPassOf hall.cell guest.pass) hosted.unused.items }
     requires all { 1 + (vec_len hosted.partings + vec_len hosted.unused) ≡ hall.cell.passes }
+    requires passes { (passes.items ≡ []) × (vec_len hosted.partings + vec_len hosted.unused < vec_capacity passes) }
+    requires ends { (ends.items ≡ []) × (vec_len hosted.partings ≤ vec_capacity ends) }
     ensures { Leaves hall own hosted result }
 {
     let Hosted {
@@ -196,7 +222,7 @@ fn leave<R: Wait>(
         stopped,
     } = hosted;
     let all_came = all_came(stopped)?;
-    let (passes, ends) = part(alloc, own, partings, unused)?;
+    let (passes, ends) = part(own, partings, unused, passes, ends);
     let Hall { cell, .. } = hall;
     Ok(Attended {
         ends,
@@ -207,7 +233,8 @@ fn leave<R: Wait>(
 
 // Whether each guest had its link.
 fn all_came(stopped: Option<Fault>) -> Result<bool, NoMemory>
-    ensures { IfOk result (IsAccepted stopped) }
+    ensures accepted { IfOk result (IsAccepted stopped) }
+    ensures memory { OnErr result (stopped ≡ Some fault.NoMemory) }
 {
     match stopped {
         None => Ok(true),
@@ -216,33 +243,31 @@ fn all_came(stopped: Option<Fault>) -> Result<bool, NoMemory>
     }
 }
 
-// All passes, and how the sessions ended.
+// All passes, and how the sessions ended, in lists that have room for them.
 fn part(
-    alloc: Global,
     own: Pass<AuthorisedEntry<PeerScheme>>,
     partings: Vec<Parting>,
     unused: Vec<Guest>,
-) -> Result<
-    (
-        Vec<Pass<AuthorisedEntry<PeerScheme>>>,
-        Vec<Result<SessionReport, SessionEnd>>,
-    ),
-    NoMemory,
->
-    ensures passes { IfOk result (λ r. r.0.items ≡ own ∷ (map (λ parting. parting.pass) partings.items ++ map (λ guest. guest.pass) unused.items)) }
-    ensures ends { IfOk result (λ r. r.1.items ≡ map (λ parting. parting.end) partings.items) }
+    mut passes: Vec<Pass<AuthorisedEntry<PeerScheme>>>,
+    mut ends: Vec<Result<SessionReport, SessionEnd>>,
+) -> (
+    Vec<Pass<AuthorisedEntry<PeerScheme>>>,
+    Vec<Result<SessionReport, SessionEnd>>,
+)
+    requires passes { (passes.items ≡ []) × (vec_len partings + vec_len unused < vec_capacity passes) }
+    requires ends { (ends.items ≡ []) × (vec_len partings ≤ vec_capacity ends) }
+    ensures passes { result.0.items ≡ own ∷ (map (λ parting. parting.pass) partings.items ++ map (λ guest. guest.pass) unused.items) }
+    ensures ends { result.1.items ≡ map (λ parting. parting.end) partings.items }
 {
-    let mut passes = Vec::new(alloc);
-    let mut ends = Vec::with_capacity(alloc, partings.len())?;
-    passes.push(own)?;
+    passes.push_reserved(own);
     for parting in partings {
         let Parting { pass, end } = parting;
-        passes.push(pass)?;
-        ends.push(end)?;
+        passes.push_reserved(pass);
+        ends.push_reserved(end);
     }
     for guest in unused {
         let Guest { pass, .. } = guest;
-        passes.push(pass)?;
+        passes.push_reserved(pass);
     }
-    Ok((passes, ends))
+    (passes, ends)
 }

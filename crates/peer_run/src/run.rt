@@ -1,6 +1,6 @@
 //! The one call that `main` makes.
 
-ghost use Rattle.std.specs.Prelude.{ℕ, List, ◌≤◌, ◌↔◌, IsTrue};
+ghost use Rattle.std.specs.Prelude.{◌≡◌, ℕ, List, ◌≤◌, ◌↔◌, ◌||◌, IsTrue, is_some};
 ghost use Rattle.peer_run.specs.Locals.{IsLocal, IsMaker};
 ghost use Rattle.peer_stage.specs.World.{World};
 ghost use Rattle.peer_words.specs.Words.{texts};
@@ -58,7 +58,12 @@ fn run_command<R: Threads + Sync, H: Shelf, I: Source, O: Sink, N: Noise>(
             left_out,
             right_out,
             area,
+            newest,
+            bytes,
         } => {
+            if is_limited(newest, bytes) {
+                return Err(Stop::Usage);
+            }
             let words = MeetWords {
                 left,
                 right,
@@ -74,6 +79,13 @@ fn run_command<R: Threads + Sync, H: Shelf, I: Source, O: Sink, N: Noise>(
         Command::Watch { .. } => Err(Stop::Usage),
         made => run_maker(rt, alloc, made, shelf, input, output, noise),
     }
+}
+
+/// Whether less is to be offered than all of an area, which is not built yet.
+fn is_limited(newest: Option<u32>, bytes: Option<u64>) -> bool
+    ensures { result ≡ (is_some newest || is_some bytes) }
+{
+    newest.is_some() || bytes.is_some()
 }
 
 /// Runs a command that makes a key, a capability or a row.
@@ -124,6 +136,25 @@ fn is_local(command: &Command) -> bool
     !matches!(command, Command::Sync { .. } | Command::Serve { .. })
 }
 
+/// Whether a call is to do what is not built yet: to offer less than all of an area, or to follow behind its session.
+fn is_more_than_session(newest: Option<u32>, bytes: Option<u64>, follow: bool) -> bool
+    ensures { result ≡ ((is_some newest || is_some bytes) || follow) }
+{
+    is_limited(newest, bytes) || follow
+}
+
+/// Whether a server is to do what is not built yet: what a call is not to do, or to keep a log.
+fn is_more_than_service(
+    newest: Option<u32>,
+    bytes: Option<u64>,
+    follow: bool,
+    log: &Option<String>,
+) -> bool
+    ensures { result ≡ ((is_some newest || is_some bytes) || (follow || is_some log.now)) }
+{
+    is_limited(newest, bytes) || (follow || log.is_some())
+}
+
 /// Runs a command that talks to others over links.
 fn run_afar<R: Wait + Threads + Sync, H: Shelf, D: Door, N: Noise>(
     rt: &R,
@@ -146,7 +177,13 @@ fn run_afar<R: Wait + Threads + Sync, H: Shelf, D: Door, N: Noise>(
             key,
             to,
             area,
+            newest,
+            bytes,
+            follow,
         } => {
+            if is_more_than_session(newest, bytes, follow) {
+                return Err(Stop::Usage);
+            }
             let words = SyncWords {
                 image,
                 cap,
@@ -163,7 +200,14 @@ fn run_afar<R: Wait + Threads + Sync, H: Shelf, D: Door, N: Noise>(
             at,
             links,
             area,
+            newest,
+            bytes,
+            follow,
+            log,
         } => {
+            if is_more_than_service(newest, bytes, follow, &log) {
+                return Err(Stop::Usage);
+            }
             let words = ServeWords {
                 image,
                 cap,

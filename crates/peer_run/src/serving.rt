@@ -135,6 +135,8 @@ fn close_house<H: Shelf>(
         sessions,
         all_came,
         first,
+        left: 0,
+        kept: None,
         put,
     }))
 }

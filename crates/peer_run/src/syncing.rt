@@ -132,11 +132,13 @@ fn synced_of(
     match end {
         Err(end) => Synced {
             session: Err(*end),
+            followed: None,
             first,
             put,
         },
         Ok(report) => Synced {
             session: Ok(counts_of(report)),
+            followed: None,
             first: first_of_all(rows, first, report.first),
             put,
         },

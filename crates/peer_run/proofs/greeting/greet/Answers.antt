@@ -1,9 +1,15 @@
-use Rattle.std.proofs.Common.{subst}
+use Rattle.std.proofs.Common.{◌≡◌, false, inr, subst}
 use Rattle.std.proofs.lemmas.Result.{err_from_is_err_and}
 use Rattle.willow_area.specs.declared.area.Area.{Area}
-use Rattle.peer_words.specs.Areas.{Completes}
+use Rattle.peer_words.specs.Areas.{Completes, completed, is_empty}
 use Rattle.peer_run.proofs.Hellos.{greets, refuses_first, refuses_last}
 use Rattle.peer_run.proofs.greeting.greet.Goals as goal
+
+-- without memory for a path there are times
+pub returns-in_err-ask : goal.returns-in_err-ask
+returns-in_err-ask c =
+    let p = err_from_is_err_and c.from_residual-in_err-ask.result c.from_residual-in_err-ask.ensures.1 in
+    rw (p.1, p.2) (inr (subst (λ (area : Area). is_empty (completed c.args.words.now area) ≡ false) c.in_ok-granted_area.ensures.granted c.in_err-ask.ensures.times))
 
 pub returns-in_err-judge-in-None : goal.returns-in_err-judge-in-None
 returns-in_err-judge-in-None c =

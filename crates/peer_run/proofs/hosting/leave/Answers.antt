@@ -3,4 +3,4 @@ use Rattle.peer_run.proofs.hosting.leave.Goals as goal
 
 pub close-requires-clause-passes : goal.close-requires-clause-passes
 close-requires-clause-passes g c =
-    behind_of_cell c.args.hall.cell c.args.own c.args.hosted.partings.items c.args.hosted.unused.items c.in_ok-passes.passes.items c.in_ok-passes.ensures.passes c.requires.own c.requires.partings c.requires.unused
+    behind_of_cell c.args.hall.cell c.args.own c.args.hosted.partings.items c.args.hosted.unused.items c.part-passes.result.0.items c.part-passes.ensures.passes c.requires.own c.requires.partings c.requires.unused

@@ -11,7 +11,7 @@ use Rattle.peer_run.specs.Preparing.{nonce_of}
 use Rattle.peer_run.specs.Sync.{Finishes}
 use Rattle.peer_run.proofs.CallBegun.{has_begun, plan_asks}
 use Rattle.peer_run.proofs.CallReady.{plan_passes, can_sign}
-use Rattle.peer_run.proofs.GotImages.{untold}
+use Rattle.peer_run.proofs.GotImages.{held_few, untold}
 use Rattle.peer_run.proofs.SyncSteps.{calls_as, draw_stops, call_stops, all_steps}
 use Rattle.peer_run.proofs.syncing.sync.Goals as goal
 
@@ -71,7 +71,7 @@ pub finish-requires : goal.finish-requires
 finish-requires g c =
     let w = c.args.words in
     let begun = has_begun w.image w.cap w.key w.area (record untold { shelf = g.H.Shelf.facts c.args.shelf.now }) (record untold { shelf = g.H.Shelf.facts c.begin.new.shelf }) c.in_ok-opening.field-0 (c.in_ok-opening.ensures untold) in
-    omega (arith, begun.front.opened.counted, begun.front.has_image.is_image.is_image.count)
+    omega (arith, begun.front.opened.counted, held_few (g.H.Shelf.facts c.args.shelf.now).names (string_bytes w.image) begun.front.given.namespace begun.front.given.rows.items begun.front.has_image)
 
 pub returns : goal.returns
 returns g c =
