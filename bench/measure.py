@@ -21,7 +21,8 @@ ROWS = 65_536
 NAMESPACE = "00" + "4f" * 32
 AUTHORS = 8
 READS = 10_000_000
-HEAD, TRAILER = 37, 8  # of an image: four letters and a key; four zero bytes and a number
+HEAD, TRAILER = 41, 8  # of an image: four letters, a key and a number; four zero bytes and a number
+SIGNATURE = 2 + 32  # an open key's, with its length
 
 # LMS_SHA256_M32_H5 with LMOTS_SHA256_N32_W8 (RFC 8554), in blocks:
 CHAINS = 34  # one for each byte of a hash, and two for the checksum
@@ -75,16 +76,29 @@ def covering_row(author):
     return struct.pack(">I", len(body)) + body
 
 
+def bodies(frames):
+    """What stands behind each length."""
+    at = 0
+    while at < len(frames):
+        (length,) = struct.unpack_from(">I", frames, at)
+        yield frames[at + 4:at + 4 + length]
+        at += 4 + length
+
+
+def rows_of(image):
+    """The frames of an image's rows, each with its capability in place of that one's number, before its signature."""
+    (count,) = struct.unpack_from(">I", image, HEAD - 4)
+    told = list(bodies(image[HEAD:-TRAILER]))
+    for row in told[count:]:
+        (number,) = struct.unpack_from(">I", row, len(row) - SIGNATURE - 4)
+        body = row[:-SIGNATURE - 4] + told[number] + row[-SIGNATURE:]
+        yield struct.pack(">I", len(body)) + body
+
+
 def leaf_blocks(rows):
     """What the leaves of a stream of frames hash: each is the digest of a row's entry and token, which are its body."""
     with open(rows, "rb") as source:
-        frames = source.read()
-    blocks, at = [], 0
-    while at < len(frames):
-        (length,) = struct.unpack_from(">I", frames, at)
-        blocks.append((length + 72) // 64)
-        at += 4 + length
-    return blocks
+        return [(len(body) + 72) // 64 for body in bodies(source.read())]
 
 
 def run(command, given=None, made=None):
@@ -141,9 +155,9 @@ def show_rows(benches, peer, folder):
     run([peer, "gen", "--rows", str(ROWS)], made=rows)
     run([peer, "join", "--namespace", NAMESPACE], rows, image)
     run([peer, "show"], image, listing)
-    # The frames of an image are a stream of rows by rising place: joining them moves no row of the store.
+    # The rows of an image are a stream by rising place: joining them moves no row of the store.
     with open(image, "rb") as source, open(placed, "wb") as sink:
-        sink.write(source.read()[HEAD:-TRAILER])
+        sink.write(b"".join(rows_of(source.read())))
     # Behind a later row at the empty path of each author the store keeps none: all but it is left.
     with open(rows, "rb") as source, open(covered, "wb") as sink:
         sink.write(b"".join(map(covering_row, range(AUTHORS))) + source.read())

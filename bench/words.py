@@ -2,9 +2,10 @@
 
     python3 bench/words.py
 
-What is read stands in the definitions of peer_words and peer_run (a command that is not built yet is left out); what is told
-in docs/USAGE.md's table of commands, in docs/willow_peer.1 and in docs/willow_peer.bash. It prints each command whose options
-differ, and exits with 0 where none does.
+What is read stands in the definitions of peer_words and peer_run. A command that is not built yet is left out, and so is an
+option with which a command is built only where the option's field is None or false. What is told stands in docs/USAGE.md's
+table of commands, in docs/willow_peer.1 and in docs/willow_peer.bash. It prints each command whose options differ, and exits
+with 0 where none does.
 """
 import re
 import sys
@@ -15,15 +16,18 @@ OPTION = r"--[a-z][a-z-]*"
 
 
 def read() -> dict:
-    """The options of each command that is built, as the definitions tell them."""
+    """The options that are built of each command that is, as the definitions tell them."""
     text = (TOP / "crates/peer_words/specs/Verbs.antt").read_text()
     groups = {name: set(re.findall(f'"({OPTION})"', body)) for name, body in re.findall(r"^(\w+_names) = (.*)$", text, re.MULTILINE)}
-    built = re.findall(r"^deed_of \(cmd\.(\w+)", (TOP / "crates/peer_run/specs/Deeds.antt").read_text(), re.MULTILINE)
+    command = r" \(cmd\.(\w+) ([^)]*)\)"
+    fields = dict(re.findall(r"^verb_of" + command, (TOP / "crates/peer_words/specs/Commands.antt").read_text(), re.MULTILINE))
+    built = dict(re.findall(r"^deed_of" + command, (TOP / "crates/peer_run/specs/Deeds.antt").read_text(), re.MULTILINE))
     found = {}
     for verb, body in re.findall(r"^names_of (\w+) = (.*)$", text, re.MULTILINE):
         named = set().union(*(groups[name] for name in groups if re.search(rf"\b{name}\b", body)))
         if verb in built:
-            found[verb.lower()] = set(re.findall(f'"({OPTION})"', body)) | named
+            unbuilt = {f"--{field}" for field, taken in zip(fields[verb].split(), built[verb].split()) if taken in ("None", "false")}
+            found[verb.lower()] = (set(re.findall(f'"({OPTION})"', body)) | named) - unbuilt
     return found
 
 

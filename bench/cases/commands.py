@@ -6,11 +6,12 @@ from capabilities import (FULL, Area, Capability, Delegation, entry_message, ini
                           read_capability)
 from entries import Entry, Store, by_recency, live
 from exchange import Run, exchange
+from images import NotRising, Pruned, image, read_image
 from octets import NotSpelled, whole
 from outside import Fault, Objects
 from report import (BAD_INPUT, KEY_SPENT, LOG_FULL, MISSING, NOT_RISING, PRUNED, READ_FAULT, REFUSED, TAKEN, USAGE,
                     SESSION_REFUSED, WRITE_FAULT, Stop, first_refused)
-from rows import OWNED, BadBytes, Frames, NotRising, Pruned, Row, generated, image, read_image
+from rows import OWNED, BadBytes, Frames, Row, generated
 from sessions import VERSION, Answerer, Caller, Hello
 from grammar import NONE, ANY, Usage, read_words
 

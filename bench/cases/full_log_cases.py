@@ -44,7 +44,7 @@ OWN = [row(A, author=V)]
 
 def full_log(name: str, words: tuple, draw: bytes, *said, by_hand: ByHand) -> Case:
     """A session of one whose log has OWN, over a link that gives these bytes and rows."""
-    names = {"i": image_of(*OWN), "c": R.spelled()}
+    names = {"i": old_image_of(*OWN), "c": R.spelled()}
     link = b"".join(written(each) if isinstance(each, int) else each for each in said)
     return FullLogCase(name, words, b"", names, (draw,), links=(link,), by_hand=by_hand, said=said)
 

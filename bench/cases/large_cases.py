@@ -21,6 +21,7 @@ def made(rows: int) -> bytes:
 @dataclass(frozen=True)
 class LargeCase(Case):
     pieces: tuple = ()  # of the input: bytes, or how many rows are generated
+    length: Optional[int] = None  # of the output, reckoned by hand
     piece = LARGE_PIECE
 
     def input(self) -> bytes:
@@ -30,15 +31,16 @@ class LargeCase(Case):
         return "+".join(f"gen:{each}" if isinstance(each, int) else each.hex() for each in self.pieces) or "-"
 
     def told_output(self, output: bytes) -> str:
+        assert self.length in (None, len(output)), f"{self.name}: {len(output)}"
         return f"sha256:{sha256(output).hexdigest()}:{len(output)}"
 
 
-def gen(name: str, rows: int) -> Case:
-    return LargeCase(f"gen-{name}", words_of("gen", rows=rows))
+def gen(name: str, rows: int, **rest) -> Case:
+    return LargeCase(f"gen-{name}", words_of("gen", rows=rows), **rest)
 
 
-def join(name: str, *pieces) -> Case:
-    return LargeCase(f"join-{name}", words_of("join", namespace=OWNED), pieces=pieces)
+def join(name: str, *pieces, **rest) -> Case:
+    return LargeCase(f"join-{name}", words_of("join", namespace=OWNED), pieces=pieces, **rest)
 
 
 def further_row() -> bytes:
@@ -51,9 +53,11 @@ def further_row() -> bytes:
 
 ROW = further_row()
 
+# A frame has 260 bytes, and 258 where the path has one component. An image has 49 bytes, those of the eight writers'
+# capabilities, 4 + 102 each, and of each row what a frame has but for its capability, and 4 bytes more.
 LARGE = [
-    gen("makes-twenty-thousand-rows", FEW),
-    join("takes-twenty-thousand-rows", FEW),
+    gen("makes-twenty-thousand-rows", FEW, length=20_000 * 260 - 400 * 2),
+    join("takes-twenty-thousand-rows", FEW, length=49 + 8 * 106 + 14_051 * (260 - 102 + 4) - 313 * 2),
     gen("makes-as-many-rows-as-a-log-takes", FULL),
     join("takes-as-many-rows-as-a-log-takes", FULL),
     join("keeps-out-a-row-that-a-full-log-has", FULL, 1),

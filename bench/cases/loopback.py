@@ -13,7 +13,7 @@ from entries import Store
 from meet_cases import FORTY, ONE_LATER, R
 from outside import Objects, one_by_one
 from serve_cases import DRAWS, GREETED, HELLO, calls
-from situations import BY_U, U, image_of, row, words_of
+from situations import BY_U, U, image_of, old_image_of, row, words_of
 from sync_cases import OTHER_NONCE
 
 CALLER_DRAW = OTHER_NONCE + bytes(16)
@@ -143,13 +143,13 @@ def tcp_lines(server: Came) -> str:
 
 
 def files() -> dict:
-    """The program's input and output, by name."""
+    """The program's input and output, by name. Of its images two are of version 1."""
     gates, server = gated(), tcp_server()
     given = {
         "cap": R.spelled(), "server-draws": b"".join(DRAWS[:8]), "caller-draw": CALLER_DRAW,
-        "forty": image_of(*FORTY), "later": image_of(*ONE_LATER),
+        "forty": old_image_of(*FORTY), "later": image_of(*ONE_LATER),
         "early-peer": EARLY_PEER, "late-peer": LATE_PEER, "late-answers": gates.held[1],
-        "front": image_of(*FRONT), "middle": image_of(*MIDDLE), "back": image_of(*BACK),
+        "front": image_of(*FRONT), "middle": old_image_of(*MIDDLE), "back": image_of(*BACK),
         "noise": NOISE, "other-noise": OTHER_NOISE, "cut": CUT, "cut-behind": CUT_BEHIND, "greeting": server.held[5],
     }
     lines = "".join(f"{name} {data.hex()}\n" for name, data in given.items())

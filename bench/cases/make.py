@@ -6,9 +6,12 @@ of the program that shares no code with it and knows only the rules that docs/FO
     python3 bench/cases/make.py --covers F  tells which cases of a file F are none of these, or have another outcome
 
 The model: `octets` (bytes and readers), `entries` (paths, entries, stores), `lms` (LMS keys), `capabilities`, `rows`
-(tokens, frames, images, the generator), `exchange` (two stores that meet), `sessions` (a session over bytes), `grammar`
+(tokens, frames, the generator), `images`, `exchange` (two stores that meet), `sessions` (a session over bytes), `grammar`
 (the words), `outside` (the objects), `commands`, `report`. The cases: `situations` (what they are made of) and a module
-a command; `large_cases`, `full_log_cases`, `loopback` and `samples`.
+a command; `large_cases`, `full_log_cases`, `image_cases`, `loopback` and `samples`.
+
+Whatever puts an image puts version 2. The images that the cases of a command are given are of version 1; those of
+`image_cases` are of version 2.
 
 Two things are taken from the program, since what a run must do leaves them open: how much room each read of the input
 offers, and that a listing is written in two pieces. Only cases in which a call fails, or in which more stands behind what
@@ -25,6 +28,7 @@ import drill_cases
 import full_log_cases
 import gen_cases
 import grant_cases
+import image_cases
 import join_cases
 import key_cases
 import large_cases
@@ -52,6 +56,7 @@ COMMANDS = {
     "serve": serve_cases,
     "gen and join": large_cases,
     "sync and serve": full_log_cases,
+    "images of version 2": image_cases,
     "words": words_cases,
 }
 

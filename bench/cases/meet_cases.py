@@ -19,14 +19,14 @@ WORDS = {"left": "l", "right": "r", "left-cap": "l.cap", "right-cap": "r.cap", *
 def meet(name: str, left, right, left_cap=R, right_cap=R, space: bytes = N, given=b"", fails="", gone=(), also=None,
          options=None, **area) -> Case:
     """Two images, be they rows or bytes, under two capabilities. Names that are gone are not there."""
-    images = [each if isinstance(each, bytes) else image_of(*each, space=space) for each in (left, right)]
+    images = [each if isinstance(each, bytes) else old_image_of(*each, space=space) for each in (left, right)]
     names = {"l": images[0], "r": images[1], "l.cap": bytes_of(left_cap), "r.cap": bytes_of(right_cap), **(also or {})}
     kept = {name: data for name, data in names.items() if name not in gone}
     return Case(f"meet-{name}", words_of("meet", **{**WORDS, **(options or {})}, **area), given, kept, fails=fails)
 
 
 def of_space(space: bytes, *rows: Row) -> bytes:
-    return image_of(*rows, space=space)
+    return old_image_of(*rows, space=space)
 
 
 def writer(author: bytes) -> Capability:
@@ -113,7 +113,7 @@ REFUSED_HELLOS = [
 ]
 
 PAIR = (row(A), row(AB))
-CUT = image_of(*PAIR)[:-1]
+CUT = old_image_of(*PAIR)[:-1]
 
 WRONG_FILES = [
     meet("misses-the-left-image", [], [], gone=("l",)),
@@ -126,10 +126,10 @@ WRONG_FILES = [
     meet("tells-a-missing-capability-before-two-namespaces", [], of_space(OTHER), gone=("r.cap",)),
     meet("finds-no-image-in-nothing", b"", []),
     meet("finds-no-image-in-rows", [], row(A).frame()),
-    meet("finds-rows-of-the-left-image-out-of-order", image(N, PAIR[::-1]), []),
-    meet("finds-rows-of-the-right-image-pruned", [], image(N, [row(A, 6), row(AB, 5)])),
+    meet("finds-rows-of-the-left-image-out-of-order", old_image(N, PAIR[::-1]), []),
+    meet("finds-rows-of-the-right-image-pruned", [], old_image(N, [row(A, 6), row(AB, 5)])),
     meet("finds-no-capability-where-a-byte-follows", [], [], R, R.spelled() + b"\x00"),
-    meet("finds-no-capability-in-an-image", [], [], image_of()),
+    meet("finds-no-capability-in-an-image", [], [], old_image_of()),
 ]
 
 MEET_FAULTS = [

@@ -1,16 +1,13 @@
-"""Rows with their tokens, frames, images, and the rows of the generator."""
+"""Rows with their tokens, frames, and the rows of the generator."""
 from dataclasses import dataclass
 from functools import cached_property
 
 from capabilities import (WRITE, Capability, accepts, entry_message, initial_message, open_signature,
                           read_capability, read_signature, signature_field)
-from entries import Entry, dominates, read_entry, read_key
+from entries import Entry, read_entry
 from octets import NotSpelled, Reader, number, whole
 
 LONGEST_BODY = 131_072
-LETTERS = b"WIM1"
-END_OF_ROWS = bytes(4)
-HEAD_LENGTH = 37  # the letters and a key
 OWNED = b"\x00" + b"O" * 32  # the namespace of the generator's rows
 
 
@@ -115,47 +112,6 @@ class Frames:
     def finish(self) -> None:
         if self.begun:
             raise BadBytes(self.offset)
-
-
-def image(namespace: bytes, rows: list) -> bytes:
-    return (LETTERS + namespace + b"".join(row.frame() for row in rows) + END_OF_ROWS + number(4, len(rows)))
-
-
-class NotRising(Exception):
-    """A row, counted from 1, is not above the one before it."""
-
-
-class Pruned(Exception):
-    """A row, counted from 1, is dropped by an earlier one."""
-
-
-def read_image(data: bytes):
-    """The namespace and the rows of an image."""
-    namespace, rows = spelled_image(data)
-    for at in range(1, len(rows)):
-        if not rows[at].entry.place() > rows[at - 1].entry.place():
-            raise NotRising(at + 1)
-    for at, row in enumerate(rows):
-        for by in range(at):
-            if dominates(rows[by], row):
-                raise Pruned(at + 1, by + 1)
-    return namespace, rows
-
-
-def spelled_image(data: bytes):
-    reader, rows = Reader(data), []
-    try:
-        letters, namespace = reader.take(4), read_key(reader)
-    except NotSpelled:
-        raise BadBytes(0) from None
-    if letters != LETTERS:
-        raise BadBytes(0)
-    while reader.data[reader.taken:reader.taken + 4] != END_OF_ROWS:
-        # Where the image ends before a length begins, the length's place is the image's own length.
-        rows.append(frame_at(reader))
-    if reader.data[reader.taken + 4:] != number(4, len(rows)):
-        raise BadBytes(reader.taken)
-    return namespace, rows
 
 
 def generated(index: int) -> Row:

@@ -47,7 +47,7 @@ def serve(name: str, own: list, *links: bytes, count=None, cap=R, space: bytes =
           options=None, draws=None, by_hand=None, **area) -> Case:
     """A server with an image of these rows, for links that give these bytes, or for more than these."""
     count = count or len(links)
-    names = {"i": image_of(*own, space=space), "c": bytes_of(cap), **(also or {})}
+    names = {"i": old_image_of(*own, space=space), "c": bytes_of(cap), **(also or {})}
     kept = {name: data for name, data in names.items() if name not in gone}
     words = words_of("serve", **{**WORDS, "links": count, **(options or {})}, **area)
     return Case(f"serve-{name}", words, b"", kept, DRAWS[:count] if draws is None else draws, fails, links or None,
@@ -243,9 +243,9 @@ STOPS = [
     serve("misses-the-capability", [], WHOLE, gone=("c",)),
     serve("misses-the-key-file", [], WHOLE, options=LMS),
     serve("finds-no-key-file", [], WHOLE, options=LMS, also={"k": b"no"}),
-    serve("finds-no-image", [], WHOLE, also={"i": image_of(*PAIR)[:-1]}),
-    serve("finds-rows-of-the-image-out-of-order", [], WHOLE, also={"i": image(N, PAIR[::-1])}),
-    serve("finds-rows-of-the-image-pruned", [], WHOLE, also={"i": image(N, [row(A, 6), row(AB, 5)])}),
+    serve("finds-no-image", [], WHOLE, also={"i": old_image_of(*PAIR)[:-1]}),
+    serve("finds-rows-of-the-image-out-of-order", [], WHOLE, also={"i": old_image(N, PAIR[::-1])}),
+    serve("finds-rows-of-the-image-pruned", [], WHOLE, also={"i": old_image(N, [row(A, 6), row(AB, 5)])}),
     serve("finds-no-capability", [], WHOLE, also={"c": R.spelled() + b"\x00"}),
     serve("refuses-an-own-capability-of-another-namespace", [], WHOLE, cap=communal(mode=READ, space=OTHER)),
     serve("refuses-an-own-capability-to-write", [], WHOLE, cap=communal()),

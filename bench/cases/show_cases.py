@@ -11,9 +11,9 @@ def newest(name: str, count: int, given: bytes, **rest) -> Case:
     return Case(f"show-newest-{name}", ("show", "--newest", str(count)), given, **rest)
 
 
-EMPTY = image_of()
+EMPTY = old_image_of()
 TWO = row(A, time=4), row(AB)
-IMAGE = image_of(*TWO)
+IMAGE = old_image_of(*TWO)
 HEAD = len(EMPTY) - 8
 FIRST_END = HEAD + len(TWO[0].frame())
 ROWS_END = len(IMAGE) - 8
@@ -22,35 +22,35 @@ ELSEWHERE = communal(space=OTHER)
 
 LISTINGS = [
     show("of-the-empty-image-lists-no-row", EMPTY),
-    show("lists-one-row", image_of(row(time=6))),
-    show("lists-paths-with-empty-and-odd-components", image_of(
+    show("lists-one-row", old_image_of(row(time=6))),
+    show("lists-paths-with-empty-and-odd-components", old_image_of(
         row((), 1, 0, 0), row((b"",), 1, GREATEST, 0xab), row((b"", b""), 1, 0, 0xac),
         row((b"\x00\xff", b"a"), 1, 0, 0), row(A, GREATEST, 7, 0xcd), row(A, 0, 1, 0, author=V))),
-    show("lists-a-row-of-an-owned-namespace", image_of(row(capability=owned()), space=O)),
+    show("lists-a-row-of-an-owned-namespace", old_image_of(row(capability=owned()), space=O)),
     show("lists-a-row-signed-by-an-lms-key",
-         image_of(row(), row(capability=communal(K.user()), by=at(K, 3)))),
+         old_image_of(row(), row(capability=communal(K.user()), by=at(K, 3)))),
 ]
 
 LEFT_OUT = [
-    show("leaves-out-rows-that-are-not-authorised", image_of(
+    show("leaves-out-rows-that-are-not-authorised", old_image_of(
         spoilt(row()), row(B, digest=1), row(path("c"), digest=1, capability=communal(mode=READ)))),
-    show("lists-no-row-where-none-is-authorised", image_of(row(digest=1, capability=UNSIGNED_CHAIN))),
-    show("leaves-out-a-row-of-another-namespace", image_of(row(), row(B, digest=1, capability=ELSEWHERE))),
-    show("lets-a-row-of-another-namespace-prune-nothing", image_of(
+    show("lists-no-row-where-none-is-authorised", old_image_of(row(digest=1, capability=UNSIGNED_CHAIN))),
+    show("leaves-out-a-row-of-another-namespace", old_image_of(row(), row(B, digest=1, capability=ELSEWHERE))),
+    show("lets-a-row-of-another-namespace-prune-nothing", old_image_of(
         row(A, 9, digest=1, capability=ELSEWHERE), row(AB, digest=1))),
-    show("refuses-a-row-of-another-namespace-that-prunes-one-of-its-own", image_of(
+    show("refuses-a-row-of-another-namespace-that-prunes-one-of-its-own", old_image_of(
         row(A, 9, digest=1, capability=ELSEWHERE), row(AB, digest=1, capability=ELSEWHERE))),
-    show("refuses-places-that-fall-behind-another-namespace", image_of(
+    show("refuses-places-that-fall-behind-another-namespace", old_image_of(
         row(digest=1, capability=ELSEWHERE), row((b"`",), digest=1))),
-    show("refuses-places-that-fall-before-another-namespace", image_of(
+    show("refuses-places-that-fall-before-another-namespace", old_image_of(
         row(digest=1), row((b"`",), digest=1, capability=ELSEWHERE))),
-    show("takes-rising-places-whatever-their-namespaces", image_of(
+    show("takes-rising-places-whatever-their-namespaces", old_image_of(
         row((b"`",), digest=1, capability=ELSEWHERE), row(digest=1))),
 ]
 
 WRONG_BYTES = [
     show("of-nothing-goes-wrong-at-0"),
-    show("goes-wrong-at-other-letters", replaced(IMAGE, b"WIM1", b"WIM2")),
+    show("goes-wrong-at-other-letters", replaced(IMAGE, b"WIM1", b"WIM3")),
     show("goes-wrong-at-letters-that-are-cut", IMAGE[:2]),
     show("goes-wrong-at-an-unknown-kind-of-namespace", IMAGE[:4] + b"\x02" + IMAGE[5:]),
     show("goes-wrong-at-a-namespace-that-is-cut", IMAGE[:HEAD - 1]),
@@ -71,21 +71,21 @@ WRONG_BYTES = [
     show("goes-wrong-at-the-zero-bytes-where-the-count-is-more", IMAGE[:-1] + b"\x03"),
     show("goes-wrong-at-the-zero-bytes-where-a-byte-follows", IMAGE + b"\x00"),
     show("goes-wrong-at-the-zero-bytes-of-an-empty-image-that-counts-a-row", EMPTY[:-1] + b"\x01"),
-    show("tells-wrong-bytes-before-rows-out-of-order", image_of(*reversed(TWO))[:-1] + b"\x03"),
+    show("tells-wrong-bytes-before-rows-out-of-order", old_image_of(*reversed(TWO))[:-1] + b"\x03"),
 ]
 
 ORDER = [
-    show("refuses-a-path-behind-a-longer-one", image_of(*reversed(TWO))),
-    show("refuses-two-rows-at-one-place", image_of(row(), row(time=6))),
-    show("refuses-a-subspace-behind-a-greater-one", image_of(
+    show("refuses-a-path-behind-a-longer-one", old_image_of(*reversed(TWO))),
+    show("refuses-two-rows-at-one-place", old_image_of(row(), row(time=6))),
+    show("refuses-a-subspace-behind-a-greater-one", old_image_of(
         row(digest=1), row(B, digest=1, author=V), row(path("c"), digest=1))),
-    show("refuses-a-row-that-the-one-before-prunes", image_of(row(time=6), row(AB))),
-    show("tells-the-first-row-that-prunes", image_of(
+    show("refuses-a-row-that-the-one-before-prunes", old_image_of(row(time=6), row(AB))),
+    show("tells-the-first-row-that-prunes", old_image_of(
         row((), 7, digest=1), row(A, 8, digest=1), row(AB, digest=1))),
-    show("tells-the-only-row-that-prunes", image_of(
+    show("tells-the-only-row-that-prunes", old_image_of(
         row((), 4, digest=1), row(A, 8, digest=1), row(AB, digest=1))),
-    show("tells-rows-out-of-order-before-a-pruned-one", image_of(row(time=6), row(AB), row(time=4))),
-    show("refuses-a-row-that-one-without-authority-prunes", image_of(spoilt(row(time=6)), row(AB))),
+    show("tells-rows-out-of-order-before-a-pruned-one", old_image_of(row(time=6), row(AB), row(time=4))),
+    show("refuses-a-row-that-one-without-authority-prunes", old_image_of(spoilt(row(time=6)), row(AB))),
 ]
 
 FAULTS = [
@@ -95,8 +95,8 @@ FAULTS = [
     show("leaves-the-head-of-the-listing-where-the-second-write-fails", IMAGE, fails="o2"),
     show("leaves-the-head-and-a-front-of-the-lines-where-the-third-write-fails", IMAGE, fails="o3"),
     show("tells-a-fault-of-the-reports-first-write", IMAGE, fails="r1"),
-    show("tells-a-fault-of-the-report-before-a-row-that-is-left-out", image_of(spoilt(row())), fails="r3"),
-    show("keeps-the-status-of-rows-out-of-order-where-the-report-fails", image_of(*reversed(TWO)), fails="r1"),
+    show("tells-a-fault-of-the-report-before-a-row-that-is-left-out", old_image_of(spoilt(row())), fails="r3"),
+    show("keeps-the-status-of-rows-out-of-order-where-the-report-fails", old_image_of(*reversed(TWO)), fails="r1"),
     show("calls-neither-shelf-nor-noise", IMAGE, fails="s1 n1"),
 ]
 
@@ -105,12 +105,12 @@ for index in range(47, 60):
     KEPT.take(generated(index))
 
 # By recency: B, AB, C, A.
-MIXED = image_of(row(A, 6), row(AB, 8), row(B, 9), row(path("c"), 7))
+MIXED = old_image_of(row(A, 6), row(AB, 8), row(B, 9), row(path("c"), 7))
 # Their places rise, and all are of one time.
-TIED = image_of(row(A, 5), row(B, 5), row(path("c"), 5), row(A, 5, author=V))
-GREATER_LENGTH = image_of(row(A, 5, 1), row(B, 5, 2), row(path("c"), 5, 1))
-GREATER_DIGEST = image_of(row(A, 5, 1, 0x11), row(B, 5, 2, 0x10), row(path("c"), 5, 0, 0x12))
-ONE_LEFT_OUT = image_of(row(A, 6), spoilt(row(B, 9)), row(path("c"), 7))
+TIED = old_image_of(row(A, 5), row(B, 5), row(path("c"), 5), row(A, 5, author=V))
+GREATER_LENGTH = old_image_of(row(A, 5, 1), row(B, 5, 2), row(path("c"), 5, 1))
+GREATER_DIGEST = old_image_of(row(A, 5, 1, 0x11), row(B, 5, 2, 0x10), row(path("c"), 5, 0, 0x12))
+ONE_LEFT_OUT = old_image_of(row(A, 6), spoilt(row(B, 9)), row(path("c"), 7))
 
 NEWEST = [
     newest("lists-the-most-recent-row", 1, MIXED),
@@ -125,10 +125,10 @@ NEWEST = [
     newest("lists-the-greater-digest-first-at-one-time", 3, GREATER_DIGEST),
     newest("counts-no-row-that-is-not-authorised", 2, ONE_LEFT_OUT),
     newest("lists-fewer-where-rows-are-not-authorised", 3, ONE_LEFT_OUT),
-    newest("lists-no-row-where-none-is-authorised", 1, image_of(row(digest=1, capability=UNSIGNED_CHAIN))),
-    newest("leaves-out-a-row-of-another-namespace", 2, image_of(row(), row(B, digest=1, capability=ELSEWHERE))),
-    newest("lists-the-greatest-timestamp-first", 1, image_of(row(A, 0), row(B, GREATEST))),
-    newest("refuses-rows-out-of-order", 1, image_of(*reversed(TWO))),
+    newest("lists-no-row-where-none-is-authorised", 1, old_image_of(row(digest=1, capability=UNSIGNED_CHAIN))),
+    newest("leaves-out-a-row-of-another-namespace", 2, old_image_of(row(), row(B, digest=1, capability=ELSEWHERE))),
+    newest("lists-the-greatest-timestamp-first", 1, old_image_of(row(A, 0), row(B, GREATEST))),
+    newest("refuses-rows-out-of-order", 1, old_image_of(*reversed(TWO))),
     newest("of-nothing-goes-wrong-at-0", 1, b""),
     newest("stops-at-a-fault-of-the-first-read", 1, MIXED, fails="i1"),
     newest("leaves-nothing-where-the-first-write-fails", 1, MIXED, fails="o1"),
@@ -141,8 +141,8 @@ GROUPS = {
     "where an image goes wrong": WRONG_BYTES,
     "rows out of order and pruned ones": ORDER,
     "faults": FAULTS,
-    "generated rows": [show("lists-what-stays-of-generated-rows", image_of(*KEPT.live(), space=O)),
-                       newest("lists-some-of-generated-rows", 5, image_of(*KEPT.live(), space=O))],
+    "generated rows": [show("lists-what-stays-of-generated-rows", old_image_of(*KEPT.live(), space=O)),
+                       newest("lists-some-of-generated-rows", 5, old_image_of(*KEPT.live(), space=O))],
     "the newest": NEWEST,
     "the samples": [show("of-the-sample-of-notes", NOTES_IMAGE),
                     newest("of-the-sample-of-notes", 3, NOTES_IMAGE),

@@ -8,9 +8,10 @@ from capabilities import (READ, WRITE, Area, Capability, Delegation, entry_messa
                           open_signature, signature_field)
 from commands import run
 from entries import Entry, Store, path_bytes
+from images import image, old_image
 from octets import number
 from outside import PIECE, Objects, one_by_one
-from rows import Row, generated, image
+from rows import Row, generated
 
 GREATEST = 2 ** 64 - 1
 SAMPLES = Path(__file__).resolve().parents[2] / "samples"
@@ -129,6 +130,11 @@ def body_frame(body: bytes) -> bytes:
 
 def image_of(*rows: Row, space: bytes = N) -> bytes:
     return image(space, rows)
+
+
+def old_image_of(*rows: Row, space: bytes = N) -> bytes:
+    """The image of version 1."""
+    return old_image(space, rows)
 
 
 def joined(pieces) -> bytes:

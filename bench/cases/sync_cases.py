@@ -30,7 +30,7 @@ def live_of(rows: list) -> list:
 def sync(name: str, own: list, link, cap=R, space: bytes = N, fails="", gone=(), also=None, options=None, draws=(DRAW,),
          **area) -> Case:
     """A call with an image of these rows, over a link that gives these bytes."""
-    names = {"i": image_of(*own, space=space), "c": bytes_of(cap), **(also or {})}
+    names = {"i": old_image_of(*own, space=space), "c": bytes_of(cap), **(also or {})}
     kept = {name: data for name, data in names.items() if name not in gone}
     words, links = words_of("sync", **{**WORDS, **(options or {})}, **area), None if link is None else (link,)
     return Case(f"sync-{name}", words, b"", kept, draws, fails, links)

@@ -1,9 +1,9 @@
-//! Images against bytes made elsewhere.
+//! Images of version 1 against bytes made elsewhere.
 
 use crate::tables::{cut_short, joined, shows};
 use block_store::BlockStore;
 use cap_codec::RawRow;
-use peer_image::{Image, ImageRefusal, read_image, write_image, write_rows};
+use peer_image::{Image, ImageRefusal, read_image_one, write_image_one, write_rows_one};
 use spelling::End;
 use std::alloc::Global;
 
@@ -11,8 +11,8 @@ use std::alloc::Global;
 #[tactic(auto, using(peer_image::proofs::ReadBack::framed_rows))]
 fn is_written(alloc: Global, words: &str) -> Option<bool> {
     let bytes = joined(alloc, words)?;
-    let image = read_image(alloc, &bytes).ok()?;
-    let again = write_rows(alloc, &image.namespace, &image.rows).ok()?;
+    let image = read_image_one(alloc, &bytes).ok()?;
+    let again = write_rows_one(alloc, &image.namespace, &image.rows).ok()?;
     Some(again.as_slice() == bytes.as_slice())
 }
 
@@ -20,13 +20,13 @@ fn is_written(alloc: Global, words: &str) -> Option<bool> {
 fn of_none(alloc: Global, image: &Image) -> Option<Vec<u8>> {
     let store = BlockStore::<RawRow>::new(alloc);
     let snapshot = store.snapshot().ok()?;
-    write_image(alloc, &image.namespace, &snapshot).ok()
+    write_image_one(alloc, &image.namespace, &snapshot).ok()
 }
 
 // Whether the image of an empty store has the bytes that the words spell.
 fn is_of_none(alloc: Global, words: &str) -> Option<bool> {
     let bytes = joined(alloc, words)?;
-    let image = read_image(alloc, &bytes).ok()?;
+    let image = read_image_one(alloc, &bytes).ok()?;
     Some(of_none(alloc, &image)?.as_slice() == bytes.as_slice())
 }
 
@@ -50,7 +50,7 @@ fn stores_without_rows(rt: HostRuntime) {
 
 // Why the bytes are no image.
 fn refusal_of(alloc: Global, bytes: &[u8]) -> Option<ImageRefusal> {
-    match read_image(alloc, bytes) {
+    match read_image_one(alloc, bytes) {
         Err(End::Refused(refusal)) => Some(refusal),
         _ => None,
     }

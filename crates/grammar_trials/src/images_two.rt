@@ -9,8 +9,8 @@ use crate::tables::{cut_short, joined, shows};
 use block_store::BlockStore;
 use cap_codec::{MAX_FRAME, RawRow};
 use peer_image::{
-    Image, ImageRefusal, put_capability, put_head_two, put_row_two, put_trailer, read_any_image,
-    read_image, write_image_two,
+    Image, ImageRefusal, put_capability, put_head_two, put_row_two, put_trailer, read_image,
+    read_image_one, write_image,
 };
 use spelling::End;
 use std::alloc::Global;
@@ -24,8 +24,8 @@ const TOLD: &str = "49 HEAD_2 00000000 00000000 00000000: HEAD 00000000 00000000
 // Whether both images tell one namespace and the same rows.
 fn tells(alloc: Global, line: &str) -> Option<bool> {
     let (bytes, old) = cut_short(alloc, line)?;
-    let image = read_any_image(alloc, &bytes).ok()?;
-    let other = read_any_image(alloc, &joined(alloc, old)?).ok()?;
+    let image = read_image(alloc, &bytes).ok()?;
+    let other = read_image(alloc, &joined(alloc, old)?).ok()?;
     Some(image.namespace == other.namespace && are_same(&image.rows, &other.rows))
 }
 
@@ -44,11 +44,12 @@ fn images_of_both_versions_are_read(rt: HostRuntime) {
 // What is read of the image of version 1 is written in version 2: the head, the capability of its rows, the rows, the end.
 #[tactic(auto, using(peer_image::proofs::ReadBack::framed_rows))]
 fn told_once(alloc: Global, words: &str) -> Option<Vec<u8>> {
-    let image = read_image(alloc, &joined(alloc, words)?).ok()?;
+    let image = read_image_one(alloc, &joined(alloc, words)?).ok()?;
     let mut bytes = Vec::new(alloc);
     add_told(&mut bytes, &image)?;
     add_rows(&mut bytes, &image.rows)?;
-    put_trailer(&mut bytes, image.rows.len() as u32).ok()?;
+    let count = u32::try_from(image.rows.len()).ok()?;
+    put_trailer(&mut bytes, count).ok()?;
     Some(bytes)
 }
 
@@ -100,10 +101,10 @@ fn images_of_version_2_are_written(rt: HostRuntime) {
 // Whether the image of an empty store has the bytes of an image without rows.
 fn is_of_none(alloc: Global) -> Option<bool> {
     let bytes = joined(alloc, "HEAD_2 00000000 00000000 00000000")?;
-    let image = read_any_image(alloc, &bytes).ok()?;
+    let image = read_image(alloc, &bytes).ok()?;
     let store = BlockStore::<RawRow>::new(alloc);
     let snapshot = store.snapshot().ok()?;
-    let again = write_image_two(alloc, &image.namespace, &snapshot).ok()?;
+    let again = write_image(alloc, &image.namespace, &snapshot).ok()?;
     Some(again.as_slice() == bytes.as_slice())
 }
 
@@ -114,7 +115,7 @@ fn a_store_without_rows(rt: HostRuntime) {
 
 // Why the bytes are no image.
 fn refusal_of(alloc: Global, bytes: &[u8]) -> Option<ImageRefusal> {
-    match read_any_image(alloc, bytes) {
+    match read_image(alloc, bytes) {
         Err(End::Refused(refusal)) => Some(refusal),
         _ => None,
     }

@@ -17,6 +17,8 @@ mod keys;
 #[cfg(test)]
 mod lines;
 #[cfg(test)]
+mod reports;
+#[cfg(test)]
 mod rows;
 #[cfg(test)]
 mod streams;

@@ -128,7 +128,30 @@ serve --image a --cap b --key OPEN --at a:1 --links 0
 serve --image a --cap b --key OPEN --at a:1 --links 65
 watch --image a --until 0
 watch --image a --from 0 --until 0
-watch --from 5";
+watch --from 5
+show --bytes 1
+delegate --key OPEN --to USER --newest 1
+watch --image a --newest 1
+watch --image a --log l
+meet --left a --right b --left-cap c --right-cap d --left-out e --right-out f --newest 0
+meet --left a --right b --left-cap c --right-cap d --left-out e --right-out f --follow yes
+sync --image a --cap b --key OPEN --to a:1 --newest 65537
+sync --image a --cap b --key OPEN --to a:1 --newest any
+sync --image a --cap b --key OPEN --to a:1 --bytes 01
+sync --image a --cap b --key OPEN --to a:1 --bytes none
+sync --image a --cap b --key OPEN --to a:1 --bytes 18446744073709551616
+sync --image a --cap b --key OPEN --to a:1 --bytes 1 --bytes 1
+sync --image a --cap b --key OPEN --to a:1 --follow
+sync --image a --cap b --key OPEN --to a:1 --follow no
+sync --image a --cap b --key OPEN --to a:1 --follow Yes
+sync --image a --cap b --key OPEN --to a:1 --follow yes --follow yes
+sync --image a --cap b --key OPEN --to a:1 --log l
+serve --image a --cap b --key OPEN --at a:1 --links 1 --follow 1
+serve --image a --cap b --key OPEN --at a:1 --links 1 --log
+serve --image a --cap b --key OPEN --at a:1 --links 1 --log .l
+serve --image a --cap b --key OPEN --at a:1 --links 1 --log a/l
+serve --image a --cap b --key OPEN --at a:1 --links 1 --log NAME_129
+serve --image a --cap b --key OPEN --at a:1 --log l";
 
 const ACCEPTED: &str = "join --namespace COMMUNAL
 join --namespace UPPER
@@ -153,7 +176,15 @@ sync --image a --cap b --key OPEN --to a:65535
 sync --image a --cap b --key OPEN --to PLACE_255 --under /61
 serve --image a --cap b --key lms:k --at a:1 --links 64 --until 0
 watch --image a
-watch --image a --from 5";
+watch --image a --from 5
+meet --left a --right b --left-cap c --right-cap d --left-out e --right-out f --newest 1
+meet --bytes 0 --left a --right b --left-cap c --right-cap d --left-out e --right-out f --newest 65536 --under /
+sync --image a --cap b --key OPEN --to a:1 --newest 65536
+sync --image a --cap b --key OPEN --to a:1 --bytes 0
+sync --image a --cap b --key OPEN --to a:1 --follow yes
+sync --follow yes --image a --bytes 18446744073709551615 --cap b --key OPEN --newest 1 --to a:1 --from 5
+serve --image a --cap b --key lms:k --at a:1 --links 64 --log NAME_128
+serve --follow yes --log 0._- --image a --cap b --key OPEN --newest 1 --bytes 1 --at a:1 --links 1 --until none";
 
 #[test]
 fn words_that_are_no_command(rt: HostRuntime) {
@@ -200,6 +231,21 @@ fn names_told(alloc: Global, one: &str, two: &str) -> Result<String, AllocError>
     format!(in alloc; "{one} {two}")
 }
 
+// The name of a log's file, and how many bytes are offered at most.
+fn kept_told(alloc: Global, log: &str, bytes: Option<u64>) -> Result<String, AllocError> {
+    format!(in alloc; "{log} {bytes:?}")
+}
+
+// What limits an offer, and whether it follows.
+fn offer_told(
+    alloc: Global,
+    newest: Option<u32>,
+    bytes: Option<u64>,
+    follow: bool,
+) -> Result<String, AllocError> {
+    format!(in alloc; "{newest:?} {bytes:?} {follow}")
+}
+
 // What a command says, where one of the table's is told.
 fn told(alloc: Global, command: &Command) -> Result<String, AllocError> {
     match command {
@@ -223,7 +269,18 @@ fn told(alloc: Global, command: &Command) -> Result<String, AllocError> {
             right_out,
             ..
         } => names_told(alloc, left_cap.as_str(), right_out.as_str()),
+        Command::Serve {
+            log: Some(log),
+            bytes,
+            ..
+        } => kept_told(alloc, log.as_str(), *bytes),
         Command::Serve { cap, at, .. } => names_told(alloc, cap.as_str(), at.as_str()),
+        Command::Sync {
+            newest,
+            bytes,
+            follow,
+            ..
+        } => offer_told(alloc, *newest, *bytes, *follow),
         _ => Ok(String::new(alloc)),
     }
 }
@@ -250,7 +307,12 @@ watch --until none --image a --from 5 = Some(5) Some(None)
 watch --until 6 --image a --from 5 = Some(5) Some(Some(6))
 grant --namespace OWNED --mode write --user USER --key OPEN = 0 90 90
 meet --right-out f --left a --right b --left-cap c --right-cap d --left-out e = c f
-serve --image a --cap b --key lms:k --at host:80 --links 2 = b host:80";
+serve --image a --cap b --key lms:k --at host:80 --links 2 = b host:80
+sync --image a --cap b --key OPEN --to a:1 = None None false
+sync --image a --cap b --key OPEN --to a:1 --newest 7 --follow yes = Some(7) None true
+sync --bytes 18446744073709551615 --image a --cap b --key OPEN --to a:1 = None Some(18446744073709551615) false
+serve --image a --cap b --key OPEN --at a:1 --links 1 --log l --bytes 0 = l Some(0)
+serve --follow yes --newest 65536 --image a --cap b --key OPEN --at a:1 --links 1 --log l.1 = l.1 None";
 
 #[test]
 fn what_commands_say(rt: HostRuntime) {

@@ -1,5 +1,7 @@
 //! A door in memory whose accepts a test can count.
 
+ghost use Rattle.std.specs.Prelude.{◌≡◌};
+
 use willow_outside::{Door, Fault, MemDoor, MemLink};
 
 /// A door in memory, which tells how many accepts it was asked for.
@@ -46,4 +48,17 @@ impl Door for CountedDoor {
     fn give_back(&mut self, link: MemLink) {
         self.door.give_back(link);
     }
+}
+
+/// Asks for three links and makes the other calls of a door between. The clause tells what the door's own count makes of it.
+pub(crate) fn three_accepts(door: &mut MemDoor<MemLink>) -> [bool; 3]
+    requires { door.old.accepts ≡ 0 }
+    ensures { door.new.accepts ≡ 3 }
+{
+    let _ = door.listen("here");
+    let first = door.accept();
+    let second = door.accept();
+    let _ = door.connect("there");
+    let third = door.accept();
+    [first.is_ok(), second.is_ok(), third.is_ok()]
 }

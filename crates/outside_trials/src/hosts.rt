@@ -1,8 +1,8 @@
 //! Links in memory that are visited, and come back.
 
-ghost use Rattle.std.specs.Prelude.{⊤};
+ghost use Rattle.std.specs.Prelude.{◌≡◌, ⊤, IfOk};
 
-use crate::counted_door::CountedDoor;
+use crate::counted_door::{CountedDoor, three_accepts};
 use link_host::{Host, host_links};
 use std::alloc::Global;
 use std::sync::Wait;
@@ -11,7 +11,7 @@ use std::thread::Threads;
 use willow_outside::{Door, Fault, Link, MemDoor, MemLink};
 
 /// Reads a byte, and writes it back with the job behind it.
-struct Echo;
+pub(crate) struct Echo;
 
 impl<L: Link + Send> Host<L> for Echo {
     type Job = u8;
@@ -37,7 +37,9 @@ impl<L: Link + Send> Host<L> for Echo {
 }
 
 /// A door of which two links may come, that give 5 and 6. The accept of this number, from 1, fails.
-fn door_of_two(alloc: Global, fails: u64) -> Result<MemDoor<MemLink>, Fault> {
+pub(crate) fn door_of_two(alloc: Global, fails: u64) -> Result<MemDoor<MemLink>, Fault>
+    ensures { IfOk result (λ door. door.accepts ≡ 0) }
+{
     let first = MemLink::new(alloc, vec![in alloc; 5]?, vec![in alloc]?, 9);
     let second = MemLink::new(alloc, vec![in alloc; 6]?, vec![in alloc]?, 9);
     Ok(MemDoor::new(
@@ -128,6 +130,16 @@ fn links_come_back_in_order(rt: HostRuntime) -> Result<(), Fail> {
         assert!(rt; hosted.unused.as_slice() == case.unused);
         assert_eq!(rt; hosted.stopped, case.stopped);
         assert_eq!(rt; door.accepts(), case.accepts);
+    }
+    Ok(())
+}
+
+#[test]
+fn a_door_counts_its_accepts(rt: HostRuntime) -> Result<(), Fail> {
+    let alloc = rt.alloc();
+    for (fails, came) in [(2, [false, true, false]), (9, [true, true, false])] {
+        let mut door = door_of_two(alloc, fails)?;
+        assert!(rt; three_accepts(&mut door) == came);
     }
     Ok(())
 }

@@ -15,6 +15,8 @@ mod hosts;
 #[cfg(test)]
 mod memory;
 #[cfg(test)]
+mod noting;
+#[cfg(test)]
 mod real;
 #[cfg(test)]
 mod shelves;

@@ -1,7 +1,8 @@
-//! Listings of images, against texts made elsewhere.
+//! Listings of images of both versions, against texts made elsewhere.
 
 use crate::bytes::{
-    BELOW, HEAD, NEW, NO_ROW, OLD, ONE_ROW, OTHER, SPOILT, TWO_ROWS, at_path, joined,
+    BELOW, BELOW_2, BELOW_SECOND, HEAD, HEAD_2, HEAD_OF_TWO, NEW, NEW_2, NO_ROW, OLD, OLD_2,
+    ONE_ROW, OTHER, SPOILT, SPOILT_2, TWO_ROWS, at_path, joined,
 };
 use crate::endings::{Ended, ending_of, shown};
 use auth_entry::PlainChecker;
@@ -146,6 +147,38 @@ fn images_shown(rt: HostRuntime) {
     }
 }
 
+// What is written of an image of version 2 whose rows are all authorised, and how many these are.
+type Told = ([&'static str; 4], &'static str, u64);
+
+static TOLD: [Told; 2] = [
+    ([HEAD_2, NEW_2, "", ONE_ROW], NEW_LISTED, 1),
+    ([HEAD_2, OLD_2, BELOW_2, TWO_ROWS], BOTH_LISTED, 2),
+];
+
+// How an image of version 2 is refused, and how many of its last bytes are missing: a capability is missing, a row is, or
+// their number; no row tells the one capability, or the second; there is no capability of that number.
+static REFUSED: [([&str; 4], usize, u64); 6] = [
+    ([HEAD_2, "", "", ""], 1, 41),
+    ([HEAD_2, OLD_2, BELOW_2, ""], 1, 272),
+    ([HEAD_2, OLD_2, BELOW_2, TWO_ROWS], 1, 433),
+    ([HEAD_2, "", "", NO_ROW], 0, 113),
+    ([HEAD_OF_TWO, OLD_2, BELOW_2, TWO_ROWS], 0, 505),
+    ([HEAD_2, OLD_2, BELOW_SECOND, TWO_ROWS], 0, 272),
+];
+
+#[test]
+fn images_of_version_2_shown(rt: HostRuntime) {
+    let alloc = rt.alloc();
+    for (texts, text, rows) in &TOLD {
+        let line = (*texts, 0, *text, shown(*rows, 0, None));
+        assert!(rt; is_shown(&rt, alloc, &line) == Some(true));
+    }
+    for (texts, cut, at) in &REFUSED {
+        let line = (*texts, *cut, "", Ended::Bad(*at));
+        assert!(rt; is_shown(&rt, alloc, &line) == Some(true));
+    }
+}
+
 static FAULTY: [&str; 3] = [HEAD, NEW, ONE_ROW];
 
 // How the showing of an image ends, where it writes this text, and the call of this number fails.
@@ -194,6 +227,16 @@ fn add(alloc: Global, image: &mut Vec<u8>, text: &str) -> Option<()> {
     image.extend_from_slice(&joined(alloc, &[text])?).ok()
 }
 
+// The head of an image, and a row of two components as it tells these: of version 1; of version 2 with one capability and
+// with two, of which those rows have the first.
+type Front = [&'static str; 2];
+
+const VERSION_1: Front = [HEAD, BELOW];
+
+const VERSION_2: Front = [HEAD_2, BELOW_2];
+
+const OF_TWO: Front = [HEAD_OF_TWO, BELOW_2];
+
 // So many rows below all others, a row between where one is asked for, and the rows of two frames.
 type Rows = (u16, Option<u8>, [&'static str; 2]);
 
@@ -208,9 +251,10 @@ fn add_rows(alloc: Global, image: &mut Vec<u8>, frame: &mut [u8], rows: &Rows) -
 }
 
 // The image of those rows.
-fn behind_others(alloc: Global, rows: &Rows) -> Option<Vec<u8>> {
-    let mut frame = joined(alloc, &[BELOW])?;
-    let mut image = joined(alloc, &[HEAD])?;
+fn behind_others(alloc: Global, front: &Front, rows: &Rows) -> Option<Vec<u8>> {
+    let [head, row] = front;
+    let mut frame = joined(alloc, &[*row])?;
+    let mut image = joined(alloc, &[*head])?;
     add_rows(alloc, &mut image, &mut frame, rows)?;
     Some(image)
 }
@@ -219,20 +263,56 @@ fn behind_others(alloc: Global, rows: &Rows) -> Option<Vec<u8>> {
 fn shows_behind(
     rt: &(impl Threads + Sync),
     alloc: Global,
+    front: &Front,
     rows: &Rows,
     text: &str,
 ) -> Option<Ended> {
-    let image = behind_others(alloc, rows)?;
+    let image = behind_others(alloc, front, rows)?;
     shows(rt, alloc, image, 0, 0, text)
 }
 
 // Images of two parts that are listed: how many rows stand in front, which row between and which frames behind them, the
 // listing, and how many rows are read and refused. The first row of a part is refused, or is the first that is not.
-static LISTED: [(Rows, &str, u64, u64); 4] = [
-    ((511, None, [OLD, BELOW]), BOTH_LISTED, 513, 511),
-    ((511, None, [OLD, SPOILT]), OLD_LISTED, 513, 512),
-    ((512, None, [OLD, SPOILT]), OLD_LISTED, 514, 513),
-    ((510, Some(0), [OLD, BELOW]), BOTH_LISTED, 513, 511),
+static LISTED: [(Front, Rows, &str, u64, u64); 8] = [
+    (VERSION_1, (511, None, [OLD, BELOW]), BOTH_LISTED, 513, 511),
+    (VERSION_1, (511, None, [OLD, SPOILT]), OLD_LISTED, 513, 512),
+    (VERSION_1, (512, None, [OLD, SPOILT]), OLD_LISTED, 514, 513),
+    (
+        VERSION_1,
+        (510, Some(0), [OLD, BELOW]),
+        BOTH_LISTED,
+        513,
+        511,
+    ),
+    (
+        VERSION_2,
+        (511, None, [OLD_2, BELOW_2]),
+        BOTH_LISTED,
+        513,
+        511,
+    ),
+    (
+        VERSION_2,
+        (512, None, [OLD_2, SPOILT_2]),
+        OLD_LISTED,
+        514,
+        513,
+    ),
+    (
+        VERSION_2,
+        (510, Some(0), [OLD_2, BELOW_2]),
+        BOTH_LISTED,
+        513,
+        511,
+    ),
+    // The second capability is told by a row of the second part alone, and grants nothing there.
+    (
+        OF_TWO,
+        (511, None, [OLD_2, BELOW_SECOND]),
+        OLD_LISTED,
+        513,
+        512,
+    ),
 ];
 
 // Rows are read 512 at a time.
@@ -241,24 +321,54 @@ fn images_of_two_parts(rt: HostRuntime) {
     let alloc = rt.alloc();
     let refusal = RowRefusal::BadEntrySignature;
     let first = Some(RefusedRow { row: 1, refusal });
-    for (behind, text, rows, refused) in &LISTED {
+    for (front, behind, text, rows, refused) in &LISTED {
         let due = shown(*rows, *refused, first);
-        assert!(rt; shows_behind(&rt, alloc, behind, text) == Some(due));
+        assert!(rt; shows_behind(&rt, alloc, front, behind, text) == Some(due));
     }
 }
 
 // Others that are not: the first row of the second part falls, or is dominated by the last of the part before, or by one
-// that is not the last.
-static OUT_OF_ORDER: [(Rows, Ended); 3] = [
-    ((511, None, [BELOW, OLD]), Ended::NotRising(513)),
-    ((511, None, [NEW, BELOW]), Ended::Pruned(513, 512)),
-    ((510, Some(0), [NEW, BELOW]), Ended::Pruned(513, 511)),
+// that is not the last. In version 2 also: a row of the second part tells a number too great, and no row of either part
+// tells the second capability.
+static NOT_LISTED: [(Front, Rows, Ended); 8] = [
+    (VERSION_1, (511, None, [BELOW, OLD]), Ended::NotRising(513)),
+    (
+        VERSION_1,
+        (511, None, [NEW, BELOW]),
+        Ended::Pruned(513, 512),
+    ),
+    (
+        VERSION_1,
+        (510, Some(0), [NEW, BELOW]),
+        Ended::Pruned(513, 511),
+    ),
+    (
+        VERSION_2,
+        (511, None, [BELOW_2, OLD_2]),
+        Ended::NotRising(513),
+    ),
+    (
+        VERSION_2,
+        (511, None, [NEW_2, BELOW_2]),
+        Ended::Pruned(513, 512),
+    ),
+    (
+        VERSION_2,
+        (510, Some(0), [NEW_2, BELOW_2]),
+        Ended::Pruned(513, 511),
+    ),
+    (
+        VERSION_2,
+        (511, None, [OLD_2, BELOW_SECOND]),
+        Ended::Bad(82_543),
+    ),
+    (OF_TWO, (511, None, [OLD_2, BELOW_2]), Ended::Bad(82_776)),
 ];
 
 #[test]
-fn images_of_two_parts_out_of_order(rt: HostRuntime) {
+fn images_of_two_parts_that_are_refused(rt: HostRuntime) {
     let alloc = rt.alloc();
-    for (behind, due) in &OUT_OF_ORDER {
-        assert!(rt; shows_behind(&rt, alloc, behind, "") == Some(*due));
+    for (front, behind, due) in &NOT_LISTED {
+        assert!(rt; shows_behind(&rt, alloc, front, behind, "") == Some(*due));
     }
 }

@@ -2,7 +2,9 @@
 
 ghost use Rattle.std.specs.Prelude.{◌≤◌};
 
-use crate::bytes::{BELOW, HEAD, NEW, OLD, ONE_ROW, SPOILT, TWO_ROWS, joined};
+use crate::bytes::{
+    BELOW, BELOW_2, HEAD_2, NEW, NEW_2, OLD, OLD_2, ONE_ROW, SPOILT, TWO_ROWS, joined,
+};
 use crate::endings::{Ended, ending_of};
 use crate::halves::Halves;
 use auth_entry::PlainChecker;
@@ -102,13 +104,19 @@ fn of_two(stored: u64, kept: u64, first: Option<RefusedRow>) -> Ended {
     })
 }
 
-// The frames of two rows, the image, how many rows are stored and kept, and whether the second row is refused.
+// The frames of two rows, the image of version 2, how many rows are stored and kept, and whether the second row is refused.
 type Pair = ([&'static str; 2], [&'static str; 4], u64, u64, bool);
 
 static PAIRS: [Pair; 3] = [
-    ([OLD, BELOW], [HEAD, OLD, BELOW, TWO_ROWS], 2, 0, false),
-    ([NEW, BELOW], [HEAD, NEW, "", ONE_ROW], 1, 1, false),
-    ([OLD, SPOILT], [HEAD, OLD, "", ONE_ROW], 1, 0, true),
+    (
+        [OLD, BELOW],
+        [HEAD_2, OLD_2, BELOW_2, TWO_ROWS],
+        2,
+        0,
+        false,
+    ),
+    ([NEW, BELOW], [HEAD_2, NEW_2, "", ONE_ROW], 1, 1, false),
+    ([OLD, SPOILT], [HEAD_2, OLD_2, "", ONE_ROW], 1, 0, true),
 ];
 
 // How the join of a pair ends.
