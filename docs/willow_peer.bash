@@ -1,7 +1,7 @@
 # Completions of willow_peer for bash: the commands, the options that a command still takes, values that are fixed, and names
 # of files in place. Read it by `. docs/willow_peer.bash`, or install it as `willow_peer` among the completions of bash.
 
-# The options of each command; `watch` is not built.
+# The options of each command; `watch` is not built, nor are --newest and --bytes of sessions, --follow and --log.
 declare -gA _willow_peer_options=(
     [join]="--namespace"
     [show]="--newest"
