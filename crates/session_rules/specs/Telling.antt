@@ -1,11 +1,13 @@
 -- A small session, to look at. Hellos and proofs are bytes, rows are numbers, and a box has those below a number. The
 -- caller tells its rows, then the answerer those that it was not told.
-use Rattle.std.specs.Prelude.{ℕ, suc, ◌+◌, ◌-◌, Bool, true, false, not, ◌==◌, List, [], ◌∷◌, ◌++◌, length, min, nat_eq, nat_lt, nat_le, Option, None, Some, Result, Ok, Err, filter, if◌then◌else◌}
+use Rattle.std.specs.Prelude.{◌≡◌, ℕ, suc, ◌+◌, ◌-◌, Bool, true, false, not, ◌==◌, List, [], ◌∷◌, ◌++◌, length, min, nat_eq, nat_lt, nat_le, Option, None, Some, Result, Ok, Err, filter, if◌then◌else◌}
 use Rattle.std.specs.List.{list_any}
 use Rattle.session_rules.specs.Machine.{Seen, Whole, Part, Wrong}
+use Rattle.session_rules.specs.Reading.{Over}
+use Rattle.session_rules.specs.Messages.{hear}
 use Rattle.session_rules.specs.Talk.{Role, Caller, Answerer, Talk}
 use Rattle.session_rules.specs.Greeting.{Greeting}
-use Rattle.session_rules.specs.Pairs.{Pair}
+use Rattle.session_rules.specs.Pairs.{Pair, caller_side, exchanged}
 
 -- one byte
 abbrev pub byte_seen : List ℕ → Seen ℕ
@@ -131,3 +133,7 @@ caller_told = 9 ∷ 15 ∷ 2 ∷ 4 ∷ 6 ∷ 0 ∷ []
 
 abbrev pub answerer_told : List ℕ
 answerer_told = 6 ∷ 16 ∷ 3 ∷ 0 ∷ []
+
+-- once it has read what the answerer says in the first round behind their greetings, the caller is over
+abbrev pub TellingCallerIsOver : Type 0
+TellingCallerIsOver = (hear (caller_side tellers) told_spelling (exchanged tellers 1).1).stand ≡ Over

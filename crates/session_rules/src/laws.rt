@@ -2,14 +2,14 @@
 //! to refuse there are.
 
 ghost use Rattle.std.specs.Prelude.{◌≡◌, [], ◌∷◌};
-ghost use Rattle.session_rules.specs.Reading.{Over, Done, More, BadMessage, Refusal, said, out, got, ending, Shows};
+ghost use Rattle.session_rules.specs.Reading.{Done, More, BadMessage, Refusal, said, out, got, ending, Shows};
 ghost use Rattle.session_rules.specs.Rounds.{rounds};
-ghost use Rattle.session_rules.specs.Messages.{hear, CanTalk};
+ghost use Rattle.session_rules.specs.Messages.{CanTalk};
 ghost use Rattle.session_rules.specs.Talk.{TellsOwn};
 ghost use Rattle.session_rules.specs.Session.{InGreeting};
-ghost use Rattle.session_rules.specs.Pairs.{calling, answering, caller_side, answerer_side, GreetEachOther, exchanged};
+ghost use Rattle.session_rules.specs.Pairs.{calling, answering, caller_side, answerer_side, GreetEachOther};
 ghost use Rattle.session_rules.specs.Adding.{adding};
-ghost use Rattle.session_rules.specs.Telling.{told_spelling, by_telling, tellers, caller_told, answerer_told};
+ghost use Rattle.session_rules.specs.Telling.{by_telling, tellers, caller_told, answerer_told, TellingCallerIsOver};
 ghost use Rattle.session_rules.specs.Laws.{TwoPiecesReadAlike, PiecesReadAlike, OutGrows, GotGrows, OverWritesNoMore, OverTakesNoMore, OverStaysOver, PartsWriteNothing, PartsTakeNothing, PartsEndNothing, MoreWaits, DoneByMessage, BadByMessage, RefusedByMessage, ReadsMessages, RoundsWriteFronts, FirstOverSettles, SecondOverSettles, OverRoundsMeet, RoundsSpellDialogue, OverIsDialogue, OverDialogueMeets};
 ghost use Rattle.session_rules.specs.SessionLaws.{ItemsAreGranted, RowsAreGranted, ToldRowsAreCommon, ProofsAreGranted, OutSeesCommonAlone, GotSeesCommonAlone, EndingSeesCommonAlone, AnotherProofIsRetold, AnotherProofGetsSame, AnotherProofEndsAlike, GreetedWritesExchange, GreetedGetsExchange, GreetedEndsAsExchange, SessionRoundsAreExchange, SessionsSettle, SessionsMeet};
 ghost use Rattle.session_rules.specs.TurnLaws.{ItemsTellTurns, CallerHearsTurns, AnswererHearsTurns, WholeTurnsAreTaken, TurnsSettle, TurnsMeet};
@@ -42,7 +42,7 @@ pub fn a_small_session()
 pub fn a_small_session_is_lawful()
     ensures greets { GreetEachOther tellers }
     ensures reads { CanTalk (caller_side tellers) (answerer_side tellers) 1 }
-    ensures over { (hear (caller_side tellers) told_spelling (exchanged tellers 1).1).stand ≡ Over }
+    ensures over { TellingCallerIsOver }
     ensures own { TellsOwn by_telling }
 {}
 
