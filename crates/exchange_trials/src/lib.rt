@@ -17,8 +17,6 @@ mod meetings;
 #[cfg(test)]
 mod pairs;
 #[cfg(test)]
-mod parts;
-#[cfg(test)]
 mod rows;
 #[cfg(test)]
 mod runs;

@@ -11,12 +11,9 @@ use scheme_core::OpenScheme;
 use spelling::NoMemory;
 use std::alloc::Global;
 use sync_hello::{Hello, check_hello};
-use sync_link::SessionPlan;
+use sync_link::{SessionPlan, VERSION};
 use sync_msg::Role;
 use willow_path::NamespaceKey;
-
-// The version that both sides speak.
-const VERSION: u8 = 1;
 
 // The nonce of a side.
 pub(crate) fn nonce(role: Role) -> [u8; 16] {
@@ -27,13 +24,10 @@ pub(crate) fn nonce(role: Role) -> [u8; 16] {
 }
 
 // The plan of a side that asks for the user's subspace.
-fn made(alloc: Global, role: Role) -> Option<SessionPlan<OpenScheme>>
-    ensures { IfSome result (λ plan. plan.version ≡ 1) }
-{
+fn made(alloc: Global, role: Role) -> Option<SessionPlan<OpenScheme>> {
     let capability = capability(alloc, Mode::Read)?;
     Some(SessionPlan {
         scheme: OpenScheme,
-        version: VERSION,
         role,
         capability,
         ask: ask(alloc)?,
@@ -47,8 +41,7 @@ pub(crate) fn plan(
     role: Role,
     nonce: [u8; 16],
 ) -> Option<SessionPlan<OpenScheme>>
-    ensures passes { IfSome result (λ plan. hello_refusal open_rules namespace.now (own_hello plan nonce) ≡ None) }
-    ensures version { IfSome result (λ plan. plan.version ≡ 1) }
+    ensures { IfSome result (λ plan. hello_refusal open_rules namespace.now (own_hello plan nonce) ≡ None) }
 {
     let plan = made(alloc, role)?;
     if is_good(namespace, &plan, nonce) {
@@ -73,7 +66,7 @@ fn hello_of(plan: &SessionPlan<OpenScheme>, nonce: [u8; 16]) -> Result<Hello, No
     ensures { IfOk result (λ hello. hello ≡ own_hello plan.now nonce) }
 {
     Ok(Hello {
-        version: plan.version,
+        version: VERSION,
         nonce,
         ask: plan.ask.copy()?,
         capability: plan.capability.copy()?,
