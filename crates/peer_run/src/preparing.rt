@@ -60,12 +60,14 @@ pub(crate) fn plan_of(role: Role, hello: Hello) -> SessionPlan<PeerScheme>
     ensures { result ≡ plan_of role hello }
 {
     let Hello {
+        version,
         ask,
         capability,
         ..
     } = hello;
     SessionPlan {
         scheme: PeerScheme,
+        version,
         role,
         capability,
         ask,
