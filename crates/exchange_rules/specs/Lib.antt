@@ -6,5 +6,4 @@ pub mod Premises
 pub mod AnyPeer
 pub mod Numbers
 pub mod Small
-pub mod NumberLaws
 pub mod Laws

@@ -1,9 +1,8 @@
 -- What a side brings to sessions besides what signs: the log of its image, and a hello against which nothing is.
-use Rattle.std.specs.Prelude.{ℕ, List, None, take, replicate}
+use Rattle.std.specs.Prelude.{ℕ, List, take, replicate}
 use Rattle.std.specs.declared.string.String.{String}
 use Rattle.std.specs.declared.alloc.Global.{Global}
 use Rattle.lms_core.specs.declared.scheme.PeerScheme.{PeerScheme}
-use Rattle.area_interest.specs.declared.interest.Interest.{Interest}
 use Rattle.sync_msg.specs.declared.role.Role.{Role}
 use Rattle.sync_hello.specs.declared.hello.Hello.{Hello}
 use Rattle.sync_link.specs.declared.plan.SessionPlan.{SessionPlan}
@@ -28,13 +27,9 @@ Prepares image cap area =
     Then (Inside (Greets i.namespace area c no_nonce)) (λ h.
     Inside (Yields (record { opening = opening; hello = h }))))))
 
--- all rows are offered
-abbrev pub no_limits : Interest
-no_limits = record { newest = None; bytes = None }
-
--- the plan of a side of this role that says this of itself, and offers all rows
+-- the plan of a side of this role that says this of itself
 abbrev pub plan_of : Role → Hello → SessionPlan PeerScheme
-plan_of role h = record { scheme = record {}; version = h.version; role = role; capability = h.capability; ask = h.ask; interest = no_limits }
+plan_of role h = record { scheme = record {}; role = role; capability = h.capability; ask = h.ask }
 
 -- the nonce of a draw: its first 16 bytes
 abbrev pub nonce_of : List ℕ → List ℕ

@@ -9,7 +9,7 @@ use Rattle.sync_link.specs.Sessions.{Party}
 use Rattle.peer_words.specs.declared.command.AreaWords.{AreaWords}
 use Rattle.peer_run.specs.Greeting.{own_hello, own_refusal}
 use Rattle.peer_run.specs.PairDeeds.{HasImage, HoldsCapability}
-use Rattle.peer_run.specs.Preparing.{no_limits, nonce_of, no_nonce}
+use Rattle.peer_run.specs.Preparing.{nonce_of, no_nonce}
 
 -- an image of a namespace with its rows in order, and a capability
 pub record SideGiven : Type 0 where
@@ -23,7 +23,6 @@ pub record AreSideGiven (image_name cap_name : List ℕ) (area : AreaWords) (tol
   pub cap : HoldsCapability told cap_name g.cap
   pub passes : own_refusal g.namespace (own_hello area g.cap no_nonce) ≡ None
 
--- the side of this role, which offers all rows: its hello has the own capability, the ask of the words, and the first 16 bytes
--- of a draw
+-- the side of this role: its hello has the own capability, the ask of the words, and the first 16 bytes of a draw
 abbrev pub party_of : Role → AreaWords → SideGiven → List ℕ → List ℕ → Party
-party_of role area g draw signature = record { rules = peer_rules; namespace = g.namespace; role = role; hello = own_hello area g.cap (nonce_of draw); interest = no_limits; signature = signature }
+party_of role area g draw signature = record { rules = peer_rules; namespace = g.namespace; role = role; hello = own_hello area g.cap (nonce_of draw); signature = signature }

@@ -13,9 +13,9 @@ use Rattle.mc_cap.specs.declared.refusal.RefusedRow.{RefusedRow}
 use Rattle.lms_core.specs.Key.{Key, raised}
 use Rattle.lms_core.specs.Reserve.{HoldsKey, KeepsNames, PutsKey}
 use Rattle.sync_link.specs.Kept.{log_rows}
-use Rattle.sync_link.specs.Ran.{Ran, AreAuthorised, AreToldApart, IsOther, other_common, opening_of, side}
+use Rattle.sync_link.specs.Ran.{Ran, AreApartAs, AreAuthorised, IsOther, other_common, opening_of, side}
 use Rattle.sync_link.specs.Run.{Answer}
-use Rattle.sync_link.specs.Sessions.{Party, AreSameInCommon, out}
+use Rattle.sync_link.specs.Sessions.{Party, AreSameInCommon, box_with, out}
 use Rattle.peer_image.specs.Image.{image}
 use Rattle.peer_make.specs.KeySigners.{gives_of, IsSignerOf}
 use Rattle.peer_make.specs.Making.{TakesDraws}
@@ -45,11 +45,11 @@ abbrev pub WhereOk : Answer → Type 0 → Type 0
 WhereOk (Ok report) P = P
 WhereOk (Err end) P = Unit {0}
 
--- What is live of the log covers the opening store, and all that another side whose bytes were read offers in the area that
--- both may read, if its rows are authorised and fingerprints tell the rows of both apart.
+-- What is live of the log covers the opening store, and all that another side whose bytes were read has in the area that both
+-- may read, if its rows are authorised and fingerprints tell the rows of both apart.
 pub record LiesAbove {p : List ℕ → Party} (ran : Ran p) (log : List RowValue) : Type 0 where
   pub own : All (HasCovering (live log)) (opening_of ran)
-  pub others : (q : Party) (theirs : List RowValue) → IsOther ran q theirs → AreAuthorised ran theirs → AreToldApart ran q theirs
+  pub others : (q : Party) (theirs : List RowValue) → IsOther ran q theirs → AreAuthorised ran theirs → AreApartAs (side ran).role (box_with (side ran) q.hello) (opening_of ran) theirs
       → All (HasCovering (live log)) (other_common ran q theirs)
 
 -- What a session that was run makes of the stores: the log began with the authorised rows of the image (`opens`) and went on

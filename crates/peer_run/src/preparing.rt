@@ -15,7 +15,7 @@ use spelling::NoMemory;
 use std::alloc::Global;
 use std::thread::Threads;
 use sync_hello::Hello;
-use sync_link::{Interest, SessionPlan};
+use sync_link::SessionPlan;
 use sync_msg::Role;
 use willow_outside::Shelf;
 
@@ -60,21 +60,15 @@ pub(crate) fn plan_of(role: Role, hello: Hello) -> SessionPlan<PeerScheme>
     ensures { result ≡ plan_of role hello }
 {
     let Hello {
-        version,
         ask,
         capability,
         ..
     } = hello;
     SessionPlan {
         scheme: PeerScheme,
-        version,
         role,
         capability,
         ask,
-        interest: Interest {
-            newest: None,
-            bytes: None,
-        },
     }
 }
 

@@ -129,12 +129,10 @@ fn close_house<H: Shelf>(
     }
     let first = first_of_all(rows, first, &ends);
     let sessions = told_of_all(alloc, &ends)?;
-    let feeds = Vec::new(alloc);
     let image = image_of(alloc, &state)?;
     let put = put_image(shelf, name.as_str(), &image)?;
     Ok(Done::Served(Served {
         sessions,
-        feeds,
         all_came,
         first,
         left: 0,

@@ -1,7 +1,6 @@
--- The objects outside, and the hub of those who watch, as a run finds and leaves them.
+-- The objects outside, as a run finds and leaves them.
 use Rattle.std.specs.Prelude.{◌≡◌, ◌≤◌}
-use Rattle.willow_outside.specs.Facts.{ShelfFacts, SourceFacts, SinkFacts, NoiseFacts, DoorFacts, BayFacts}
-use Rattle.sub_hub.specs.Hubs.{HubValue}
+use Rattle.willow_outside.specs.Facts.{ShelfFacts, SourceFacts, SinkFacts, NoiseFacts, DoorFacts}
 
 pub record World : Type 0 where
   pub shelf : ShelfFacts
@@ -10,10 +9,8 @@ pub record World : Type 0 where
   pub report : SinkFacts
   pub door : DoorFacts
   pub noise : NoiseFacts
-  pub hub : HubValue
-  pub bay : BayFacts
 
--- no count of an object falls; a hub has none
+-- no count of an object falls
 pub record NeverFall (old new : World) : Type 0 where
   pub shelf_reads : old.shelf.read_faults ≤ new.shelf.read_faults
   pub shelf_writes : old.shelf.write_faults ≤ new.shelf.write_faults
@@ -23,7 +20,6 @@ pub record NeverFall (old new : World) : Type 0 where
   pub report_faults : old.report.faults ≤ new.report.faults
   pub door_faults : old.door.faults ≤ new.door.faults
   pub noise_faults : old.noise.faults ≤ new.noise.faults
-  pub bay_faults : old.bay.faults ≤ new.bay.faults
 
 -- every object's counts of faults are as before, but for the door's, which did not fall
 pub record UnfailedInside (old new : World) : Type 0 where
@@ -34,7 +30,6 @@ pub record UnfailedInside (old new : World) : Type 0 where
   pub report : new.report.faults ≡ old.report.faults
   pub door : old.door.faults ≤ new.door.faults
   pub noise : new.noise.faults ≡ old.noise.faults
-  pub bay : new.bay.faults ≡ old.bay.faults
 
 -- every object's counts of faults are as before
 pub record Unfailed (old new : World) : Type 0 where
@@ -45,4 +40,3 @@ pub record Unfailed (old new : World) : Type 0 where
   pub report : new.report.faults ≡ old.report.faults
   pub door : new.door.faults ≡ old.door.faults
   pub noise : new.noise.faults ≡ old.noise.faults
-  pub bay : new.bay.faults ≡ old.bay.faults

@@ -2,5 +2,3 @@ pub mod Points
 pub mod Least
 pub mod Choice
 pub mod Sides
-pub mod Parts
-pub mod Quarters

@@ -3,25 +3,17 @@
 ghost use Rattle.std.specs.Prelude.{◌≡◌, None, IsTrue, IfOk, IfSome};
 ghost use Rattle.scheme_core.specs.Open.{open_rules};
 ghost use Rattle.sync_hello.specs.Checked.{hello_refusal};
-ghost use Rattle.sync_core.specs.SyncRules.{IsVersion};
 ghost use Rattle.sync_link.specs.Plans.{own_hello};
 
-use crate::rows::{Rows, ask, capability};
+use crate::rows::{ask, capability};
 use mc_cap::Mode;
 use scheme_core::OpenScheme;
 use spelling::NoMemory;
 use std::alloc::Global;
-use sync_hello::{HIGHEST_VERSION, Hello, check_hello};
-use sync_link::{Interest, SessionPlan};
+use sync_hello::{Hello, check_hello};
+use sync_link::{SessionPlan, VERSION};
 use sync_msg::Role;
 use willow_path::NamespaceKey;
-
-// A side: the highest version that it speaks, and which rows it has.
-#[derive(Clone, Copy)]
-pub(crate) struct Side {
-    pub(crate) version: u8,
-    pub(crate) rows: Rows,
-}
 
 // The nonce of a side.
 pub(crate) fn nonce(role: Role) -> [u8; 16] {
@@ -31,24 +23,14 @@ pub(crate) fn nonce(role: Role) -> [u8; 16] {
     }
 }
 
-// The plan of a side that speaks a version up to this one, and asks for the user's subspace.
-fn made(alloc: Global, role: Role, version: u8) -> Option<SessionPlan<OpenScheme>>
-    ensures { IfSome result (λ plan. IsVersion plan.version) }
-{
-    if version < 1 || version > HIGHEST_VERSION {
-        return None;
-    }
+// The plan of a side that asks for the user's subspace.
+fn made(alloc: Global, role: Role) -> Option<SessionPlan<OpenScheme>> {
     let capability = capability(alloc, Mode::Read)?;
     Some(SessionPlan {
         scheme: OpenScheme,
-        version,
         role,
         capability,
         ask: ask(alloc)?,
-        interest: Interest {
-            newest: None,
-            bytes: None,
-        },
     })
 }
 
@@ -57,13 +39,11 @@ pub(crate) fn plan(
     alloc: Global,
     namespace: &NamespaceKey,
     role: Role,
-    version: u8,
     nonce: [u8; 16],
 ) -> Option<SessionPlan<OpenScheme>>
-    ensures passes { IfSome result (λ plan. hello_refusal open_rules namespace.now (own_hello plan nonce) ≡ None) }
-    ensures version { IfSome result (λ plan. IsVersion plan.version) }
+    ensures { IfSome result (λ plan. hello_refusal open_rules namespace.now (own_hello plan nonce) ≡ None) }
 {
-    let plan = made(alloc, role, version)?;
+    let plan = made(alloc, role)?;
     if is_good(namespace, &plan, nonce) {
         Some(plan)
     } else {
@@ -86,7 +66,7 @@ fn hello_of(plan: &SessionPlan<OpenScheme>, nonce: [u8; 16]) -> Result<Hello, No
     ensures { IfOk result (λ hello. hello ≡ own_hello plan.now nonce) }
 {
     Ok(Hello {
-        version: plan.version,
+        version: VERSION,
         nonce,
         ask: plan.ask.copy()?,
         capability: plan.capability.copy()?,

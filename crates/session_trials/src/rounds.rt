@@ -1,7 +1,6 @@
 //! Two sides that read what each other writes.
 
-use crate::plans::Side;
-use crate::rows::signer;
+use crate::rows::{Rows, signer};
 use crate::runs::{Ran, run_with};
 use std::alloc::Global;
 use std::sync::Wait;
@@ -29,12 +28,12 @@ fn unrun(alloc: Global) -> Ran {
     }
 }
 
-// What comes of a side on all that the other has written, of which it reads at most so many bytes at a time.
+// What comes of a side with these rows on all that the other has written, of which it reads at most so many bytes at a time.
 fn ran_on<R: Wait + Threads + Sync>(
     rt: &R,
     alloc: Global,
     role: Role,
-    which: Side,
+    which: Rows,
     heard: &[u8],
     most: usize,
 ) -> Option<Ran> {
@@ -58,7 +57,7 @@ fn run_again<R: Wait + Threads + Sync>(
     rt: &R,
     alloc: Global,
     role: Role,
-    which: Side,
+    which: Rows,
     heard: &[u8],
     most: usize,
     side: &mut Ran,
@@ -74,8 +73,8 @@ fn run_again<R: Wait + Threads + Sync>(
 fn run_in_turn<R: Wait + Threads + Sync>(
     rt: &R,
     alloc: Global,
-    caller: Side,
-    answerer: Side,
+    callers: Rows,
+    answerers: Rows,
     most: usize,
     met: &mut Met,
 ) -> Option<()> {
@@ -84,7 +83,7 @@ fn run_in_turn<R: Wait + Threads + Sync>(
             rt,
             alloc,
             Role::Caller,
-            caller,
+            callers,
             &met.answerer.written,
             most,
             &mut met.caller,
@@ -94,7 +93,7 @@ fn run_in_turn<R: Wait + Threads + Sync>(
             rt,
             alloc,
             Role::Answerer,
-            answerer,
+            answerers,
             &met.caller.written,
             most,
             &mut met.answerer,
@@ -104,12 +103,12 @@ fn run_in_turn<R: Wait + Threads + Sync>(
     Some(())
 }
 
-// The meeting of two sides, which read at most so many bytes at a time.
+// The meeting of two sides with these rows, which read at most so many bytes at a time.
 pub(crate) fn meeting<R: Wait + Threads + Sync>(
     rt: &R,
     alloc: Global,
-    caller: Side,
-    answerer: Side,
+    callers: Rows,
+    answerers: Rows,
     most: usize,
 ) -> Option<Met> {
     let mut met = Met {
@@ -117,7 +116,7 @@ pub(crate) fn meeting<R: Wait + Threads + Sync>(
         caller: unrun(alloc),
         answerer: unrun(alloc),
     };
-    run_in_turn(rt, alloc, caller, answerer, most, &mut met)?;
+    run_in_turn(rt, alloc, callers, answerers, most, &mut met)?;
     Some(met)
 }
 

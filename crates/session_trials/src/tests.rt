@@ -1,9 +1,8 @@
 //! Sessions over links in memory: two that meet, and ones whose other side, link or signer fails.
 
 use crate::fakes::FailingSigner;
-use crate::plans::Side;
 use crate::rounds::{Met, have_lengths, meeting};
-use crate::rows::{Rows, ask, signature_at, signer};
+use crate::rows::{Rows, signature_at, signer};
 use crate::runs::{Ran, run_with};
 use mc_cap::RowRefusal;
 use session_end::HelloRefusal;
@@ -22,7 +21,6 @@ fn the_laws_can_be_called() {
     sync_link::laws::grows();
     sync_link::laws::granted();
     sync_link::laws::worlds();
-    sync_link::laws::offers();
     sync_link::laws::speaks_to_the_end();
     sync_link::laws::settles();
     sync_link::run_laws::runs_alike();
@@ -42,16 +40,13 @@ fn rows(count: u8, newer: Option<u8>) -> Rows {
 // and read.
 type Numbers = (u32, u32, u64, u32, u32);
 
-// The versions that the caller and the answerer speak, how many rows each has, which one is newer at the answerer, the numbers
-// of bytes of what both write in turn, and what the caller and the answerer report.
-type Case = ((u8, u8), u8, Option<u8>, &'static [usize], Numbers, Numbers);
+// How many rows each side has, which one is newer at the answerer, the numbers of bytes of what both write in turn, and what
+// the caller and the answerer report.
+type Case = (u8, Option<u8>, &'static [usize], Numbers, Numbers);
 
-// A hello has 136 bytes and a proof 34; the caller's proof comes with its first turn. In a session of version 1 the answerer
-// cuts the area in two, and the caller its upper half; in one of version 2 the answerer cuts it in four, and the caller tells
-// its rows of the third part.
-static CASES: [Case; 5] = [
+// A hello has 136 bytes and a proof 34; the caller's proof comes with its first turn.
+static CASES: [Case; 2] = [
     (
-        (1, 1),
         40,
         Some(25),
         &[136, 136 + 34, 34 + 34, 70, 71, 2234, 229, 1],
@@ -59,31 +54,6 @@ static CASES: [Case; 5] = [
         (40, 0, 1, 3, 4),
     ),
     (
-        (2, 1),
-        40,
-        Some(25),
-        &[136, 136 + 34, 34 + 34, 70, 71, 2234, 229, 1],
-        (40, 1, 9, 4, 3),
-        (40, 0, 1, 3, 4),
-    ),
-    (
-        (1, 2),
-        40,
-        Some(25),
-        &[136, 136 + 34, 34 + 34, 70, 71, 2234, 229, 1],
-        (40, 1, 9, 4, 3),
-        (40, 0, 1, 3, 4),
-    ),
-    (
-        (2, 2),
-        40,
-        Some(25),
-        &[136, 136 + 34, 34 + 34, 141, 2236, 229, 1],
-        (40, 1, 0, 5, 2),
-        (40, 0, 10, 2, 5),
-    ),
-    (
-        (2, 2),
         0,
         None,
         &[136, 136 + 34, 34 + 34, 2, 1],
@@ -92,10 +62,10 @@ static CASES: [Case; 5] = [
     ),
 ];
 
-// The report of these, where no row was refused. Both ask for the user's subspace.
-fn reported(alloc: Global, numbers: Numbers) -> Option<SessionReport> {
+// The report of these, where no row was refused.
+fn reported(numbers: Numbers) -> SessionReport {
     let (opened, stored, kept, sent, read) = numbers;
-    Some(SessionReport {
+    SessionReport {
         opened,
         closed: opened.saturating_add(stored),
         stored,
@@ -104,16 +74,15 @@ fn reported(alloc: Global, numbers: Numbers) -> Option<SessionReport> {
         first: None,
         sent,
         read,
-        area: Some(ask(alloc)?),
-    })
+    }
 }
 
 // Whether two sides met as the case says.
-fn is_as_told(alloc: Global, met: &Met, case: &Case) -> Option<bool> {
-    let (_, _, _, turns, caller, answerer) = case;
-    let told = met.caller.answer == Ok(reported(alloc, *caller)?)
-        && met.answerer.answer == Ok(reported(alloc, *answerer)?);
-    Some(told && have_lengths(&met.turns, turns))
+fn is_as_told(met: &Met, case: &Case) -> bool {
+    let (_, _, turns, caller, answerer) = case;
+    have_lengths(&met.turns, turns)
+        && met.caller.answer == Ok(reported(*caller))
+        && met.answerer.answer == Ok(reported(*answerer))
 }
 
 // Whether the sides of a case meet so, which read at most so many bytes at a time.
@@ -123,16 +92,9 @@ fn meet_so<R: Wait + Threads + Sync>(
     case: &Case,
     most: usize,
 ) -> Option<bool> {
-    let (versions, count, newer, _, _, _) = case;
-    let caller = Side {
-        version: versions.0,
-        rows: rows(*count, None),
-    };
-    let answerer = Side {
-        version: versions.1,
-        rows: rows(*count, *newer),
-    };
-    is_as_told(alloc, &meeting(rt, alloc, caller, answerer, most)?, case)
+    let (count, newer, _, _, _) = case;
+    let (one, other) = (rows(*count, None), rows(*count, *newer));
+    Some(is_as_told(&meeting(rt, alloc, one, other, most)?, case))
 }
 
 #[test]
@@ -145,22 +107,16 @@ fn meetings(rt: HostRuntime) {
     }
 }
 
-// The own side speaks both versions.
-const OWN: Side = Side {
-    version: 2,
-    rows: Rows {
-        count: 3,
-        newer: None,
-    },
+// The own rows, and those of the other side: it has a newer row at the path of 1, and one more at the path of 3.
+const OWN: Rows = Rows {
+    count: 3,
+    newer: None,
 };
 
-// The other side has a newer row at the path of 1, and one more at the path of 3.
-fn other(version: u8) -> Side {
-    Side {
-        version,
-        rows: rows(4, Some(1)),
-    }
-}
+const OTHERS: Rows = Rows {
+    count: 4,
+    newer: Some(1),
+};
 
 // Where the bytes first have this part.
 fn place_of(bytes: &[u8], part: &[u8]) -> Option<usize> {
@@ -182,11 +138,11 @@ fn without_signature(alloc: Global, bytes: &[u8]) -> Option<Vec<u8>> {
     Some(spoiled)
 }
 
-// The meeting of the own side in this role with the other, which speaks this version.
-fn met<R: Wait + Threads + Sync>(rt: &R, alloc: Global, role: Role, version: u8) -> Option<Met> {
+// The meeting of the own side in this role with the other.
+fn met<R: Wait + Threads + Sync>(rt: &R, alloc: Global, role: Role) -> Option<Met> {
     match role {
-        Role::Caller => meeting(rt, alloc, OWN, other(version), 1_000_000),
-        Role::Answerer => meeting(rt, alloc, other(version), OWN, 1_000_000),
+        Role::Caller => meeting(rt, alloc, OWN, OTHERS, 1_000_000),
+        Role::Answerer => meeting(rt, alloc, OTHERS, OWN, 1_000_000),
     }
 }
 
@@ -225,12 +181,12 @@ fn run_on<R: Wait + Threads + Sync>(
 
 // The answerer tells its four rows, and the caller its row that was not among them; or it tells its three, and the caller
 // the two that were not. What the answerer has at the path of 1 is stored, and its last row refused.
-fn report(alloc: Global, role: Role) -> Option<SessionReport> {
+fn report(role: Role) -> SessionReport {
     let (row, kept, sent, read) = match role {
         Role::Caller => (4, 2, 2, 1),
         Role::Answerer => (2, 0, 1, 2),
     };
-    Some(SessionReport {
+    SessionReport {
         opened: 3,
         closed: 4,
         stored: 1,
@@ -242,19 +198,16 @@ fn report(alloc: Global, role: Role) -> Option<SessionReport> {
         }),
         sent,
         read,
-        area: Some(ask(alloc)?),
-    })
+    }
 }
 
 // Whether the own side in this role reported so, wrote these bytes, has the rows that it should, and judged the other's in
 // so many calls.
-fn is_session(alloc: Global, ran: &Ran, role: Role, own: &[u8], calls: u64) -> Option<bool> {
-    let told = ran.answer == Ok(report(alloc, role)?);
-    Some(
-        told && ran.written.as_slice() == own
-            && ran.times.as_slice() == [100, 101, 102, 200].as_slice()
-            && ran.calls == calls,
-    )
+fn is_session(ran: &Ran, role: Role, own: &[u8], calls: u64) -> bool {
+    ran.answer == Ok(report(role))
+        && ran.written.as_slice() == own
+        && ran.times.as_slice() == [100, 101, 102, 200].as_slice()
+        && ran.calls == calls
 }
 
 // Whether it does on what the other wrote, without the signature of the row at the path of 3.
@@ -268,7 +221,7 @@ fn comes_out<R: Wait + Threads + Sync>(
 ) -> Option<bool> {
     let heard = without_signature(alloc, other)?;
     let ran = run_on(rt, alloc, role, heard, most)?;
-    is_session(alloc, &ran, role, own, calls)
+    Some(is_session(&ran, role, own, calls))
 }
 
 // The same in the meeting of that role.
@@ -279,7 +232,7 @@ fn session_comes_out<R: Wait + Threads + Sync>(
     most: usize,
     calls: u64,
 ) -> Option<bool> {
-    let met = met(rt, alloc, role, 2)?;
+    let met = met(rt, alloc, role)?;
     comes_out(rt, alloc, role, written(&met, role), most, calls)
 }
 
@@ -299,26 +252,18 @@ fn sessions(rt: HostRuntime) {
     }
 }
 
-// What the other side says to the own caller, where it speaks this version; its row at the path of 3 is not signed.
-fn said<R: Wait + Threads + Sync>(rt: &R, alloc: Global, version: u8) -> Option<Vec<u8>> {
-    let met = met(rt, alloc, Role::Caller, version)?;
-    without_signature(alloc, &met.answerer.written)
+// What the other side says to the own caller; its row at the path of 3 is not signed.
+fn said<R: Wait + Threads + Sync>(rt: &R, alloc: Global) -> Option<Vec<u8>> {
+    without_signature(alloc, &met(rt, alloc, Role::Caller)?.answerer.written)
 }
 
-// A cut of the asked area in two that begins, and one at the empty path.
-const TWO_BEGUN: &[u8] = b"\x03\x01";
+// A cut of the asked area that begins, one at the empty path, and what is no item.
+const BEGUN: &[u8] = b"\x03\x01";
 
-const TWO_AT_NO_PATH: &[u8] =
+const AT_NO_PATH: &[u8] =
     b"\x03\x01\x00................................................................";
 
-// A cut of the asked area in parts that begins, one at two points of which the second is below the first, and what begins as
-// one at four points.
-const PARTS_BEGUN: &[u8] = b"\x08\x01\x02\x01";
-
-const PARTS_FALLING: &[u8] =
-    b"\x08\x01\x02\x01\x01\x14\x01\x01\x0a................................................................................................";
-
-const FIVE_PARTS: &[u8] = b"\x08\x01\x04";
+const NO_ITEM: &[u8] = b"\x08";
 
 // The answerer's hello and proof, of which the hello may be of version 0, and these bytes behind them.
 fn greeting(alloc: Global, said: &[u8], version: u8, behind: &[u8]) -> Option<Vec<u8>> {
@@ -332,46 +277,48 @@ fn greeting(alloc: Global, said: &[u8], version: u8, behind: &[u8]) -> Option<Ve
 type Ending = (u8, &'static [u8], SessionEnd, usize);
 
 // A caller that says its hello, its proof and its first item reads that greeting and these bytes, and the link ends.
-static ENDINGS: [Ending; 9] = [
+static ENDINGS: [Ending; 5] = [
     (1, b"", SessionEnd::ClosedEarly { at: 170 }, 204),
-    (1, TWO_BEGUN, SessionEnd::ClosedEarly { at: 172 }, 204),
-    (
-        1,
-        TWO_AT_NO_PATH,
-        SessionEnd::Core(CoreRefusal::BadCut),
-        204,
-    ),
-    (1, PARTS_BEGUN, SessionEnd::BadMessage { at: 170 }, 204),
-    (2, PARTS_BEGUN, SessionEnd::ClosedEarly { at: 174 }, 204),
-    (2, PARTS_FALLING, SessionEnd::Core(CoreRefusal::BadCut), 204),
-    (2, FIVE_PARTS, SessionEnd::BadMessage { at: 170 }, 204),
-    (2, TWO_BEGUN, SessionEnd::BadMessage { at: 170 }, 204),
+    (1, BEGUN, SessionEnd::ClosedEarly { at: 172 }, 204),
+    (1, AT_NO_PATH, SessionEnd::Core(CoreRefusal::BadCut), 204),
+    (1, NO_ITEM, SessionEnd::BadMessage { at: 170 }, 204),
     (0, b"", SessionEnd::Hello(HelloRefusal::VersionUnknown), 136),
 ];
 
-// Whether the caller ends so. The answerer's proof is for the version that it speaks, which is 1 at least.
+// Whether the caller ends so.
 fn ends_so<R: Wait + Threads + Sync>(
     rt: &R,
     alloc: Global,
+    said: &[u8],
     ending: &Ending,
     most: usize,
 ) -> Option<bool> {
     let (version, behind, end, written) = ending;
-    let said = said(rt, alloc, (*version).max(1))?;
-    let heard = greeting(alloc, &said, *version, behind)?;
+    let heard = greeting(alloc, said, *version, behind)?;
     let ran = run_on(rt, alloc, Role::Caller, heard, most)?;
     Some(ran.answer == Err(*end) && ran.written.len() == *written)
 }
 
-// However many bytes it reads at a time, the caller ends as the table says.
-#[test]
-fn endings(rt: HostRuntime) {
-    let alloc = rt.alloc();
+// Whether it ends as the table says, however many bytes it reads at a time.
+fn all_end_so<R: Wait + Threads + Sync>(rt: &R, alloc: Global, said: &[u8]) -> bool {
     for ending in &ENDINGS {
         for most in [1, 1_000_000] {
-            assert!(rt; ends_so(&rt, alloc, ending, most) == Some(true));
+            if ends_so(rt, alloc, said, ending, most) != Some(true) {
+                return false;
+            }
         }
     }
+    true
+}
+
+// The same of what the other side says.
+fn endings_come_out<R: Wait + Threads + Sync>(rt: &R, alloc: Global) -> Option<bool> {
+    Some(all_end_so(rt, alloc, &said(rt, alloc)?))
+}
+
+#[test]
+fn endings(rt: HostRuntime) {
+    assert!(rt; endings_come_out(&rt, rt.alloc()) == Some(true));
 }
 
 // The call of the link that fails, how the session ends, how many bytes are written, and the times of the rows then.
@@ -422,7 +369,7 @@ fn all_fail_so<R: Wait + Threads + Sync>(rt: &R, alloc: Global, said: &[u8]) -> 
 
 // The same on what the other side says.
 fn failures_come_out<R: Wait + Threads + Sync>(rt: &R, alloc: Global) -> Option<bool> {
-    Some(all_fail_so(rt, alloc, &said(rt, alloc, 2)?))
+    Some(all_fail_so(rt, alloc, &said(rt, alloc)?))
 }
 
 #[test]
@@ -468,7 +415,7 @@ fn third_is_broken_off<R: Wait + Threads + Sync>(
 
 // The same of what the other side says.
 fn list_is_broken_off<R: Wait + Threads + Sync>(rt: &R, alloc: Global) -> Option<[bool; 2]> {
-    third_is_broken_off(rt, alloc, &said(rt, alloc, 2)?)
+    third_is_broken_off(rt, alloc, &said(rt, alloc)?)
 }
 
 #[test]
@@ -488,7 +435,7 @@ fn run_unsigned<R: Wait + Threads + Sync>(rt: &R, alloc: Global, heard: Vec<u8>)
 
 // Whether it then ends for that reason, behind its hello.
 fn fails_to_sign<R: Wait + Threads + Sync>(rt: &R, alloc: Global) -> Option<bool> {
-    let ran = run_unsigned(rt, alloc, said(rt, alloc, 2)?)?;
+    let ran = run_unsigned(rt, alloc, said(rt, alloc)?)?;
     Some(ran.answer == Err(SessionEnd::SignFault) && ran.written.len() == 136)
 }
 

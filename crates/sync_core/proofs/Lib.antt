@@ -16,6 +16,5 @@ pub mod TurnsCounted
 pub mod SpelledTurns
 pub mod TurnItems
 pub mod TwoSides
+pub mod Rising
 pub mod OneByOne
-pub mod Walking
-pub mod Parts

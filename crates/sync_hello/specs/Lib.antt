@@ -5,4 +5,3 @@ pub mod HelloSteps
 pub mod Checked
 pub mod Proof
 pub mod Common
-pub mod Version

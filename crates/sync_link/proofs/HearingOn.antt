@@ -14,14 +14,13 @@ use Rattle.sync_link.specs.Standing.{Side, Feeds, party_of}
 use Rattle.sync_link.specs.Due.{stand_of}
 use Rattle.sync_link.specs.Fed.{CountsOn, counted, noting}
 use Rattle.sync_link.specs.Held.{IsHeld, fed_with, read_of, sent_of}
-use Rattle.sync_link.specs.Talking.{Keeps, SpeaksSome}
+use Rattle.sync_link.specs.Talking.{Keeps}
 use Rattle.sync_link.specs.Taking.{Fits, Holds, IsOpen, waiting_side}
 use Rattle.sync_link.specs.TakingAll.{TakesAll}
 use Rattle.sync_link.specs.declared.due.Cause.TheVariants as causes
 use Rattle.sync_link.specs.declared.due.Due.{Due}
 use Rattle.sync_link.specs.declared.due.Due.TheVariants as dues
 use Rattle.sync_link.specs.declared.talker.Talker.{Talker}
-use Rattle.sync_link.proofs.Agreeing.{agrees_behind}
 use Rattle.sync_link.proofs.Feeding.{closed_stays, feeds_behind, feeds_into, idle_silent}
 use Rattle.sync_link.proofs.Moves.{broken_silent}
 use Rattle.sync_link.proofs.Tally.{same_on}
@@ -37,7 +36,6 @@ module _ {R S : Type 0} (rules : Rules) (value : R → RowValue) (old new : Talk
       record {
         sent = k.sent ∙ ap (λ m. sent_of due + counted m.says) all;
         read = k.read ∙ ap (λ m. read_of due + counted m.rows) noted_all;
-        agreed = agrees_behind rules value old due at held piece (fed_with rules value new next then_at rest) signature holds k.agreed;
       }
 
   module _ (is : IsHeld rules value old due at held) (all : bytes ≡ held ++ piece) (there : then_at ≡ at + taken) (left : rest ≡ drop taken bytes)
@@ -62,7 +60,6 @@ module _ {R S : Type 0} (rules : Rules) (value : R → RowValue) (old new : Talk
         (subst (λ n. IsHeld rules value new next n (drop taken bytes)) (sym there)
         (record {
           own = subst HasSpelling (sym (ap (λ t. t.hello) keeps)) is.own;
-          speaks = subst SpeaksSome (sym (ap (λ t. t.hello) keeps)) is.speaks;
           rows = subst (λ l. AreSound (map value l)) (sym (ap (λ t. t.snapshot) keeps)) is.rows;
           fits = subst (λ role. Fits role new.signature next) (sym (ap (λ t. t.role) keeps)) takes.fits;
           few = omega (arith, is.few, takes.read);
@@ -86,13 +83,12 @@ module _ {R S : Type 0} (rules : Rules) (value : R → RowValue) (talker : Talke
   pub closed_counts_on : CountsOn (fed_with rules value talker due at held) (fed_with rules value talker due at held) piece
   closed_counts_on = λ well signature may.
       let silent = idle_silent rules value talker talker.role talker.signature due is.fits closed at held piece signature in
-      record { sent = same_on (sent_of due) _ (ap (λ m. counted m.says) silent.0); read = same_on (read_of due) _ (ap (λ m. counted m.rows) silent.1); agreed = λ talks. inl (talks, refl) }
+      record { sent = same_on (sent_of due) _ (ap (λ m. counted m.says) silent.0); read = same_on (read_of due) _ (ap (λ m. counted m.rows) silent.1) }
 
 -- what reads no more
 pub held_shut : {R S : Type 0} (rules : Rules) (value : R → RowValue) (old new : Talker R S) (due : Due R) (at then_at : ℕ) (held : List ℕ) → IsHeld rules value old due at held → Keeps old new → then_at < 2 ^ 64 → IsHeld rules value new (dues.Nothing causes.Bad) then_at []
 held_shut rules value old new due at then_at held is keeps few = record {
   own = subst HasSpelling (sym (ap (λ t. t.hello) keeps)) is.own;
-  speaks = subst SpeaksSome (sym (ap (λ t. t.hello) keeps)) is.speaks;
   rows = subst (λ l. AreSound (map value l)) (sym (ap (λ t. t.snapshot) keeps)) is.rows;
   fits = tt;
   few = omega arith;

@@ -1,14 +1,12 @@
 -- What a side of a session keeps to that is fed.
 use Rattle.std.specs.Prelude.{ℕ, ◌+◌, ◌<◌, ◌≤◌, ◌^◌, List, [], length, map, take, Option, None, Some}
 use Rattle.scheme_core.specs.Rules.{Rules}
-use Rattle.willow_area.specs.declared.area.Area.{Area}
 use Rattle.willow_entry.specs.Row.{RowValue}
 use Rattle.sync_hello.specs.HelloForm.{HasSpelling}
 use Rattle.sync_link.specs.Sound.{AreSound}
 use Rattle.sync_link.specs.Fed.{Fed, State, CountsOn}
 use Rattle.sync_link.specs.Standing.{Side}
 use Rattle.sync_link.specs.Due.{stand_of}
-use Rattle.sync_link.specs.Talking.{SpeaksSome}
 use Rattle.sync_link.specs.Taking.{Fits, Holds, read_by, waiting_side}
 use Rattle.sync_link.specs.declared.due.Due.{Due}
 use Rattle.sync_link.specs.declared.due.Due.TheVariants as dues
@@ -28,16 +26,9 @@ read_of (dues.Proof other) = 0
 read_of (dues.Items exchange) = exchange.core.read
 read_of (dues.Nothing cause) = 0
 
--- the area that both may read, as long as an exchange lasts or is done
-abbrev pub area_of : {R : Type 0} → Due R → Option Area
-area_of dues.Hello = None
-area_of (dues.Proof other) = None
-area_of (dues.Items exchange) = exchange.area
-area_of (dues.Nothing cause) = None
-
 -- what contracts see of a side in memory
 abbrev pub fed_with : {R S : Type 0} → Rules → (R → RowValue) → Talker R S → Due R → ℕ → List ℕ → Fed
-fed_with rules value talker due at held = record { side = waiting_side rules value talker due at held; sent = sent_of due; read = read_of due; area = area_of due }
+fed_with rules value talker due at held = record { side = waiting_side rules value talker due at held; sent = sent_of due; read = read_of due }
 
 -- the same of a side by its ear, which has what is due and is there of it
 abbrev pub heard_side : {R S : Type 0} → Rules → (R → RowValue) → Talker R S → Ear R → Side
@@ -51,13 +42,11 @@ state_of value talker due at held = record {
   namespace = talker.namespace;
   role = talker.role;
   hello = talker.hello;
-  interest = talker.interest;
   signature = talker.signature;
   rows = map value talker.snapshot;
   stand = stand_of due at held;
   sent = sent_of due;
   read = read_of due;
-  area = area_of due;
 }
 
 -- it counts what comes of a message in so many bytes, behind which the next begins; or of all the bytes, with no message whole
@@ -65,11 +54,10 @@ abbrev pub CountsStep : (ℕ → List ℕ → Fed) → (ℕ → List ℕ → Fed
 CountsStep old new at bytes None = CountsOn (old at []) (new at bytes) bytes
 CountsStep old new at bytes (Some taken) = CountsOn (old at []) (new (at + taken) []) (take taken bytes)
 
--- Its rows can be said, and so can its hello, which speaks some version; what is due fits which side it is and its signature;
--- and the bytes that are held are a part of what is due. All bytes that were read can be counted.
+-- Its rows and its hello can be said, what is due fits which side it is and its signature, and the bytes that are held are
+-- a part of what is due. All bytes that were read can be counted.
 pub record IsHeld {R S : Type 0} (rules : Rules) (value : R → RowValue) (talker : Talker R S) (due : Due R) (at : ℕ) (held : List ℕ) : Type 0 where
   pub own : HasSpelling talker.hello
-  pub speaks : SpeaksSome talker.hello
   pub rows : AreSound (map value talker.snapshot)
   pub fits : Fits talker.role talker.signature due
   pub few : read_by due ≤ at

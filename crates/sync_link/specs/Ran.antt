@@ -21,11 +21,11 @@ use Rattle.sync_core.specs.Place.{rows_of_area}
 use Rattle.session_rules.specs.Reading as reading
 use Rattle.session_rules.specs.Rounds.{IsFront}
 use Rattle.session_rules.specs.Session.{Item}
-use Rattle.sync_link.specs.Sessions.{Party, SessionCause, said, out, box_with, offered_to, version_with}
+use Rattle.sync_link.specs.Sessions.{Party, SessionCause, said, out, box_with}
 use Rattle.sync_link.specs.Granting.{IsGranted, GrantsRow, message_due}
 use Rattle.sync_link.specs.Settling.{IsOpening, Accepts, AreApartIn}
 use Rattle.sync_link.specs.Kept.{log_rows}
-use Rattle.sync_link.specs.Run.{Answer, AreAllOf, IsAllOf, Ends, Runs}
+use Rattle.sync_link.specs.Run.{Answer, IsAllOf, Ends, Runs}
 
 -- ---- a session that was run
 
@@ -104,7 +104,7 @@ pub record AreAlike {p q : List ℕ → Party} (one : Ran p) (other : Ran q) : T
   pub bytes : List ℕ
   pub wrote : IsAllOf bytes one.did.written one.answer × IsAllOf bytes other.did.written other.answer
   pub rows : List RowValue
-  pub sent : AreAllOf rows (map row_of one.did.rows) one.answer × AreAllOf rows (map row_of other.did.rows) other.answer
+  pub sent : IsAllOf rows (map row_of one.did.rows) one.answer × IsAllOf rows (map row_of other.did.rows) other.answer
   pub end : reading.Ending SessionCause
   pub ended : Ends end (length one.did.bytes) one.answer × Ends end (length other.did.bytes) other.answer
   pub answered : IsUnfailed one.answer → IsUnfailed other.answer → EndAlike one.answer other.answer
@@ -164,28 +164,17 @@ pub record IsOther {p : List ℕ → Party} (ran : Ran p) (q : Party) (others : 
 abbrev pub AreAuthorised : {p : List ℕ → Party} → Ran p → List RowValue → Type 0
 AreAuthorised ran others = All (IsAuthorisedRow (side ran).rules (side ran).namespace) others
 
--- the fingerprints of the exchange of a caller's rows and an answerer's in a version tell rows apart
-abbrev pub AreApartAs : ℕ → Role → Option Ranges → List RowValue → List RowValue → Type 0
-AreApartAs version Caller box rows others = AreApartIn version box rows others
-AreApartAs version Answerer box rows others = AreApartIn version box others rows
+-- the fingerprints of the exchange of a caller's rows and an answerer's tell rows apart
+abbrev pub AreApartAs : Role → Option Ranges → List RowValue → List RowValue → Type 0
+AreApartAs Caller box rows others = AreApartIn box rows others
+AreApartAs Answerer box rows others = AreApartIn box others rows
 
--- the rows that the two offer each other: of the own store, and of the other side's
-abbrev pub own_offered : {p : List ℕ → Party} → Ran p → Party → List RowValue
-own_offered ran q = offered_to (side ran) q.hello (opening_of ran)
-
-abbrev pub other_offered : {p : List ℕ → Party} → Ran p → Party → List RowValue → List RowValue
-other_offered ran q others = offered_to q (side ran).hello others
-
--- the fingerprints of their exchange tell rows apart
-abbrev pub AreToldApart : {p : List ℕ → Party} → Ran p → Party → List RowValue → Type 0
-AreToldApart ran q others = AreApartAs (version_with (side ran) q.hello) (side ran).role (box_with (side ran) q.hello) (own_offered ran q) (other_offered ran q others)
-
--- those of these rows that lie in the area that both may read
+-- the own rows and the other side's in the area that both may read
 abbrev pub own_common : {p : List ℕ → Party} → Ran p → Party → List RowValue
-own_common ran q = rows_of_area (box_with (side ran) q.hello) (own_offered ran q)
+own_common ran q = rows_of_area (box_with (side ran) q.hello) (opening_of ran)
 
 abbrev pub other_common : {p : List ℕ → Party} → Ran p → Party → List RowValue → List RowValue
-other_common ran q others = rows_of_area (box_with (side ran) q.hello) (other_offered ran q others)
+other_common ran q others = rows_of_area (box_with (side ran) q.hello) others
 
 -- of so many rows of both sides in the area that both may read there are at most so many counted items, and none without one
 abbrev pub most_counted : Option Ranges → ℕ → ℕ → ℕ

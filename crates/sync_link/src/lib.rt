@@ -27,9 +27,8 @@ mod take;
 mod take_all;
 mod talker;
 
-pub use area_interest::Interest;
 pub use mc_cap::RefusedRow;
 pub use opening::known_plan;
-pub use plan::{SessionPlan, SessionReport};
+pub use plan::{SessionPlan, SessionReport, VERSION};
 pub use run::run_session;
 pub use session_end::SessionEnd;

@@ -1,6 +1,6 @@
 //! How a session begins.
 
-ghost use Rattle.std.specs.Prelude.{◌≡◌, ◌<◌, ◌^◌, ◌++◌, ℕ, List, map, IfOk, OnOk, None};
+ghost use Rattle.std.specs.Prelude.{◌≡◌, ◌++◌, ℕ, List, map, IfOk, OnOk, None};
 ghost use Rattle.scheme_core.specs.Rules.{Rules};
 ghost use Rattle.spelling.specs.Spelling.{AreSoManyBytes};
 ghost use Rattle.sync_hello.specs.Checked.{hello_refusal};
@@ -32,7 +32,7 @@ pub(crate) fn begin_side<S: Scheme>(
 ) -> Result<Speaker<AuthorisedEntry<S>, S>, NoMemory>
     requires passes { hello_refusal S.rules namespace (own_hello plan.now nonce) ≡ None }
     requires rows { IsOpening namespace (map entry_row snapshot) }
-    ensures begun { IfOk result (λ speaker. speaker ≡ begun namespace plan.now.role (own_hello plan.now nonce) plan.now.interest (map entry_row snapshot)) }
+    ensures begun { IfOk result (λ speaker. speaker ≡ begun namespace plan.now.role (own_hello plan.now nonce) (map entry_row snapshot)) }
     ensures says { OnOk result (out.new.items ≡ out.old.items ++ first_bytes plan.now.role (own_hello plan.now nonce)) }
 {
     let hello = own_hello(plan, nonce)?;
@@ -43,7 +43,6 @@ pub(crate) fn begin_side<S: Scheme>(
         namespace,
         plan.role,
         hello,
-        plan.interest,
         snapshot,
         out,
     )
@@ -74,17 +73,9 @@ fn known_hello(hello: &Hello)
 pub fn known_plan<S: Scheme>(plan: &SessionPlan<S>, nonce: [u8; 16])
     ensures { (rules : Rules) (namespace : List ℕ) → hello_refusal rules namespace (own_hello plan.now nonce) ≡ None → IsHello (own_hello plan.now nonce) }
 {
-    known_version(plan.version);
     known_nonce(&nonce);
     plan.ask.known();
     plan.capability.known();
-}
-
-// Does nothing: it is called for its clause, that a version is one byte.
-fn known_version(version: u8)
-    ensures { version < 2 ^ 8 }
-{
-    let _ = version;
 }
 
 // Does nothing: it is called for its clause, that a nonce has 16 bytes.

@@ -3,5 +3,4 @@ pub mod SelfContained
 pub mod Agreeing
 pub mod TurnEnds
 pub mod Plain
-pub mod Speaking
 pub mod Exchanging

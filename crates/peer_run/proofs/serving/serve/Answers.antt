@@ -5,7 +5,7 @@ use Rattle.std.proofs.lemmas.Result.{err_from_is_err_and}
 use Rattle.peer_stage.specs.World.{World}
 use Rattle.peer_run.specs.Serve.{ClosesHouse}
 use Rattle.peer_run.proofs.GotImages.{untold}
-use Rattle.peer_run.proofs.ServeReady.{house_own, house_few, house_hello, house_version, house_many, house_signs}
+use Rattle.peer_run.proofs.ServeReady.{house_own, house_few, house_hello, house_many, house_signs}
 use Rattle.peer_run.proofs.ServeSteps.{attends_as, drawing_stops, attending_stops, all_steps}
 use Rattle.peer_run.proofs.serving.serve.Goals as goal
 
@@ -35,11 +35,6 @@ pub attend-requires-clause-hello : goal.attend-requires-clause-hello
 attend-requires-clause-hello g c κs within =
     let w = c.args.words in
     house_hello w.image w.cap w.key w.links w.area (record untold { shelf = g.H.Shelf.facts c.args.shelf.now }) (record untold { shelf = g.H.Shelf.facts c.open_house.new.shelf }) c.in_ok-opening.field-0 (c.in_ok-opening.ensures untold)
-
-pub attend-requires-clause-version : goal.attend-requires-clause-version
-attend-requires-clause-version g c κs within =
-    let w = c.args.words in
-    house_version w.image w.cap w.key w.links w.area (record untold { shelf = g.H.Shelf.facts c.args.shelf.now }) (record untold { shelf = g.H.Shelf.facts c.open_house.new.shelf }) c.in_ok-opening.field-0 (c.in_ok-opening.ensures untold)
 
 pub attend-requires-clause-sign : goal.attend-requires-clause-sign
 attend-requires-clause-sign g c κs within =

@@ -10,7 +10,7 @@ use Rattle.peer_stage.specs.World.{World}
 use Rattle.peer_run.specs.Preparing.{nonce_of}
 use Rattle.peer_run.specs.Sync.{Finishes}
 use Rattle.peer_run.proofs.CallBegun.{has_begun, plan_asks}
-use Rattle.peer_run.proofs.CallReady.{plan_passes, plan_speaks, can_sign}
+use Rattle.peer_run.proofs.CallReady.{plan_passes, can_sign}
 use Rattle.peer_run.proofs.GotImages.{held_few, untold}
 use Rattle.peer_run.proofs.SyncSteps.{calls_as, draw_stops, call_stops, all_steps}
 use Rattle.peer_run.proofs.syncing.sync.Goals as goal
@@ -45,14 +45,6 @@ call-requires-clause-hello g c κs within =
     subst (λ (n : List ℕ). hello_refusal peer_rules n (own_hello brings.plan c.nonce_of-nonce.result) ≡ None) (sym begun.front.opened.of_namespace)
     (plan_passes Caller begun.front.given.namespace w.area begun.front.capability c.nonce_of-nonce.result brings.plan
     (plan_asks w.image w.cap w.key w.area (record untold { shelf = g.H.Shelf.facts c.args.shelf.now }) (record untold { shelf = g.H.Shelf.facts c.begin.new.shelf }) brings begun) begun.front.passes)
-
-pub call-requires-clause-version : goal.call-requires-clause-version
-call-requires-clause-version g c κs within =
-    let w = c.args.words in
-    let brings = c.in_ok-opening.field-0 in
-    let begun = has_begun w.image w.cap w.key w.area (record untold { shelf = g.H.Shelf.facts c.args.shelf.now }) (record untold { shelf = g.H.Shelf.facts c.begin.new.shelf }) brings (c.in_ok-opening.ensures untold) in
-    plan_speaks Caller w.area begun.front.capability brings.plan
-    (plan_asks w.image w.cap w.key w.area (record untold { shelf = g.H.Shelf.facts c.args.shelf.now }) (record untold { shelf = g.H.Shelf.facts c.begin.new.shelf }) brings begun)
 
 pub call-requires-clause-signs : goal.call-requires-clause-signs
 call-requires-clause-signs g c κs within =

@@ -1,4 +1,0 @@
-pub mod Deeds
-pub mod Ends
-pub mod Keeps
-pub mod Given
