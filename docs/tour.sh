@@ -3,7 +3,8 @@
 # what stands there.
 # usage: sh docs/tour.sh PROGRAM [readme|tour]
 # With a second word it runs that page alone. PROGRAM is an executable of any build: `rt run` leaves one, and while `rt try`
-# runs the program one stands in its folder below TMPDIR; that one is slow at keys of LMS.
+# runs the program one stands in its folder below TMPDIR; that one is slow at keys of LMS. The other program, willow_mesh, is
+# looked for beside PROGRAM and where `rt run` leaves it; the variable WILLOW_MESH names another.
 # In a console block a line behind `$ ` is a command, one behind `> ` goes on with it, and the lines below are what it prints,
 # on both streams; `…` there stands for one or more hexadecimal digits.
 
@@ -14,7 +15,12 @@ program=$(cd "$(dirname "$1")" && pwd)/$(basename "$1") || exit 2
 folder=$(mktemp -d) || exit 2
 trap 'rm -rf "$folder"' EXIT
 
+mesh=${WILLOW_MESH:-$(dirname "$program")/willow_mesh}
+[ -f "$mesh" ] || mesh=$top/crates/willow_mesh/out/willow_mesh
+mesh=$(cd "$(dirname "$mesh")" 2> /dev/null && pwd)/$(basename "$mesh")
+
 willow_peer() { "$program" "$@"; }
+willow_mesh() { "$mesh" "$@"; }
 
 wrong=0 others=0
 

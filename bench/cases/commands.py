@@ -5,14 +5,14 @@ import lms
 from capabilities import (FULL, Area, Capability, Delegation, entry_message, initial_message, open_signature,
                           read_capability)
 from entries import Entry, Store, by_recency, live
-from exchange import Run, exchange
+from exchange import HIGHEST, Run, exchange
 from images import NotRising, Pruned, image, read_image
 from octets import NotSpelled, whole
 from outside import Fault, Objects
 from report import (BAD_INPUT, KEY_SPENT, LOG_FULL, MISSING, NOT_RISING, PRUNED, READ_FAULT, REFUSED, TAKEN, USAGE,
                     SESSION_REFUSED, WRITE_FAULT, Stop, first_refused)
 from rows import OWNED, BadBytes, Frames, Row, generated
-from sessions import VERSION, Answerer, Caller, Hello
+from sessions import Answerer, Caller, Hello
 from grammar import NONE, ANY, Usage, read_words
 
 LOG_LIMIT = 65_536
@@ -314,7 +314,7 @@ class Opened:
         self.ask = asked_by(self.capability, self.namespace, words)
 
     def session(self, role, link, sign, nonce: bytes) -> "Session":
-        hello = Hello(VERSION, nonce, self.ask, self.capability)
+        hello = Hello(HIGHEST, nonce, self.ask, self.capability)
         return Session(self, role(self.namespace, hello, sign, self.store.live()), link)
 
     def put(self, objects: Objects, name: str) -> bool:

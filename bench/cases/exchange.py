@@ -1,54 +1,91 @@
-"""Two stores that compare what they hold: fingerprints, cuts, answers, turns, and how they are spelled."""
+"""Two stores that compare what they hold: fingerprints, cuts, answers, turns, and how they are spelled, in each version."""
+from bisect import bisect_right
+from collections import Counter
 from dataclasses import dataclass, field, replace
 from hashlib import sha256
 from typing import Optional
 
 from capabilities import Area
-from entries import path_bytes
+from entries import KEY_LENGTH, is_prefix, path_bytes
 from octets import number
 
+HIGHEST = 2  # the versions are 1 and this one
 FEW = 16  # so many rows are sent without a cut
 WORDS = 4  # of eight bytes, in a leaf
+SUBSPACE, PATH, TIME = range(3)  # the dimensions
+MOST_POINTS = 3  # of a cut of version 2
 
-END_TURN, BYE = b"\x06", b"\x07"
-
-
-@dataclass(frozen=True)
-class Box:
-    """Part of an area: the places from one point on and below another, by subspace and by path."""
-    area: Area
-    from_subspace: Optional[bytes] = None
-    below_subspace: Optional[bytes] = None
-    from_path: Optional[tuple] = None
-    below_path: Optional[tuple] = None
-
-    def has(self, row) -> bool:
-        return (self.area.includes(row.entry)
-                and lies(row.entry.subspace, self.from_subspace, self.below_subspace)
-                and lies(row.entry.path, self.from_path, self.below_path))
-
-    def rows(self, rows: list) -> list:
-        return [row for row in rows if self.has(row)]
+AGREE, ENTRIES, REST, END_TURN, BYE = b"\x02", b"\x04", b"\x05", b"\x06", b"\x07"
+FIRST, SPLIT, PARTS = b"\x01", b"\x03", b"\x08"
 
 
-def lies(value, start, end) -> bool:
-    return (start is None or value >= start) and (end is None or value < end)
+def value_of(row, dimension: int):
+    return (row.entry.subspace, row.entry.path, row.entry.timestamp)[dimension]
 
 
 @dataclass(frozen=True)
 class Cut:
-    """A point at which a box is cut: a subspace or a path."""
-    subspace: Optional[bytes] = None
-    path: Optional[tuple] = None
+    """Where a box is cut: at points of one dimension."""
+    dimension: int
+    points: tuple
 
-    def parts(self, box: Box) -> tuple:
-        """What is below the point, and what is not."""
-        if self.subspace is not None:
-            return replace(box, below_subspace=self.subspace), replace(box, from_subspace=self.subspace)
-        return replace(box, below_path=self.path), replace(box, from_path=self.path)
+    def spelled(self, version: int) -> bytes:
+        """The front of the item that says it, up to the fingerprints."""
+        count = b"" if version == 1 else number(1, len(self.points))
+        points = b"".join(spelled_point(self.dimension, point) for point in self.points)
+        return (SPLIT if version == 1 else PARTS) + number(1, self.dimension) + count + points
 
-    def spelled(self) -> bytes:
-        return b"\x00" + self.subspace if self.subspace is not None else b"\x01" + path_bytes(self.path)
+    def rises(self) -> bool:
+        return all(low < high for low, high in zip(self.points, self.points[1:]))
+
+
+def spelled_point(dimension: int, point) -> bytes:
+    if dimension == SUBSPACE:
+        return point
+    return path_bytes(point) if dimension == PATH else number(8, point)
+
+
+@dataclass(frozen=True)
+class Box:
+    """Part of an area: in each dimension the values from one on and below another, where there are such."""
+    area: Area
+    starts: tuple = (None, None, None)
+    ends: tuple = (None, None, None)
+
+    def has(self, row) -> bool:
+        return self.area.includes(row.entry) and all(
+            (start is None or value_of(row, at) >= start) and (end is None or value_of(row, at) < end)
+            for at, (start, end) in enumerate(zip(self.starts, self.ends)))
+
+    def rows(self, rows: list) -> list:
+        return [row for row in rows if self.has(row)]
+
+    def is_cut_by(self, cut: Cut) -> bool:
+        """Whether the points rise, and each lies above where the box starts and below where it ends."""
+        start, end = self.starts[cut.dimension], self.ends[cut.dimension]
+        return cut.rises() and all(
+            lies_within(self.area, cut.dimension, point)
+            and (start is None or point > start) and (end is None or point < end) for point in cut.points)
+
+    def parts(self, cut: Cut) -> list:
+        """What is below the first point, between two of them, and from the last on."""
+        at = cut.dimension
+        bounds = (self.starts[at], *cut.points, self.ends[at])
+        return [replace(self, starts=placed(self.starts, at, low), ends=placed(self.ends, at, high))
+                for low, high in zip(bounds, bounds[1:])]
+
+
+def placed(values: tuple, at: int, value) -> tuple:
+    return values[:at] + (value,) + values[at + 1:]
+
+
+def lies_within(area: Area, dimension: int, point) -> bool:
+    """Whether the area reaches from below the point to above it. Of the paths of an area the first is its own."""
+    if dimension == SUBSPACE:
+        return area.subspace is None and point > bytes(KEY_LENGTH)
+    if dimension == PATH:
+        return is_prefix(area.path, point) and point != area.path
+    return area.start < point and (area.end is None or point < area.end)
 
 
 def fingerprint(rows: list) -> bytes:
@@ -60,15 +97,40 @@ def fingerprint(rows: list) -> bytes:
     return sha256(b"".join(number(8, value % 2 ** 64) for value in (len(rows), *sums))).digest()
 
 
-def choice(rows: list) -> Optional[Cut]:
+def choice(version: int, rows: list) -> Optional[Cut]:
     """Where the rows of a box are cut; nowhere if they are few."""
     if len(rows) <= FEW:
         return None
+    return halved(rows) if version == 1 else quartered(rows)
+
+
+def halved(rows: list) -> Cut:
+    """The cut of version 1."""
     first, middle = rows[0].entry, rows[len(rows) // 2].entry
     if middle.subspace > first.subspace:
-        return Cut(subspace=middle.subspace)
+        return Cut(SUBSPACE, (middle.subspace,))
     greater = [row.entry.subspace for row in rows if row.entry.subspace > first.subspace]
-    return Cut(subspace=min(greater)) if greater else Cut(path=middle.path)
+    return Cut(SUBSPACE, (min(greater),)) if greater else Cut(PATH, (middle.path,))
+
+
+def quartered(rows: list) -> Cut:
+    """The cut of version 2: by time where twice the load of that is less than that of the base dimension."""
+    base = cut_of(SUBSPACE if len({row.entry.subspace for row in rows}) > 1 else PATH, rows)
+    times = cut_of(TIME, rows)
+    return times if 2 * load(times, rows) < load(base, rows) else base
+
+
+def cut_of(dimension: int, rows: list) -> Cut:
+    """At the values at the quarters that are above the least; where none is, at the least that is."""
+    values = sorted(value_of(row, dimension) for row in rows)
+    above = sorted(set(values) - {values[0]})
+    at_quarters = {values[part * len(values) // 4] for part in (1, 2, 3)} & set(above)
+    return Cut(dimension, tuple(sorted(at_quarters) or above[:1]))
+
+
+def load(cut: Cut, rows: list) -> int:
+    """How many rows the part has that has the most."""
+    return max(Counter(bisect_right(cut.points, value_of(row, cut.dimension)) for row in rows).values())
 
 
 @dataclass(frozen=True)
@@ -77,17 +139,15 @@ class Print:
     box: Box
     told: bytes
 
-    def answer(self, rows: list):
+    def answer(self, version: int, rows: list):
         own = self.box.rows(rows)
         if fingerprint(own) == self.told:
-            return b"\x02", [], []
-        cut = choice(own)
+            return AGREE, [], []
+        cut = choice(version, own)
         if cut is None:
-            return b"\x04" + number(1, len(own)) + frames(own), own, [Sent(self.box, own)]
-        parts = cut.parts(self.box)
-        prints = [fingerprint(part.rows(rows)) for part in parts]
-        asks = [Print(part, told) for part, told in zip(parts, prints)]
-        return b"\x03" + cut.spelled() + b"".join(prints), [], asks
+            return ENTRIES + number(1, len(own)) + frames(own), own, [Sent(self.box, own)]
+        asks = [Print(part, fingerprint(part.rows(own))) for part in self.box.parts(cut)]
+        return cut.spelled(version) + b"".join(ask.told for ask in asks), [], asks
 
 
 @dataclass(frozen=True)
@@ -96,10 +156,10 @@ class Sent:
     box: Box
     told: list
 
-    def answer(self, rows: list):
+    def answer(self, _version: int, rows: list):
         known = {row.body() for row in self.told}
         own = [row for row in self.box.rows(rows) if row.body() not in known]
-        return b"\x05" + number(4, len(own)) + frames(own), own, []
+        return REST + number(4, len(own)) + frames(own), own, []
 
 
 def frames(rows: list) -> bytes:
@@ -117,7 +177,7 @@ class Run:
         return b"".join(bytes((at % 2,)) + number(4, len(turn)) + turn for at, turn in enumerate(self.turns))
 
 
-def exchange(left: list, right: list, area: Optional[Area]) -> Run:
+def exchange(left: list, right: list, area: Optional[Area], version: int = HIGHEST) -> Run:
     """The turns of two sides with rows by rising subspace and path; the left one begins."""
     run = Run()
     if area is None:
@@ -125,12 +185,12 @@ def exchange(left: list, right: list, area: Optional[Area]) -> Run:
         return run
     box = Box(area)
     told = fingerprint(box.rows(left))
-    run.turns.append(b"\x01" + told + END_TURN)
+    run.turns.append(FIRST + told + END_TURN)
     run.items, asks = 1, [Print(box, told)]
     sides = (left, right)
     while asks:
         side = len(run.turns) % 2
-        answers = [ask.answer(sides[side]) for ask in asks]
+        answers = [ask.answer(version, sides[side]) for ask in asks]
         asks = [ask for _, _, opened in answers for ask in opened]
         run.items += len(answers)
         for _, rows, _ in answers:

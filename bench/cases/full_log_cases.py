@@ -10,7 +10,7 @@ from outside import LARGE_PIECE
 from serve_cases import DRAWS, FIRST, calls
 from serve_cases import WORDS as SERVE
 from situations import *
-from sync_cases import DRAW, R, answer_to
+from sync_cases import DRAW, R, answer_to, at_path, parts
 from sync_cases import WORDS as SYNC
 
 LARGE = 1 << 16  # more bytes than this are told by their digest
@@ -55,13 +55,13 @@ def rest(count: int) -> bytes:
 
 
 # A cut above all the rows, between parts with fingerprints that no rows have.
-SPLIT = b"\x03\x01" + path_bytes((b"\xff",)) + b"." * 64 + END_TURN
+CUT = parts(1, at_path(0xff)) + END_TURN
 
 # Each says hello and proof, 136 and 34 bytes, and that it has no row, in three bytes, or of both parts in five; the
 # caller its fingerprint, in 34; and both farewell.
 FULL_LOGS = [
     full_log("sync-tells-a-full-log-and-puts-the-rows-before", words_of("sync", **SYNC), DRAW,
-             answer_to(OWN, [], answers=SPLIT + rest(LOG_LIMIT)), LOG_LIMIT, rest(0) + BYE,
+             answer_to(OWN, [], answers=CUT + rest(LOG_LIMIT)), LOG_LIMIT, rest(0) + BYE,
              by_hand=ByHand(8, "log full\n", (136 + 34 + 34 + 5 + 1,))),
     full_log("serve-tells-a-full-log-and-puts-the-rows-before", words_of("serve", **SERVE, links=1), DRAWS[0],
              calls(OWN, [], said=FIRST + rest(LOG_LIMIT)), LOG_LIMIT, BYE,

@@ -75,9 +75,9 @@ def pair_lines() -> str:
     server = served(ONE_LATER, (said,))
     caller = talk(FORTY, said, *server.held)
     assert caller.image == server.image == joined(FORTY, ONE_LATER)
-    # The caller says First, Agree, Split and Rest of the one row that is older, the server Split, Entries of ten and Agree.
-    assert caller.report == "opened 40 closed 41 stored 1 kept 9 refused 0 sent 4 read 3\n"
-    assert server.report == "link 1: opened 40 closed 40 stored 0 kept 1 refused 0 sent 3 read 4\n"
+    # The caller says First, Agree, Agree, Entries of ten and Agree, the server Parts and Rest of the one row that is later.
+    assert caller.report == "opened 40 closed 41 stored 1 kept 0 refused 0 sent 5 read 2\n"
+    assert server.report == "link 1: opened 40 closed 40 stored 0 kept 10 refused 0 sent 2 read 5\n"
     return caller.told("over a pair, the caller") + server.told("over a pair, the server")
 
 
@@ -99,9 +99,10 @@ def gated() -> Came:
     assert len(servers) == 1, "what comes rests on the order of the sessions"
     server, = servers
     assert EARLY.common(LATE) is None
-    # Read are First, Agree and Entries, sent Split and Rest: each side tells the upper half of its rows.
-    assert server.report == ("link 1: stored 1 kept 10 refused 0 sent 2 read 3\n"
-                             "link 2: stored 1 kept 10 refused 0 sent 2 read 3\n")
+    # Each caller says First and answers four parts of five rows of the server: the first one the last part, with a row
+    # more, the second one the last two. Sent are Parts and as many Rests.
+    assert server.report == ("link 1: stored 1 kept 5 refused 0 sent 2 read 5\n"
+                             "link 2: stored 1 kept 10 refused 0 sent 3 read 5\n")
     assert server.image == joined(FORTY, [NEW, LATER])
     return server
 

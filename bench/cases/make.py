@@ -10,7 +10,8 @@ The model: `octets` (bytes and readers), `entries` (paths, entries, stores), `lm
 (the words), `outside` (the objects), `commands`, `report`. The cases: `situations` (what they are made of) and a module
 a command; `large_cases`, `full_log_cases`, `image_cases`, `loopback` and `samples`.
 
-Whatever puts an image puts version 2. The images that the cases of a command are given are of version 1; those of
+Meetings and drills are of version 2 of the exchange, and so are sessions, but where a case says that a peer is of
+version 1. Whatever puts an image puts version 2. The images that the cases of a command are given are of version 1; those of
 `image_cases` are of version 2.
 
 Two things are taken from the program, since what a run must do leaves them open: how much room each read of the input

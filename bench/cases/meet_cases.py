@@ -38,6 +38,27 @@ IN_O = [row(A, 5, author=U, capability=writer(U)), row(AB, 5, author=U, capabili
 MANY = [row((number(2, i),), 1000 + i, author=author, capability=writer(author)) for author in (U, V, W)
         for i in range(30)]
 
+
+def timed(times, author: bytes = U, under: tuple = ()) -> list:
+    """A row of O at each of these times, at the paths of the numbers from 0 on, below a path."""
+    return [row((*under, number(2, i)), time, author=author, capability=writer(author))
+            for i, time in enumerate(times)]
+
+
+def lacking(rows: list, *places: int) -> list:
+    """The rows but for those at some places."""
+    return [each for at, each in enumerate(rows) if at not in places]
+
+
+# Almost all rows are one author's.
+FEW_BESIDE = [*timed(range(100, 140)), *timed((105,), V)]
+LONG = [*timed((500 + 37 * i % 101 for i in range(101))), *timed((540, 550), W)]
+# By subspace a part has 16 rows: where one has 8 by time that is not far more even, and with 7 it is.
+AT_EDGE = [*timed((100,) * 4 + (101,) * 8 + (102,) * 4), *timed((102,), V)]
+PAST_EDGE = [*timed((100,) * 4 + (101,) * 7 + (102,) * 5), *timed((102,), V)]
+THREE_TIMES = [*timed((100,) * 10 + (200,) * 10 + (300,) * 10), *timed((300,), V)]
+LAST_TIMES = [*timed((GREATEST - 2,) * 5 + (GREATEST - 1,) * 5 + (GREATEST,) * 6), *timed((0,), V)]
+
 MEETINGS = [
     meet("of-forty-rows-a-side-of-which-one-is-later", FORTY, ONE_LATER),
     meet("of-nothing-and-seventeen-rows", [], numbered(range(17))),
@@ -51,10 +72,43 @@ MEETINGS = [
          [row(A, capability=handed(communal(), U))]),
     meet("of-three-authors-is-cut-by-subspace", MANY, MANY[7:50] + MANY[55:], ALL, ALL, O),
     meet("of-two-authors-of-whom-one-has-one-row", MANY[:1] + MANY[30:60], MANY[30:60], ALL, ALL, O),
+    meet("of-four-authors-is-cut-into-four-by-subspace",
+         [each for author in (T, U, V, W) for each in timed(range(6), author)],
+         [each for author in (T, U, V, W) for each in timed(range(1, 7), author)], ALL, ALL, O),
+    meet("of-one-author-is-cut-by-path-though-all-times-differ", LONG[:101], lacking(LONG[:101], 5, 60), ALL, ALL, O),
     meet("in-an-owned-namespace", IN_O[:2], IN_O[1:], ALL, ALL, O),
     meet("puts-both-images-under-one-name", FORTY[:3], FORTY[2:5], options={"right-out": "l.new"}),
     meet("puts-an-image-over-its-own", FORTY[:3], FORTY[2:5], options={"left-out": "l", "right-out": "r"}),
     meet("takes-both-sides-from-one-name", FORTY[:3], FORTY[:3], options={"right": "l", "right-cap": "l.cap"}),
+]
+
+def of_generator(rows: int) -> list:
+    """What is live of so many rows of the generator."""
+    store = Store()
+    for index in range(rows):
+        store.take(generated(index))
+    return store.live()
+
+
+CUT_BY_TIME = [
+    meet("of-rows-almost-all-of-one-author-is-cut-by-time", lacking(FEW_BESIDE, 3, 40), FEW_BESIDE, ALL, ALL, O),
+    meet("of-rows-almost-all-of-the-later-author-is-cut-by-time", FEW_BESIDE[1:40],
+         [*timed((105,), T), *FEW_BESIDE[:40]], ALL, ALL, O),
+    meet("of-nothing-and-rows-almost-all-of-one-author", [], FEW_BESIDE, ALL, ALL, O),
+    meet("cuts-a-part-by-time-again", lacking(LONG, 0, 33, 34, 77, 102), LONG, ALL, ALL, O),
+    meet("brings-rows-of-a-part-by-time-in-the-order-of-their-paths", lacking(LONG, *range(0, 101, 3)),
+         lacking(LONG, *range(1, 101, 3)), ALL, ALL, O),
+    meet("is-cut-by-subspace-where-times-are-not-far-more-even", lacking(AT_EDGE, 0), AT_EDGE, ALL, ALL, O),
+    meet("is-cut-by-time-where-times-are-just-far-more-even", lacking(PAST_EDGE, 0), PAST_EDGE, ALL, ALL, O),
+    meet("is-cut-by-subspace-where-all-times-are-one", timed((7,) * 20),
+         [*timed((7,) * 20), *timed((7,) * 2, V), *timed((7,) * 2, W)], ALL, ALL, O),
+    meet("is-cut-by-time-into-three", lacking(THREE_TIMES, 4), lacking(THREE_TIMES, 24), ALL, ALL, O),
+    meet("of-the-last-times-that-there-are", lacking(LAST_TIMES, 15), LAST_TIMES, ALL, ALL, O),
+    meet("cuts-an-area-of-some-times-by-time", lacking(FEW_BESIDE, 7), FEW_BESIDE, ALL, ALL, O, **{"from": 103}, until=135),
+    meet("cuts-by-time-below-a-path", [*timed(range(100, 120), under=A), *timed((105,), V, A)],
+         [*timed((99,) * 20), *timed(range(100, 140), under=A), *timed((105,), V, A)], ALL, ALL, O, under="/61"),
+    meet("of-generated-rows-is-cut-in-every-dimension", of_generator(300), of_generator(400), ALL, ALL, O),
+    meet("agrees-on-the-parts-by-time-that-are-equal", FEW_BESIDE, [*FEW_BESIDE, *timed((141,), V, B)], ALL, ALL, O),
 ]
 
 AREAS = [
@@ -146,6 +200,7 @@ MEET_FAULTS = [
 
 GROUPS = {
     "what comes to either side": MEETINGS,
+    "cuts by time": CUT_BY_TIME,
     "areas": AREAS,
     "rows that are not authorised": LEFT_OUT,
     "what is refused": REFUSED_HELLOS,

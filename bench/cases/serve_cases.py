@@ -3,27 +3,29 @@
 Sessions run at the same time, so what comes of a case may not rest on their order: one link at most brings rows that
 are new or has numbers that another one changes. `Case` asserts that of some orders.
 """
-from exchange import BYE, END_TURN, exchange, frames
+from exchange import BYE, END_TURN, ENTRIES, HIGHEST, exchange, frames
 from grammar import MOST_LINKS
-from meet_cases import FORTY, IN_O, ONE_LATER, numbered
-from sessions import CALLER, Answerer, Caller, Hello, proof_message
-from sync_cases import ALL, OF_K_READ, OTHER_NONCE, R, SPOILT, live_of
+from meet_cases import FEW_BESIDE, FORTY, IN_O, LONG, MANY, ONE_LATER, lacking, numbered
+from sessions import CALLER, Answerer, Caller, Hello, proof_message, spoken
+from sync_cases import ALL, NO_PATH, OF_K_READ, OTHER_NONCE, R, SPOILT, at_path, at_time, live_of, parts, split
 from situations import *
 
 DRAWS = tuple(bytes((first,)) + bytes(range(1, 32)) for first in range(1, MOST_LINKS + 1))
 WORDS = {"image": "i", "cap": "c", "key": BY_U, "at": "host:1"}
 
 
-def calls(own: list, others: list, link: int = 1, cap=R, other_cap=R, ask=None, other_ask=None, version: int = 1,
-          by=None, server=None, said=None) -> bytes:
-    """All that one who calls with other rows says over a link, counted from 1, to a server with the own ones."""
+def calls(own: list, others: list, link: int = 1, cap=R, other_cap=R, ask=None, other_ask=None,
+          version: int = HIGHEST, by=None, server=None, said=None) -> bytes:
+    """All that one who calls with other rows, and speaks up to this version, says over a link, counted from 1, to a
+    server with the own ones."""
     caller = Hello(version, OTHER_NONCE, other_ask or other_cap.grant(), other_cap)
-    answerer = Hello(1, DRAWS[link - 1][:16], ask or cap.grant(), cap)
+    answerer = Hello(HIGHEST, DRAWS[link - 1][:16], ask or cap.grant(), cap)
     signer = by or other_cap.receiver()
     greeting = caller.spelled() + signature_field(signed(signer, proof_message(CALLER, caller, answerer)))
     if said is not None:
         return greeting + said
-    turns = exchange(live_of(others), live_of(own), caller.ask.common(answerer.ask)).turns
+    area = caller.ask.common(answerer.ask)
+    turns = exchange(live_of(others), live_of(own), area, spoken(caller, answerer)).turns
     told = greeting + b"".join(turns[::2])
     meet_as(told, b"".join(turns[1::2]), Caller(cap.namespace, caller, by_signer(signer), live_of(others)),
             Answerer(cap.namespace, answerer, by_signer(server or cap.receiver()), live_of(own)))
@@ -54,8 +56,12 @@ def serve(name: str, own: list, *links: bytes, count=None, cap=R, space: bytes =
                 by_hand)
 
 
-def meets(name: str, own: list, others: list, **options) -> Case:
-    return serve(name, own, calls(own, others), **options)
+def meets(name: str, own: list, others: list, version: int = HIGHEST, **options) -> Case:
+    return serve(name, own, calls(own, others, version=version), **options)
+
+
+def meets_in_o(name: str, own: list, others: list, version: int = HIGHEST) -> Case:
+    return serve(name, own, calls(own, others, cap=ALL, other_cap=ALL, version=version), cap=ALL, space=O)
 
 
 FIRST = b"\x01" + bytes(32) + END_TURN  # with a fingerprint that no rows have
@@ -66,23 +72,30 @@ def rest(*rows: Row) -> bytes:
     return FIRST + b"\x05" + number(4, len(rows)) + frames(rows) + BYE
 
 
-def tells(name: str, said: bytes, own=FORTY[:2], **options) -> Case:
+def tells(name: str, said: bytes, own=FORTY[:2], version: int = HIGHEST, **options) -> Case:
     """The caller says this where an exchange is due."""
-    return serve(f"hears-{name}", own, calls(own, [], said=said), **options)
+    return serve(f"hears-{name}", own, calls(own, [], said=said, version=version), **options)
+
+
+def in_o(name: str, answers: bytes, own=FEW_BESIDE) -> Case:
+    """The caller says this of the parts where rows of two authors are cut."""
+    return serve(f"hears-{name}", own, calls(own, [], cap=ALL, other_cap=ALL, said=FIRST + answers), cap=ALL, space=O)
 
 
 def greeted(name: str, **greeting) -> Case:
     return serve(f"hears-{name}", FORTY[:2], calls(FORTY[:2], [], said=b"", **greeting))
 
 
+SEVENTEEN = FORTY[:17]
 WHOLE = calls(FORTY, ONE_LATER)
-HELLO = len(Hello(1, OTHER_NONCE, R.grant(), R).spelled())
+OLD_WHOLE = calls(FORTY, ONE_LATER, version=1)
+HELLO = len(Hello(HIGHEST, OTHER_NONCE, R.grant(), R).spelled())
 GREETED = len(calls([], [], said=b""))
 
 SESSIONS = [
-    # Read are First, Agree, Split and Rest; sent are turns of Split, and of Entries and Agree, and a farewell.
+    # Read are First, Agree, Agree, Entries of ten and Agree, and a farewell; sent are turns of Parts and of Rest.
     serve("of-forty-rows-a-side-of-which-one-is-later", FORTY, WHOLE, by_hand=ByHand(
-        0, "link 1: opened 40 closed 41 stored 1 kept 0 refused 0 sent 3 read 4\n", (170 + 70 + 2_234 + 1,))),
+        0, "link 1: opened 40 closed 41 stored 1 kept 9 refused 0 sent 2 read 5\n", (170 + 141 + 229,))),
     meets("of-nothing-and-seventeen-rows", [], numbered(range(17))),
     meets("of-seventeen-rows-and-nothing", numbered(range(17)), []),
     meets("of-nothing-and-nothing", [], []),
@@ -97,7 +110,81 @@ SESSIONS = [
     serve("for-one-who-asks-below-a-path", [row(A, 5), row(B, 5)],
           calls([row(A, 5), row(B, 5)], [row(AB, 7), row(B, 7)], other_ask=Area(U, A, 0, None))),
     serve("of-some-times", FORTY, calls(FORTY, ONE_LATER[20:], ask=Area(U, (), 120, 201)), **{"from": 120}, until=201),
-    serve("of-a-later-version-is-as-of-this-one", FORTY[:2], calls(FORTY[:2], FORTY[1:3], version=2)),
+    *(serve(f"of-version-{version}-is-as-of-this-one", FORTY, calls(FORTY, ONE_LATER, version=version), by_hand=ByHand(
+        0, "link 1: opened 40 closed 41 stored 1 kept 9 refused 0 sent 2 read 5\n", (170 + 141 + 229,)))
+      for version in (3, 255)),
+    meets_in_o("of-three-authors-is-cut-by-subspace", MANY, MANY[7:50] + MANY[55:]),
+    meets_in_o("of-rows-almost-all-of-one-author-is-cut-by-time", FEW_BESIDE, lacking(FEW_BESIDE, 3, 40)),
+    meets_in_o("cuts-a-part-by-time-again", lacking(LONG, 0, 33, 34, 77, 102), LONG),
+    meets_in_o("is-brought-rows-of-a-part-by-time-in-the-order-of-their-paths", lacking(LONG, *range(0, 101, 3)),
+               lacking(LONG, *range(1, 101, 3))),
+]
+
+OF_VERSION_1 = [
+    # Read are First, Agree, Split and Rest; sent are turns of Split, and of Entries and Agree, and a farewell.
+    serve("for-one-of-version-1-of-forty-rows-a-side", FORTY, OLD_WHOLE, by_hand=ByHand(
+        0, "link 1: opened 40 closed 41 stored 1 kept 0 refused 0 sent 3 read 4\n", (170 + 70 + 2_234 + 1,))),
+    meets("for-one-of-version-1-of-nothing-and-seventeen-rows", [], numbered(range(17)), 1),
+    meets("for-one-of-version-1-of-seventeen-rows-and-nothing", numbered(range(17)), [], 1),
+    meets("for-one-of-version-1-of-nothing-and-nothing", [], [], 1),
+    meets("for-one-of-version-1-of-equal-rows", FORTY, FORTY, 1),
+    meets("for-one-of-version-1-is-brought-what-prunes", [row(A, 3), row(AB, 4)], [row(A, 6)], 1),
+    meets("for-one-of-version-1-is-brought-what-is-covered", [row(A, 6)], [row(AB, 5)], 1),
+    serve("for-one-of-version-1-reads-no-further-than-the-last-farewell", FORTY, OLD_WHOLE + b"\xff" * 300),
+    serve("for-one-of-version-1-of-two-subspaces-says-farewell", FORTY[:2],
+          calls(FORTY[:2], [], other_cap=communal(V, mode=READ), version=1)),
+    meets_in_o("for-one-of-version-1-in-an-owned-namespace", IN_O[:2], IN_O[1:], 1),
+    meets_in_o("for-one-of-version-1-is-cut-by-subspace", MANY, MANY[7:50] + MANY[55:], 1),
+    meets_in_o("for-one-of-version-1-is-not-cut-by-time", FEW_BESIDE, lacking(FEW_BESIDE, 3, 40), 1),
+    serve("for-one-of-version-1-of-some-times", FORTY,
+          calls(FORTY, ONE_LATER[20:], ask=Area(U, (), 120, 201), version=1), **{"from": 120}, until=201),
+    serve("for-some-of-version-1-and-one-of-version-2", FORTY, calls(FORTY, FORTY[5:], 1, version=1),
+          calls(FORTY, FORTY[:20], 2), calls(FORTY, FORTY, 3, version=1)),
+    meets("for-one-of-version-1-leaves-out-a-row-of-the-image", SPOILT, FORTY[:5], 1),
+    tells("a-row-left-out-that-one-of-version-1-sends", rest(spoilt(row(A)), row(B)), [], 1),
+    *(serve(f"is-left-by-one-of-version-1-after-{count}", FORTY, OLD_WHOLE[:count]) for count in
+      (GREETED + 34, GREETED + 36, GREETED + 100, len(OLD_WHOLE) - 1)),
+    *(serve(f"for-one-of-version-1-puts-the-image-behind-a-fault-of-call-{call}-of-the-link", FORTY, OLD_WHOLE,
+            fails=f"l{call}") for call in (6, 20, 30, 33)),
+]
+
+# What a server with seventeen rows says of the whole is cut into parts, from the paths of 0, 4, 8 and 12 on.
+AGREES = b"\x02"
+CUTS = [
+    tells("a-cut-of-a-part-within-it", FIRST + AGREES + parts(1, at_path(6)) + AGREES * 2 + END_TURN, SEVENTEEN),
+    tells("a-cut-of-a-part-where-it-begins", FIRST + AGREES + parts(1, at_path(4)), SEVENTEEN),
+    tells("a-cut-of-a-part-where-it-ends", FIRST + AGREES + parts(1, at_path(6), at_path(8)), SEVENTEEN),
+    tells("a-cut-of-the-first-part-where-it-ends", FIRST + parts(1, at_path(4)), SEVENTEEN),
+    tells("a-cut-of-the-last-part-where-it-begins", FIRST + AGREES * 3 + parts(1, at_path(12), at_path(14)), SEVENTEEN),
+    tells("a-cut-of-the-last-part-within-it", FIRST + AGREES * 3 + parts(1, at_path(13), at_path(0xff)) + END_TURN,
+          SEVENTEEN),
+    tells("a-cut-of-a-part-by-path-by-time", FIRST + AGREES * 3 + parts(2, at_time(113), at_time(115)) + END_TURN,
+          SEVENTEEN),
+    tells("a-cut-at-no-path", FIRST + parts(1, NO_PATH), SEVENTEEN),
+    tells("a-cut-at-points-that-fall", FIRST + AGREES * 2 + parts(1, at_path(11), at_path(9)), SEVENTEEN),
+    tells("a-cut-at-four-points", FIRST + parts(1, *(at_path(each) for each in (0, 1, 2, 3))), SEVENTEEN),
+    tells("a-cut-of-version-1", FIRST + AGREES + split(at_path(6)), SEVENTEEN),
+    tells("a-cut-where-rows-are-due", FIRST + parts(1, at_path(5)), FORTY[:2]),
+    tells("rows-of-another-part", FIRST + AGREES + ENTRIES + b"\x01" + FORTY[8].frame(), SEVENTEEN),
+    tells("rows-of-the-part-before", FIRST + AGREES + ENTRIES + b"\x01" + FORTY[3].frame(), SEVENTEEN),
+    tells("rows-of-the-part", FIRST + AGREES + ENTRIES + b"\x02" + FORTY[4].frame() + FORTY[7].frame() + AGREES * 2
+          + END_TURN + BYE, SEVENTEEN),
+    tells("a-farewell-with-a-part-unanswered", FIRST + AGREES * 3 + BYE, SEVENTEEN),
+    tells("agreement-on-every-part", FIRST + AGREES * 4 + BYE, SEVENTEEN),
+    tells("agreement-on-more-parts-than-there-are", FIRST + AGREES * 5, SEVENTEEN),
+    tells("a-cut-at-no-path-of-version-1", FIRST + split(NO_PATH), SEVENTEEN, 1),
+    tells("a-cut-of-a-half-where-it-begins-of-version-1", FIRST + AGREES + split(at_path(8)), SEVENTEEN, 1),
+    tells("a-cut-of-version-2-from-one-of-version-1", FIRST + AGREES + parts(1, at_path(12)), SEVENTEEN, 1),
+    # Rows almost all of one author are cut at the times 109, 119 and 129.
+    in_o("a-cut-of-a-part-by-time-where-it-begins", AGREES + parts(2, at_time(109))),
+    in_o("a-cut-of-a-part-by-time-where-it-ends", AGREES + parts(2, at_time(115), at_time(119))),
+    in_o("a-cut-of-a-part-by-time-within-it", AGREES + parts(2, at_time(110), at_time(118)) + AGREES * 2 + END_TURN),
+    in_o("a-cut-of-a-part-by-time-by-subspace", AGREES + parts(0, V) + AGREES * 2 + END_TURN),
+    in_o("a-row-of-a-later-part-by-time", AGREES + ENTRIES + b"\x01" + FEW_BESIDE[19].frame()),
+    in_o("a-row-of-an-earlier-part-by-time", AGREES + ENTRIES + b"\x01" + FEW_BESIDE[8].frame()),
+    in_o("rows-of-a-part-by-time-in-the-order-of-their-times", ENTRIES + b"\x02" + frames([LONG[71], LONG[41]]), LONG),
+    in_o("rows-of-a-part-by-time-in-the-order-of-their-paths", ENTRIES + b"\x02" + frames([LONG[41], LONG[71]])
+         + AGREES * 3 + END_TURN + BYE, LONG),
 ]
 
 LEFT_OUT = [
@@ -134,12 +221,11 @@ ENDS = [
     greeted("a-proof-of-another", by=V),
     serve("hears-a-proof-for-another-link", FORTY[:2], calls(FORTY[:2], FORTY[:2], 2)),
     serve("hears-what-is-no-proof", FORTY[:2], WHOLE[:HELLO] + b"\xff" * 9),
-    tells("a-cut-at-no-path", FIRST + b"\x03\x01\x00" + b"." * 64, FORTY),
     tells("a-farewell-in-place-of-a-fingerprint", BYE),
     tells("a-fingerprint-behind-which-the-turn-goes-on", FIRST[:-1] + b"\x02"),
     tells("an-item-that-is-not-due", FIRST + b"\x02"),
     tells("an-end-of-turn-where-a-farewell-is-due", rest()[:-1] + END_TURN),
-    tells("what-is-no-item", b"\x08"),
+    tells("what-is-no-item", b"\x09"),
     tells("a-row-outside", rest(row(A, author=V))),
     tells("rows-out-of-order-and-keeps-the-first", rest(row(B), row(A))),
     serve("hears-a-fingerprint-where-a-farewell-is-due", FORTY[:2],
@@ -264,7 +350,7 @@ FAULTS = [
     serve("tells-a-fault-of-the-put-behind-a-failed-accept", FIVE, brings_nothing(1), b"", fails="s3 d3"),
     serve("tells-a-fault-of-the-put-behind-a-failed-first-accept", FIVE, brings_nothing(1), fails="s3 d2"),
     *(serve(f"puts-the-image-behind-a-fault-of-call-{call}-of-the-link", FORTY, WHOLE, fails=f"l{call}")
-      for call in (1, 2, 3, 4, 5, 6, 7, 20, 29, 30, 32, 33)),
+      for call in (1, 2, 3, 4, 5, 6, 7, 20, 28, 29, 30, 31, 32)),
     serve("tells-a-fault-of-each-link-in-its-line", FIVE, *(brings_nothing(link) for link in (1, 2, 3)),
           fails="l2:1 l3:4"),
     serve("tells-a-fault-of-the-report", FORTY, WHOLE, fails="r1"),
@@ -289,6 +375,8 @@ STATUSES = [
 
 GROUPS = {
     "sessions": SESSIONS,
+    "one of version 1": OF_VERSION_1,
+    "cuts that are told": CUTS,
     "rows that are not authorised": LEFT_OUT,
     "how a session ends": ENDS,
     "many links": MANY,

@@ -1,18 +1,20 @@
 """A session of a caller or an answerer, as a function of the bytes that are read: hellos, proofs, and the turns of an
-exchange."""
+exchange, in the version that both hellos give."""
 from dataclasses import dataclass, field
 from functools import lru_cache
 from typing import Optional
 
 from capabilities import Area, Capability, accepts, read_area, read_capability, read_signature, signature_field
 from entries import read_key, read_path
-from exchange import BYE, END_TURN, Box, Cut, Print, Sent, fingerprint
+from exchange import (BYE, END_TURN, FIRST, HIGHEST, MOST_POINTS, PATH, SUBSPACE, TIME, Box, Cut, Print, Sent,
+                      fingerprint)
 from octets import NotSpelled, Reader, Short, number, whole
 from rows import Row, WrongFrame, read_frame
 
-VERSION = 1
 CALLER, ANSWERER = 0, 1
 PRINT = 32
+CUT_KINDS = {1: 3, 2: 8}  # what the item is with which each version cuts
+MOST_ROWS = {4: 16, 5: 65_536}  # behind an item
 
 
 class Early(Exception):
@@ -45,15 +47,20 @@ class Hello:
         return self.capability.hello_refusal(namespace, self.ask)
 
 
+def spoken(one: Hello, other: Hello) -> int:
+    """The version of the session of two who said these hellos."""
+    return min(HIGHEST, one.version, other.version)
+
+
 def proof_message(role: int, caller: Hello, answerer: Hello) -> bytes:
     return b"\x53" + number(1, role) + caller.spelled() + answerer.spelled()
 
 
 class Messages:
-    """The messages at the front of some bytes."""
+    """The messages at the front of some bytes. Behind the hellos the items are those of a version."""
 
     def __init__(self, data: bytes):
-        self.data, self.at = data, 0
+        self.data, self.at, self.version = data, 0, None
 
     def next(self, read):
         reader = Reader(self.data, self.at)
@@ -65,6 +72,10 @@ class Messages:
             raise Wrong(self.at) from None
         self.at = reader.taken
         return value
+
+    def item(self):
+        """The kind of the next item, and what it says."""
+        return self.next(lambda reader: read_item(reader, self.version))
 
 
 def inner(read, data: bytes):
@@ -93,16 +104,36 @@ def framed(data: bytes) -> Row:
     return inner(read_frame, data)
 
 
-def read_item(reader: Reader):
+def read_point(reader: Reader, dimension: int):
+    if dimension == SUBSPACE:
+        return read_key(reader)
+    return read_path(reader) if dimension == PATH else reader.number(8)
+
+
+def read_cut(reader: Reader, version: int):
+    """A cut, and the fingerprint of each part."""
+    dimension = reader.number(1)
+    if dimension > (PATH if version == 1 else TIME):
+        raise NotSpelled
+    count = 1 if version == 1 else reader.number(1)
+    if not 1 <= count <= MOST_POINTS:
+        raise NotSpelled
+    points = tuple(read_point(reader, dimension) for _ in range(count))
+    return Cut(dimension, points), [reader.take(PRINT) for _ in range(count + 1)]
+
+
+def read_item(reader: Reader, version: int):
     """The kind of an item, and what it says."""
     kind = reader.number(1)
     if kind == 1:
         return kind, reader.take(PRINT)
-    if kind == 3:
-        at = Cut(path=read_path(reader)) if reader.number(1) else Cut(subspace=read_key(reader))
-        return kind, (at, reader.take(PRINT), reader.take(PRINT))
-    if kind in (4, 5):
-        return kind, reader.number(1 if kind == 4 else 4)
+    if kind == CUT_KINDS[version]:
+        return kind, read_cut(reader, version)
+    if kind in MOST_ROWS:
+        count = reader.number(1 if kind == 4 else 4)
+        if count > MOST_ROWS[kind]:
+            raise NotSpelled
+        return kind, count
     if kind in (2, 6, 7):
         return kind, None
     raise NotSpelled
@@ -157,7 +188,7 @@ class Side:
     def take_turns(self, messages: Messages, stand: Stand, asks: list) -> None:
         """From an own turn on, which answers what the other side asked."""
         while asks:
-            answers = [ask.answer(self.rows) for ask in asks]
+            answers = [ask.answer(messages.version, self.rows) for ask in asks]
             asks = [ask for _, _, opened in answers for ask in opened]
             stand.sent += len(answers)
             stand.out += b"".join(item for item, _, _ in answers) + (END_TURN if asks else BYE)
@@ -169,7 +200,7 @@ class Side:
 
     @staticmethod
     def farewell(messages: Messages) -> None:
-        if messages.next(read_item)[0] != 7:
+        if messages.item()[0] != 7:
             raise Refused("ItemMismatch")
 
     @staticmethod
@@ -177,20 +208,17 @@ class Side:
         """A turn of the other side: its answers to what was asked, and what it asks."""
         opened = []
         for ask in asks:
-            kind, told = messages.next(read_item)
-            allowed = (2, 3, 4) if isinstance(ask, Print) else (5,)
+            kind, told = messages.item()
+            allowed = (2, CUT_KINDS[messages.version], 4) if isinstance(ask, Print) else (5,)
             if kind not in allowed:
                 raise Refused("ItemMismatch")
             stand.read += 1
-            if kind == 3:
-                at, *prints = told
-                if not (at.path or at.subspace):
-                    raise Refused("BadCut")
-                opened += [Print(part, its) for part, its in zip(at.parts(ask.box), prints)]
-            elif kind in (4, 5):
+            if kind in (4, 5):
                 rows = heard_rows(messages, stand, ask.box, told)
                 opened += [Sent(ask.box, rows)] if kind == 4 else []
-        kind = messages.next(read_item)[0]
+            elif kind != 2:
+                opened += heard_cut(ask.box, *told)
+        kind = messages.item()[0]
         if kind != (6 if opened else 7):
             raise Refused("ItemMismatch")
         return opened
@@ -206,6 +234,7 @@ class Caller(Side):
         other = self.heard_hello(messages)
         self.heard_proof(messages, other, proof_message(ANSWERER, self.hello, other))
         self.prove(stand, proof_message(CALLER, self.hello, other))
+        messages.version = spoken(self.hello, other)
         self.exchange(messages, stand, self.hello.ask.common(other.ask))
 
     def exchange(self, messages: Messages, stand: Stand, area: Optional[Area]) -> None:
@@ -214,7 +243,7 @@ class Caller(Side):
             return self.farewell(messages)
         box = Box(area)
         told = fingerprint(box.rows(self.rows))
-        stand.out += b"\x01" + told + END_TURN
+        stand.out += FIRST + told + END_TURN
         stand.sent = 1
         return self.take_turns(messages, stand, self.hear(messages, stand, [Print(box, told)]))
 
@@ -230,6 +259,7 @@ class Answerer(Side):
         stand.out += self.hello.spelled()
         self.prove(stand, proof_message(ANSWERER, other, self.hello))
         self.heard_proof(messages, other, proof_message(CALLER, other, self.hello))
+        messages.version = spoken(other, self.hello)
         self.exchange(messages, stand, other.ask.common(self.hello.ask))
 
     def exchange(self, messages: Messages, stand: Stand, area: Optional[Area]) -> None:
@@ -237,13 +267,20 @@ class Answerer(Side):
             self.farewell(messages)
             stand.out += BYE
             return None
-        kind, told = messages.next(read_item)
+        kind, told = messages.item()
         if kind != 1:
             raise Refused("ItemMismatch")
         stand.read = 1
-        if messages.next(read_item)[0] != 6:
+        if messages.item()[0] != 6:
             raise Refused("ItemMismatch")
         return self.take_turns(messages, stand, [Print(Box(area), told)])
+
+
+def heard_cut(box: Box, cut: Cut, prints: list) -> list:
+    """What the other side asks for where it cuts the box."""
+    if not box.is_cut_by(cut):
+        raise Refused("BadCut")
+    return [Print(part, told) for part, told in zip(box.parts(cut), prints)]
 
 
 def heard_rows(messages: Messages, stand: Stand, box: Box, count: int) -> list:

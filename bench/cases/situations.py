@@ -25,7 +25,7 @@ N = open_key("N")  # a communal namespace
 OTHER = open_key("^")  # another one
 P = open_key("P")  # and a third
 O = open_key("O")  # an owned namespace
-U, V, W = open_key("U"), open_key("V"), open_key("W")  # authors
+T, U, V, W = open_key("T"), open_key("U"), open_key("V"), open_key("W")  # authors
 
 K = lms.LmsKey(5, bytes(range(1, 17)), bytes(range(101, 133)))  # an author's key
 OWN = lms.LmsKey(5, b"!" * 16, b"!" * 32)  # its user key is an owned namespace

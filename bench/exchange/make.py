@@ -1,9 +1,9 @@
 """Prints what is said in exchanges of two stores: how long each turn is, and the SHA-256 digest of all of them together.
 
 It goes by docs/FORMATS.md and by what it means that a side answers an ask, over plain sorted lists, and shares no code
-with the crates. The table is that of the pairs of `exchange_trials`: for each case how many rows are made, from which number
-and how far apart, for which area, the lengths of the turns, the number of items, how many rows each side gets, and the digest. With
-`--check` it compares its table with that of the tests.
+with the crates. The table is that of the pairs of `exchange_trials`: for each case the version, how many rows are made, from
+which number and how far apart, for which area, the lengths of the turns, the number of items, how many rows each side gets,
+and the digest. With `--check` it compares its table with that of the tests.
 
 usage: python3 bench/exchange/make.py [--check]
 """
@@ -40,6 +40,10 @@ class Row:
 
     def place(self):
         return self.subspace, self.path
+
+    def values(self):
+        """Its values in the three dimensions."""
+        return self.subspace, self.path, self.time
 
     def body(self):
         return self.entry + self.token
@@ -89,17 +93,22 @@ class Box:
         self.ranges = subspaces, paths, times
 
     def has(self, row):
-        values = row.subspace, row.path, row.time
-        return all(start <= value and (end is None or value < end) for (start, end), value in zip(self.ranges, values))
+        return all(start <= value and (end is None or value < end) for (start, end), value in zip(self.ranges, row.values()))
 
     def rows(self, rows):
         return [row for row in rows if self.has(row)]
 
-    def cut(self, dimension, point):
-        """The part below the point and the part from it on."""
-        (start, end), lower, upper = self.ranges[dimension], list(self.ranges), list(self.ranges)
-        lower[dimension], upper[dimension] = (start, point), (point, end)
-        return Box(*lower), Box(*upper)
+    def between(self, dimension, start, end):
+        """The same box with another range in the dimension."""
+        ranges = list(self.ranges)
+        ranges[dimension] = start, end
+        return Box(*ranges)
+
+    def cut(self, dimension, points):
+        """The parts below the first point, between the points, and from the last on."""
+        start, end = self.ranges[dimension]
+        starts, ends = [start, *points], [*points, end]
+        return [self.between(dimension, low, high) for low, high in zip(starts, ends)]
 
 
 def box_of(subspace, times):
@@ -120,21 +129,54 @@ def fingerprint(rows):
     return hashlib.sha256(b"".join(number(8, n) for n in [len(rows)] + sums)).digest()
 
 
-def cut_of(rows):
-    """Where the box of these rows is cut: at a subspace (0) or a path (1); None where they are few."""
-    if len(rows) <= FEW:
-        return None
+def middle_point(rows):
+    """Where version 1 cuts many rows: at a subspace (0) or a path (1)."""
     first, middle = rows[0], rows[len(rows) // 2]
     above = [row.subspace for row in rows if row.subspace > first.subspace]
     if middle.subspace > first.subspace:
-        return 0, middle.subspace
-    return (0, min(above)) if above else (1, middle.path)
+        return 0, [middle.subspace]
+    return (0, [min(above)]) if above else (1, [middle.path])
 
 
-def spelled_cut(dimension, point):
+def quarter_points(rows, dimension):
+    """The distinct values at the quarters that are above the least; where none is, the least value that is above it."""
+    values = sorted(row.values()[dimension] for row in rows)
+    above = {values[n * len(values) // 4] for n in (1, 2, 3)} - {values[0]}
+    return sorted(above) or sorted(set(values) - {values[0]})[:1]
+
+
+def load(rows, dimension, points):
+    """The greatest number of rows in one part."""
+    places = [sum(point <= row.values()[dimension] for point in points) for row in rows]
+    return max(places.count(place) for place in places)
+
+
+def even_points(rows):
+    """Where version 2 cuts many rows: by time (2) where that is far more even."""
+    base = 0 if len({row.subspace for row in rows}) > 1 else 1
+    points, times = quarter_points(rows, base), quarter_points(rows, 2)
+    return (2, times) if 2 * load(rows, 2, times) < load(rows, base, points) else (base, points)
+
+
+def cut_of(version, rows):
+    """The dimension and the points at which the box of these rows is cut; None where they are few."""
+    if len(rows) <= FEW:
+        return None
+    return middle_point(rows) if version == 1 else even_points(rows)
+
+
+def spelled_point(dimension, point):
     if dimension == 0:
-        return b"\x00" + point
-    return b"\x01" + bytes([len(point)]) + b"".join(bytes([len(part)]) + part for part in point)
+        return point
+    if dimension == 2:
+        return number(8, point)
+    return bytes([len(point)]) + b"".join(bytes([len(part)]) + part for part in point)
+
+
+def spelled_cut(version, dimension, points):
+    """A Split or a Parts up to its fingerprints."""
+    head = b"\x03" + number(1, dimension) if version == 1 else b"\x08" + number(1, dimension) + number(1, len(points))
+    return head + b"".join(spelled_point(dimension, point) for point in points)
 
 
 class Turn:
@@ -154,7 +196,7 @@ class Turn:
         return self
 
 
-def answer(turn, rows, ask):
+def answer(version, turn, rows, ask):
     """Says the answer of a side with these rows to a box with a fingerprint, or with the rows that were sent."""
     box, told = ask
     own = box.rows(rows)
@@ -164,16 +206,17 @@ def answer(turn, rows, ask):
         turn.say(b"\x05" + number(4, len(rest)), rest)
     elif told == fingerprint(own):
         turn.say(b"\x02")
-    elif cut_of(own) is None:
+    elif cut_of(version, own) is None:
         turn.say(b"\x04" + number(1, len(own)), own, [(box, own)])
     else:
-        parts = box.cut(*cut_of(own))
+        dimension, points = cut_of(version, own)
+        parts = box.cut(dimension, points)
         prints = [fingerprint(part.rows(rows)) for part in parts]
-        turn.say(b"\x03" + spelled_cut(*cut_of(own)) + b"".join(prints), opens=list(zip(parts, prints)))
+        turn.say(spelled_cut(version, dimension, points) + b"".join(prints), opens=list(zip(parts, prints)))
 
 
-def exchange(left, right, box):
-    """The turns, left and right by turns."""
+def exchange(version, left, right, box):
+    """The turns by the rules of a version, left and right by turns."""
     first = Turn()
     if box is not None:
         print_of_left = fingerprint(box.rows(left))
@@ -182,7 +225,7 @@ def exchange(left, right, box):
     while turns[-1].opens:
         turn = Turn()
         for ask in turns[-1].opens:
-            answer(turn, right if len(turns) % 2 == 1 else left, ask)
+            answer(version, turn, right if len(turns) % 2 == 1 else left, ask)
         turns.append(turn.end())
     return turns + [Turn().end()]
 
@@ -205,18 +248,18 @@ def rust(value):
     return "None" if value is None else f"Some({value})"
 
 
-def line(case):
+def line(version, case):
     count, seed, spread, subspace, times = case
     left, right = made(count, seed, spread)
     byte = None if subspace is None else ord(subspace)
-    turns = exchange(left, right, box_of(byte, times))
+    turns = exchange(version, left, right, box_of(byte, times))
     lengths = ", ".join(str(len(turn.bytes)) for turn in turns)
     to_left = sum(len(turn.rows) for turn in turns[1::2])
     to_right = sum(len(turn.rows) for turn in turns[0::2])
     items = sum(turn.items for turn in turns)
     digest = hashlib.sha256(b"".join(turn.bytes for turn in turns)).hexdigest()
     place = rust(None if byte is None else f"b'{subspace}'")
-    return (f"(({count}, {seed}, {spread}), ({place}, {times[0]}, {rust(times[1])}), &[{lengths}], "
+    return (f"({version}, ({count}, {seed}, {spread}), ({place}, {times[0]}, {rust(times[1])}), &[{lengths}], "
             f"{items}, ({to_left}, {to_right}), \"{digest}\")")
 
 
@@ -225,7 +268,7 @@ def words(text):
 
 
 def main():
-    lines = [line(case) for case in CASES]
+    lines = [line(version, case) for version in (1, 2) for case in CASES]
     if sys.argv[1:] != ["--check"]:
         print(",\n".join(lines))
         return 0

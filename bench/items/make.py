@@ -1,12 +1,14 @@
 """Prints the table of items that `crates/answer_cases` reads; `bench/answers.py` puts it there.
 
-A line `item NAME BEFORE BYTES ANSWER` is a case: a reader that took the bytes BEFORE is given BYTES, both in
-hexadecimal (`-` for none). Behind all but the longest, each line `at CUT ZERO FULL NEXT FLIP` behind it is about one byte of BYTES, the first for
+A line `item NAME VERSION BEFORE BYTES ANSWER` is a case: a reader of items of the version that took the bytes BEFORE
+is given BYTES, both in hexadecimal (`-` for none). Behind all but the longest, each line `at CUT ZERO FULL NEXT FLIP` behind it is about one byte of BYTES, the first for
 the first: what is answered to the bytes in front of it, and to BYTES with 0 in its place, with 255, with one more (0
 for 255), and with its highest bit turned.
 
 An answer is `more`, `bad`, or an item with the number of its bytes behind a colon. Behind its kind stand the first
 bytes of its fingerprints, its count, or the length of its token: `first.17:33`, `split-key.34.51:99`, `entries.16:2`.
+Of a cut in parts the points stand before the fingerprints: of a key its second byte, of a path how many bytes its
+components have, and a time: `parts-time.5.9.34.51.68:115`.
 
 The answers are those of a reader that goes over the bytes from the left and stops at the first that is missing or
 that nothing can begin with. It shares no code with the crates.
@@ -20,11 +22,16 @@ from pathlib import Path
 sys.path.insert(0, str(Path(__file__).resolve().parents[1]))
 from fronts import MAX_FRAME, Bad, Bytes, More
 
-MAX_ENTRIES, MAX_REST = 16, 65_536
+MAX_ENTRIES, MAX_REST, MAX_POINTS = 16, 65_536, 3
+DIMENSIONS = ("key", "path", "time")
 
 
 class Items(Bytes):
-    """Items from the left."""
+    """Items of a version from the left."""
+
+    def __init__(self, version, text):
+        super().__init__(text)
+        self.version = version
 
     def row(self):
         """A frame whose body is an entry and any bytes behind it; the body is looked at once it is there."""
@@ -39,13 +46,32 @@ class Items(Bytes):
         return f"row.{len(body.text) - body.taken}"
 
     def split(self):
+        """A cut in two, at a key or a path."""
         dimension = self.byte(most=1)
+        self.point(dimension)
+        lower, upper = self.some(32), self.some(32)
+        return f"split-{DIMENSIONS[dimension]}.{lower[0]}.{upper[0]}"
+
+    def parts(self):
+        """A cut in parts, at one to three points."""
+        dimension = self.byte(most=2)
+        count = self.byte(most=MAX_POINTS)
+        if count == 0:
+            raise Bad
+        points = [self.point(dimension) for _ in range(count)]
+        prints = [self.some(32)[0] for _ in range(count + 1)]
+        return ".".join(map(str, (f"parts-{DIMENSIONS[dimension]}", *points, *prints)))
+
+    def point(self, dimension):
+        """What is told of a point."""
+        at = self.taken
         if dimension == 0:
             self.key()
-        else:
+            return self.text[at + 1]
+        if dimension == 1:
             self.path()
-        lower, upper = self.some(32), self.some(32)
-        return f"split-{('key', 'path')[dimension]}.{lower[0]}.{upper[0]}"
+            return self.taken - at - 1 - self.text[at]
+        return int.from_bytes(self.some(8), "big")
 
     def head(self):
         """An item that is no row."""
@@ -54,8 +80,10 @@ class Items(Bytes):
             return f"first.{self.some(32)[0]}"
         if kind == 2:
             return "agree"
-        if kind == 3:
+        if kind == 3 and self.version == 1:
             return self.split()
+        if kind == 8 and self.version == 2:
+            return self.parts()
         if kind == 4:
             return f"entries.{self.byte(most=MAX_ENTRIES)}"
         if kind == 5:
@@ -67,9 +95,9 @@ class Items(Bytes):
         raise Bad
 
 
-def answer(due, text):
+def answer(version, due, text):
     """The answer of a reader to the text, and how many rows are due behind it."""
-    reading = Items(text)
+    reading = Items(version, text)
     try:
         item = reading.row() if due > 0 else reading.head()
     except More:
@@ -84,11 +112,11 @@ def answer(due, text):
     return f"{item}:{reading.taken}", due
 
 
-def due_behind(before):
+def due_behind(version, before):
     """How many rows are due behind the bytes, which are whole items."""
     due = 0
     while before:
-        found, due = answer(due, before)
+        found, due = answer(version, due, before)
         before = before[int(found.split(":")[1]):]
     return due
 
@@ -97,18 +125,18 @@ def hexadecimal(text):
     return text.hex() or "-"
 
 
-def whole(name, before, text):
-    due = due_behind(before)
-    print("item", name, hexadecimal(before), hexadecimal(text), answer(due, text)[0])
+def whole(name, before, text, version=1):
+    due = due_behind(version, before)
+    print("item", name, version, hexadecimal(before), hexadecimal(text), answer(version, due, text)[0])
     return due
 
 
-def case(name, before, text):
-    due = whole(name, before, text)
+def case(name, before, text, version=1):
+    due = whole(name, before, text, version)
     for place, byte in enumerate(text):
-        answers = [answer(due, text[:place])[0]]
+        answers = [answer(version, due, text[:place])[0]]
         for value in (0, 255, (byte + 1) % 256, byte ^ 0x80):
-            answers.append(answer(due, text[:place] + bytes([value]) + text[place + 1:])[0])
+            answers.append(answer(version, due, text[:place] + bytes([value]) + text[place + 1:])[0])
         print("at", *answers)
 
 
@@ -131,6 +159,49 @@ def entries(count):
 
 def rest(count):
     return b"\x05" + struct.pack(">I", count)
+
+
+def parts(dimension, *points):
+    """A cut in parts, with a fingerprint of other bytes for each part."""
+    prints = b"".join(bytes([17 * (at + 2)]) * 32 for at in range(len(points) + 1))
+    return bytes([8, dimension, len(points)]) + b"".join(points) + prints
+
+
+def time(number):
+    return struct.pack(">Q", number)
+
+
+def version_2():
+    """Items of version 2, which has a cut in parts for that in two; the others are the same."""
+    keys = [bytes([kind]) + bytes([byte]) * 32 for kind, byte in ((0, 0x61), (0, 0x62), (1, 0x63))]
+    paths = [spelled_path(), spelled_path(b"a", b"", b"bc"), spelled_path(b"b")]
+    times = [time(5), time(9), time(2 ** 64 - 1)]
+    for name, dimension, points in (("key", 0, keys), ("path", 1, paths), ("time", 2, times)):
+        case(f"parts-at-a-{name}", b"", parts(dimension, points[1]), 2)
+        case(f"parts-at-three-points-by-{name}", b"", parts(dimension, *points), 2)
+    case("parts-at-two-times", b"", parts(2, *times[:2]), 2)
+    case("parts-at-times-that-fall", b"", parts(2, *times[::-1]), 2)
+    case("parts-at-no-point", b"", b"\x08\x01\x00" + b"\x22" * 32, 2)
+    case("parts-at-four-times", b"", b"\x08\x02\x04" + time(1), 2)
+    case("parts-of-a-fourth-dimension", b"", b"\x08\x03\x01", 2)
+    full = spelled_path(*[b"c" * 255] * 16, b"d" * 16)
+    too_long = spelled_path(*[b"c" * 255] * 16, b"d" * 17)
+    whole("parts-at-paths-of-all-bytes", b"", parts(1, full, full, full), 2)
+    whole("parts-before-the-second-path-is-too-long", b"", (b"\x08\x01\x02" + spelled_path() + too_long)[:4_101], 2)
+    whole("parts-at-a-second-path-that-is-too-long", b"", (b"\x08\x01\x02" + spelled_path() + too_long)[:4_102], 2)
+    case("split-in-version-2", b"", b"\x03\x01\x00", 2)
+    case("two-items-of-version-2", b"", b"\x02" + parts(2, time(0))[:5], 2)
+    case("no-kind-of-version-2", b"", b"\x00", 2)
+    case("no-kind-above-of-version-2", b"", b"\x09", 2)
+    for count in (0, 16, 17):
+        case(f"entries-{count}-of-version-2", b"", entries(count), 2)
+    case("rest-of-version-2", b"", rest(65_536), 2)
+    plain = frame(entry(spelled_path(b"a", b"bc")))
+    case("parts-behind-no-rest", rest(0), parts(2, time(7))[:11], 2)
+    case("parts-behind-the-rows", entries(1) + plain, parts(2, time(7)), 2)
+    case("parts-behind-parts", parts(1, paths[1]), parts(1, paths[2])[:9], 2)
+    case("no-parts-while-a-row-is-due", entries(2) + plain, parts(2, time(7))[:11], 2)
+    case("last-row-of-version-2", entries(1), plain, 2)
 
 
 def main():
@@ -178,6 +249,7 @@ def main():
     case("head-behind-the-rows", entries(2) + short + plain, b"\x07")
     case("entries-behind-rows", rest(1) + plain, entries(3))
     case("row-is-no-head", b"\x06", plain[:6])
+    version_2()
 
 
 main()

@@ -4,7 +4,7 @@ ghost use Rattle.std.specs.Prelude.{◌≡◌, ◌+◌, ◌<◌, ◌^◌, length
 
 use spelling::End;
 use std::alloc::{AllocError, Global};
-use sync_msg::{BadItem, Item, ItemReader, Step};
+use sync_msg::{BadItem, Item, ItemReader, Points, Prints, Step};
 use willow_area::CutAt;
 use willow_entry::{BareRow, BareRows, Row};
 
@@ -22,11 +22,51 @@ fn take_all(mut reader: ItemReader<BareRows>, bytes: &[u8]) -> Option<ItemReader
     }
 }
 
-/// A new reader that took the bytes.
-fn reader_behind(alloc: Global, before: &[u8]) -> Option<ItemReader<BareRows>>
+/// A new reader of the version that took the bytes; none where there is no such version.
+fn reader_behind(alloc: Global, version: u8, before: &[u8]) -> Option<ItemReader<BareRows>>
     ensures { IfSome result (λ r. r.taken ≡ length before.now) }
 {
-    take_all(ItemReader::new(alloc), before)
+    match version {
+        1 => take_all(ItemReader::new(alloc, 1), before),
+        2 => take_all(ItemReader::new(alloc, 2), before),
+        _ => None,
+    }
+}
+
+/// The word for the dimension of a point.
+fn dimension_word(at: &CutAt) -> &'static str {
+    match at {
+        CutAt::Subspace(_) => "key",
+        CutAt::Path(_) => "path",
+        CutAt::Time(_) => "time",
+    }
+}
+
+/// What is told of a point: the second byte of a key, how many bytes a path has, or a time.
+fn point_number(at: &CutAt) -> u64 {
+    match at {
+        CutAt::Subspace(key) => {
+            let bytes = key.to_bytes();
+            u64::from(bytes[1])
+        }
+        CutAt::Path(path) => path.total() as u64,
+        CutAt::Time(time) => *time,
+    }
+}
+
+/// What is told of a cut in parts.
+fn parts_word(alloc: Global, points: &Points, prints: &Prints) -> Result<String, AllocError> {
+    let dimension = points.get(0).map_or("nowhere", |at| dimension_word(at));
+    let mut word = format!(in alloc; "parts-{dimension}")?;
+    for i in 0..points.len() {
+        let number = points.get(i).map_or(0, |at| point_number(at));
+        word = format!(in alloc; "{word}.{number}")?;
+    }
+    for i in 0..prints.len() {
+        let first = prints.get(i).map_or(0, |print| print[0]);
+        word = format!(in alloc; "{word}.{first}")?;
+    }
+    Ok(word)
 }
 
 /// What is told of an item.
@@ -35,13 +75,10 @@ fn item_word(alloc: Global, item: &Item<BareRow>) -> Result<String, AllocError> 
         Item::First { print } => format!(in alloc; "first.{}", print[0]),
         Item::Agree => String::from_str(alloc, "agree"),
         Item::Split { at, lower, upper } => {
-            let dimension = match at {
-                CutAt::Subspace(_) => "key",
-                CutAt::Path(_) => "path",
-                CutAt::Time(_) => "time",
-            };
+            let dimension = dimension_word(at);
             format!(in alloc; "split-{dimension}.{}.{}", lower[0], upper[0])
         }
+        Item::Parts { points, prints } => parts_word(alloc, points, prints),
         Item::Entries { count } => format!(in alloc; "entries.{count}"),
         Item::Rest { count } => format!(in alloc; "rest.{count}"),
         Item::Row(row) => format!(in alloc; "row.{}", row.token_bytes().len()),
@@ -68,11 +105,16 @@ fn word(
     }
 }
 
-/// The answer to the bytes of a reader that took those before.
-pub(crate) fn answer_to(alloc: Global, before: &[u8], bytes: &[u8]) -> Result<String, AllocError>
+/// The answer to the bytes of a reader of the version that took those before.
+pub(crate) fn answer_to(
+    alloc: Global,
+    version: u8,
+    before: &[u8],
+    bytes: &[u8],
+) -> Result<String, AllocError>
     requires { length before.now + length bytes.now < 2 ^ 64 }
 {
-    match reader_behind(alloc, before) {
+    match reader_behind(alloc, version, before) {
         Some(mut reader) => {
             let answer = reader.next(bytes);
             word(alloc, answer, before.len())
@@ -81,10 +123,11 @@ pub(crate) fn answer_to(alloc: Global, before: &[u8], bytes: &[u8]) -> Result<St
     }
 }
 
-/// The answer to the bytes of a reader that took those before and asked for more behind the front; none where it did
-/// not ask.
+/// The answer to the bytes of a reader of the version that took those before and asked for more behind the front; none
+/// where it did not ask.
 pub(crate) fn answer_behind_more(
     alloc: Global,
+    version: u8,
     before: &[u8],
     front: &[u8],
     bytes: &[u8],
@@ -92,7 +135,7 @@ pub(crate) fn answer_behind_more(
     requires front { length before.now + length front.now < 2 ^ 64 }
     requires bytes { length before.now + length bytes.now < 2 ^ 64 }
 {
-    let Some(mut reader) = reader_behind(alloc, before) else {
+    let Some(mut reader) = reader_behind(alloc, version, before) else {
         return Ok(None);
     };
     match reader.next(front) {

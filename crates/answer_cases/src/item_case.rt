@@ -7,10 +7,11 @@ use std::alloc::{AllocError, Global};
 /// More bytes than any case has.
 const MANY: usize = 100_000;
 
-/// The bytes that a reader took, those that it is given, what it is to answer to all of them, and how many lines about
-/// one of the bytes were read.
+/// The version of a reader, the bytes that it took, those that it is given, what it is to answer to all of them, and how
+/// many lines about one of the bytes were read.
 #[derive(Drop)]
 pub(crate) struct ItemCase {
+    version: u8,
     before: Vec<u8>,
     bytes: Vec<u8>,
     answer: String,
@@ -30,6 +31,7 @@ impl ItemCase {
     /// No case.
     pub(crate) fn none(alloc: Global) -> ItemCase {
         ItemCase {
+            version: 0,
             before: Vec::new(alloc),
             bytes: Vec::new(alloc),
             answer: String::new(alloc),
@@ -55,9 +57,11 @@ impl ItemCase {
     // The case of the fields.
     fn of(alloc: Global, fields: &str) -> Option<ItemCase> {
         let (_name, fields) = fields.split_once(' ')?;
+        let (version, fields) = fields.split_once(' ')?;
         let (before, fields) = fields.split_once(' ')?;
         let (bytes, answer) = fields.split_once(' ')?;
         Some(ItemCase {
+            version: version.parse::<u8>().ok()?,
             before: bytes_of(alloc, before)?,
             bytes: bytes_of(alloc, bytes)?,
             answer: String::from_str(alloc, answer).ok()?,
@@ -70,7 +74,7 @@ impl ItemCase {
         if self.before.len() > MANY || bytes.len() > MANY {
             return Ok(false);
         }
-        Ok(answer_to(alloc, &self.before, bytes)?.as_str() == due)
+        Ok(answer_to(alloc, self.version, &self.before, bytes)?.as_str() == due)
     }
 
     // Whether the reader, if it asks for more behind the front, then answers as to all the bytes.
@@ -78,7 +82,7 @@ impl ItemCase {
         if self.before.len() > MANY || front.len() > MANY || self.bytes.len() > MANY {
             return Ok(false);
         }
-        match answer_behind_more(alloc, &self.before, front, &self.bytes)? {
+        match answer_behind_more(alloc, self.version, &self.before, front, &self.bytes)? {
             Some(answer) => Ok(answer.as_str() == self.answer.as_str()),
             None => Ok(true),
         }

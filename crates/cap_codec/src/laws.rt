@@ -6,6 +6,7 @@ ghost use Rattle.mc_cap.specs.Signature.{signature_spelling, IsSignature};
 ghost use Rattle.mc_cap.specs.Forms.{capability_spelling, IsCapability};
 ghost use Rattle.cap_codec.specs.Reading.{signature_at, capability_at, token_at};
 ghost use Rattle.cap_codec.specs.Rows.{token_spelling, IsToken, raw_spelling, IsRaw, frame, FitsFrame, HaveOneReading};
+ghost use Rattle.cap_codec.specs.Numbered.{numbered_spelling, IsNumberedRow, numbered_frame, FitsNumbered, capability_frame, FitsCapability};
 ghost use Rattle.cap_codec.specs.Streams.{FramesNeverStop, HaveOneStop};
 
 /// A signature field has one spelling, which begins that of no other.
@@ -41,6 +42,18 @@ pub fn one_body()
 /// A row has one frame, which begins that of no other.
 pub fn one_frame()
     ensures { IsForm frame FitsFrame }
+{}
+
+/// A row that tells its capability by a number has one spelling, which begins that of no other, and one frame, of which
+/// the same holds.
+pub fn one_numbered()
+    ensures spelling { IsForm numbered_spelling IsNumberedRow }
+    ensures frame { IsForm numbered_frame FitsNumbered }
+{}
+
+/// A capability has one frame, which begins that of no other.
+pub fn one_capability_frame()
+    ensures { IsForm capability_frame FitsCapability }
 {}
 
 /// Bytes are the frames of at most one list of rows.

@@ -65,7 +65,7 @@ module _ {R X C : Type 0} (g : Rules R X C) where
   turn_of items opens = record { items = items; ends_with_bye = is_empty opens }
 
   module _ (disjoint : HasDisjointParts g) (x : X) where
-    parts_inside : (y : X) → Inside x y → (cut : C) → AllByRecursion (Inside x) (g.parts y cut)
+    pub parts_inside : (y : X) → Inside x y → (cut : C) → AllByRecursion (Inside x) (g.parts y cut)
     parts_inside y inside cut =
         all_weaker (Inside y) (Inside x) (λ z within r e. inside r (within r e)) (g.parts y cut) (each_inside y (g.parts y cut) (disjoint y cut))
 
@@ -95,7 +95,7 @@ module _ {R X C : Type 0} (g : Rules R X C) where
     inside_if true asks h = h
     inside_if false asks h = tt
 
-    part_asks_inside : (parts : List X) (prints : List (List ℕ)) → AllByRecursion (Inside x) parts → AllByRecursion (IsInside x) (part_asks parts prints)
+    pub part_asks_inside : (parts : List X) (prints : List (List ℕ)) → AllByRecursion (Inside x) parts → AllByRecursion (IsInside x) (part_asks parts prints)
     part_asks_inside [] prints h = tt
     part_asks_inside (y ∷ parts) [] h = tt
     part_asks_inside (y ∷ parts) (print ∷ prints) h = (h.0, part_asks_inside parts prints h.1)

@@ -6,4 +6,5 @@ pub mod Premises
 pub mod AnyPeer
 pub mod Numbers
 pub mod Small
+pub mod NumberLaws
 pub mod Laws

@@ -1,13 +1,13 @@
 //! The laws of the exchange, each the contract of a function that does nothing, at whatever rows `R`, boxes `X` and
 //! cuts `C` there are.
 
-ghost use Rattle.std.specs.Prelude.{◌≡◌, ℕ, ◌<◌, IsTrue, List, [], ◌∷◌, Some, None};
+ghost use Rattle.std.specs.Prelude.{◌≡◌, [], ◌∷◌, Some, None};
 ghost use Rattle.exchange_rules.specs.Items.{counted, to_left, to_right, caller_turns, answerer_turns};
-ghost use Rattle.exchange_rules.specs.Exchange.{turns, Apart};
+ghost use Rattle.exchange_rules.specs.Exchange.{turns};
 ghost use Rattle.exchange_rules.specs.AnyPeer.{caller, answerer};
-ghost use Rattle.exchange_rules.specs.Premises.{IsDeciding, HasDisjointParts, CanCut, CanSend};
-ghost use Rattle.exchange_rules.specs.Numbers.{Range, is_rising, of_numbers};
+ghost use Rattle.exchange_rules.specs.Numbers.{of_numbers};
 ghost use Rattle.exchange_rules.specs.Small.{doubles, doubles_but_one, up_to_eighty, sixteen_few, items_by_turn, one_to_six, seven_for_five, up_to_ten, turns_of_caller, turns_of_answerer, small_exchange};
+ghost use Rattle.exchange_rules.specs.NumberLaws.{NumbersAreDecided, RangesHaveDisjointParts, RisingNumbersCanCut, RisingNumbersCanSend, NumbersAreApart};
 ghost use Rattle.exchange_rules.specs.Laws.{ExchangesEnd, MoreTurnsAddNone, ItemsAreFew, SidesAddUp, NoItemsWithoutBox, LeftGetsOnlyHeld, RightGetsOnlyHeld, LeftGetsOnce, RightGetsOnce, LeftGetsLacked, RightGetsLacked, CallerSendsHeld, AnswererSendsHeld, CallerSendsOnce, AnswererSendsOnce, CallerSendsNoMore, AnswererSendsNoMore, FrontsSendNoMore, NoRowsWithoutBox, CallerSeesBoxAlone, AnswererSeesBoxAlone, NoneSeesRowsWithoutBox, ExchangesSeeBoxAlone, ApartSeesBoxAlone, CallerWritesExchange, AnswererWritesExchange, CallerGoesOnByExchange, AnswererGoesOnByExchange};
 
 /// A small exchange of numbers is the one that was written out by hand, and so is what each side writes alone.
@@ -38,11 +38,11 @@ pub fn exchanges_of_many()
 
 /// The rules of these exchanges meet all that the laws ask, for every two lists of rising numbers.
 pub fn numbers()
-    ensures decide { (few : ℕ) → IsDeciding (of_numbers few) }
-    ensures disjoint { (few : ℕ) → HasDisjointParts (of_numbers few) }
-    ensures can_cut { (few : ℕ) (l : List ℕ) → 0 < few → IsTrue (is_rising l) → CanCut (of_numbers few) l }
-    ensures can_send { (few : ℕ) (l : List ℕ) → IsTrue (is_rising l) → CanSend (of_numbers few) l }
-    ensures apart { (few : ℕ) (a b : List ℕ) (x : Range) → Apart (of_numbers few) a b x }
+    ensures decide { NumbersAreDecided }
+    ensures disjoint { RangesHaveDisjointParts }
+    ensures can_cut { RisingNumbersCanCut }
+    ensures can_send { RisingNumbersCanSend }
+    ensures apart { NumbersAreApart }
 {}
 
 /// The exchange ends with a farewell of each side, and with more turns allowed it is the same.

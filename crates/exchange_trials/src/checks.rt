@@ -1,13 +1,33 @@
-//! Whether rows are such that they may meet.
+//! Whether rows are such that they may meet, a version is spoken, and an item may be heard.
 
 ghost use Rattle.std.specs.Prelude.{◌≡◌, ◌≤◌, length, map, All, IsTrue};
 ghost use Rattle.willow_entry.specs.Frame.{HasFrame};
 ghost use Rattle.block_store.specs.BoxKinds.{IsOfOneNamespace};
+ghost use Rattle.sync_msg.specs.Items.{HasPrints, item_value};
+ghost use Rattle.sync_core.specs.SyncRules.{IsVersion};
 
 use block_store::Snapshot;
+use sync_core::Item;
 use sync_pair::SNAPSHOT_MAX;
 use willow_entry::Row;
 use willow_path::NamespaceKey;
+
+// Whether sessions speak the version.
+pub(crate) fn is_spoken(version: u8) -> bool
+    ensures { IsTrue result → IsVersion version }
+{
+    1 <= version && version <= 2
+}
+
+// Whether a cut in parts has points, and one fingerprint more; any other item may be heard.
+pub(crate) fn has_prints<R: Row>(item: &Item<R>) -> bool
+    ensures { IsTrue result → HasPrints (item_value R.value item.now) }
+{
+    match item {
+        Item::Parts { points, prints } => points.len() > 0 && prints.len() == points.len() + 1,
+        _ => true,
+    }
+}
 
 // Whether the row's entry and token are short enough for a frame.
 fn has_frame<R: Row>(row: &R) -> bool

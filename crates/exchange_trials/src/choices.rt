@@ -3,7 +3,7 @@
 use crate::areas::Place;
 use crate::keys::user;
 use crate::runs::{Run, chosen};
-use range_split::laws::{limit, next_subspaces, one_choice, parts, sides};
+use range_split::laws::{even_limit, even_parts, limit, next_subspaces, one_choice, parts, sides};
 use range_split::{Choice, ENTRIES_MAX};
 
 // A choice that names its subspace by a byte of the key.
@@ -115,6 +115,8 @@ fn choices(rt: HostRuntime) {
 
 #[test]
 fn the_laws_can_be_called(rt: HostRuntime) {
+    even_limit();
+    even_parts();
     limit();
     next_subspaces();
     one_choice();

@@ -32,7 +32,7 @@ fn laws_of_sessions_can_be_called() {
     session_rules::laws::sessions_meet::<u8, u16, u32, u64, bool, u8, u16, u32>();
     session_rules::laws::items_tell_turns::<u8, u16, u32, u64, bool, u8>();
     session_rules::laws::whole_turns::<u8, u16, u32>();
-    session_rules::laws::settles::<u8, u16, u32, u64, bool, u8, u16, u32, u64>();
+    session_rules::laws::settles::<u8, u16, u32, u64, bool, u8, u8, u16, u32, u64>();
 }
 
 #[test]

@@ -1,5 +1,5 @@
-//! Tries the exchange of two stores: its laws, how a box is cut, one side item by item, and both sides together. It has
-//! tests alone.
+//! Tries the exchange of two stores: its laws, how a box is cut, one side item by item, and both sides together, over all
+//! rows and over the newest. It has tests alone.
 #![tactic(auto)]
 
 #[cfg(test)]
@@ -15,7 +15,11 @@ mod laws;
 #[cfg(test)]
 mod meetings;
 #[cfg(test)]
+mod offers;
+#[cfg(test)]
 mod pairs;
+#[cfg(test)]
+mod parts;
 #[cfg(test)]
 mod rows;
 #[cfg(test)]

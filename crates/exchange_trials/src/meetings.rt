@@ -1,4 +1,4 @@
-//! Meetings item by item, and items that are refused, as tables.
+//! Meetings of both versions item by item, and items that are refused, as tables.
 
 use crate::rows::Bytes;
 use crate::sides::{Side, Told, refusal, say_just, side};
@@ -6,7 +6,7 @@ use std::alloc::Global;
 use std::test::*;
 use sync_core::{CoreRefusal, Role};
 
-// What two sides with forty rows say, where one row is newer on the right.
+// What two sides of version 1 with forty rows say, where one row is newer on the right.
 const FORTY: [Told; 24] = [
     (1, 0),
     (6, 0),
@@ -34,7 +34,36 @@ const FORTY: [Told; 24] = [
     (7, 0),
 ];
 
-// What is said where the left has no row and the right has seventeen.
+// What they say in version 2: the caller tells the rows of the part in which the row is.
+const FORTY_IN_PARTS: [Told; 25] = [
+    (1, 0),
+    (6, 0),
+    (9, 0x0a),
+    (10, 0x14),
+    (10, 0x1e),
+    (6, 0),
+    (2, 0),
+    (2, 0),
+    (4, 10),
+    (8, 20),
+    (8, 21),
+    (8, 22),
+    (8, 23),
+    (8, 24),
+    (8, 25),
+    (8, 26),
+    (8, 27),
+    (8, 28),
+    (8, 29),
+    (2, 0),
+    (6, 0),
+    (5, 1),
+    (8, 25),
+    (7, 0),
+    (7, 0),
+];
+
+// What is said in version 1 where the left has no row and the right has seventeen.
 const SEVENTEEN: [Told; 28] = [
     (1, 0),
     (6, 0),
@@ -66,19 +95,72 @@ const SEVENTEEN: [Told; 28] = [
     (7, 0),
 ];
 
+// And in version 2.
+const SEVENTEEN_IN_PARTS: [Told; 34] = [
+    (1, 0),
+    (6, 0),
+    (9, 4),
+    (10, 8),
+    (10, 12),
+    (6, 0),
+    (4, 0),
+    (4, 0),
+    (4, 0),
+    (4, 0),
+    (6, 0),
+    (5, 4),
+    (8, 0),
+    (8, 1),
+    (8, 2),
+    (8, 3),
+    (5, 4),
+    (8, 4),
+    (8, 5),
+    (8, 6),
+    (8, 7),
+    (5, 4),
+    (8, 8),
+    (8, 9),
+    (8, 10),
+    (8, 11),
+    (5, 5),
+    (8, 12),
+    (8, 13),
+    (8, 14),
+    (8, 15),
+    (8, 16),
+    (7, 0),
+    (7, 0),
+];
+
 // What is said where neither has rows, and where there is no area.
 const EMPTY: [Told; 5] = [(1, 0), (6, 0), (2, 0), (7, 0), (7, 0)];
 
 const BYES: [Told; 2] = [(7, 0), (7, 0)];
 
-// The rows of two sides, whether they have an area, what is said, and how many counted items the caller sends and reads.
-type Case = (Bytes, Bytes, bool, &'static [Told], (u32, u32));
+// The version, the rows of two sides, and whether they have an area.
+type Sides = (u8, Bytes, Bytes, bool);
 
-static CASES: [Case; 4] = [
-    ((0, 40, None), (0, 40, Some(25)), true, &FORTY, (4, 3)),
-    ((0, 0, None), (0, 17, None), true, &SEVENTEEN, (3, 3)),
-    ((0, 0, None), (0, 0, None), true, &EMPTY, (1, 1)),
-    ((0, 40, None), (0, 40, None), false, &BYES, (0, 0)),
+// The sides, what is said, and how many counted items the caller sends and reads.
+type Case = (Sides, &'static [Told], (u32, u32));
+
+static CASES: [Case; 8] = [
+    ((1, (0, 40, None), (0, 40, Some(25)), true), &FORTY, (4, 3)),
+    (
+        (2, (0, 40, None), (0, 40, Some(25)), true),
+        &FORTY_IN_PARTS,
+        (5, 2),
+    ),
+    ((1, (0, 0, None), (0, 17, None), true), &SEVENTEEN, (3, 3)),
+    (
+        (2, (0, 0, None), (0, 17, None), true),
+        &SEVENTEEN_IN_PARTS,
+        (5, 5),
+    ),
+    ((1, (0, 0, None), (0, 0, None), true), &EMPTY, (1, 1)),
+    ((2, (0, 0, None), (0, 0, None), true), &EMPTY, (1, 1)),
+    ((1, (0, 40, None), (0, 40, None), false), &BYES, (0, 0)),
+    ((2, (0, 40, None), (0, 40, None), false), &BYES, (0, 0)),
 ];
 
 // Whether two sides, where they could be made, say what the case says.
@@ -88,17 +170,17 @@ fn say_so(
     right: Option<&mut Side>,
     case: &Case,
 ) -> Option<bool> {
-    let (_, _, _, wanted, items) = case;
+    let (_, wanted, items) = case;
     Some(say_just(alloc, left?, right?, wanted, *items))
 }
 
 // Whether the sides of a case do.
 fn meet_so(alloc: Global, case: &Case) -> Option<bool> {
-    let (caller, answerer, has_area, _, _) = case;
+    let ((version, caller, answerer, has_area), _, _) = case;
     say_so(
         alloc,
-        side(alloc, Role::Caller, caller, *has_area).as_mut(),
-        side(alloc, Role::Answerer, answerer, *has_area).as_mut(),
+        side(alloc, *version, Role::Caller, caller, *has_area).as_mut(),
+        side(alloc, *version, Role::Answerer, answerer, *has_area).as_mut(),
         case,
     )
 }
@@ -111,7 +193,7 @@ fn meetings(rt: HostRuntime) {
     }
 }
 
-// A side, whether it has an area, what it hears, and why it refuses the last item.
+// A side of version 1, whether it has an area, what it hears, and why it refuses the last item.
 type Refusal = (Role, bool, &'static [Told], CoreRefusal);
 
 static REFUSALS: [Refusal; 20] = [
@@ -211,7 +293,7 @@ fn refused(alloc: Global, line: &Refusal) -> Option<(u32, CoreRefusal)> {
     let (role, has_area, items, _) = line;
     refusal(
         alloc,
-        &mut side(alloc, *role, &(0, 40, None), *has_area)?,
+        &mut side(alloc, 1, *role, &(0, 40, None), *has_area)?,
         items,
     )
 }

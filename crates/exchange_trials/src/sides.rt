@@ -1,19 +1,23 @@
 //! Sides over rows of one subspace, and what they say and hear, told in numbers.
 
 use crate::areas::area;
+use crate::checks::{can_meet, has_prints, is_spoken};
+use crate::keys::key;
 use crate::rows::{Bytes, path_of, place, row, rows_of};
 use spelling::End;
 use std::alloc::Global;
-use sync_core::{CoreRefusal, Item, OutItem, Role, SNAPSHOT_MAX, Stage, SyncCore};
+use sync_core::{CoreRefusal, Item, OutItem, Role, Stage, SyncCore};
+use sync_msg::Points;
 use willow_area::{Area, CutAt};
 use willow_entry::{BareRow, Row};
-use willow_path::Path;
+use willow_path::{NamespaceKey, Path};
 
 // A side of BareRows.
 pub(crate) type Side = SyncCore<BareRow>;
 
-// An item told in two numbers: its kind as it is spelled, with 8 for a row; and the byte of the path of a cut, the
-// number of rows, or the byte of the path of the row.
+// An item told in two numbers: its kind, and the byte of the path of a cut, the number of rows, or the byte of the path of
+// the row. The kinds are as they are spelled, but that of a row is 8, that of a cut in parts 9; its points behind the first
+// are told as items of kind 10.
 pub(crate) type Told = (u8, u32);
 
 // The row at a path of this byte, of time 100.
@@ -23,21 +27,35 @@ fn row_at(alloc: Global, byte: u8) -> Option<BareRow> {
 }
 
 // A side with these rows over the area, or without one.
-fn side_over(alloc: Global, role: Role, rows: &Bytes, area: Option<Area>) -> Option<Side> {
+fn side_over(
+    alloc: Global,
+    version: u8,
+    role: Role,
+    rows: &Bytes,
+    area: Option<Area>,
+) -> Option<Side> {
     let rows = rows_of(alloc, rows, 0)?;
-    if rows.len() > SNAPSHOT_MAX {
-        return None;
+    let namespace = NamespaceKey::from_bytes(key(b'N'))?;
+    if is_spoken(version) && can_meet(&rows, &namespace) {
+        SyncCore::begin(alloc, version, role, rows, area).ok()
+    } else {
+        None
     }
-    SyncCore::begin(alloc, role, rows, area).ok()
 }
 
-// A side with these rows over the area of the subspace, or without an area.
-pub(crate) fn side(alloc: Global, role: Role, rows: &Bytes, has_area: bool) -> Option<Side> {
+// A side of the version with these rows over the area of the subspace, or without an area.
+pub(crate) fn side(
+    alloc: Global,
+    version: u8,
+    role: Role,
+    rows: &Bytes,
+    has_area: bool,
+) -> Option<Side> {
     if has_area {
         let area = area(alloc, &(Some(b'U'), 0, None))?;
-        side_over(alloc, role, rows, Some(area))
+        side_over(alloc, version, role, rows, Some(area))
     } else {
-        side_over(alloc, role, rows, None)
+        side_over(alloc, version, role, rows, None)
     }
 }
 
@@ -49,21 +67,43 @@ fn byte_of(path: &Path) -> u32 {
     path.part(0).first().map_or(255, |byte| u32::from(*byte))
 }
 
-// The item in two numbers.
+// The byte of a point that is a path, or 256.
+fn point_byte(point: Option<&CutAt>) -> u32 {
+    match point {
+        Some(CutAt::Path(path)) => byte_of(path),
+        _ => 256,
+    }
+}
+
+// The item in two numbers, but for points behind the first.
 fn told(item: &Item<BareRow>) -> Told {
     match item {
         Item::First { .. } => (1, 0),
         Item::Agree => (2, 0),
-        Item::Split {
-            at: CutAt::Path(path),
-            ..
-        } => (3, byte_of(path)),
-        Item::Split { .. } => (3, 256),
+        Item::Split { at, .. } => (3, point_byte(Some(at))),
+        Item::Parts { points, .. } => (9, point_byte(points.get(0))),
         Item::Entries { count } => (4, u32::from(*count)),
         Item::Rest { count } => (5, *count),
         Item::Row(row) => (8, byte_of(&row.entry().path)),
         Item::EndTurn => (6, 0),
         Item::Bye => (7, 0),
+    }
+}
+
+// Tells points behind the first.
+fn tell_further(points: &Points, all: &mut Vec<Told>) -> Option<()> {
+    for i in 1..points.len() {
+        all.push((10, point_byte(points.get(i)))).ok()?;
+    }
+    Some(())
+}
+
+// Tells the item in numbers.
+fn tell(item: &Item<BareRow>, all: &mut Vec<Told>) -> Option<()> {
+    all.push(told(item)).ok()?;
+    match item {
+        Item::Parts { points, .. } => tell_further(points, all),
+        _ => Some(()),
     }
 }
 
@@ -73,6 +113,7 @@ fn sent(side: &Side, item: OutItem) -> Option<Item<BareRow>> {
         OutItem::First { print } => Item::First { print },
         OutItem::Agree => Item::Agree,
         OutItem::Split { at, lower, upper } => Item::Split { at, lower, upper },
+        OutItem::Parts { points, prints } => Item::Parts { points, prints },
         OutItem::Entries { count } => Item::Entries { count },
         OutItem::Rest { count } => Item::Rest { count },
         OutItem::Row(at) => Item::Row(side.row_of(at)?.copy().ok()?),
@@ -93,7 +134,10 @@ fn say(side: &mut Side) -> Option<Item<BareRow>> {
 }
 
 // Why the item is refused that the side hears, if it is; None where it hears nothing.
-fn hear(side: &mut Side, item: Item<BareRow>) -> Option<Option<CoreRefusal>> {
+pub(crate) fn hear(side: &mut Side, item: Item<BareRow>) -> Option<Option<CoreRefusal>> {
+    if !has_prints(&item) {
+        return None;
+    }
     match side.stage() {
         Stage::Reading => match side.give_item(item) {
             Ok(_row) => Some(None),
@@ -107,7 +151,7 @@ fn hear(side: &mut Side, item: Item<BareRow>) -> Option<Option<CoreRefusal>> {
 // Moves an item from a side to the other, and tells it.
 fn pass(from: &mut Side, to: &mut Side, all: &mut Vec<Told>) -> Option<()> {
     let item = say(from)?;
-    all.push(told(&item)).ok()?;
+    tell(&item, all)?;
     match hear(to, item)? {
         None => Some(()),
         Some(_) => None,
@@ -176,7 +220,7 @@ fn item(alloc: Global, told: Told) -> Option<Item<BareRow>> {
 }
 
 // Lets the side say its turn, if it is to say one.
-fn say_turn(side: &mut Side) -> Option<()> {
+pub(crate) fn say_turn(side: &mut Side) -> Option<()> {
     for _ in 0..400 {
         if side.stage() != Stage::Writing {
             return Some(());

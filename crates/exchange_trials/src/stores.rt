@@ -1,7 +1,7 @@
 //! Stores of generated rows that meet, and what comes of it, told in numbers.
 
 use crate::areas::{Place, area};
-use crate::checks::can_meet;
+use crate::checks::{can_meet, is_spoken};
 use crate::keys::key;
 use crate::rows::{Bytes, offer, path_of, place, row, rows_of};
 use block_store::{BlockStore, Snapshot};
@@ -74,17 +74,18 @@ fn offer_all(
     Some(())
 }
 
-// What comes of it where two stores meet.
-fn met(
+// What comes of it where two stores meet in a session of the version.
+pub(crate) fn met(
     alloc: Global,
+    version: u8,
     left: Option<&Snapshot<BareRow>>,
     right: Option<&Snapshot<BareRow>>,
     area: Option<&Area>,
 ) -> Option<PairRun<BareRow>> {
     let (left, right) = (left?, right?);
     let namespace = NamespaceKey::from_bytes(key(b'N'))?;
-    if can_meet(left, &namespace) && can_meet(right, &namespace) {
-        meet_rows(alloc, left, right, area).ok()
+    if is_spoken(version) && can_meet(left, &namespace) && can_meet(right, &namespace) {
+        meet_rows(alloc, version, left, right, area).ok()
     } else {
         None
     }
@@ -93,6 +94,7 @@ fn met(
 // What comes of it where two stores meet that these rows are offered to.
 fn met_stores(
     alloc: Global,
+    version: u8,
     rows: &Made,
     area: &Area,
     left: &mut BlockStore<BareRow>,
@@ -101,6 +103,7 @@ fn met_stores(
     offer_all(alloc, rows, left, right)?;
     met(
         alloc,
+        version,
         left.snapshot().ok().as_ref(),
         right.snapshot().ok().as_ref(),
         Some(area),
@@ -108,10 +111,16 @@ fn met_stores(
 }
 
 // What comes of it where generated rows meet in an area.
-pub(crate) fn met_made(alloc: Global, rows: &Made, place: &Place) -> Option<PairRun<BareRow>> {
+pub(crate) fn met_made(
+    alloc: Global,
+    version: u8,
+    rows: &Made,
+    place: &Place,
+) -> Option<PairRun<BareRow>> {
     let area = area(alloc, place)?;
     met_stores(
         alloc,
+        version,
         rows,
         &area,
         &mut BlockStore::new(alloc),
@@ -122,12 +131,14 @@ pub(crate) fn met_made(alloc: Global, rows: &Made, place: &Place) -> Option<Pair
 // What comes of it where these rows, with tokens of 102 bytes, meet over an area or without one.
 fn met_over(
     alloc: Global,
+    version: u8,
     left: &Bytes,
     right: &Bytes,
     area: Option<&Area>,
 ) -> Option<PairRun<BareRow>> {
     met(
         alloc,
+        version,
         rows_of(alloc, left, 102).as_ref(),
         rows_of(alloc, right, 102).as_ref(),
         area,
@@ -137,20 +148,21 @@ fn met_over(
 // What comes of it where these rows meet, over the area of U or without one.
 pub(crate) fn met_bytes(
     alloc: Global,
+    version: u8,
     left: &Bytes,
     right: &Bytes,
     has_area: bool,
 ) -> Option<PairRun<BareRow>> {
     if has_area {
         let area = area(alloc, &(Some(b'U'), 0, None))?;
-        met_over(alloc, left, right, Some(&area))
+        met_over(alloc, version, left, right, Some(&area))
     } else {
-        met_over(alloc, left, right, None)
+        met_over(alloc, version, left, right, None)
     }
 }
 
 // The first byte of a path, or 255.
-fn byte_of(path: &Path) -> u8 {
+pub(crate) fn byte_of(path: &Path) -> u8 {
     if path.count() == 0 {
         return 255;
     }
@@ -165,6 +177,15 @@ pub(crate) fn got(rows: &[BareRow]) -> Got {
     }
     let first = rows.first().map_or(255, |row| byte_of(&row.entry().path));
     (first, rows.len(), times)
+}
+
+// How many bytes tell all turns: of each those that it has, and five before them for its side and its length.
+pub(crate) fn transcript_length(turns: &[Vec<u8>]) -> usize {
+    let mut length = 0usize;
+    for turn in turns {
+        length = length.wrapping_add(5).wrapping_add(turn.len());
+    }
+    length
 }
 
 // Whether the turns have these lengths.

@@ -1,15 +1,17 @@
-//! Items that are spelled, read, and not read.
+//! Items of both versions that are spelled, read, and not read.
 
 use crate::keys::{key, user};
 use spelling::{End, NoMemory};
 use std::alloc::Global;
-use sync_msg::{BadItem, CoreRefusal, Item, ItemReader, Role, Step, encode_item, laws};
+use sync_msg::{
+    BadItem, CoreRefusal, Item, ItemReader, Points, Prints, Role, Step, encode_item, laws,
+};
 use willow_area::CutAt;
 use willow_entry::{BareRow, BareRows, Entry, Row};
 use willow_path::{Digest, NamespaceKey, Path};
 
-// The first byte of the spelling of a head, and how many bytes were taken; or 00 where more is asked for, ff where the
-// bytes are bad, with the place told.
+// The first byte of the spelling of a head, or 09 for a row, and how many bytes were taken; or 00 where more is asked for,
+// ff where the bytes are bad, with the place told.
 fn told(answer: Result<Step<BareRow>, End<BadItem>>) -> (u8, u64) {
     match answer {
         Ok(Step::Got { item, taken }) => (kind_of(&item), taken as u64),
@@ -28,33 +30,42 @@ fn kind_of(item: &Item<BareRow>) -> u8 {
         Item::Rest { .. } => 5,
         Item::EndTurn => 6,
         Item::Bye => 7,
-        Item::Row(_) => 8,
+        Item::Parts { .. } => 8,
+        Item::Row(_) => 9,
     }
 }
 
-// What a new reader answers.
+// What a new reader of version 1 answers.
 fn answer(alloc: Global, bytes: &[u8]) -> (u8, u64) {
-    let mut reader = ItemReader::<BareRows>::new(alloc);
+    let mut reader = ItemReader::<BareRows>::new(alloc, 1);
+    told(reader.next(bytes))
+}
+
+// What one of version 2 answers.
+fn answer_of_2(alloc: Global, bytes: &[u8]) -> (u8, u64) {
+    let mut reader = ItemReader::<BareRows>::new(alloc, 2);
     told(reader.next(bytes))
 }
 
 #[test]
 fn answers(rt: HostRuntime) {
-    for (bytes, due) in [
-        ([2].as_slice(), (2, 1)),
-        ([3].as_slice(), (0, 0)),
-        ([8].as_slice(), (255, 0)),
-        ([4, 17].as_slice(), (255, 0)),
-        ([5, 0, 1, 0, 0].as_slice(), (5, 5)),
-        ([5, 0, 1, 0, 1].as_slice(), (255, 0)),
+    for (bytes, due, due_of_2) in [
+        ([2].as_slice(), (2, 1), (2, 1)),
+        ([3].as_slice(), (0, 0), (255, 0)),
+        ([8].as_slice(), (255, 0), (0, 0)),
+        ([8, 2, 4].as_slice(), (255, 0), (255, 0)),
+        ([4, 17].as_slice(), (255, 0), (255, 0)),
+        ([5, 0, 1, 0, 0].as_slice(), (5, 5), (5, 5)),
+        ([5, 0, 1, 0, 1].as_slice(), (255, 0), (255, 0)),
     ] {
         assert_eq!(rt; answer(rt.alloc(), bytes), due);
+        assert_eq!(rt; answer_of_2(rt.alloc(), bytes), due_of_2);
     }
 }
 
 // What a reader answers behind an `Entries` of one row, which was read.
 fn answer_behind(alloc: Global, bytes: &[u8]) -> (u8, u64) {
-    let mut reader = ItemReader::<BareRows>::new(alloc);
+    let mut reader = ItemReader::<BareRows>::new(alloc, 1);
     match reader.next(&[4, 1]) {
         Ok(
             Step::Got {
@@ -106,7 +117,7 @@ fn is_framed(alloc: Global) -> Option<bool> {
     let row = BareRow::new(alloc, entry(alloc)?, Vec::new(alloc)).ok()?;
     let mut frame = frame_of(alloc, row)?;
     let begins = frame.len() == 119 && frame.starts_with(&[0, 0, 0, 115, 0, 0x4e]);
-    let whole = answer_behind(alloc, &frame) == (8, 119);
+    let whole = answer_behind(alloc, &frame) == (9, 119);
     frame.truncate(118);
     Some(begins && whole && answer_behind(alloc, &frame) == (0, 0))
 }
@@ -138,9 +149,38 @@ fn are_spelled(alloc: Global) -> Option<bool> {
     Some(begins && ends && answer(alloc, &text) == (3, 67))
 }
 
+// The spelling of a cut at these points, with these fingerprints, where they are such.
+fn cut_of(alloc: Global, points: Points, prints: Prints) -> Option<Vec<u8>> {
+    if points.len() == 0 || prints.len() != points.len() + 1 {
+        return None;
+    }
+    let mut out = Vec::new(alloc);
+    let parts: Item<BareRow> = Item::Parts { points, prints };
+    encode_item(&parts, &mut out).ok()?;
+    Some(out)
+}
+
+// The spelling of a cut in two parts at a time.
+fn cut_at_time(alloc: Global) -> Option<Vec<u8>> {
+    let (mut points, mut prints) = (Points::new(alloc), Prints::new(alloc));
+    points.push(CutAt::Time(5)).ok()?;
+    prints.push([0x22; 32]).ok()?;
+    prints.push([0x33; 32]).ok()?;
+    cut_of(alloc, points, prints)
+}
+
+// Whether that has 75 bytes, begins and ends so, and is read again in version 2 alone.
+fn is_cut(alloc: Global) -> Option<bool> {
+    let text = cut_at_time(alloc)?;
+    let begins = text.len() == 75 && text.starts_with(&[8, 2, 1, 0, 0, 0, 0, 0, 0, 0, 5, 0x22]);
+    let is_read = answer(alloc, &text) == (255, 0) && answer_of_2(alloc, &text) == (8, 75);
+    Some(begins && text.ends_with(&[0x33; 32]) && is_read)
+}
+
 #[test]
 fn spellings(rt: HostRuntime) {
     assert_eq!(rt; are_spelled(rt.alloc()), Some(true));
+    assert_eq!(rt; is_cut(rt.alloc()), Some(true));
 }
 
 #[test]

@@ -2,7 +2,9 @@
 
 use mc_cap::{RefusedRow, RowRefusal};
 use peer_report::end_run;
-use peer_stage::{Done, FollowCounts, Served, SessionCounts, Stop, Synced, WatchCounts};
+use peer_stage::{
+    Done, FeedStop, FollowCounts, Origin, Served, SessionCounts, Stop, Stopped, Synced, WatchCounts,
+};
 use session_end::SessionEnd;
 use std::alloc::Global;
 use willow_outside::SureSink;
@@ -100,7 +102,6 @@ fn follows(
 
 #[test]
 fn calls(rt: HostRuntime) {
-    let ended = |end: SessionEnd| Some(Err(end));
     for (followed, put, status, lines) in [
         (None, true, 1, "first refused row 9: OutsideGrant\n"),
         (None, false, 4, "write fault\n"),
@@ -116,25 +117,6 @@ fn calls(rt: HostRuntime) {
             4,
             "followed 3 stored 1 kept 1 refused 1\nwrite fault\n",
         ),
-        (
-            ended(SessionEnd::ClosedEarly { at: 6 }),
-            true,
-            6,
-            "session refused: ClosedEarly 6\n",
-        ),
-        (
-            ended(SessionEnd::ClosedEarly { at: 6 }),
-            false,
-            4,
-            "session refused: ClosedEarly 6\nwrite fault\n",
-        ),
-        (ended(SessionEnd::LinkRead), true, 3, "read fault\n"),
-        (
-            ended(SessionEnd::LogFull { missed: 1 }),
-            true,
-            8,
-            "log full\n",
-        ),
     ] {
         assert_eq!(rt;
             follows(rt.alloc(), followed, put, status, lines),
@@ -144,18 +126,47 @@ fn calls(rt: HostRuntime) {
     }
 }
 
-// Whether the lines of a server of one link are these.
+#[test]
+fn calls_that_lost_their_feed(rt: HostRuntime) {
+    for (end, put, status, lines) in [
+        (
+            SessionEnd::ClosedEarly { at: 6 },
+            true,
+            6,
+            "session refused: ClosedEarly 6\n",
+        ),
+        (
+            SessionEnd::ClosedEarly { at: 6 },
+            false,
+            4,
+            "session refused: ClosedEarly 6\nwrite fault\n",
+        ),
+        (SessionEnd::LinkRead, true, 3, "read fault\n"),
+        (SessionEnd::LogFull { missed: 1 }, true, 8, "log full\n"),
+    ] {
+        assert_eq!(rt;
+            follows(rt.alloc(), Some(Err(end)), put, status, lines),
+            Some(true),
+            "{lines}"
+        );
+    }
+}
+
+// Whether the lines of a server of one link, whose feed ended so, are these.
 fn serves(
     alloc: Global,
-    (left, kept): (u32, Option<u64>),
+    (feed, left, kept): (Option<FeedStop>, u32, Option<u64>),
     (all_came, put): (bool, bool),
     status: u8,
     lines: &str,
 ) -> Option<bool> {
     let mut sessions = Vec::new(alloc);
     sessions.push(session()).ok()?;
+    let mut feeds = Vec::new(alloc);
+    feeds.push(feed).ok()?;
     let end = Ok(Done::Served(Served {
         sessions,
+        feeds,
         all_came,
         first: refused(9),
         left,
@@ -169,37 +180,70 @@ fn serves(
 
 #[test]
 fn servers(rt: HostRuntime) {
-    for (told, whole, status, lines) in [
+    for (left, kept, lines) in [
+        (0, None, "first refused row 9: OutsideGrant\n"),
+        (1, None, "left 1\nfirst refused row 9: OutsideGrant\n"),
         (
-            (0, None),
-            (true, true),
-            1,
-            "first refused row 9: OutsideGrant\n",
-        ),
-        (
-            (1, None),
-            (true, true),
-            1,
-            "left 1\nfirst refused row 9: OutsideGrant\n",
-        ),
-        (
-            (2, Some(12)),
-            (true, true),
-            1,
+            2,
+            Some(12),
             "left 2\nfirst refused row 9: OutsideGrant\nkept 12\n",
         ),
-        ((0, Some(0)), (false, true), 3, "kept 0\nread fault\n"),
+    ] {
+        assert_eq!(rt;
+            serves(rt.alloc(), (None, left, kept), (true, true), 1, lines),
+            Some(true),
+            "{lines}"
+        );
+    }
+}
+
+#[test]
+fn servers_that_failed(rt: HostRuntime) {
+    for (left, kept, whole, status, lines) in [
+        (0, Some(0), (false, true), 3, "kept 0\nread fault\n"),
         (
-            (3, Some(7)),
+            3,
+            Some(7),
             (true, false),
             4,
             "left 3\nkept 7\nwrite fault\n",
         ),
         (
-            (0, Some(18446744073709551615)),
+            0,
+            Some(18446744073709551615),
             (false, false),
             3,
             "kept 18446744073709551615\nread fault\nwrite fault\n",
+        ),
+    ] {
+        assert_eq!(rt;
+            serves(rt.alloc(), (None, left, kept), whole, status, lines),
+            Some(true),
+            "{lines}"
+        );
+    }
+}
+
+#[test]
+fn servers_of_a_stopped_feed(rt: HostRuntime) {
+    for (told, whole, status, lines) in [
+        (
+            (Some(FeedStop::LinkWrite), 0, None),
+            (true, true),
+            4,
+            "link 1: write fault\n",
+        ),
+        (
+            (Some(FeedStop::LinkWrite), 2, Some(3)),
+            (false, false),
+            3,
+            "link 1: write fault\nleft 2\nkept 3\nread fault\nwrite fault\n",
+        ),
+        (
+            (Some(FeedStop::NoMemory), 1, None),
+            (false, true),
+            7,
+            "link 1: no memory\nleft 1\nread fault\n",
         ),
     ] {
         assert_eq!(rt;
@@ -207,5 +251,57 @@ fn servers(rt: HostRuntime) {
             Some(true),
             "{lines}"
         );
+    }
+}
+
+// Feeds of three links: the lines of those that were stopped have the numbers of their links.
+fn feeds(alloc: Global) -> Option<bool> {
+    let mut feeds = Vec::new(alloc);
+    for feed in [Some(FeedStop::LinkWrite), None, Some(FeedStop::NoMemory)] {
+        feeds.push(feed).ok()?;
+    }
+    let end = Ok(Done::Served(Served {
+        sessions: Vec::new(alloc),
+        feeds,
+        all_came: true,
+        first: None,
+        left: 0,
+        kept: None,
+        put: true,
+    }));
+    let lines = "link 1: write fault\nlink 3: no memory\n";
+    Some(reports(alloc, &end, 7, lines))
+}
+
+#[test]
+fn stopped_feeds(rt: HostRuntime) {
+    assert_eq!(rt; feeds(rt.alloc()), Some(true));
+}
+
+#[test]
+fn stops_with_a_log_open(rt: HostRuntime) {
+    for (stop, kept, status, lines) in [
+        (Stop::ReadFault, 0, 3, "read fault\nkept 0\n"),
+        (
+            Stop::WriteFault,
+            18446744073709551615,
+            4,
+            "write fault\nkept 18446744073709551615\n",
+        ),
+        (
+            Stop::BadInput {
+                origin: Origin::Input,
+                at: 8,
+            },
+            7,
+            5,
+            "bad input - at 8\nkept 7\n",
+        ),
+        (Stop::NoMemory, 12, 7, "no memory\nkept 12\n"),
+        (Stop::LogFull, 65536, 8, "log full\nkept 65536\n"),
+        (Stop::KeySpent, 1, 9, "key spent\nkept 1\n"),
+    ] {
+        let end = Ok(Done::Stopped(Stopped { stop, kept }));
+        assert_eq!(rt; reports(rt.alloc(), &end, status, lines), true, "{lines}");
     }
 }

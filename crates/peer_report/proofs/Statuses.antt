@@ -1,12 +1,12 @@
 -- The status of what is done, by what was met on the way.
 use Rattle.std.proofs.Common.{◌≡◌, ◌∙◌, ℕ, Bool, true, false, ◌+◌, ◌<◌, ◌≤◌, ◌||◌, ◌==◌, if◌then◌else◌, List, ◌∷◌, length, get_or, drop, refl, sym, ap, add-one, drop-cons}
-use Rattle.std.specs.Prelude.{Option, None, Result, Ok, Err}
+use Rattle.std.specs.Prelude.{Option, Result, Ok}
 use Rattle.std.specs.List.{list_any}
 use Rattle.std.proofs.lemmas.List.{drop_all}
-use Rattle.mc_cap.specs.declared.refusal.RefusedRow.{RefusedRow}
 use Rattle.session_end.specs.declared.end.SessionEnd.{SessionEnd}
-use Rattle.session_end.specs.declared.end.SessionEnd.TheVariants as ending
-use Rattle.peer_stage.specs.Status.{status_of, statuses_met, first_met, told_order, refused_status, first_status, end_status, session_status}
+use Rattle.peer_stage.specs.Status.{status_of, statuses_met, first_met, told_order, refused_status, first_status, session_status, feed_status, stop_status}
+use Rattle.peer_stage.specs.declared.outcome.FeedStop.{FeedStop}
+use Rattle.peer_stage.specs.declared.outcome.Stopped.{Stopped}
 use Rattle.peer_stage.specs.declared.outcome.Done.{Done}
 use Rattle.peer_stage.specs.declared.outcome.Done.TheVariants as done
 use Rattle.peer_stage.specs.declared.outcome.JoinCounts.{JoinCounts}
@@ -15,9 +15,9 @@ use Rattle.peer_stage.specs.declared.outcome.MeetCounts.{MeetCounts}
 use Rattle.peer_stage.specs.declared.outcome.SessionCounts.{SessionCounts}
 use Rattle.peer_stage.specs.declared.outcome.Served.{Served}
 use Rattle.peer_stage.specs.declared.outcome.WatchCounts.{WatchCounts}
-use Rattle.peer_stage.proofs.Told.{served_parts}
-use Rattle.peer_report.specs.Report.{others_met}
-use Rattle.peer_stage.proofs.Ends.{synced_status, synced_is, told_of, refused_only, first_only, none_met}
+use Rattle.peer_stage.proofs.Told.{served_parts, beside_parts}
+use Rattle.peer_report.specs.Report.{met_behind, others_met}
+use Rattle.peer_stage.proofs.Ends.{refused_only, first_only, none_met}
 
 pub joined_status : (d : Done) (counts : JoinCounts) (s : ℕ) → d ≡ done.Joined counts → s ≡ refused_status counts.refused → s ≡ status_of (Ok d)
 joined_status d counts s is status = status ∙ sym (refused_only counts.refused) ∙ ap (λ (x : Done). status_of (Ok x)) (sym is)
@@ -33,6 +33,9 @@ watched_status d counts s is status = status ∙ sym (first_only counts.first) �
 
 pub made_status : (d : Done) → d ≡ done.Made → 0 ≡ status_of (Ok d)
 made_status d is = sym none_met ∙ ap (λ (x : Done). status_of (Ok x)) (sym is)
+
+pub stopped_status : (d : Done) (x : Stopped) (s : ℕ) → d ≡ done.Stopped x → s ≡ stop_status x.stop → s ≡ status_of (Ok d)
+stopped_status d x s is status = status ∙ ap (λ (y : Done). status_of (Ok y)) (sym is)
 
 -- of a call, and of a server
 pub same_status : (d e : Done) (status : ℕ) → d ≡ e → status ≡ status_of (Ok e) → status ≡ status_of (Ok d)
@@ -53,6 +56,24 @@ pub by_others : (s : Served) (status : ℕ) (sessions : List (Result SessionCoun
 by_others s status sessions found other are is fails beside =
     let none : list_any (λ session. session_status session == status) s.sessions.items ≡ false = ap (list_any (λ session. session_status session == status)) (sym are) ∙ sym is ∙ fails in
     beside ∙ sym (served_parts s status ∙ ap (λ b. b || list_any (λ met. met == status) (others_met s)) none)
+
+-- ---- what a server met beside its sessions
+
+-- a feed was stopped by it
+pub by_feed : (s : Served) (status : ℕ) (feeds : List (Option FeedStop)) (found : Bool) → feeds ≡ s.feeds.items → found ≡ list_any (λ stopped. feed_status stopped == status) feeds
+    → found ≡ true → found ≡ list_any (λ met. met == status) (others_met s)
+by_feed s status feeds found are is holds =
+    let here : list_any (λ stopped. feed_status stopped == status) s.feeds.items ≡ true = ap (list_any (λ stopped. feed_status stopped == status)) (sym are) ∙ sym is ∙ holds in
+    holds ∙ sym (beside_parts s status ∙ ap (λ b. b || list_any (λ met. met == status) (met_behind s)) here)
+
+-- no feed was: it is by what was met behind the links
+pub by_last : (s : Served) (status : ℕ) (feeds : List (Option FeedStop)) (found other : Bool) → feeds ≡ s.feeds.items → found ≡ list_any (λ stopped. feed_status stopped == status) feeds
+    → found ≡ false → other ≡ list_any (λ met. met == status) (met_behind s) → other ≡ list_any (λ met. met == status) (others_met s)
+by_last s status feeds found other are is fails last =
+    let none : list_any (λ stopped. feed_status stopped == status) s.feeds.items ≡ false = ap (list_any (λ stopped. feed_status stopped == status)) (sym are) ∙ sym is ∙ fails in
+    last ∙ sym (beside_parts s status ∙ ap (λ b. b || list_any (λ met. met == status) (met_behind s)) none)
+
+-- ---- in which order they are told
 
 -- the statuses that are told from one on
 from_at : (i status : ℕ) → i < length told_order → status ≡ get_or told_order i 0 → drop i told_order ≡ status ∷ drop (i + 1) told_order

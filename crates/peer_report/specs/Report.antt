@@ -1,5 +1,5 @@
 -- The status and the report's lines for each end of a run.
-use Rattle.std.specs.Prelude.{◌≡◌, ℕ, ◌+◌, ◌==◌, nat_le, Bool, true, false, ◌&&◌, if◌then◌else◌, is_ok, ◌⊎◌, List, [], ◌∷◌, ◌++◌, codes, Option, Some, None, Result, Ok, Err}
+use Rattle.std.specs.Prelude.{◌≡◌, ℕ, ◌+◌, ◌==◌, nat_le, Bool, true, false, ◌&&◌, if◌then◌else◌, is_ok, is_none, ◌⊎◌, List, [], ◌∷◌, ◌++◌, map, codes, Option, Some, None, Result, Ok, Err}
 use Rattle.std.specs.Fmt.{decimal}
 use Rattle.std.specs.List.{list_all}
 use Rattle.std.specs.String.{string_bytes}
@@ -10,12 +10,14 @@ use Rattle.session_end.specs.declared.end.SessionEnd.{SessionEnd}
 use Rattle.session_end.specs.declared.end.SessionEnd.TheVariants as ending
 use Rattle.peer_text.specs.Refusals.{row_refusal_text}
 use Rattle.peer_text.specs.Sessions.{session_end_text}
-use Rattle.peer_stage.specs.Status.{status_of, accept_status, put_status, first_status}
+use Rattle.peer_stage.specs.Status.{status_of, feed_status, accept_status, put_status, first_status}
 use Rattle.peer_stage.specs.Stages.{IsWritten, IsPartlyWritten}
 use Rattle.peer_stage.specs.declared.outcome.JoinCounts.{JoinCounts}
 use Rattle.peer_stage.specs.declared.outcome.ShowCounts.{ShowCounts}
 use Rattle.peer_stage.specs.declared.outcome.SideCounts.{SideCounts}
 use Rattle.peer_stage.specs.declared.outcome.MeetCounts.{MeetCounts}
+use Rattle.peer_stage.specs.declared.outcome.FeedStop.{FeedStop}
+use Rattle.peer_stage.specs.declared.outcome.FeedStop.TheVariants as feed
 use Rattle.peer_stage.specs.declared.outcome.FollowCounts.{FollowCounts}
 use Rattle.peer_stage.specs.declared.outcome.SessionCounts.{SessionCounts}
 use Rattle.peer_stage.specs.declared.outcome.Synced.{Synced}
@@ -124,20 +126,35 @@ abbrev pub link_lines : ℕ → List (Result SessionCounts SessionEnd) → List 
 link_lines from [] = []
 link_lines from (session ∷ rest) = link_line from session ++ link_lines (from + 1) rest
 
--- the row that is told as the first refused one: where every session was done, all links came and the image was put, so
--- at status 1 alone
+-- a feed that was stopped is told as a session that ended so
+abbrev pub feed_end : FeedStop → SessionEnd
+feed_end feed.LinkWrite = ending.LinkWrite
+feed_end feed.NoMemory = ending.NoMemory
+
+-- `link I: ` and what stopped the feed of that link, where something did
+abbrev pub feed_line : ℕ → Option FeedStop → List ℕ
+feed_line number None = []
+feed_line number (Some stopped) = link_line number (Err (feed_end stopped))
+
+-- that of each link in order, the first of this number
+abbrev pub feed_lines : ℕ → List (Option FeedStop) → List ℕ
+feed_lines from [] = []
+feed_lines from (stopped ∷ rest) = feed_line from stopped ++ feed_lines (from + 1) rest
+
+-- the row that is told as the first refused one: where every session was done, no feed was stopped, all links came and the
+-- image was put, so at status 1 alone
 abbrev pub served_first : Served → Option RefusedRow
-served_first s = if list_all is_ok s.sessions.items && s.all_came && s.put then s.first else None
+served_first s = if list_all is_ok s.sessions.items && list_all is_none s.feeds.items && s.all_came && s.put then s.first else None
 
 -- `read fault` where not all links came
 abbrev pub accept_line : Bool → List ℕ
 accept_line true = []
 accept_line false = line (codes "read fault")
 
--- the lines of a server: one of each link, the watchers that left, the first refused row, what the log keeps, whether all
--- links came, and whether the image was put
+-- the lines of a server: one of each link, one of each feed that was stopped, the watchers that left, the first refused row,
+-- what the log keeps, whether all links came, and whether the image was put
 abbrev pub served_lines : Served → List ℕ
-served_lines s = link_lines 1 s.sessions.items ++ (left_line s.left ++ (first_line (served_first s) ++ (kept_line s.kept ++ (accept_line s.all_came ++ put_line s.put))))
+served_lines s = link_lines 1 s.sessions.items ++ (feed_lines 1 s.feeds.items ++ (left_line s.left ++ (first_line (served_first s) ++ (kept_line s.kept ++ (accept_line s.all_came ++ put_line s.put)))))
 
 -- the lines of a watch: its numbers, the watchers that left, and the first refused row
 abbrev pub watched_lines : WatchCounts → List ℕ
@@ -160,16 +177,6 @@ not_rising_line name row = line (codes "not rising " ++ (name ++ (codes " row " 
 abbrev pub pruned_line : List ℕ → ℕ → ℕ → List ℕ
 pruned_line name row by = line (codes "pruned " ++ (name ++ (codes " row " ++ (decimal row ++ (codes " by " ++ decimal by)))))
 
--- the lines of what is done; what was made needs none
-abbrev pub done_lines : Done → List ℕ
-done_lines (done.Joined counts) = rows_line counts ++ first_line counts.first
-done_lines (done.Shown counts) = shown_line counts ++ first_line counts.first
-done_lines (done.Met counts) = met_lines counts ++ first_line counts.first
-done_lines (done.Synced s) = synced_lines s
-done_lines (done.Served s) = served_lines s
-done_lines (done.Watched counts) = watched_lines counts
-done_lines done.Made = []
-
 -- the line of a stop
 abbrev pub stop_line : Stop → List ℕ
 stop_line stop.Usage = line (codes "usage")
@@ -186,6 +193,23 @@ stop_line stop.NoMemory = line (codes "no memory")
 stop_line stop.LogFull = line (codes "log full")
 stop_line stop.KeySpent = line (codes "key spent")
 
+-- whether the stop is a fault of reading or writing
+abbrev pub is_fault : Stop → Bool
+is_fault stop.ReadFault = true
+is_fault stop.WriteFault = true
+is_fault e = false
+
+-- the lines of what is done; what was made needs none, and a stop with a log open has that of the stop, and what the log keeps
+abbrev pub done_lines : Done → List ℕ
+done_lines (done.Joined counts) = rows_line counts ++ first_line counts.first
+done_lines (done.Shown counts) = shown_line counts ++ first_line counts.first
+done_lines (done.Met counts) = met_lines counts ++ first_line counts.first
+done_lines (done.Synced s) = synced_lines s
+done_lines (done.Served s) = served_lines s
+done_lines (done.Stopped s) = stop_line s.stop ++ kept_line (Some s.kept)
+done_lines (done.Watched counts) = watched_lines counts
+done_lines done.Made = []
+
 -- the lines of an end
 abbrev pub report_of : Result Done Stop → List ℕ
 report_of (Ok d) = done_lines d
@@ -197,9 +221,19 @@ report_of (Err e) = stop_line e
 abbrev pub after_report_fault : ℕ → ℕ
 after_report_fault status = if nat_le status 1 then 4 else status
 
--- the statuses of what a server met beside its sessions
+-- the statuses of what a server met behind its links
+abbrev pub met_behind : Served → List ℕ
+met_behind s = accept_status s.all_came ∷ (put_status s.put ∷ (first_status s.first ∷ []))
+
+-- the statuses of what it met beside its sessions
 abbrev pub others_met : Served → List ℕ
-others_met s = accept_status s.all_came ∷ (put_status s.put ∷ (first_status s.first ∷ []))
+others_met s = map feed_status s.feeds.items ++ met_behind s
+
+-- the status behind the writing of the lines: that of the end, or what a fault makes of it, or 7 for want of memory
+abbrev pub told_status : Result Done Stop → Result (Unit {0}) Stop → ℕ
+told_status end (Ok u) = status_of end
+told_status end (Err stop.NoMemory) = 7
+told_status end (Err e) = after_report_fault (status_of end)
 
 -- ---- both
 

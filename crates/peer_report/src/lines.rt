@@ -3,13 +3,13 @@
 ghost use Rattle.std.specs.Prelude.{◌≡◌, ◌<◌, ◌++◌, length, Some, Ok, Err, IfOk, OnOk, OnErr};
 ghost use Rattle.peer_stage.specs.declared.outcome.Done.TheVariants as done;
 ghost use Rattle.peer_stage.specs.declared.outcome.Stop.TheVariants as stop;
-ghost use Rattle.peer_report.specs.Report.{report_of, stop_line, numbers_line, rows_line, shown_line, side_line, exchange_line, met_lines, first_line, session_line, counts_line, log_text, items_line, followed_line, told_first, left_line, put_line, synced_lines, watched_lines, name_text, refused_line, bad_input_line, not_rising_line, pruned_line};
+ghost use Rattle.peer_report.specs.Report.{report_of, stop_line, numbers_line, rows_line, shown_line, side_line, exchange_line, met_lines, first_line, session_line, counts_line, log_text, items_line, followed_line, told_first, left_line, kept_line, put_line, synced_lines, watched_lines, name_text, refused_line, bad_input_line, not_rising_line, pruned_line};
 
-use crate::links::served_lines;
+use crate::links::{put_kept_line, served_lines};
 use mc_cap::{RefusedRow, RowRefusal};
 use peer_stage::{
     Done, FollowCounts, JoinCounts, MeetCounts, Origin, SessionCounts, ShowCounts, SideCounts,
-    Stop, Synced, WatchCounts,
+    Stop, Stopped, Synced, WatchCounts,
 };
 use peer_text::{row_refusal_text, session_end_text};
 use session_end::SessionEnd;
@@ -27,6 +27,7 @@ pub(crate) fn report_of(alloc: Global, end: &Result<Done, Stop>) -> Result<Vec<u
         Ok(Done::Met(counts)) => met_lines(alloc, counts),
         Ok(Done::Synced(synced)) => synced_lines(alloc, synced),
         Ok(Done::Served(served)) => served_lines(alloc, served),
+        Ok(Done::Stopped(stopped)) => stopped_lines(alloc, stopped),
         Ok(Done::Watched(counts)) => watched_lines(alloc, counts),
         Ok(Done::Made) => Ok(Vec::new(alloc)),
         Err(stop) => stop_line(alloc, stop),
@@ -277,6 +278,15 @@ fn put_refusal(refusal: RowRefusal, line: &mut Vec<u8>) -> Result<(), NoMemory>
 {
     row_refusal_text(refusal, line)?;
     put_byte(line, b'\n')
+}
+
+// The line of a stop with a log open, and how many rows the file of the log holds.
+fn stopped_lines(alloc: Global, stopped: &Stopped) -> Result<Vec<u8>, NoMemory>
+    ensures { IfOk result (λ text. text.items ≡ stop_line stopped.now.stop ++ kept_line (Some stopped.now.kept)) }
+{
+    let mut text = stop_line(alloc, &stopped.stop)?;
+    put_kept_line(alloc, Some(stopped.kept), &mut text)?;
+    Ok(text)
 }
 
 // The line of a stop.

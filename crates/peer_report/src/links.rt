@@ -1,24 +1,25 @@
 //! The report's lines for a server: one of each link, and what else it met.
 
-ghost use Rattle.std.specs.Prelude.{◌≡◌, ◌<◌, ◌++◌, length, is_ok, IfOk, OnOk, OnErr};
+ghost use Rattle.std.specs.Prelude.{◌≡◌, ◌<◌, ◌++◌, length, is_ok, is_none, IfOk, OnOk, OnErr};
 ghost use Rattle.std.specs.List.{list_all};
-ghost use Rattle.peer_report.specs.Report.{accept_line, kept_line, left_line, link_line, link_lines, put_line, served_first, served_lines};
+ghost use Rattle.peer_report.specs.Report.{accept_line, feed_end, feed_line, feed_lines, kept_line, left_line, link_line, link_lines, put_line, served_first, served_lines};
 
 use crate::lines::{ended_line, put_first_line, put_left_line};
 use mc_cap::RefusedRow;
-use peer_stage::{Served, SessionCounts};
+use peer_stage::{FeedStop, Served, SessionCounts};
 use session_end::SessionEnd;
 use spelling::{NoMemory, put_bytes};
 use std::alloc::Global;
 
-/// How the session of each link ended, the watchers that left, the first refused row where nothing else is told, what the
-/// log keeps, that not all links came, and that the image was not put.
+/// How the session of each link ended, the feeds that were stopped, the watchers that left, the first refused row where
+/// nothing else is told, what the log keeps, that not all links came, and that the image was not put.
 pub(crate) fn served_lines(alloc: Global, served: &Served) -> Result<Vec<u8>, NoMemory>
     ensures text { IfOk result (λ text. text.items ≡ served_lines served.now) }
     ensures some { OnErr result (0 < length (served_lines served.now)) }
 {
     let mut text = Vec::new(alloc);
     put_link_lines(alloc, &served.sessions, &mut text)?;
+    put_feed_lines(alloc, &served.feeds, &mut text)?;
     put_left_line(alloc, served.left, &mut text)?;
     put_first_line(alloc, served_first(served), &mut text)?;
     put_kept_line(alloc, served.kept, &mut text)?;
@@ -57,11 +58,56 @@ fn put_link_line(
     put_bytes(text, &line)
 }
 
-// The row that is told as the first refused one: none, unless every session was done, all links came and the image was put.
+// Appends a line for each feed that was stopped, by the number of its link from 1.
+fn put_feed_lines(
+    alloc: Global,
+    feeds: &[Option<FeedStop>],
+    text: &mut Vec<u8>,
+) -> Result<(), NoMemory>
+    ensures text { OnOk result (text.new.items ≡ text.old.items ++ feed_lines 1 feeds.now) }
+    ensures some { OnErr result (0 < length (feed_lines 1 feeds.now)) }
+{
+    for (index, stopped) in feeds.iter().enumerate() {
+        put_feed_line(alloc, index + 1, stopped, text)?;
+    }
+    Ok(())
+}
+
+// Appends the line of the feed of the link of this number, where it was stopped.
+fn put_feed_line(
+    alloc: Global,
+    number: usize,
+    stopped: &Option<FeedStop>,
+    text: &mut Vec<u8>,
+) -> Result<(), NoMemory>
+    ensures text { OnOk result (text.new.items ≡ text.old.items ++ feed_line number stopped.now) }
+    ensures some { OnErr result (0 < length (feed_line number stopped.now)) }
+{
+    match stopped {
+        None => Ok(()),
+        Some(stop) => {
+            let end = Err(feed_end(*stop));
+            put_link_line(alloc, number, &end, text)
+        }
+    }
+}
+
+// The end of a session that is told as this stop of a feed is.
+fn feed_end(stop: FeedStop) -> SessionEnd
+    ensures { result ≡ feed_end stop }
+{
+    match stop {
+        FeedStop::LinkWrite => SessionEnd::LinkWrite,
+        FeedStop::NoMemory => SessionEnd::NoMemory,
+    }
+}
+
+// The row that is told as the first refused one: none, unless every session was done, no feed was stopped, all links came
+// and the image was put.
 fn served_first(served: &Served) -> Option<RefusedRow>
     ensures { result ≡ served_first served.now }
 {
-    if all_done(&served.sessions) && served.all_came && served.put {
+    if all_done(&served.sessions) && all_fed(&served.feeds) && served.all_came && served.put {
         served.first
     } else {
         None
@@ -75,8 +121,19 @@ fn all_done(sessions: &[Result<SessionCounts, SessionEnd>]) -> bool
     sessions.iter().all(|session| session.is_ok())
 }
 
-// Appends how many rows the file of the log holds, where one is kept.
-fn put_kept_line(alloc: Global, kept: Option<u64>, text: &mut Vec<u8>) -> Result<(), NoMemory>
+// Whether no feed was stopped.
+fn all_fed(feeds: &[Option<FeedStop>]) -> bool
+    ensures { result ≡ list_all is_none feeds.now }
+{
+    feeds.iter().all(|stopped| stopped.is_none())
+}
+
+/// Appends how many rows the file of the log holds, where one is kept.
+pub(crate) fn put_kept_line(
+    alloc: Global,
+    kept: Option<u64>,
+    text: &mut Vec<u8>,
+) -> Result<(), NoMemory>
     ensures text { OnOk result (text.new.items ≡ text.old.items ++ kept_line kept) }
     ensures some { OnErr result (0 < length (kept_line kept)) }
 {

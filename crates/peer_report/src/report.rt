@@ -1,14 +1,20 @@
 //! The status of a run, and its report.
 
-ghost use Rattle.std.specs.Prelude.{◌≡◌, ◌≤◌, ◌==◌, Ok};
+ghost use Rattle.std.specs.Prelude.{◌≡◌, ◌≤◌, ◌==◌, ◌++◌, Some, is_some, Ok, IfSome};
 ghost use Rattle.std.specs.List.{list_any};
-ghost use Rattle.peer_stage.specs.Status.{status_of, statuses_met, first_met, told_order, stop_status, refused_status, first_status, accept_status, put_status, session_status, followed_status, end_status};
+ghost use Rattle.peer_stage.specs.Status.{status_of, statuses_met, first_met, told_order, stop_status, refused_status, first_status, accept_status, put_status, session_status, followed_status, feed_status, end_status};
+ghost use Rattle.peer_stage.specs.Stages.{WritesOutput};
+ghost use Rattle.peer_stage.specs.Faults.{CountsStep};
 ghost use Rattle.peer_stage.specs.declared.outcome.Done.TheVariants as done;
-ghost use Rattle.peer_report.specs.Report.{after_report_fault, others_met, Reports};
+ghost use Rattle.peer_report.specs.Report.{after_report_fault, kept_line, met_behind, others_met, report_of, stop_line, told_status, is_fault, Reports};
 
 use crate::lines::report_of;
+use itoa::Buffer;
 use mc_cap::RefusedRow;
-use peer_stage::{Done, FollowCounts, Served, SessionCounts, Stop, Synced, write_output};
+use peer_stage::{
+    Done, FeedStop, FollowCounts, Served, SessionCounts, Stop, Stopped, Synced, write_both,
+    write_output,
+};
 use session_end::SessionEnd;
 use std::alloc::Global;
 use willow_outside::Sink;
@@ -33,6 +39,7 @@ fn done_status(done: &Done) -> u8
         Done::Met(counts) => first_status(counts.first),
         Done::Synced(synced) => synced_status(synced),
         Done::Served(served) => served_status(served),
+        Done::Stopped(stopped) => stop_status(&stopped.stop),
         Done::Watched(counts) => first_status(counts.first),
         Done::Made => 0,
     }
@@ -120,6 +127,31 @@ fn session_met(sessions: &[Result<SessionCounts, SessionEnd>], status: u8) -> bo
 fn other_met(served: &Served, status: u8) -> bool
     ensures { result ≡ list_any (λ met. met == status) (others_met served.now) }
 {
+    feed_met(&served.feeds, status) || met_behind(served, status)
+}
+
+/// Whether a feed was stopped by what has this status.
+fn feed_met(feeds: &[Option<FeedStop>], status: u8) -> bool
+    ensures { result ≡ list_any (λ stopped. feed_status stopped == status) feeds.now }
+{
+    feeds.iter().any(|stopped| feed_status(*stopped) == status)
+}
+
+/// 0 where nothing stopped the feed, 4 for a fault of its link, 7 for want of memory.
+fn feed_status(stopped: Option<FeedStop>) -> u8
+    ensures { result ≡ feed_status stopped }
+{
+    match stopped {
+        None => 0,
+        Some(FeedStop::LinkWrite) => 4,
+        Some(FeedStop::NoMemory) => 7,
+    }
+}
+
+/// Whether what a server met behind its links has this status.
+fn met_behind(served: &Served, status: u8) -> bool
+    ensures { result ≡ list_any (λ met. met == status) (met_behind served.now) }
+{
     accept_status(served.all_came) == status
         || put_status(served.put) == status
         || first_status(served.first) == status
@@ -205,6 +237,80 @@ fn after_report_fault(status: u8) -> u8
     if status <= 1 { 4 } else { status }
 }
 
+/// The status behind the writing of the lines: that of the end, 4 in place of 0 or 1 where it failed, and 7 where no
+/// memory was found.
+fn told_status(end: &Result<Done, Stop>, written: Result<(), Stop>) -> u8
+    ensures { result ≡ told_status end.now written }
+{
+    match written {
+        Ok(()) => status_of(end),
+        Err(Stop::NoMemory) => 7,
+        Err(_) => after_report_fault(status_of(end)),
+    }
+}
+
+/// Writes how many rows the file of the log holds; no memory is asked for.
+fn write_kept<E: Sink>(report: &mut E, kept: u64) -> Result<(), Stop>
+    ensures writes { WritesOutput (E.facts report.old) (E.facts report.new) (kept_line (Some kept)) result }
+    ensures faults { CountsStep (E.facts report.old).faults (E.facts report.new).faults result }
+{
+    let mut digits = Buffer::new();
+    write_output(report, b"kept ")?;
+    write_both(report, digits.format(kept).as_bytes(), b"\n")
+}
+
+/// Writes the line of a stop, and behind it what the log keeps.
+fn write_stopped<E: Sink>(report: &mut E, line: &[u8], kept: u64) -> Result<(), Stop>
+    ensures writes { WritesOutput (E.facts report.old) (E.facts report.new) (line.now ++ kept_line (Some kept)) result }
+    ensures faults { CountsStep (E.facts report.old).faults (E.facts report.new).faults result }
+{
+    write_output(report, line)?;
+    write_kept(report, kept)
+}
+
+/// Writes the lines of an end, made whole before.
+fn write_told<E: Sink>(alloc: Global, end: &Result<Done, Stop>, report: &mut E) -> Result<(), Stop>
+    ensures writes { WritesOutput (E.facts report.old) (E.facts report.new) (report_of end.now) result }
+    ensures faults { CountsStep (E.facts report.old).faults (E.facts report.new).faults result }
+{
+    let lines = report_of(alloc, end)?;
+    write_output(report, &lines)
+}
+
+/// The line of a fault of reading or writing, a fixed text; None of any other stop.
+fn fault_line(stop: &Stop) -> Option<&'static [u8]>
+    ensures line { IfSome result (λ line. line.now ≡ stop_line stop.now) }
+    ensures fault { is_some result ≡ is_fault stop.now }
+{
+    match stop {
+        Stop::ReadFault => Some(b"read fault\n"),
+        Stop::WriteFault => Some(b"write fault\n"),
+        _ => None,
+    }
+}
+
+/// Writes the lines of an end. No memory is asked for those of a fault that stopped the run: so want of memory hides such a
+/// fault only where the report itself wants some.
+fn write_lines<E: Sink>(alloc: Global, end: &Result<Done, Stop>, report: &mut E) -> Result<(), Stop>
+    ensures writes { WritesOutput (E.facts report.old) (E.facts report.new) (report_of end.now) result }
+    ensures faults { CountsStep (E.facts report.old).faults (E.facts report.new).faults result }
+{
+    match end {
+        Err(stop) => {
+            if let Some(line) = fault_line(stop) {
+                return write_output(report, line);
+            }
+        }
+        Ok(Done::Stopped(stopped)) => {
+            if let Some(line) = fault_line(&stopped.stop) {
+                return write_stopped(report, line, stopped.kept);
+            }
+        }
+        _ => {}
+    }
+    write_told(alloc, end, report)
+}
+
 /// Writes the report's lines for a run that ended so, and answers its status: 0, or 1 where a row was not
 /// authorised or what was to be made is refused; 2 to 9 by the cause of the stop. Where the report fails the
 /// status is 4 in place of 0 or 1, and where no memory is found for it, 7.
@@ -212,12 +318,6 @@ pub fn end_run<E: Sink>(alloc: Global, end: &Result<Done, Stop>, report: &mut E)
     ensures reports { Reports (E.facts report.old) (E.facts report.new) end.now result }
     ensures faults { (E.facts report.old).faults ≤ (E.facts report.new).faults }
 {
-    let Ok(lines) = report_of(alloc, end) else {
-        return 7;
-    };
-    match write_output(report, &lines) {
-        Ok(()) => status_of(end),
-        Err(Stop::NoMemory) => 7,
-        Err(_) => after_report_fault(status_of(end)),
-    }
+    let written = write_lines(alloc, end, report);
+    told_status(end, written)
 }

@@ -6,6 +6,8 @@ use Rattle.spelling.proofs.Lists.{All-append}
 use Rattle.willow_entry.specs.Row.{RowValue}
 use Rattle.cap_codec.specs.Rows.{RawValue, IsRaw, IsRawRow, row_of, frame, FitsFrame}
 use Rattle.cap_codec.proofs.Frames.{frame_long}
+use Rattle.auth_entry.specs.Authorised.{AuthorisedValue}
+use Rattle.ns_state.specs.Log.{StateValue}
 use Rattle.row_stream.specs.declared.refusal.StreamRefusal.{StreamRefusal}
 use Rattle.row_stream.specs.Streams.{frames_of, IsStream, GoesWrong}
 use Rattle.row_stream.specs.Feeding.{StreamState, nothing_fed, Feeds, HandsOutRows, Breaks}
@@ -27,15 +29,18 @@ use Rattle.peer_rows.proofs.RawStreams.{framed_rows, more_rows, frames_same, rig
 -- ---- nothing is read yet
 
 pub nothing_seen : (namespace : List ℕ) (state : StreamState) (intake : Intake) → state ≡ nothing_fed → intake.log.kept ≡ record { namespace = namespace; log = [] } → intake.log.counts ≡ no_counts → intake.waiting.items ≡ []
-    → HasSeen namespace [] state intake
-nothing_seen namespace state intake start empty none nobody = record {
-  seen = [];
-  fit = tt;
-  unrefused = ap (λ (s : StreamState). s.refusal) start;
-  stream = subst (λ (s : StreamState). IsStream IsRawRow 0 [] [] s.begun None) (sym start) (record { fit = tt; parts = refl; judged = λ there. absurd (omega (arith, there)) });
-  all_fed = omega (arith, ap (λ (s : StreamState). s.at) start, ap (λ (s : StreamState). length s.begun) start);
-  taken_in = none_taken_in namespace intake empty none nobody;
-}
+    → HasSeen intake.log.kept.namespace [] state intake
+nothing_seen namespace state intake start empty none nobody =
+    let here = ap (λ (kept : StateValue AuthorisedValue). kept.namespace) empty in
+    subst (λ (n : List ℕ). HasSeen n [] state intake) (sym here)
+    (record {
+      seen = [];
+      fit = tt;
+      unrefused = ap (λ (s : StreamState). s.refusal) start;
+      stream = subst (λ (s : StreamState). IsStream IsRawRow 0 [] [] s.begun None) (sym start) (record { fit = tt; parts = refl; judged = λ there. absurd (omega (arith, there)) });
+      all_fed = omega (arith, ap (λ (s : StreamState). s.at) start, ap (λ (s : StreamState). length s.begun) start);
+      taken_in = none_taken_in namespace intake empty none nobody;
+    })
 
 -- ---- how many rows there are
 

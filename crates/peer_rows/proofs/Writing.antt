@@ -4,11 +4,12 @@ use Rattle.std.specs.Prelude.{Result, Err}
 use Rattle.std.specs.Io.KnownBytes.{Appends}
 use Rattle.std.proofs.KnownBytes.{Appends-nil, Appends-trans}
 use Rattle.std.proofs.Math.Seq.{take-append-add, take-append_seam}
-use Rattle.std.proofs.lemmas.List.{take-append-le}
+use Rattle.std.proofs.lemmas.List.{length-map, take-append-le}
 use Rattle.std.proofs.lemmas.List.Concat.{flat_map-cons}
 use Rattle.std.specs.List.{flat_map}
 use Rattle.willow_entry.specs.Row.{RowValue}
 use Rattle.peer_image.specs.Image.{bytes_frame, capabilities, head_two, image, placed_frame, trailer}
+use Rattle.peer_image.proofs.TwoPlaces.{Text, now_of}
 use Rattle.willow_outside.specs.Facts.{SinkFacts}
 use Rattle.peer_stage.specs.Stages.{IsWritten, IsPartlyWritten, WritesOutput}
 use Rattle.peer_stage.specs.declared.outcome.Stop.{Stop}
@@ -101,24 +102,30 @@ some_behind front behind some = omega (arith, some, length-append front behind)
 pub trailer_some : (count : ℕ) → 0 < length (trailer count)
 trailer_some count = omega arith
 
-image_parts : (n : List ℕ) (rows same : List RowValue) (one two : List (List ℕ)) (count : ℕ) → one ≡ capabilities rows → two ≡ capabilities rows → count ≡ length one → same ≡ rows
-    → image n rows ≡ head_two n count ++ (flat_map bytes_frame one ++ (flat_map (placed_frame two) same ++ trailer (length rows)))
+-- what comes behind the capabilities: the rows, each with the place of its own, and the end of an image of so many
+abbrev pub behind_told : List Text → List RowValue → ℕ → List ℕ
+behind_told told rows count = flat_map (placed_frame (now_of told)) rows ++ trailer count
+
+pub behind_told_some : (told : List Text) (rows : List RowValue) (count : ℕ) → 0 < length (behind_told told rows count)
+behind_told_some told rows count = some_behind (flat_map (placed_frame (now_of told)) rows) (trailer count) (trailer_some count)
+
+image_parts : (n : List ℕ) (rows same : List RowValue) (told : List Text) (count : ℕ) → now_of told ≡ capabilities rows → count ≡ length (now_of told) → same ≡ rows → image n rows ≡ head_two n count ++ (flat_map bytes_frame (now_of told) ++ behind_told told same (length rows))
 unfolding image
-image_parts n rows same one two count one_is two_is many same_is =
+image_parts n rows same told count told_is many same_is =
     let end = trailer (length rows) in
-    let told = capabilities rows in
-    ap (λ (k : ℕ). head_two n k ++ (flat_map bytes_frame told ++ (flat_map (placed_frame told) rows ++ end))) (ap length (sym one_is) ∙ sym many)
-    ∙ ap (λ (l : List (List ℕ)). head_two n count ++ (flat_map bytes_frame l ++ (flat_map (placed_frame told) rows ++ end))) (sym one_is)
-    ∙ ap (λ (l : List (List ℕ)). head_two n count ++ (flat_map bytes_frame one ++ (flat_map (placed_frame l) rows ++ end))) (sym two_is)
-    ∙ ap (λ (l : List RowValue). head_two n count ++ (flat_map bytes_frame one ++ (flat_map (placed_frame two) l ++ end))) (sym same_is)
+    ap (λ (l : List (List ℕ)). head_two n (length l) ++ (flat_map bytes_frame l ++ (flat_map (placed_frame l) rows ++ end))) (sym told_is)
+    ∙ ap (λ (k : ℕ). head_two n k ++ (flat_map bytes_frame (now_of told) ++ behind_told told rows (length rows))) (sym many)
+    ∙ ap (λ (l : List RowValue). head_two n count ++ (flat_map bytes_frame (now_of told) ++ behind_told told l (length rows))) (sym same_is)
 
 -- its head stands in the piece
-pub image_begun : (output : SinkFacts) (n : List ℕ) (rows same : List RowValue) (one two : List (List ℕ)) (count : ℕ) (start piece : List ℕ) → one ≡ capabilities rows → two ≡ capabilities rows → count ≡ length one → same ≡ rows → start ≡ [] → piece ≡ start ++ head_two n count
-    → IsWritingOut output output (image n rows) piece (flat_map bytes_frame one ++ (flat_map (placed_frame two) same ++ trailer (length rows)))
-image_begun output n rows same one two count start piece one_is two_is many same_is start_is put =
-    let rest = flat_map bytes_frame one ++ (flat_map (placed_frame two) same ++ trailer (length rows)) in
+pub image_begun : (output : SinkFacts) (n : List ℕ) (rows same : List RowValue) (told : List Text) (count : ℕ) (start piece : List ℕ) → now_of told ≡ capabilities rows → count ≡ length told → same ≡ rows → start ≡ [] → piece ≡ start ++ head_two n count
+    → IsWritingOut output output (image n rows) piece (flat_map bytes_frame (now_of told) ++ behind_told told same (length rows))
+image_begun output n rows same told count start piece told_is many same_is start_is put =
+    let now : Text → List ℕ = λ x. x.now in
+    let counted : count ≡ length (now_of told) = omega (arith, many, length-map told now) in
+    let rest = flat_map bytes_frame (now_of told) ++ behind_told told same (length rows) in
     nothing_written output (image n rows) piece rest
-    (image_parts n rows same one two count one_is two_is many same_is ∙ ap (λ (l : List ℕ). l ++ rest) (sym (put ∙ ap (λ (l : List ℕ). l ++ head_two n count) start_is)))
+    (image_parts n rows same told count told_is counted same_is ∙ ap (λ (l : List ℕ). l ++ rest) (sym (put ∙ ap (λ (l : List ℕ). l ++ head_two n count) start_is)))
 
 image_some : (n : List ℕ) (rows : List RowValue) → 0 < length (image n rows)
 unfolding image

@@ -145,3 +145,8 @@ pub record IsLogRead (namespace : List ℕ) (i i' : SourceFacts) (log : Log) : T
 abbrev pub LogsInput : List ℕ → SourceFacts → SourceFacts → Result Log Stop → Type 0
 LogsInput namespace i i' (Ok log) = IsLogRead namespace i i' log
 LogsInput namespace i i' (Err e) = JoinsInput namespace i i' (Err e)
+
+-- how the taking in of an input ends
+abbrev pub TakesInput : List ℕ → SourceFacts → SourceFacts → Intake → Result (Unit {0}) Stop → Type 0
+TakesInput namespace i i' intake (Ok u) = IsLogRead namespace i i' intake.log
+TakesInput namespace i i' intake (Err e) = JoinsInput namespace i i' (Err e)

@@ -41,18 +41,66 @@ pub fn generated_logs<C: NewChecker<PeerScheme>, R: Threads + Sync>(
     let mut made = 0;
     'both: while made < middle {
         let to = middle.min(made + PIECE);
-        let entries = authorised_between(rt, alloc, &mut checker, made, to)?;
-        keep(&mut half, made, to, copies_of(alloc, &entries)?)?;
-        keep(&mut whole, made, to, entries)?;
+        keep_twice(rt, alloc, &mut checker, made, to, &mut half, &mut whole)?;
         made = to;
     }
     'others: while made < rows {
         let to = rows.min(made + PIECE);
-        let entries = authorised_between(rt, alloc, &mut checker, made, to)?;
-        keep(&mut whole, made, to, entries)?;
+        keep_once(rt, alloc, &mut checker, made, to, &mut whole)?;
         made = to;
     }
     Ok((whole, half))
+}
+
+// Makes and judges the generator's rows from one to before another once, and offers the authorised ones to two logs of those
+// before them, which have room for all.
+fn keep_twice<C: Checker<PeerScheme>, R: Threads + Sync>(
+    rt: &R,
+    alloc: Global,
+    checker: &mut C,
+    from: u32,
+    to: u32,
+    half: &mut EntryLog,
+    whole: &mut EntryLog,
+) -> Result<(), NoMemory>
+    requires checks { C.judged_in checker.old ≡ generator_namespace }
+    requires from { from ≤ to }
+    requires to { to ≤ GENERATED_ROWS }
+    requires half { HasTaken entry_row (generated_rows from) half.old }
+    requires half_namespace { half.old.namespace ≡ generator_namespace }
+    requires whole { HasTaken entry_row (generated_rows from) whole.old }
+    requires whole_namespace { whole.old.namespace ≡ generator_namespace }
+    ensures checks { C.judged_in checker.new ≡ C.judged_in checker.old }
+    ensures half { OnOk result (HasTaken entry_row (generated_rows to) half.new) }
+    ensures half_namespace { half.new.namespace ≡ half.old.namespace }
+    ensures whole { OnOk result (HasTaken entry_row (generated_rows to) whole.new) }
+    ensures whole_namespace { whole.new.namespace ≡ whole.old.namespace }
+{
+    let entries = authorised_between(rt, alloc, checker, from, to)?;
+    keep(half, from, to, copies_of(alloc, &entries)?)?;
+    keep(whole, from, to, entries)
+}
+
+// The same for one log.
+fn keep_once<C: Checker<PeerScheme>, R: Threads + Sync>(
+    rt: &R,
+    alloc: Global,
+    checker: &mut C,
+    from: u32,
+    to: u32,
+    log: &mut EntryLog,
+) -> Result<(), NoMemory>
+    requires checks { C.judged_in checker.old ≡ generator_namespace }
+    requires from { from ≤ to }
+    requires to { to ≤ GENERATED_ROWS }
+    requires taken { HasTaken entry_row (generated_rows from) log.old }
+    requires namespace { log.old.namespace ≡ generator_namespace }
+    ensures checks { C.judged_in checker.new ≡ C.judged_in checker.old }
+    ensures taken { OnOk result (HasTaken entry_row (generated_rows to) log.new) }
+    ensures namespace { log.new.namespace ≡ log.old.namespace }
+{
+    let entries = authorised_between(rt, alloc, checker, from, to)?;
+    keep(log, from, to, entries)
 }
 
 // The authorised ones among the generator's rows from one to before another.

@@ -1,13 +1,13 @@
 //! The image of a store, written a piece at a time.
 
-ghost use Rattle.std.specs.Prelude.{◌≡◌, ℕ, ◌<◌, ◌≤◌, ◌^◌, ◌++◌, List, length, map};
+ghost use Rattle.std.specs.Prelude.{◌≡◌, ℕ, ◌<◌, ◌≤◌, ◌^◌, ◌++◌, [], List, length, map};
 ghost use Rattle.std.specs.List.{AllByRecursion, flat_map};
 ghost use Rattle.std.specs.List.Sorted.{IsStrictlySortedBy};
 ghost use Rattle.willow_outside.specs.Facts.{SinkFacts};
 ghost use Rattle.willow_entry.specs.Entry.{bytes_cmp};
 ghost use Rattle.willow_entry.specs.Frame.{HasFrame};
 ghost use Rattle.willow_entry.specs.declared.frame.TheConstants.{MAX_FRAME};
-ghost use Rattle.peer_image.specs.Image.{bytes_frame, image, placed_frame};
+ghost use Rattle.peer_image.specs.Image.{bytes_frame, capabilities, image, placed_frame};
 ghost use Rattle.peer_stage.specs.Faults.{CountsStep};
 ghost use Rattle.peer_stage.specs.Stages.{WritesOutput};
 ghost use Rattle.peer_rows.specs.Writing.{GoesOnWriting, IsWritingOut};
@@ -37,14 +37,33 @@ pub(crate) fn write_image_of<R: TokenRow, O: Sink>(
     ensures writes { WritesOutput (O.facts output.old) (O.facts output.new) (image namespace.now (map R.value store.now)) result }
     ensures faults { CountsStep (O.facts output.old).faults (O.facts output.new).faults result }
 {
-    let count = store.len();
     let told = capabilities_of(alloc, store.rows())?;
     let mut piece = Vec::new(alloc);
-    put_head_two(&mut piece, namespace, told.len() as u32)?;
-    write_capabilities(&told, &mut piece, output)?;
-    write_rows(store.rows(), &told, &mut piece, output)?;
-    put_trailer(&mut piece, count)?;
-    write_output(output, &piece)
+    write_told(namespace, store, &told, &mut piece, output)
+}
+
+// The same, where these are the capabilities, in an empty piece.
+fn write_told<R: TokenRow, O: Sink>(
+    namespace: &NamespaceKey,
+    store: &BlockStore<R>,
+    told: &[&[u8]],
+    piece: &mut Vec<u8>,
+    output: &mut O,
+) -> Result<(), Stop>
+    requires frames { AllByRecursion HasFrame (map R.value store.now) }
+    requires told { map (λ c. c.now) told.now ≡ capabilities (map R.value store.now) }
+    requires up { IsStrictlySortedBy (λ c d. bytes_cmp c.now d.now) told.now }
+    requires short { AllByRecursion (λ c. length c ≤ MAX_FRAME) (map (λ c. c.now) told.now) }
+    requires empty { piece.old.items ≡ [] }
+    ensures writes { WritesOutput (O.facts output.old) (O.facts output.new) (image namespace.now (map R.value store.now)) result }
+    ensures faults { CountsStep (O.facts output.old).faults (O.facts output.new).faults result }
+{
+    let count = store.len();
+    put_head_two(piece, namespace, told.len() as u32)?;
+    write_capabilities(told, piece, output)?;
+    write_rows(store.rows(), told, piece, output)?;
+    put_trailer(piece, count)?;
+    write_output(output, piece)
 }
 
 // Writes the capabilities behind the piece, a piece at a time. What is left of them stands in the piece then.

@@ -1,6 +1,6 @@
 //! `join`: the image of the live rows among the authorised rows of the input.
 
-ghost use Rattle.std.specs.Prelude.{◌≡◌, ℕ, List, ◌+◌, ◌≤◌, ◌++◌, length, IfOk};
+ghost use Rattle.std.specs.Prelude.{◌≡◌, ℕ, List, ◌+◌, ◌≤◌, ◌++◌, [], length, IfOk};
 ghost use Rattle.std.specs.List.{AllByRecursion};
 ghost use Rattle.cap_codec.specs.Rows.{IsRaw};
 ghost use Rattle.peer_stage.specs.World.{World};
@@ -8,7 +8,7 @@ ghost use Rattle.peer_stage.specs.Faults.{CountsStep};
 ghost use Rattle.peer_stage.specs.declared.outcome.Origin.TheVariants as origin;
 ghost use Rattle.peer_stage.specs.declared.outcome.Stop.TheVariants as stop;
 ghost use Rattle.peer_rows.specs.Join.{Joins};
-ghost use Rattle.peer_rows.specs.Stored.{EndsStream, FeedsPiece, HasSeen, LogsInput, TakesPiece, offset_of};
+ghost use Rattle.peer_rows.specs.Stored.{EndsStream, FeedsPiece, HasSeen, LogsInput, MayWait, TakesInput, TakesPiece, offset_of};
 
 use crate::imaging::write_image_of;
 use crate::intake::Intake;
@@ -64,15 +64,45 @@ fn read_log<C: NewChecker<PeerScheme>, R: Threads + Sync, I: Source>(
     let mut intake = Intake::new(alloc, *namespace);
     let mut stream = RowStream::<RawRows>::new(alloc);
     let mut piece = room(alloc)?;
+    take_input(
+        rt,
+        alloc,
+        &mut checker,
+        &mut stream,
+        &mut intake,
+        &mut piece,
+        input,
+    )?;
+    Ok(intake.log)
+}
+
+// Takes the input in up to its end, where nothing is taken in yet.
+fn take_input<C: Checker<PeerScheme>, R: Threads + Sync, I: Source>(
+    rt: &R,
+    alloc: Global,
+    checker: &mut C,
+    stream: &mut RowStream<RawRows>,
+    intake: &mut Intake,
+    piece: &mut Vec<u8>,
+    input: &mut I,
+) -> Result<(), Stop>
+    requires namespace { C.judged_in checker.old ≡ intake.old.log.kept.namespace }
+    requires seen { HasSeen intake.old.log.kept.namespace [] stream.old intake.old }
+    requires waits { MayWait intake.old }
+    requires room { length piece.old.items ≡ PIECE }
+    ensures takes { TakesInput intake.old.log.kept.namespace (I.facts input.old) (I.facts input.new) intake.new result }
+    ensures faults { CountsStep (I.facts input.old).faults (I.facts input.new).faults result }
+    ensures ends { (I.facts input.old).ends ≤ (I.facts input.new).ends }
+{
     let mut left = INPUT_LIMIT;
     'pieces: loop {
         // Behind the last byte that may be taken one more tells that the input goes on.
         piece.truncate(left.max(1) as usize);
-        match input.read(&mut piece) {
+        match input.read(piece) {
             Ok(0) => {
-                end_stream(&stream)?;
-                intake.judge(rt, alloc, &mut checker)?;
-                return Ok(intake.log);
+                end_stream(stream)?;
+                intake.judge(rt, alloc, checker)?;
+                return Ok(());
             }
             Ok(n) => {
                 if left == 0 {
@@ -80,7 +110,7 @@ fn read_log<C: NewChecker<PeerScheme>, R: Threads + Sync, I: Source>(
                 }
                 left -= n as u64;
                 let given = &piece[..n];
-                take_piece(rt, alloc, &mut checker, &mut stream, &mut intake, given)?;
+                take_piece(rt, alloc, checker, stream, intake, given)?;
             }
             Err(Fault::Failed) => return Err(Stop::ReadFault),
             Err(Fault::NoMemory) => return Err(Stop::NoMemory),

@@ -10,6 +10,7 @@ use Rattle.session_end.specs.declared.refusal.HelloRefusal.TheVariants.{AskOutsi
 use Rattle.sync_msg.specs.declared.role.Role.{Role}
 use Rattle.sync_hello.specs.Checked.{claim_refusal, capability_refusal, hello_refusal}
 use Rattle.sync_hello.specs.declared.hello.Hello.{Hello}
+use Rattle.sync_core.specs.SyncRules.{IsVersion}
 use Rattle.sync_link.specs.Plans as plans
 use Rattle.sync_link.specs.declared.plan.SessionPlan.{SessionPlan}
 use Rattle.peer_make.specs.KeySigners.{IsSignerOf, left_of}
@@ -48,6 +49,10 @@ pub plan_passes : (role : Role) (n : List ℕ) (area : AreaWords) (c : Capabilit
 plan_passes role n area c nonce plan is none =
     let passes = subst (λ (o : Option HelloRefusal). o ≡ None) (any_nonce n area c nonce) (own_passes n (own_hello area c no_nonce) none) in
     subst (λ (p : SessionPlan PeerScheme). hello_refusal peer_rules n (plans.own_hello p nonce) ≡ None) (sym is) passes
+
+-- and its version is one that is spoken
+pub plan_speaks : (role : Role) (area : AreaWords) (c : Capability) (plan : SessionPlan PeerScheme) → plan ≡ plan_of role (own_hello area c no_nonce) → IsVersion plan.version
+plan_speaks role area c plan is = subst (λ (p : SessionPlan PeerScheme). IsVersion p.version) (sym is) (omega arith, omega arith)
 
 -- ---- the signer
 

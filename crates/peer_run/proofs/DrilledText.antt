@@ -6,6 +6,7 @@ use Rattle.std.proofs.lemmas.List.Elements.{All-from_recursion}
 use Rattle.willow_entry.specs.Frame.{HasFrame}
 use Rattle.willow_entry.specs.Row.{RowValue, live}
 use Rattle.auth_entry.specs.Authorised.{AuthorisedValue}
+use Rattle.sync_hello.specs.declared.version.TheConstants.{HIGHEST_VERSION}
 use Rattle.sync_pair.specs.Meeting.{turn_bytes}
 use Rattle.peer_listing.specs.Summary.{drill_summary}
 use Rattle.peer_listing.specs.declared.summary.DrillCounts.{DrillCounts}
@@ -54,4 +55,4 @@ module _ (n : ℕ) (left right left' right' : StateValue AuthorisedValue) (x : E
       ∙ ap drill_summary
       (same_counts counts (drill_counts n) rows (held_count (generated_rows n) left counts.left takes one) (held_count (generated_rows (n / 2)) right counts.right takes_too other)
       (held_count _ left' counts.left_after is.left.taken one_after) (held_count _ right' counts.right_after is.right.taken other_after) (items ∙ is.items)
-      (turns ∙ sym (length-map x.turns.items (λ t. t.items)) ∙ ap length is.turns ∙ length-map (drilled n) turn_bytes))
+      (turns ∙ sym (length-map x.turns.items (λ t. t.items)) ∙ ap length is.turns ∙ length-map (drilled n) (turn_bytes HIGHEST_VERSION)))

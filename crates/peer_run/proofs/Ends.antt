@@ -1,9 +1,8 @@
 -- From the status of a run back to how its command ended.
-use Rattle.std.proofs.Common.{◌≡◌, ◌≢◌, ℕ, ◌≤◌, ◌<◌, Bool, true, false, cond, ◌⊎◌, inl, inr, refl, sym, ap, ◌∙◌, arith}
+use Rattle.std.proofs.Common.{◌≡◌, ◌≢◌, ℕ, ◌≤◌, ◌<◌, Bool, true, false, cond, ◌⊎◌, inl, inr, refl, ap, ◌∙◌, arith}
 use Rattle.std.specs.Prelude.{Option, None, Some, Result, Ok, Err, nat_le}
 use Rattle.std.proofs.lemmas.Bool.Decides.{nat_tests}
 use Rattle.willow_outside.specs.Facts.{SinkFacts}
-use Rattle.mc_cap.specs.declared.refusal.RefusedRow.{RefusedRow}
 use Rattle.session_end.specs.declared.end.SessionEnd.{SessionEnd}
 use Rattle.session_end.specs.declared.end.SessionEnd.TheVariants as ending
 use Rattle.peer_stage.specs.declared.outcome.FollowCounts.{FollowCounts}
@@ -12,13 +11,14 @@ use Rattle.peer_stage.specs.declared.outcome.Served.{Served}
 use Rattle.peer_stage.specs.declared.outcome.Synced.{Synced}
 use Rattle.peer_stage.specs.declared.outcome.Done.{Done}
 use Rattle.peer_stage.specs.declared.outcome.Done.TheVariants as done
+use Rattle.peer_stage.specs.declared.outcome.Stopped.{Stopped}
 use Rattle.peer_stage.specs.declared.outcome.Stop.{Stop}
 use Rattle.peer_stage.specs.declared.outcome.Stop.TheVariants as stop
-use Rattle.peer_stage.specs.Status.{status_of, session_status, followed_status}
+use Rattle.peer_stage.specs.Status.{status_of, stop_status, session_status, followed_status}
 use Rattle.peer_stage.proofs.Ends.{IsLocal, done_small, synced_known, served_known}
 use Rattle.peer_stage.proofs.Told.{synced_from}
 use Rattle.peer_report.specs.Report.{Reports, after_report_fault}
-use Rattle.peer_run.specs.Promises.{IsEnd, IsBadEnd, IsRefusedSession, IsRefusedFeed, IsRefusedEnd, IsFullSession, IsFullFeed, IsFullEnd, IsSpentEnd}
+use Rattle.peer_run.specs.Promises.{IsRefusedMaking, IsEnd, IsBadStop, IsBadEnd, IsRefusedSession, IsRefusedFeed, IsRefusedStop, IsRefusedEnd, IsFullSession, IsFullFeed, IsFullStop, IsFullEnd, IsSpentStop, IsSpentEnd}
 use Rattle.peer_run.proofs.ServedStatus.{session_gave}
 use Rattle.peer_run.proofs.SignedAll.{IsSigned, IsSignedFeed, SignsAll, SignsEnd}
 
@@ -47,21 +47,26 @@ own_seven r r' end s (inr (inr none)) seven = none.status_is
 pub memory_end : (r r' : SinkFacts) (s : ℕ) → Reports r r' (Err stop.NoMemory) s → s ≡ 7
 memory_end r r' s reports = own_seven r r' (Err stop.NoMemory) s reports refl
 
+is_refusal : (e : Stop) → stop_status e ≤ 1 → IsRefusedMaking e
+is_refusal (stop.Refused refusal) small = tt
+is_refusal e small = absurd (omega (arith, small))
+
 pub is_end : (end : Result Done Stop) → status_of end ≤ 1 → IsEnd end
+is_end (Ok (done.Stopped s)) small = is_refusal s.stop small
 is_end (Ok d) small = tt
-is_end (Err (stop.Refused refusal)) small = tt
-is_end (Err e) small = absurd (omega (arith, small))
+is_end (Err e) small = is_refusal e small
 
 -- ---- what is done, with sessions or without
 
-by_done : (P : Done → Type 0) → ((d : Done) → IsLocal d → P d) → ((s : Synced) → P (done.Synced s)) → ((s : Served) → P (done.Served s)) → (d : Done) → P d
-by_done P local call serve (done.Joined counts) = local (done.Joined counts) tt
-by_done P local call serve (done.Shown counts) = local (done.Shown counts) tt
-by_done P local call serve (done.Met counts) = local (done.Met counts) tt
-by_done P local call serve (done.Synced s) = call s
-by_done P local call serve (done.Served s) = serve s
-by_done P local call serve (done.Watched counts) = local (done.Watched counts) tt
-by_done P local call serve done.Made = local done.Made tt
+by_done : (P : Done → Type 0) → ((d : Done) → IsLocal d → P d) → ((s : Synced) → P (done.Synced s)) → ((s : Served) → P (done.Served s)) → ((s : Stopped) → P (done.Stopped s)) → (d : Done) → P d
+by_done P local call serve stopped (done.Joined counts) = local (done.Joined counts) tt
+by_done P local call serve stopped (done.Shown counts) = local (done.Shown counts) tt
+by_done P local call serve stopped (done.Met counts) = local (done.Met counts) tt
+by_done P local call serve stopped (done.Synced s) = call s
+by_done P local call serve stopped (done.Served s) = serve s
+by_done P local call serve stopped (done.Stopped s) = stopped s
+by_done P local call serve stopped (done.Watched counts) = local (done.Watched counts) tt
+by_done P local call serve stopped done.Made = local done.Made tt
 
 -- of a session, by its own status
 six_session : (session : Result SessionCounts SessionEnd) → IsSigned session → session_status session ≡ 6 → IsRefusedSession session
@@ -96,35 +101,58 @@ full_call : (s : Synced) → status_of (Ok (done.Synced s)) ≡ 8 → IsFullEnd 
 full_call s is = elim (synced_from s 8 is (omega arith)) [ inl own ↦ inl (eight_session s.session own) | inr feed ↦ inr (eight_feed s.followed feed) ]
 
 refused_server : (s : Served) → SignsAll (done.Served s) → status_of (Ok (done.Served s)) ≡ 6 → IsRefusedEnd (Ok (done.Served s))
-refused_server s signs is = let session = session_gave s 6 is (omega arith) in (session.0, session.1, six_session session.0 (signs session.0 session.1) session.2)
+refused_server s signs is = elim (session_gave s 6 is (omega arith)) [
+  | inl session ↦ (session.0, session.1, six_session session.0 (signs session.0 session.1) session.2)
+  | inr fed ↦ absurd (omega (arith, fed.0))
+]
 
 full_server : (s : Served) → status_of (Ok (done.Served s)) ≡ 8 → IsFullEnd (Ok (done.Served s))
-full_server s is = let session = session_gave s 8 is (omega arith) in (session.0, session.1, eight_session session.0 session.2)
+full_server s is = elim (session_gave s 8 is (omega arith)) [
+  | inl session ↦ (session.0, session.1, eight_session session.0 session.2)
+  | inr fed ↦ absurd (omega (arith, fed.0))
+]
+
+-- the stops of each status
+bad_stop : (e : Stop) → stop_status e ≡ 5 → IsBadStop e
+bad_stop (stop.BadInput from at) is = tt
+bad_stop (stop.NotRising from row) is = tt
+bad_stop (stop.Pruned from row by) is = tt
+bad_stop (stop.Missing name) is = tt
+bad_stop (stop.Taken name) is = tt
+bad_stop e is = absurd (omega (arith, is))
+
+refused_stop : (e : Stop) → stop_status e ≡ 6 → IsRefusedStop e
+refused_stop (stop.SessionRefused refusal) is = tt
+refused_stop e is = absurd (omega (arith, is))
+
+full_stop : (e : Stop) → stop_status e ≡ 8 → IsFullStop e
+full_stop stop.LogFull is = tt
+full_stop e is = absurd (omega (arith, is))
+
+spent_stop : (e : Stop) → stop_status e ≡ 9 → IsSpentStop e
+spent_stop stop.KeySpent is = tt
+spent_stop e is = absurd (omega (arith, is))
 
 -- the ends of each status
 pub bad_end : (end : Result Done Stop) → status_of end ≡ 5 → IsBadEnd end
-bad_end (Ok d) is = by_done (λ x. status_of (Ok x) ≡ 5 → IsBadEnd (Ok x)) (λ x local e. absurd (omega (arith, done_small x local, e))) (λ s e. absurd ((synced_known s).no_input e)) (λ s e. absurd ((served_known s).no_input e)) d is
-bad_end (Err (stop.BadInput from at)) is = tt
-bad_end (Err (stop.NotRising from row)) is = tt
-bad_end (Err (stop.Pruned from row by)) is = tt
-bad_end (Err (stop.Missing name)) is = tt
-bad_end (Err (stop.Taken name)) is = tt
-bad_end (Err e) is = absurd (omega (arith, is))
+bad_end (Ok d) is =
+    by_done (λ x. status_of (Ok x) ≡ 5 → IsBadEnd (Ok x)) (λ x local e. absurd (omega (arith, done_small x local, e))) (λ s e. absurd ((synced_known s).no_input e)) (λ s e. absurd ((served_known s).no_input e))
+    (λ s e. bad_stop s.stop e) d is
+bad_end (Err e) is = bad_stop e is
 
 pub refused_end : (end : Result Done Stop) → SignsEnd end → status_of end ≡ 6 → IsRefusedEnd end
 refused_end (Ok d) signs is =
     by_done (λ x. SignsAll x → status_of (Ok x) ≡ 6 → IsRefusedEnd (Ok x)) (λ x local signed e. absurd (omega (arith, done_small x local, e)))
-    refused_call refused_server d signs is
-refused_end (Err (stop.SessionRefused refusal)) signs is = tt
-refused_end (Err e) signs is = absurd (omega (arith, is))
+    refused_call refused_server (λ s signed e. refused_stop s.stop e) d signs is
+refused_end (Err e) signs is = refused_stop e is
 
 pub full_end : (end : Result Done Stop) → status_of end ≡ 8 → IsFullEnd end
 full_end (Ok d) is =
-    by_done (λ x. status_of (Ok x) ≡ 8 → IsFullEnd (Ok x)) (λ x local e. absurd (omega (arith, done_small x local, e))) full_call full_server d is
-full_end (Err stop.LogFull) is = tt
-full_end (Err e) is = absurd (omega (arith, is))
+    by_done (λ x. status_of (Ok x) ≡ 8 → IsFullEnd (Ok x)) (λ x local e. absurd (omega (arith, done_small x local, e))) full_call full_server (λ s e. full_stop s.stop e) d is
+full_end (Err e) is = full_stop e is
 
 pub spent_end : (end : Result Done Stop) → status_of end ≡ 9 → IsSpentEnd end
-spent_end (Ok d) is = by_done (λ x. status_of (Ok x) ≡ 9 → IsSpentEnd (Ok x)) (λ x local e. absurd (omega (arith, done_small x local, e))) (λ s e. absurd (omega (arith, (synced_known s).small, e))) (λ s e. absurd (omega (arith, (served_known s).small, e))) d is
-spent_end (Err stop.KeySpent) is = tt
-spent_end (Err e) is = absurd (omega (arith, is))
+spent_end (Ok d) is =
+    by_done (λ x. status_of (Ok x) ≡ 9 → IsSpentEnd (Ok x)) (λ x local e. absurd (omega (arith, done_small x local, e))) (λ s e. absurd (omega (arith, (synced_known s).small, e)))
+    (λ s e. absurd (omega (arith, (served_known s).small, e))) (λ s e. spent_stop s.stop e) d is
+spent_end (Err e) is = spent_stop e is

@@ -1,5 +1,5 @@
 -- What is known of the images that a meeting got.
-use Rattle.std.proofs.Common.{ℕ, ◌<◌, ◌^◌, List, length, Option, None, sym, ap, subst}
+use Rattle.std.proofs.Common.{ℕ, ◌<◌, ◌^◌, List, [], length, Option, None, sym, ap, subst}
 use Rattle.std.specs.Prelude.{Ok}
 use Rattle.std.specs.declared.string.String.{String}
 use Rattle.std.specs.declared.alloc.Global.{Global}
@@ -8,6 +8,7 @@ use Rattle.cap_codec.specs.Rows.{RawValue}
 use Rattle.peer_image.specs.declared.read.Image.{Image}
 use Rattle.peer_image.proofs.Stops.{image_few, image_raw}
 use Rattle.peer_stage.specs.World.{World}
+use Rattle.peer_run.specs.Drill.{full_area}
 use Rattle.peer_run.specs.Getting.{GetsImage}
 use Rattle.peer_run.specs.ImagesMet.{IsImageOfRows}
 use Rattle.peer_run.specs.Meet.{Gathers}
@@ -24,6 +25,8 @@ untold =
       report = record { held = None; faults = 0 };
       door = record { faults = 0; out = 0; asked = None; back = None; accepts = 0 };
       noise = record { draws = None; faults = 0 };
+      hub = record { members = []; front = 0; area = full_area; added = 0 };
+      bay = record { faults = 0; out = 0; names = None; asked = None; back = None };
     }
 
 pub image_got : (name : String Global) (old new : World) (image : Image) → GetsImage name old new (Ok image) → IsImageOfRows image.rows.items

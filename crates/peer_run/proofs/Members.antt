@@ -14,6 +14,7 @@ use Rattle.block_store.specs.InBox.{is_in, rows_in}
 use Rattle.exchange_rules.specs.Items.{to_left, to_right}
 use Rattle.exchange_rules.specs.Exchange.{exchange}
 use Rattle.exchange_rules.proofs.Converging.{left_only, right_only}
+use Rattle.sync_hello.specs.declared.version.TheConstants.{HIGHEST_VERSION}
 use Rattle.sync_core.specs.SyncRules.{sync_rules}
 use Rattle.sync_core.proofs.Lawful.{deciding, disjoint}
 use Rattle.peer_run.specs.Exchanged.{met}
@@ -31,13 +32,13 @@ module _ (P : RowValue → Type 0) where
   in_box area rows sent all holds =
       all_from_members place_cmp P sent (λ r m. all_member place_cmp P rows all r (filter_member (is_in area) rows r (member_from_contains (rows_in area rows) r (holds r (contains_from_member sent r m)))).0)
 
-  pub sent_left : (a b : List RowValue) (area : Option Ranges) → AllByRecursion P b → AllByRecursion P (to_left (exchange sync_rules a b area))
+  pub sent_left : (a b : List RowValue) (area : Option Ranges) → AllByRecursion P b → AllByRecursion P (to_left (exchange (sync_rules HIGHEST_VERSION) a b area))
   sent_left a b None all = tt
-  sent_left a b (Some area) all = in_box area b (to_left (exchange sync_rules a b (Some area))) all (left_only sync_rules deciding disjoint a b area)
+  sent_left a b (Some area) all = in_box area b (to_left (exchange (sync_rules HIGHEST_VERSION) a b (Some area))) all (left_only (sync_rules HIGHEST_VERSION) (deciding HIGHEST_VERSION) (disjoint HIGHEST_VERSION) a b area)
 
-  pub sent_right : (a b : List RowValue) (area : Option Ranges) → AllByRecursion P a → AllByRecursion P (to_right (exchange sync_rules a b area))
+  pub sent_right : (a b : List RowValue) (area : Option Ranges) → AllByRecursion P a → AllByRecursion P (to_right (exchange (sync_rules HIGHEST_VERSION) a b area))
   sent_right a b None all = tt
-  sent_right a b (Some area) all = in_box area a (to_right (exchange sync_rules a b (Some area))) all (right_only sync_rules deciding disjoint a b area)
+  sent_right a b (Some area) all = in_box area a (to_right (exchange (sync_rules HIGHEST_VERSION) a b (Some area))) all (right_only (sync_rules HIGHEST_VERSION) (deciding HIGHEST_VERSION) (disjoint HIGHEST_VERSION) a b area)
 
   -- of the rows that two stores took, and those that came
   pub all_left : (a b : List RowValue) (area : Option Ranges) → AllByRecursion P a → AllByRecursion P b → AllByRecursion P (a ++ to_left (met a b area))

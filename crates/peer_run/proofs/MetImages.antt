@@ -13,6 +13,7 @@ use Rattle.willow_entry.specs.Row.{RowValue, live}
 use Rattle.cap_codec.specs.Rows.{RawValue}
 use Rattle.auth_entry.specs.Authorised.{AuthorisedValue}
 use Rattle.exchange_rules.specs.Items.{to_left, to_right}
+use Rattle.sync_hello.specs.declared.version.TheConstants.{HIGHEST_VERSION}
 use Rattle.sync_core.specs.Flat.{TurnValue}
 use Rattle.sync_pair.specs.Meeting.{turn_bytes}
 use Rattle.peer_image.specs.Image.{image}
@@ -90,7 +91,7 @@ module _ (n : List ℕ) (left right : List RawValue) (area : Option Area) where
         left_side = is_side left (to_left turns) left_counts x.left counted is.left.numbers;
         right_side = is_side right (to_right turns) right_counts x.right counted_too is.right.numbers;
         of_items = is.items;
-        of_turns = sym (length-map x.turns.items (λ t. t.items)) ∙ ap length is.turns ∙ length-map turns turn_bytes;
+        of_turns = sym (length-map x.turns.items (λ t. t.items)) ∙ ap length is.turns ∙ length-map turns (turn_bytes HIGHEST_VERSION);
         of_first =
             ap (λ (first : Option _). or_else first (refused_behind left_counts.rows right_counts.first)) counted.first
             ∙ ap (λ (first : Option _). or_else (first_refused n left) (refused_behind left_counts.rows first)) counted_too.first

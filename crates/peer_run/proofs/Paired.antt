@@ -13,6 +13,7 @@ use Rattle.auth_entry.specs.Authorised.{AuthorisedValue}
 use Rattle.lms_core.specs.Use.{peer_rules}
 use Rattle.ns_cell.specs.Passes.{CellValue, PassValue, IsPassOf}
 use Rattle.sync_hello.specs.Checked.{hello_refusal}
+use Rattle.sync_core.specs.SyncRules.{IsVersion}
 use Rattle.sync_link.specs.Plans.{own_hello}
 use Rattle.sync_link.specs.Run.{Answer}
 use Rattle.peer_make.specs.KeySigners.{left_of}
@@ -89,7 +90,7 @@ module _ (all : Passes) (signers : List KeySigner) (draws : List (List ℕ)) whe
 
 -- ---- they may visit
 
-module _ (hall : Hall) (named : hall.namespace ≡ hall.cell.namespace) (hello : (draw : List ℕ) → hello_refusal peer_rules hall.cell.namespace (own_hello hall.plan (nonce_of draw)) ≡ None) where
+module _ (hall : Hall) (named : hall.namespace ≡ hall.cell.namespace) (hello : (draw : List ℕ) → hello_refusal peer_rules hall.cell.namespace (own_hello hall.plan (nonce_of draw)) ≡ None) (version : IsVersion hall.plan.version) where
   each_may : (guests : List Guest) (draws : List (List ℕ)) → nonces_of guests ≡ map nonce_of draws → AllByRecursion (IsPassOf hall.cell) (passes_of guests) → AllByRecursion (λ (s : KeySigner). 1 ≤ left_of s) (signers_of guests)
       → AllByRecursion (MayVisit hall) guests
   each_may [] draws nonces passes signs = tt
@@ -100,6 +101,7 @@ module _ (hall : Hall) (named : hall.namespace ≡ hall.cell.namespace) (hello :
         pass = passes.0;
         namespace = named;
         hello = subst (λ (n : List ℕ). hello_refusal peer_rules hall.cell.namespace (own_hello hall.plan n) ≡ None) (sym own) (hello draw);
+        version = version;
         signs = signs.0;
       } in
       (one, each_may gs draws (tails g.nonce (nonce_of draw) (nonces_of gs) (map nonce_of draws) nonces) passes.1 signs.1)

@@ -30,6 +30,7 @@ behind run counts faults =
       report_faults = faults;
       door_faults = counts.door_faults;
       noise_faults = counts.noise_faults;
+      bay_faults = counts.bay_faults;
     }
 
 untouched : (run : Run) → before_report run ≡ run.old → NeverFall run.old (before_report run)

@@ -19,7 +19,7 @@ use Rattle.session_rules.proofs.Worlds.{same_read}
 use Rattle.sync_link.specs.Greetings.{greeting}
 use Rattle.auth_entry.specs.Rows.{entry_row, authorised_rows}
 use Rattle.sync_link.specs.Kept.{log_rows}
-use Rattle.sync_link.specs.Places.{places}
+use Rattle.sync_link.specs.Places.{offers_of, places}
 use Rattle.sync_link.specs.Ran.{Ran, other_common, opening_of}
 use Rattle.sync_link.specs.Run.{Answer, Covers}
 use Rattle.sync_link.specs.Sessions.{Party, AreSameInCommon, out, own_part, session_of}
@@ -94,7 +94,7 @@ module _ {p : List ℕ → Party} (ran : Ran p) (log : List (LogRow AuthorisedVa
 pub alike_in_common : (p : Party) (held others : List RowValue) (bytes : List ℕ) → AreSameInCommon p bytes held others → out p others bytes ≡ out p held bytes
 alike_in_common p held others bytes same =
     let a = session_of p held in
-    sym (ap (λ m. flat_map a.spelling (a.opening ++ says_of m)) (same_read (greeting p.rules p.namespace) places (own_part p) held others bytes same))
+    sym (ap (λ m. flat_map a.spelling (a.opening ++ says_of m)) (same_read (greeting p.rules p.namespace) places (own_part p) (offers_of held) (offers_of others) bytes same))
 
 -- ---- all of it, for one visit of a server
 

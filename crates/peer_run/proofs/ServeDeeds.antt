@@ -49,7 +49,7 @@ use Rattle.peer_run.specs.ServeDeed.{ServeReads, ServeWrites, WantsLater}
 use Rattle.peer_run.specs.declared.hosting.Attended.{Attended}
 use Rattle.peer_run.specs.declared.serving.Server as server
 use Rattle.peer_run.specs.declared.serving.ServeWords.{ServeWords}
-use Rattle.peer_run.proofs.ServedStatus.{HasStatus, contains_map, contains_from_map, read_gave, write_gave, session_gave, all_came, was_put}
+use Rattle.peer_run.proofs.ServedStatus.{HasStatus, contains_map, contains_from_map, no_feed, read_gave, write_gave, session_gave, all_came, was_put}
 use Rattle.peer_run.proofs.SideDeeds.{Nothing, GotReads, GotWrites, got_reads_last, got_writes_last, inside_owes, preparing_owes, preparing_keeps_door, from_none}
 use Rattle.peer_run.proofs.VisitedLinks.{some_visit, told_visit, told_end}
 
@@ -78,6 +78,7 @@ wants_last place old between new stood same later = record {
     report = later.inside.report ∙ stood.report;
     door = omega (arith, later.inside.door, stood.door);
     noise = later.inside.noise ∙ stood.noise;
+    bay = later.inside.bay ∙ stood.bay;
   };
   asked = later.asked ∙ ap (λ (d : DoorFacts). list_with place d.asked) same;
 }
@@ -147,12 +148,12 @@ module _ {A : Type 0} (P : DoorFacts → DoorFacts → Result A Stop → Type 0)
   at_door_counts : (old new : World) (end : Result A Stop) → old.door.faults ≤ new.door.faults → AtDoor P old new end → NeverFall old new
   at_door_counts old new end up s =
       subst (λ (w : World). NeverFall old w) (sym s.others)
-      (record { shelf_reads = omega arith; shelf_writes = omega arith; input_faults = omega arith; input_ends = omega arith; output_faults = omega arith; report_faults = omega arith; door_faults = up; noise_faults = omega arith })
+      (record { shelf_reads = omega arith; shelf_writes = omega arith; input_faults = omega arith; input_ends = omega arith; output_faults = omega arith; report_faults = omega arith; door_faults = up; noise_faults = omega arith; bay_faults = omega arith })
 
   at_door_unfailed : (old new : World) (end : Result A Stop) → new.door.faults ≡ old.door.faults → AtDoor P old new end → Unfailed old new
   at_door_unfailed old new end same s =
       subst (λ (w : World). Unfailed old w) (sym s.others)
-      (record { shelf_reads = refl; shelf_writes = refl; input = refl; output = refl; report = refl; door = same; noise = refl })
+      (record { shelf_reads = refl; shelf_writes = refl; input = refl; output = refl; report = refl; door = same; noise = refl; bay = refl })
 
 accepts_up : (links came : ℕ) (all_came : Bool) (old new : DoorFacts) → Accepts links came all_came old new → old.faults ≤ new.faults
 accepts_up links came true old new accepts = omega (arith, accepts.1)
@@ -264,7 +265,11 @@ module _ (place : List ℕ) (p : List ℕ → List ℕ → Party) (signers : Lis
   close_write : (x : Attended) (old between new : World) (end : Result Done Stop) → NeverFall old between → AreAttended place p signers draws opening old.door between.door x → Close x between new end → status_of end ≡ 4 → ServeWrites old new
   close_write x old between new (Ok (done.Served s)) counts a f is =
       let same = ap (λ (w : World). w.door) f.2.others in
-      elim (write_gave s is) [ inl session ↦ write_session x old between new same a s f.1 session | inr none ↦ unput x old between new s.put none counts f.2 ]
+      elim (write_gave s is) [
+        | inl session ↦ write_session x old between new same a s f.1 session
+        | inr (inl fed) ↦ absurd (no_feed s 4 f.1.none_fed fed)
+        | inr (inr none) ↦ unput x old between new s.put none counts f.2
+      ]
   close_write x old between new (Err stop.NoMemory) counts a f is = absurd (omega (arith, is))
   close_write x old between new end counts a f is = absurd f
 
@@ -331,7 +336,7 @@ module _ (place : List ℕ) (p : List ℕ → List ℕ → Party) (signers : Lis
   -- no session that is told was one for which memory was wanting
   none_wanted : (x : Attended) (between new : World) (d : Done) → Close x between new (Ok d) → status_of (Ok d) ≡ 7 → ⊥
   none_wanted x between new (done.Served s) f seven =
-      let has = session_gave s 7 seven (omega arith) in
+      let has : HasStatus s 7 = elim (session_gave s 7 seven (omega arith)) [ inl session ↦ session | inr fed ↦ absurd (no_feed s 7 f.1.none_fed fed.1) ] in
       let told = contains_from_map told_of x.ends.items has.0 (subst (λ (sessions : List (Result SessionCounts SessionEnd)). Contains sessions has.0) f.1.sessions has.1) in
       All-contains (λ (answer : Answer). IsForWant answer → ⊥) x.ends.items told.0 f.0 told.1 (is_for_want told.0 (ap session_status told.2 ∙ has.2))
   none_wanted x between new d f seven = absurd f
@@ -349,6 +354,7 @@ module _ (place : List ℕ) (p : List ℕ → List ℕ → Party) (signers : Lis
           report = stood.report ∙ ap (λ (w : World). w.report.faults) others;
           door = omega (arith, up, ap (λ (d : DoorFacts). d.faults) same);
           noise = stood.noise ∙ ap (λ (w : World). w.noise.faults) others;
+          bay = stood.bay ∙ ap (λ (w : World). w.bay.faults) others;
         };
         asked = ap (λ (d : DoorFacts). d.asked) same ∙ asked;
       }

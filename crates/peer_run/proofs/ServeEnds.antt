@@ -169,7 +169,7 @@ module _ (words : ServeWords) (old new : World) (can : CanServe words old new) w
         let same_shelf : behind.shelf ≡ opened.shelf = ap (λ (w : World). w.shelf) did.others ∙ ap (λ (w : World). w.shelf) draws_so.others in
         let all_put = is_put (string_bytes words.image) (image_of x.state) served.put behind (ap (λ (h : ShelfFacts). h.write_faults) same_shelf ∙ begun.counted) f.2 in
         let so = subst (λ (g : SideGiven). HadSo words old new x.ends.items g) given (had_sessions words old new s opened draws drawn x behind begun draws_so did all_put) in
-        served_small served (session_done x.ends.items so f.0 served.sessions.items f.1.sessions) three four
+        served_small served (session_done x.ends.items so f.0 served.sessions.items f.1.sessions) f.1.none_fed three four
     ended d s opened opens draws drawn draws_so x behind did f three four = absurd f
 
     small : (end : Result Done Stop) → Serves words old new end → status_of end ≢ 7 → status_of end ≤ 1

@@ -9,6 +9,7 @@ use Rattle.std.specs.declared.alloc.Global.{Global}
 use Rattle.log_rule.specs.Views.{AreOf}
 use Rattle.lms_core.specs.Use.{peer_rules}
 use Rattle.sync_hello.specs.Checked.{hello_refusal}
+use Rattle.sync_core.specs.SyncRules.{IsVersion}
 use Rattle.sync_link.specs.Plans as plans
 use Rattle.sync_msg.specs.declared.role.Role.TheVariants.{Answerer}
 use Rattle.peer_make.specs.KeySigners.{AreSignersOf, left_of}
@@ -22,7 +23,7 @@ use Rattle.peer_run.specs.Preparing.{no_nonce, nonce_of, plan_of}
 use Rattle.peer_run.specs.Serve.{OpensHouse}
 use Rattle.peer_run.specs.declared.opening.Opening.{Opening}
 use Rattle.peer_run.specs.declared.serving.Server as server
-use Rattle.peer_run.proofs.CallReady.{plan_passes}
+use Rattle.peer_run.proofs.CallReady.{plan_passes, plan_speaks}
 use Rattle.peer_run.proofs.GotImages.{held_few}
 use Rattle.peer_run.proofs.SideBegun.{HasPrepared, has_prepared}
 
@@ -49,6 +50,10 @@ module _ (image cap : String Global) (key : SignerWord) (links : ℕ) (area : Ar
   house_hello draw =
       subst (λ (n : List ℕ). hello_refusal peer_rules n (plans.own_hello s.plan (nonce_of draw)) ≡ None) (sym opened.of_namespace)
       (plan_passes Answerer has.given.namespace area has.capability (nonce_of draw) s.plan plan_is has.passes)
+
+  -- in a version that is spoken
+  pub house_version : IsVersion s.plan.version
+  house_version = plan_speaks Answerer area has.capability s.plan plan_is
 
   are_signers : AreSignersOf key links opens.between.shelf opens.rest.between.shelf s.signers.items
   are_signers =

@@ -1,5 +1,5 @@
 -- The steps of a server put together from the stages of the code.
-use Rattle.std.proofs.Common.{◌≡◌, ℕ, List, Option, None, inl, refl, subst, map}
+use Rattle.std.proofs.Common.{◌≡◌, ℕ, List, [], Option, None, inl, refl, subst, map}
 use Rattle.std.specs.Prelude.{Result, Ok, Err}
 use Rattle.std.specs.Global.{Vec}
 use Rattle.std.specs.String.{string_bytes}
@@ -27,10 +27,10 @@ use Rattle.peer_run.specs.declared.serving.Server as server
 use Rattle.peer_run.specs.declared.serving.ServeWords.{ServeWords}
 
 -- the image was put or tried to be put, and the end tells it and all sessions
-pub closes_so : (name : List ℕ) (rows : ℕ) (first : Option RefusedRow) (x : Attended) (s : Served) (w w' : World) → AreNotForWant x.ends.items → s.sessions.items ≡ map told_of x.ends.items
+pub closes_so : (name : List ℕ) (rows : ℕ) (first : Option RefusedRow) (x : Attended) (s : Served) (w w' : World) → AreNotForWant x.ends.items → s.sessions.items ≡ map told_of x.ends.items → s.feeds.items ≡ []
     → s.all_came ≡ x.all_came → s.first ≡ or_else first (first_of_links rows x.ends.items) → s.left ≡ 0 → s.kept ≡ None → OnShelf (PutsBytes name (image_of x.state)) w w' (put_answer s.put) → ClosesHouse name rows first x w w' (Ok (done.Served s))
-closes_so name rows first x s w w' none sessions all_came first_is left kept puts =
-    (none, record { sessions = sessions; accepted_is = all_came; first_is = first_is; nobody_left = left; no_log = kept; put_is = refl }, puts)
+closes_so name rows first x s w w' none sessions unfed all_came first_is left kept puts =
+    (none, record { sessions = sessions; none_fed = unfed; accepted_is = all_came; first_is = first_is; nobody_left = left; no_log = kept; put_is = refl }, puts)
 
 -- those who come are attended, told of the same place and the same draws
 pub attends_as : (place is_place : List ℕ) (draws are_draws : List (List ℕ)) (s : server.Server) (d d' : DoorFacts) (end : Result Attended Stop) → place ≡ is_place → draws ≡ are_draws

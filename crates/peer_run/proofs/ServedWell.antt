@@ -1,5 +1,5 @@
 -- A server with status 0 or 1: all links came, each session was done, and the image was put.
-use Rattle.std.proofs.Common.{◌≡◌, ◌≢◌, ◌∙◌, ◌||◌, ℕ, ◌≤◌, Bool, true, false, cond, eqb, List, [], ◌∷◌, map, All, Option, Some, None, inl, inr, refl, sym, ap, subst, arith}
+use Rattle.std.proofs.Common.{◌≡◌, ◌≢◌, ◌∙◌, ◌||◌, ℕ, ◌≤◌, Bool, true, false, cond, eqb, List, [], ◌∷◌, ◌++◌, map, All, Option, Some, None, inl, inr, refl, sym, ap, subst, arith}
 use Rattle.std.specs.Prelude.{Result, Ok, Err}
 use Rattle.std.specs.List.{list_any, AllByRecursion}
 use Rattle.std.proofs.lemmas.Bool.{eq-eqb}
@@ -10,7 +10,9 @@ use Rattle.session_end.specs.declared.end.SessionEnd.{SessionEnd}
 use Rattle.session_end.specs.declared.end.SessionEnd.TheVariants as ending
 use Rattle.sync_link.specs.Run.{Answer}
 use Rattle.willow_entry.proofs.Members.{Member, member_append_left, member_append_right, true_of_any}
-use Rattle.peer_stage.specs.Status.{accept_status, first_met, first_status, put_status, session_status, status_of, statuses_met, told_order}
+use Rattle.peer_stage.specs.declared.outcome.FeedStop.{FeedStop}
+use Rattle.peer_stage.specs.declared.outcome.FeedStop.TheVariants as feed
+use Rattle.peer_stage.specs.Status.{accept_status, feed_status, first_met, first_status, put_status, session_status, status_of, statuses_met, told_order}
 use Rattle.peer_stage.specs.declared.outcome.Done.TheVariants as done
 use Rattle.peer_stage.specs.declared.outcome.Served.{Served}
 use Rattle.peer_stage.specs.declared.outcome.SessionCounts.{SessionCounts}
@@ -114,6 +116,13 @@ none_one : (sessions : List (Result SessionCounts SessionEnd)) → is_met (map s
 none_one [] = refl
 none_one (session ∷ sessions) = ap (λ (b : Bool). b || is_met (map session_status sessions) 1) (not_one session) ∙ none_one sessions
 
+-- nor has a feed
+no_feed_one : (feeds : List (Option FeedStop)) → is_met (map feed_status feeds) 1 ≡ false
+no_feed_one [] = refl
+no_feed_one (None ∷ feeds) = no_feed_one feeds
+no_feed_one (Some feed.LinkWrite ∷ feeds) = no_feed_one feeds
+no_feed_one (Some feed.NoMemory ∷ feeds) = no_feed_one feeds
+
 came : (all_came : Bool) → IsLow (accept_status all_came) → all_came ≡ true
 came true low = refl
 came false low = absurd (low.read refl)
@@ -124,7 +133,7 @@ was_put false low = absurd (low.write refl)
 
 -- ---- all of it
 
--- what stands behind the sessions
+-- what stands behind the sessions and the feeds
 abbrev behind : Bool → Bool → Option RefusedRow → List ℕ
 behind all_came put first = accept_status all_came ∷ (put_status put ∷ (first_status first ∷ []))
 
@@ -153,8 +162,11 @@ served_well visits s sessions small = record { all_came = all_links; all_done = 
     ended : List ℕ
     ended = map session_status s.sessions.items
 
+    fed : List ℕ
+    fed = map feed_status s.feeds.items
+
     low_behind : (m : ℕ) → Member last m → IsLow m
-    low_behind m here = all_low met small m (member_append_right ended last m here)
+    low_behind m here = all_low met small m (member_append_right ended (fed ++ last) m (member_append_right fed last m here))
 
     all_links : s.all_came ≡ true
     all_links = came s.all_came (low_behind (accept_status s.all_came) (inl refl))
@@ -165,11 +177,13 @@ served_well visits s sessions small = record { all_came = all_links; all_done = 
     each : All (λ (visit : Visit). AnswersOk visit.answer) visits
     each =
         All-from_recursion (λ (visit : Visit). AnswersOk visit.answer) visits (all_done visits (λ m here.
-        all_low met small m (member_append_left ended last m (subst (λ (l : List (Result SessionCounts SessionEnd)). Member (map session_status l) m) (sym sessions) here))))
+        all_low met small m (member_append_left ended (fed ++ last) m (subst (λ (l : List (Result SessionCounts SessionEnd)). Member (map session_status l) m) (sym sessions) here))))
 
     told : status_of (Ok (done.Served s)) ≡ first_status s.first
     told =
         told_is met small
-        ∙ ap (λ (b : Bool). cond b 1 0) (list_any-append (λ m. eqb m 1) ended last)
-        ∙ ap (λ (b : Bool). cond (b || is_met last 1) 1 0) (none_one s.sessions.items)
+        ∙ ap (λ (b : Bool). cond b 1 0) (list_any-append (λ m. eqb m 1) ended (fed ++ last))
+        ∙ ap (λ (b : Bool). cond (b || is_met (fed ++ last) 1) 1 0) (none_one s.sessions.items)
+        ∙ ap (λ (b : Bool). cond b 1 0) (list_any-append (λ m. eqb m 1) fed last)
+        ∙ ap (λ (b : Bool). cond (b || is_met last 1) 1 0) (no_feed_one s.feeds.items)
         ∙ first_behind s.all_came s.put s.first all_links put

@@ -52,7 +52,7 @@ had_capability name old new c p = record { bytes = p.value.1.items; held = p.giv
 getting_keeps : (name : String Global) (h h' : ShelfFacts) (e : Stop) → GetsBytes name h h' (Err e) → KeepsNames h h'
 getting_keeps name h h' stop.ReadFault s = s.1
 getting_keeps name h h' (stop.Missing other) s = s.1.1
-getting_keeps name h h' stop.NoMemory s = s
+getting_keeps name h h' stop.NoMemory s = s.1
 getting_keeps name h h' e s = absurd s
 
 same_keeps : (old new : World) → new ≡ old → KeepsNames old.shelf new.shelf

@@ -57,6 +57,7 @@ from_local (done.Shown counts) local = tt
 from_local (done.Met counts) local = tt
 from_local (done.Synced s) local = absurd local
 from_local (done.Served s) local = absurd local
+from_local (done.Stopped s) local = absurd local
 from_local (done.Watched counts) local = tt
 from_local done.Made local = tt
 

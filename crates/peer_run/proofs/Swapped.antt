@@ -11,6 +11,7 @@ use Rattle.block_store.specs.BoxKinds.{IsOfOneNamespace}
 use Rattle.auth_entry.specs.Authorised.{AuthorisedValue}
 use Rattle.ns_state.specs.Log.{StateValue, IsLog, values}
 use Rattle.ns_state.specs.declared.live_log.LogFull.{LogFull}
+use Rattle.sync_hello.specs.declared.version.TheConstants.{HIGHEST_VERSION}
 use Rattle.sync_pair.specs.Meeting.{IsMeeting}
 use Rattle.sync_pair.specs.declared.meet.PairRun.{PairRun}
 use Rattle.peer_rows.specs.RowLogs.{HasTaken, ArePastLog}
@@ -26,7 +27,7 @@ pub live_one : (log : StateValue AuthorisedValue) (rows : List RowValue) → IsL
 live_one log rows is same = subst IsOfOneNamespace (sym same) (one_namespace log.namespace (live_rows log) (log_own log.namespace (values entry_row log.log) is.one_namespace))
 
 -- what comes to a side is of the other one's namespace
-module _ (left right : StateValue AuthorisedValue) (one other : List RowValue) (area : Option Ranges) (run : PairRun AuthorisedValue) (meets : IsMeeting entry_row one other area run) (same : right.namespace ≡ left.namespace) where
+module _ (left right : StateValue AuthorisedValue) (one other : List RowValue) (area : Option Ranges) (run : PairRun AuthorisedValue) (meets : IsMeeting HIGHEST_VERSION entry_row one other area run) (same : right.namespace ≡ left.namespace) where
   pub left_here : IsLog entry_row right.namespace right.log → other ≡ live_rows right → All (λ (r : RowValue). r.entry.namespace ≡ left.namespace) (stored_rows run.to_left.items)
   left_here is held = subst (All (λ (r : RowValue). r.entry.namespace ≡ left.namespace)) (sym meets.to_left)
       (All-from_recursion (λ (r : RowValue). r.entry.namespace ≡ left.namespace) _ (sent_left (λ r. r.entry.namespace ≡ left.namespace) one other area
@@ -41,13 +42,13 @@ module _ (left right : StateValue AuthorisedValue) (one other : List RowValue) (
 
 -- a meeting of what is live of two logs is one of the rows that were offered to them
 pub met_of : (a b : List RowValue) (left right : StateValue AuthorisedValue) (one other : List RowValue) (area box : Option Ranges) (run : PairRun AuthorisedValue) → HasTaken entry_row a left → HasTaken entry_row b right
-    → one ≡ live_rows left → other ≡ live_rows right → area ≡ box → IsMeeting entry_row one other area run → IsMeeting entry_row (live a) (live b) box run
+    → one ≡ live_rows left → other ≡ live_rows right → area ≡ box → IsMeeting HIGHEST_VERSION entry_row one other area run → IsMeeting HIGHEST_VERSION entry_row (live a) (live b) box run
 met_of a b left right one other area box run takes takes_too is_left is_right same meets =
-    subst (λ x. IsMeeting entry_row (live a) (live b) x run) same
-    (subst (λ rows. IsMeeting entry_row rows (live b) area run) (is_left ∙ taken_live entry_row a left takes)
-    (subst (λ rows. IsMeeting entry_row one rows area run) (is_right ∙ taken_live entry_row b right takes_too) meets))
+    subst (λ x. IsMeeting HIGHEST_VERSION entry_row (live a) (live b) x run) same
+    (subst (λ rows. IsMeeting HIGHEST_VERSION entry_row rows (live b) area run) (is_left ∙ taken_live entry_row a left takes)
+    (subst (λ rows. IsMeeting HIGHEST_VERSION entry_row one rows area run) (is_right ∙ taken_live entry_row b right takes_too) meets))
 
-module _ (a b : List RowValue) (area : Option Ranges) (run : PairRun AuthorisedValue) (is : IsMeeting entry_row (live a) (live b) area run) where
+module _ (a b : List RowValue) (area : Option Ranges) (run : PairRun AuthorisedValue) (is : IsMeeting HIGHEST_VERSION entry_row (live a) (live b) area run) where
   pub left_past : (log other : StateValue AuthorisedValue) (e : End LogFull) → Takes a (stored_rows run.to_left.items) log (Err e) → Exchanges a b area log other (Err e)
   left_past log other (Refused full) past = inl (subst (λ rows. ArePastLog (a ++ rows)) is.to_left past)
   left_past log other NoMemory past = tt

@@ -21,7 +21,7 @@ use Rattle.session_rules.proofs.Growing.{says_of}
 use Rattle.session_rules.proofs.Worlds.{same_read}
 use Rattle.sync_link.specs.Greetings.{greeting}
 use Rattle.sync_link.specs.Kept.{log_rows}
-use Rattle.sync_link.specs.Places.{places}
+use Rattle.sync_link.specs.Places.{offers_of, places}
 use Rattle.sync_link.specs.Plans.{planned}
 use Rattle.sync_link.specs.Sessions.{Party, AreSameInCommon, out, own_part, session_of}
 use Rattle.sync_link.specs.declared.plan.SessionPlan.{SessionPlan}
@@ -162,7 +162,7 @@ module _ (words : SyncWords) (run : Run) (c : caller.Caller) (began : World) (dr
       let p = brings session.ran.signature in
       let held = live (log_rows session.ran.log) in
       let a = session_of p held in
-      sym (ap (λ m. flat_map a.spelling (a.opening ++ says_of m)) (same_read (greeting p.rules p.namespace) places (own_part p) held others session.ran.bytes same))
+      sym (ap (λ m. flat_map a.spelling (a.opening ++ says_of m)) (same_read (greeting p.rules p.namespace) places (own_part p) (offers_of held) (offers_of others) session.ran.bytes same))
 
   -- where the session was done
   above : (answer : Result SessionReport SessionEnd) → x.end ≡ answer → WhereOk answer (LiesAbove (as_ran was_run) (log_rows x.state.log))

@@ -12,6 +12,7 @@ use Rattle.cap_codec.specs.Rows.{RawValue}
 use Rattle.mc_cap.specs.declared.refusal.RefusedRow.{RefusedRow}
 use Rattle.mc_cap.specs.declared.refusal.RowRefusal.{RowRefusal}
 use Rattle.exchange_rules.specs.Items.{to_left, to_right}
+use Rattle.sync_hello.specs.declared.version.TheConstants.{HIGHEST_VERSION}
 use Rattle.sync_core.specs.Flat.{TurnValue}
 use Rattle.sync_pair.specs.Meeting.{meeting, turn_bytes}
 use Rattle.sync_pair.specs.Stores.{AreStores, IsStoreOf}
@@ -180,7 +181,7 @@ module _ (words : MeetWords) (run : Run) (d : Done) (c : HasCome words run.old (
   are_stores = record { left = store_of given.left c.got.left.is_image.in_order; right = store_of given.right c.got.right.is_image.in_order }
 
   turns_are : image_turns n given.left given.right (agreed_area words.area given.left_cap given.right_cap) ≡ turns_of stores
-  turns_are = ap₂ (λ (a b : List RowValue). meeting a b stores.area) are_stores.left.live are_stores.right.live
+  turns_are = ap₂ (λ (a b : List RowValue). meeting HIGHEST_VERSION a b stores.area) are_stores.left.live are_stores.right.live
 
   -- the names with these images put
   abbrev names_with : List ℕ → List ℕ → Option Names
@@ -191,7 +192,7 @@ module _ (words : MeetWords) (run : Run) (d : Done) (c : HasCome words run.old (
       let left = c.is_meeting.left_image ∙ ap (λ (ts : List TurnValue). image n (join stores.left (to_left ts))) turns_are in
       let right = c.is_meeting.right_image ∙ ap (λ (ts : List TurnValue). image n (join stores.right (to_right ts))) turns_are in
       let put = c.put ∙ ap₂ names_with left right in
-      let told = c.is_meeting.told ∙ ap (λ (ts : List TurnValue). transcript (map turn_bytes ts)) turns_are in
+      let told = c.is_meeting.told ∙ ap (λ (ts : List TurnValue). transcript (map (turn_bytes HIGHEST_VERSION) ts)) turns_are in
       record {
         joined = put;
         converged = λ tell. put ∙ ap₂ (λ (a b : List RowValue). names_with (image n a) (image n b)) (left_converges n stores are_stores tell) (right_converges n stores are_stores tell);

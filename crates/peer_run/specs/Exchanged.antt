@@ -8,6 +8,7 @@ use Rattle.willow_area.specs.declared.area.Area.{Area}
 use Rattle.willow_entry.specs.Row.{RowValue, live, new}
 use Rattle.exchange_rules.specs.Items.{to_left, to_right, counted}
 use Rattle.exchange_rules.specs.Exchange as rules
+use Rattle.sync_hello.specs.declared.version.TheConstants.{HIGHEST_VERSION}
 use Rattle.sync_core.specs.Flat.{TurnValue}
 use Rattle.sync_core.specs.SyncRules.{sync_rules}
 use Rattle.sync_pair.specs.Meeting.{turn_bytes}
@@ -23,9 +24,9 @@ use Rattle.peer_run.specs.declared.exchanging.Exchanged.{Exchanged}
 abbrev pub boxed : Option Area → Option Ranges
 boxed area = option_map area_box area
 
--- the turns of two stores of these rows over a box, the first of which begins
+-- the turns of two stores of these rows over a box, by the rules of the version that this program speaks; the first begins
 abbrev pub met : List RowValue → List RowValue → Option Ranges → List TurnValue
-met a b area = rules.exchange sync_rules (live a) (live b) area
+met a b area = rules.exchange (sync_rules HIGHEST_VERSION) (live a) (live b) area
 
 -- of the rows that came behind some others, so many were new, and so many an earlier one covered
 pub record HasCome (seen rows : List RowValue) (came : Came) : Type 0 where
@@ -46,7 +47,7 @@ Takes seen rows log (Err NoMemory) = ReachesRoom seen rows
 
 -- The turns in bytes are those of the exchange of two stores, so many items were counted, and each side took what came.
 pub record AreMet (a b : List RowValue) (area : Option Ranges) (left_log right_log : StateValue AuthorisedValue) (x : Exchanged) : Type 0 where
-  pub turns : map (λ t. t.items) x.turns.items ≡ map turn_bytes (met a b area)
+  pub turns : map (λ t. t.items) x.turns.items ≡ map (turn_bytes HIGHEST_VERSION) (met a b area)
   pub items : x.items ≡ counted (met a b area)
   pub left : HasTakenUp a (to_left (met a b area)) left_log x.left
   pub right : HasTakenUp b (to_right (met a b area)) right_log x.right

@@ -10,7 +10,7 @@ use Rattle.session_end.specs.declared.refusal.HelloRefusal.{HelloRefusal}
 use Rattle.session_end.specs.declared.refusal.HelloRefusal.TheVariants.{AskOutsideGrant}
 use Rattle.sync_hello.specs.Checked.{claim_refusal, capability_refusal, hello_refusal}
 use Rattle.sync_hello.specs.declared.hello.Hello.{Hello}
-use Rattle.sync_link.specs.declared.plan.TheConstants.{VERSION}
+use Rattle.sync_hello.specs.declared.version.TheConstants.{HIGHEST_VERSION}
 use Rattle.peer_words.specs.Areas.{completed, is_empty}
 use Rattle.peer_words.specs.declared.command.AreaWords.{AreaWords}
 use Rattle.peer_stage.specs.declared.outcome.Stop.{Stop}
@@ -18,7 +18,7 @@ use Rattle.peer_stage.specs.declared.outcome.Stop.TheVariants as stop
 
 -- a hello of the version that this program speaks
 abbrev pub hello_of : Capability → Area → List ℕ → Hello
-hello_of c ask nonce = record { version = VERSION; nonce = nonce; ask = ask; capability = c }
+hello_of c ask nonce = record { version = HIGHEST_VERSION; nonce = nonce; ask = ask; capability = c }
 
 -- the hello of a side that asks for the area of its words, completed by what its capability grants
 abbrev pub own_hello : AreaWords → Capability → List ℕ → Hello

@@ -12,6 +12,7 @@ use Rattle.ns_state.specs.Log.{IsLog}
 use Rattle.ns_cell.specs.Closed.{IsClosed}
 use Rattle.ns_cell.specs.Passes.{PassValue, IsPassOf}
 use Rattle.sync_hello.specs.Checked.{hello_refusal}
+use Rattle.sync_core.specs.SyncRules.{IsVersion}
 use Rattle.auth_entry.specs.Rows.{entry_row}
 use Rattle.sync_link.specs.Plans.{own_hello, planned}
 use Rattle.sync_link.specs.Run.{Runs}
@@ -24,11 +25,13 @@ use Rattle.peer_run.specs.declared.hosting.Guest.{Guest}
 use Rattle.peer_run.specs.declared.hosting.Hall.{Hall}
 use Rattle.peer_run.specs.declared.hosting.Parting.{Parting}
 
--- The guest may begin a session: its pass is of the cell, nothing is against the hello that it says, and it can sign.
+-- The guest may begin a session: its pass is of the cell, nothing is against the hello that it says, of a version that is
+-- spoken, and it can sign.
 pub record MayVisit (hall : Hall) (guest : Guest) : Type 0 where
   pub pass : IsPassOf hall.cell guest.pass
   pub namespace : hall.namespace ≡ hall.cell.namespace
   pub hello : hello_refusal peer_rules hall.cell.namespace (own_hello hall.plan guest.nonce) ≡ None
+  pub version : IsVersion hall.plan.version
   pub signs : 1 ≤ left_of guest.signer
 
 -- One session was run over the link, and hands on the pass of the guest.

@@ -15,6 +15,7 @@ use Rattle.peer_stage.specs.declared.outcome.MeetCounts.{MeetCounts}
 use Rattle.peer_stage.specs.declared.outcome.SideCounts.{SideCounts}
 use Rattle.peer_stage.specs.declared.outcome.Stop.{Stop}
 use Rattle.peer_stage.specs.declared.outcome.Stop.TheVariants as stop
+use Rattle.sync_hello.specs.declared.version.TheConstants.{HIGHEST_VERSION}
 use Rattle.sync_core.specs.Flat.{TurnValue}
 use Rattle.sync_pair.specs.Meeting.{turn_bytes}
 use Rattle.peer_run.specs.Exchanged.{boxed, met, HasCome, IsPastOne}
@@ -73,7 +74,7 @@ pub record IsMeeting (n : List ℕ) (left right : List RawValue) (area : Option 
   pub has_room : IsPastOne (authorised_rows n left) (authorised_rows n right) (boxed area) → ⊥
   pub left_image : m.left.items ≡ image n (join (authorised_rows n left) (to_left (image_turns n left right area)))
   pub right_image : m.right.items ≡ image n (join (authorised_rows n right) (to_right (image_turns n left right area)))
-  pub told : m.transcript.items ≡ transcript (map turn_bytes (image_turns n left right area))
+  pub told : m.transcript.items ≡ transcript (map (turn_bytes HIGHEST_VERSION) (image_turns n left right area))
   pub numbers : AreMetCounts n left right (image_turns n left right area) m.counts
 
 -- the rows of an image, or what came to one side behind them, are too many for a log

@@ -1,4 +1,4 @@
--- Commands that call nobody and wait for nobody, and those of them that make something.
+-- Commands that call nobody and wait for nobody, those of them that make something, and the one that waits for others.
 use Rattle.peer_words.specs.declared.command.Command.{Command}
 use Rattle.peer_words.specs.declared.command.Command.TheVariants as cmd
 
@@ -15,3 +15,8 @@ IsMaker (cmd.Grant namespace mode user key) = Unit {0}
 IsMaker (cmd.Delegate key to area) = Unit {0}
 IsMaker (cmd.Write key path time length digest subspace) = Unit {0}
 IsMaker command = ⊥
+
+-- the one that waits for those who come
+abbrev pub IsServer : Command → Type 0
+IsServer (cmd.Serve image cap key at links area newest bytes follow log) = Unit {0}
+IsServer command = ⊥

@@ -9,6 +9,7 @@ use Rattle.willow_entry.specs.Row.{RowValue, join}
 use Rattle.willow_outside.specs.Names.{name_put}
 use Rattle.exchange_rules.specs.Items.{to_left, to_right}
 use Rattle.exchange_rules.specs.Exchange.{Apart}
+use Rattle.sync_hello.specs.declared.version.TheConstants.{HIGHEST_VERSION}
 use Rattle.sync_core.specs.Flat.{TurnValue}
 use Rattle.sync_core.specs.Place.{rows_of_area}
 use Rattle.sync_core.specs.SyncRules.{sync_rules}
@@ -46,17 +47,17 @@ stores_of words g =
       area = boxed (agreed_area words.area g.left_cap g.right_cap);
     }
 
--- the turns that they take, the left one first, and what is said in them, as bytes
+-- the turns that they take in the version that this program speaks, the left one first, and what is said in them, as bytes
 abbrev pub turns_of : Stores → List TurnValue
-turns_of s = meeting s.left s.right s.area
+turns_of s = meeting HIGHEST_VERSION s.left s.right s.area
 
 abbrev pub said : Stores → List ℕ
-said s = transcript (map turn_bytes (turns_of s))
+said s = transcript (map (turn_bytes HIGHEST_VERSION) (turns_of s))
 
 -- Fingerprints tell their rows apart: where both have the same one for a box that is asked for, both have the same rows
 -- there.
 abbrev pub FingerprintsTell : Stores → Type 0
-FingerprintsTell s = (box : Ranges) → s.area ≡ Some box → Apart sync_rules s.left s.right box
+FingerprintsTell s = (box : Ranges) → s.area ≡ Some box → Apart (sync_rules HIGHEST_VERSION) s.left s.right box
 
 -- the area is the same, and in it both left sides have the same rows, and both right sides
 pub record HaveSameInArea (s t : Stores) : Type 0 where
@@ -80,7 +81,7 @@ ArePut words run n left right =
 -- the three sentences, of stores in a namespace
 pub record HaveMet (words : MeetWords) (run : Run) (n : List ℕ) (s : Stores) : Type 0 where
   -- each side joined its rows with those that it was sent, and the images of that are put
-  pub joined : ArePut words run n (left_after s.left s.right s.area) (right_after s.left s.right s.area)
+  pub joined : ArePut words run n (left_after HIGHEST_VERSION s.left s.right s.area) (right_after HIGHEST_VERSION s.left s.right s.area)
   -- where fingerprints tell rows apart, these are the joins with all that the other side has in the area
   pub converged : FingerprintsTell s → ArePut words run n (join s.left (rows_of_area s.area s.right)) (join s.right (rows_of_area s.area s.left))
   -- the output grew by what was said

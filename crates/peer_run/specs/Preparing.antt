@@ -29,7 +29,7 @@ Prepares image cap area =
 
 -- the plan of a side of this role that says this of itself
 abbrev pub plan_of : Role → Hello → SessionPlan PeerScheme
-plan_of role h = record { scheme = record {}; role = role; capability = h.capability; ask = h.ask }
+plan_of role h = record { scheme = record {}; version = h.version; role = role; capability = h.capability; ask = h.ask }
 
 -- the nonce of a draw: its first 16 bytes
 abbrev pub nonce_of : List ℕ → List ℕ

@@ -26,11 +26,16 @@ use Rattle.peer_run.specs.ServeHeadline.{ServeHeadline}
 
 -- ---- 0 and 1
 
+-- what was to be made is refused
+abbrev pub IsRefusedMaking : Stop → Type 0
+IsRefusedMaking (stop.Refused refusal) = Unit {0}
+IsRefusedMaking e = ⊥
+
 -- an end of a command that gives 0 or 1: what was to be done is done, or what was to be made is refused
 abbrev pub IsEnd : Result Done Stop → Type 0
+IsEnd (Ok (done.Stopped s)) = IsRefusedMaking s.stop
 IsEnd (Ok d) = Unit {0}
-IsEnd (Err (stop.Refused refusal)) = Unit {0}
-IsEnd (Err e) = ⊥
+IsEnd (Err e) = IsRefusedMaking e
 
 -- The words are a command that came to such an end, and its lines are reported.
 pub record HasEnded (run : Run) : Type 0 where
@@ -69,12 +74,18 @@ pub record HasWriteFault (run : Run) : Type 0 where
 -- ---- 5, 6, 8 and 9
 
 -- bytes of the input or of a name are not in their grammar or too many, a name is missing or taken
+abbrev pub IsBadStop : Stop → Type 0
+IsBadStop (stop.BadInput origin at) = Unit {0}
+IsBadStop (stop.NotRising origin row) = Unit {0}
+IsBadStop (stop.Pruned origin row by) = Unit {0}
+IsBadStop (stop.Missing name) = Unit {0}
+IsBadStop (stop.Taken name) = Unit {0}
+IsBadStop e = ⊥
+
+-- a run stopped so, with a log open or without
 abbrev pub IsBadEnd : Result Done Stop → Type 0
-IsBadEnd (Err (stop.BadInput origin at)) = Unit {0}
-IsBadEnd (Err (stop.NotRising origin row)) = Unit {0}
-IsBadEnd (Err (stop.Pruned origin row by)) = Unit {0}
-IsBadEnd (Err (stop.Missing name)) = Unit {0}
-IsBadEnd (Err (stop.Taken name)) = Unit {0}
+IsBadEnd (Err e) = IsBadStop e
+IsBadEnd (Ok (done.Stopped s)) = IsBadStop s.stop
 IsBadEnd end = ⊥
 
 -- what was read in a session is refused, or ended too early; no session fails to sign
@@ -94,9 +105,15 @@ abbrev pub IsRefusedFeed : Option (Result FollowCounts SessionEnd) → Type 0
 IsRefusedFeed (Some (Err end)) = IsRefusedSession (Err end)
 IsRefusedFeed followed = ⊥
 
+-- a session is refused before it begins
+abbrev pub IsRefusedStop : Stop → Type 0
+IsRefusedStop (stop.SessionRefused refusal) = Unit {0}
+IsRefusedStop e = ⊥
+
 -- a session is refused before it begins or in it, or a feed behind it
 abbrev pub IsRefusedEnd : Result Done Stop → Type 0
-IsRefusedEnd (Err (stop.SessionRefused refusal)) = Unit {0}
+IsRefusedEnd (Err e) = IsRefusedStop e
+IsRefusedEnd (Ok (done.Stopped s)) = IsRefusedStop s.stop
 IsRefusedEnd (Ok (done.Synced s)) = IsRefusedSession s.session ⊎ IsRefusedFeed s.followed
 IsRefusedEnd (Ok (done.Served s)) = HasSession IsRefusedSession s
 IsRefusedEnd end = ⊥
@@ -111,16 +128,28 @@ abbrev pub IsFullFeed : Option (Result FollowCounts SessionEnd) → Type 0
 IsFullFeed (Some (Err end)) = IsFullSession (Err end)
 IsFullFeed followed = ⊥
 
+-- a row of what is read before sessions met one
+abbrev pub IsFullStop : Stop → Type 0
+IsFullStop stop.LogFull = Unit {0}
+IsFullStop e = ⊥
+
 -- a row that would be stored met a full log
 abbrev pub IsFullEnd : Result Done Stop → Type 0
-IsFullEnd (Err stop.LogFull) = Unit {0}
+IsFullEnd (Err e) = IsFullStop e
+IsFullEnd (Ok (done.Stopped s)) = IsFullStop s.stop
 IsFullEnd (Ok (done.Synced s)) = IsFullSession s.session ⊎ IsFullFeed s.followed
 IsFullEnd (Ok (done.Served s)) = HasSession IsFullSession s
 IsFullEnd end = ⊥
 
 -- a key file has no index left
+abbrev pub IsSpentStop : Stop → Type 0
+IsSpentStop stop.KeySpent = Unit {0}
+IsSpentStop e = ⊥
+
+-- a run stopped for that
 abbrev pub IsSpentEnd : Result Done Stop → Type 0
-IsSpentEnd (Err stop.KeySpent) = Unit {0}
+IsSpentEnd (Err e) = IsSpentStop e
+IsSpentEnd (Ok (done.Stopped s)) = IsSpentStop s.stop
 IsSpentEnd end = ⊥
 
 -- the words are a command that ended so, which is one of these ends, and the report tells just this one

@@ -62,9 +62,10 @@ first_of_links before [] = None
 first_of_links before (answer ∷ answers) = or_else (refused_after before (refused_in answer)) (first_of_links (before + rows_told answer) answers)
 
 -- what is told of the sessions behind an image of so many rows, of which this is the first refused one, whether all links
--- came, and whether the image was put; nobody watches, and no log is kept
+-- came, and whether the image was put; no link gets a feed, nobody watches, and no log is kept
 pub record IsServed (rows : ℕ) (first : Option RefusedRow) (answers : List Answer) (all_came put : Bool) (s : Served) : Type 0 where
   pub sessions : s.sessions.items ≡ map told_of answers
+  pub none_fed : s.feeds.items ≡ []
   pub accepted_is : s.all_came ≡ all_came
   pub first_is : s.first ≡ or_else first (first_of_links rows answers)
   pub nobody_left : s.left ≡ 0

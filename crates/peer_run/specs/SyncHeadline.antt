@@ -15,7 +15,7 @@ use Rattle.lms_core.specs.Reserve.{HoldsKey, KeepsNames, PutsKey}
 use Rattle.sync_link.specs.Kept.{log_rows}
 use Rattle.sync_link.specs.Ran.{Ran, AreApartAs, AreAuthorised, IsOther, other_common, opening_of, side}
 use Rattle.sync_link.specs.Run.{Answer}
-use Rattle.sync_link.specs.Sessions.{Party, AreSameInCommon, box_with, out}
+use Rattle.sync_link.specs.Sessions.{Party, AreSameInCommon, box_with, out, version_with}
 use Rattle.peer_image.specs.Image.{image}
 use Rattle.peer_make.specs.KeySigners.{gives_of, IsSignerOf}
 use Rattle.peer_make.specs.Making.{TakesDraws}
@@ -49,7 +49,7 @@ WhereOk (Err end) P = Unit {0}
 -- may read, if its rows are authorised and fingerprints tell the rows of both apart.
 pub record LiesAbove {p : List ℕ → Party} (ran : Ran p) (log : List RowValue) : Type 0 where
   pub own : All (HasCovering (live log)) (opening_of ran)
-  pub others : (q : Party) (theirs : List RowValue) → IsOther ran q theirs → AreAuthorised ran theirs → AreApartAs (side ran).role (box_with (side ran) q.hello) (opening_of ran) theirs
+  pub others : (q : Party) (theirs : List RowValue) → IsOther ran q theirs → AreAuthorised ran theirs → AreApartAs (version_with (side ran) q.hello) (side ran).role (box_with (side ran) q.hello) (opening_of ran) theirs
       → All (HasCovering (live log)) (other_common ran q theirs)
 
 -- What a session that was run makes of the stores: the log began with the authorised rows of the image (`opens`) and went on

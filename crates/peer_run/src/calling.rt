@@ -6,6 +6,7 @@ ghost use Rattle.lms_core.specs.Use.{peer_rules};
 ghost use Rattle.peer_stage.specs.Faults.{CountsStep};
 ghost use Rattle.peer_make.specs.KeySigners.{gives_of, left_of};
 ghost use Rattle.sync_hello.specs.Checked.{hello_refusal};
+ghost use Rattle.sync_core.specs.SyncRules.{IsVersion};
 ghost use Rattle.ns_cell.specs.Passes.{IsPassOf};
 ghost use Rattle.sync_link.specs.Plans.{own_hello, planned};
 ghost use Rattle.sync_link.specs.Run.{Runs};
@@ -46,6 +47,7 @@ pub(crate) fn call<R: Wait + Threads + Sync, D: Door>(
 ) -> Result<Called, Stop>
     requires opening { AreOf 0 state.log }
     requires hello { hello_refusal peer_rules state.namespace (own_hello plan.now nonce) ≡ None }
+    requires version { IsVersion plan.now.version }
     requires signs { 1 ≤ left_of signer }
     ensures calls { Calls place.now (planned peer_rules state.namespace plan.now nonce) signer state (D.facts door.old) (D.facts door.new) result }
     ensures faults { CountsStep (D.facts door.old).faults (D.facts door.new).faults result }
@@ -86,6 +88,7 @@ pub(crate) fn talk<R: Wait + Threads + Sync, L: Link>(
     requires pass { IsPassOf cell.now pass.old }
     requires namespace { namespace ≡ cell.now.namespace }
     requires hello { hello_refusal peer_rules cell.now.namespace (own_hello plan.now nonce) ≡ None }
+    requires version { IsVersion plan.now.version }
     requires signs { 1 ≤ left_of signer }
     ensures runs { Runs (planned peer_rules cell.now.namespace plan.now nonce) (gives_of signer) pass.old pass.new (L.facts link.old) (L.facts link.new) 0 0 result }
     ensures pass { IsPassOf cell.now pass.new }

@@ -14,6 +14,7 @@ use ns_state::LogFull;
 use peer_rows::{EntryLog, offer_rows};
 use spelling::End;
 use std::alloc::Global;
+use sync_hello::HIGHEST_VERSION;
 use sync_pair::{PairRun, meet_rows};
 use willow_area::Area;
 
@@ -33,7 +34,8 @@ pub(crate) struct Exchanged {
     pub(crate) right: Came,
 }
 
-/// Lets two logs exchange rows over the area that both sides may read, the left one first, and take what comes.
+/// Lets two logs exchange rows over the area that both sides may read, in the version that this program speaks, the left one
+/// first, and take what comes.
 pub(crate) fn exchange(
     alloc: Global,
     left: &mut EntryLog,
@@ -45,7 +47,13 @@ pub(crate) fn exchange(
     requires right_frames { All HasFrame (live_rows right.old) }
     ensures { (a b : List RowValue) → HasTaken entry_row a left.old → HasTaken entry_row b right.old → Exchanges a b (boxed area.now) left.new right.new result }
 {
-    let run = meet_rows(alloc, &left.snapshot()?, &right.snapshot()?, area.as_ref())?;
+    let run = meet_rows(
+        alloc,
+        HIGHEST_VERSION,
+        &left.snapshot()?,
+        &right.snapshot()?,
+        area.as_ref(),
+    )?;
     let PairRun {
         turns,
         to_left,

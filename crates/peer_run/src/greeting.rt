@@ -8,8 +8,7 @@ use mc_cap::Capability;
 use peer_stage::Stop;
 use peer_words::AreaWords;
 use spelling::End;
-use sync_hello::{Hello, HelloRefusal, check_hello};
-use sync_link::VERSION;
+use sync_hello::{HIGHEST_VERSION, Hello, HelloRefusal, check_hello};
 use willow_area::Area;
 use willow_path::NamespaceKey;
 
@@ -39,7 +38,7 @@ fn hello_of(capability: Capability, ask: Area, nonce: [u8; 16]) -> Hello
     ensures { result ≡ hello_of capability ask nonce }
 {
     Hello {
-        version: VERSION,
+        version: HIGHEST_VERSION,
         nonce,
         ask,
         capability,

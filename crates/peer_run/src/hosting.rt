@@ -6,6 +6,7 @@ ghost use Rattle.lms_core.specs.Use.{peer_rules};
 ghost use Rattle.ns_cell.specs.declared.limits.TheConstants.{PASS_LIMIT};
 ghost use Rattle.peer_make.specs.KeySigners.{left_of};
 ghost use Rattle.sync_hello.specs.Checked.{hello_refusal};
+ghost use Rattle.sync_core.specs.SyncRules.{IsVersion};
 ghost use Rattle.sync_link.specs.Plans.{own_hello, planned};
 ghost use Rattle.ns_cell.specs.Passes.{IsPassOf};
 ghost use Rattle.willow_outside.specs.declared.fault.Fault.TheVariants as fault;
@@ -115,6 +116,7 @@ pub(crate) fn attend<R: Wait + Threads + Sync, D: Door>(
 ) -> Result<Attended, Stop>
     requires opening { AreOf 0 state.log }
     requires hello { (draw : List ℕ) → hello_refusal peer_rules state.namespace (own_hello plan (nonce_of draw)) ≡ None }
+    requires version { IsVersion plan.version }
     requires sign { All (λ signer. 1 ≤ left_of signer) signers.items }
     requires draws { length draws.now ≡ vec_len signers }
     requires few { vec_len signers < PASS_LIMIT }

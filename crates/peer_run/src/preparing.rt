@@ -1,7 +1,10 @@
 //! What a side brings to sessions besides what signs.
 
-ghost use Rattle.std.specs.Prelude.{◌≡◌, IfOk};
+ghost use Rattle.std.specs.Prelude.{◌≡◌, IfOk, Err};
 ghost use Rattle.std.specs.String.{string_bytes};
+ghost use Rattle.std.specs.declared.alloc.Global.{Global};
+ghost use Rattle.std.specs.declared.string.String.{String};
+ghost use Rattle.peer_words.specs.declared.command.AreaWords.{AreaWords};
 ghost use Rattle.peer_stage.specs.World.{World};
 ghost use Rattle.peer_run.specs.Preparing.{Prepares, nonce_of, plan_of};
 
@@ -55,17 +58,31 @@ pub(crate) fn copy_of(name: &String) -> Result<String, NoMemory>
     Ok(name.clone()?)
 }
 
+/// Why a run stops that finds no memory for a second name. The image is asked for all the same, since a shelf that lacks it says
+/// so without memory.
+pub(crate) fn stop_without_copy<H: Shelf>(alloc: Global, shelf: &mut H, image: String) -> Stop
+    ensures { (cap : String Global) (area : AreaWords) (others : World) → Prepares image cap area
+        (record others { shelf = H.facts shelf.old }) (record others { shelf = H.facts shelf.new }) (Err result) }
+{
+    match get_image(alloc, shelf, image) {
+        Ok(_) => Stop::NoMemory,
+        Err(stop) => stop,
+    }
+}
+
 /// The plan of a side of this role that says this of itself.
 pub(crate) fn plan_of(role: Role, hello: Hello) -> SessionPlan<PeerScheme>
     ensures { result ≡ plan_of role hello }
 {
     let Hello {
+        version,
         ask,
         capability,
         ..
     } = hello;
     SessionPlan {
         scheme: PeerScheme,
+        version,
         role,
         capability,
         ask,

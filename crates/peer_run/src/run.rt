@@ -1,7 +1,9 @@
 //! The one call that `main` makes.
 
 ghost use Rattle.std.specs.Prelude.{◌≡◌, ℕ, List, ◌≤◌, ◌↔◌, ◌||◌, IsTrue, is_some};
-ghost use Rattle.peer_run.specs.Locals.{IsLocal, IsMaker};
+ghost use Rattle.peer_run.specs.Locals.{IsLocal, IsMaker, IsServer};
+ghost use Rattle.sub_hub.specs.Hubs.{HubValue};
+ghost use Rattle.willow_outside.specs.Facts.{BayFacts};
 ghost use Rattle.peer_stage.specs.World.{World};
 ghost use Rattle.peer_words.specs.Words.{texts};
 ghost use Rattle.peer_words.specs.Commands.{IsWords};
@@ -193,6 +195,26 @@ fn run_afar<R: Wait + Threads + Sync, H: Shelf, D: Door, N: Noise>(
             };
             sync(rt, alloc, words, shelf, door, noise)
         }
+        server => run_server(rt, alloc, server, shelf, door, noise),
+    }
+}
+
+/// Runs a command that waits for those who come.
+fn run_server<R: Wait + Threads + Sync, H: Shelf, D: Door, N: Noise>(
+    rt: &R,
+    alloc: Global,
+    command: Command,
+    shelf: &mut H,
+    door: &mut D,
+    noise: &mut N,
+) -> Result<Done, Stop>
+    requires words { (words : List (List ℕ)) × IsWords words command }
+    requires server { IsServer command }
+    ensures { (others : World) → (deed_of command).meets
+        (record others { shelf = H.facts shelf.old; door = D.facts door.old; noise = N.facts noise.old })
+        (record others { shelf = H.facts shelf.new; door = D.facts door.new; noise = N.facts noise.new }) result }
+{
+    match command {
         Command::Serve {
             image,
             cap,
@@ -253,6 +275,8 @@ pub fn run_local<R: Threads + Sync, H: Shelf, I: Source, O: Sink, E: Sink, N: No
 /// a session is refused, before it begins or in it; 7 for want of memory; 8 where a row met a full log; 9 for a key
 /// file without an index left. The report gets the lines of that end. What a command does not call stays as it was.
 ///
+/// No command has a hub or a bay yet: whichever there are, each is the same behind the run.
+///
 /// In `sync` it waits for the one that it calls, and in `serve` for those who come. Of every other command it answers what `run_local` answers.
 pub fn peer_run<R: Wait + Threads + Sync, H: Shelf, I: Source, O: Sink, E: Sink, D: Door, N: Noise>(
     rt: &R,
@@ -265,7 +289,7 @@ pub fn peer_run<R: Wait + Threads + Sync, H: Shelf, I: Source, O: Sink, E: Sink,
     door: &mut D,
     noise: &mut N,
 ) -> u8
-    ensures promises { KeepsPromises (record {
+    ensures promises { (hub : HubValue) (bay : BayFacts) → KeepsPromises (record {
       words = texts words.now;
       old = record {
         shelf = H.facts shelf.old;
@@ -274,6 +298,8 @@ pub fn peer_run<R: Wait + Threads + Sync, H: Shelf, I: Source, O: Sink, E: Sink,
         report = E.facts report.old;
         door = D.facts door.old;
         noise = N.facts noise.old;
+        hub = hub;
+        bay = bay;
       };
       new = record {
         shelf = H.facts shelf.new;
@@ -282,6 +308,8 @@ pub fn peer_run<R: Wait + Threads + Sync, H: Shelf, I: Source, O: Sink, E: Sink,
         report = E.facts report.new;
         door = D.facts door.new;
         noise = N.facts noise.new;
+        hub = hub;
+        bay = bay;
       };
       status = result;
     }) }

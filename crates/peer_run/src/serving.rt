@@ -1,6 +1,6 @@
 //! `serve`: sessions of an image with those who come to a place.
 
-ghost use Rattle.std.specs.Prelude.{◌≡◌, ◌<◌, ◌≤◌, ◌^◌, ◌+◌, ◌-◌, min, IfOk, map};
+ghost use Rattle.std.specs.Prelude.{◌≡◌, ◌<◌, ◌≤◌, ◌^◌, ◌+◌, ◌-◌, min, IfOk, IfErr, Ok, Err, map};
 ghost use Rattle.std.specs.String.{string_bytes};
 ghost use Rattle.spelling.specs.Answers.{or_else};
 ghost use Rattle.peer_stage.specs.World.{World};
@@ -12,7 +12,7 @@ ghost use Rattle.peer_run.specs.Serve.{AreNotForWant, ClosesHouse, IsServed, Ope
 use crate::closing::{counts_of, image_of, put_image, wants_memory};
 use crate::hosting::{Attended, attend};
 use crate::opening::Opening;
-use crate::preparing::{Prepared, copy_of, plan_of, prepare};
+use crate::preparing::{Prepared, copy_of, plan_of, prepare, stop_without_copy};
 use lms_core::PeerScheme;
 use mc_cap::RefusedRow;
 use peer_make::{KeySigner, draw_all, reserve_signers};
@@ -71,16 +71,40 @@ pub(crate) fn serve<R: Wait + Threads + Sync, H: Shelf, D: Door, N: Noise>(
         links,
         area,
     } = words;
-    let name = copy_of(&image)?;
+    let (name, server) = open_named(rt, alloc, shelf, image, cap, key, links, &area)?;
     let Server {
         opening,
         plan,
         signers,
-    } = open_house(rt, alloc, shelf, image, cap, key, links, &area)?;
+    } = server;
     let draws = draw_all(alloc, noise, links)?;
     let Opening { state, rows, first } = opening;
     let attended = attend(rt, alloc, state, plan, at.as_str(), signers, &draws, door)?;
     close_house(alloc, shelf, &name, rows, first, attended)
+}
+
+// The same as `open_house`, and the name of the image once more.
+fn open_named<R: Threads + Sync, H: Shelf>(
+    rt: &R,
+    alloc: Global,
+    shelf: &mut H,
+    image: String,
+    cap: String,
+    key: SignerWord,
+    links: u32,
+    area: &AreaWords,
+) -> Result<(String, Server), Stop>
+    requires signer { IsSigner key }
+    requires links { 1 ≤ links }
+    ensures name { IfOk result (λ x. string_bytes x.0 ≡ string_bytes image) }
+    ensures opens { IfOk result (λ x. (others : World) → OpensHouse image cap key links area.now (record others { shelf = H.facts shelf.old }) (record others { shelf = H.facts shelf.new }) (Ok x.1)) }
+    ensures stops { IfErr result (λ e. (others : World) → OpensHouse image cap key links area.now (record others { shelf = H.facts shelf.old }) (record others { shelf = H.facts shelf.new }) (Err e)) }
+{
+    let Ok(name) = copy_of(&image) else {
+        return Err(stop_without_copy(alloc, shelf, image));
+    };
+    let server = open_house(rt, alloc, shelf, image, cap, key, links, area)?;
+    Ok((name, server))
 }
 
 // Gets the image and the capability, judges the own hello, and reserves what signs.
@@ -129,10 +153,12 @@ fn close_house<H: Shelf>(
     }
     let first = first_of_all(rows, first, &ends);
     let sessions = told_of_all(alloc, &ends)?;
+    let feeds = Vec::new(alloc);
     let image = image_of(alloc, &state)?;
     let put = put_image(shelf, name.as_str(), &image)?;
     Ok(Done::Served(Served {
         sessions,
+        feeds,
         all_came,
         first,
         left: 0,

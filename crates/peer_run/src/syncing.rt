@@ -1,6 +1,6 @@
 //! `sync`: a session of an image with the one at a place.
 
-ghost use Rattle.std.specs.Prelude.{◌≡◌, ◌<◌, ◌^◌};
+ghost use Rattle.std.specs.Prelude.{◌≡◌, ◌<◌, ◌^◌, IfOk, IfErr, Ok, Err};
 ghost use Rattle.std.specs.String.{string_bytes};
 ghost use Rattle.spelling.specs.Answers.{or_else};
 ghost use Rattle.peer_stage.specs.World.{World};
@@ -11,7 +11,7 @@ ghost use Rattle.peer_run.specs.Sync.{Begins, Finishes, Syncs, synced_of};
 use crate::calling::{Called, call};
 use crate::closing::{counts_of, image_of, put_image, wants_memory};
 use crate::opening::Opening;
-use crate::preparing::{Prepared, copy_of, nonce_of, plan_of, prepare};
+use crate::preparing::{Prepared, copy_of, nonce_of, plan_of, prepare, stop_without_copy};
 use lms_core::PeerScheme;
 use mc_cap::RefusedRow;
 use peer_make::{KeySigner, draw, reserve_signer};
@@ -64,16 +64,38 @@ pub(crate) fn sync<R: Wait + Threads + Sync, H: Shelf, D: Door, N: Noise>(
         to,
         area,
     } = words;
-    let name = copy_of(&image)?;
+    let (name, caller) = begin_named(rt, alloc, shelf, image, cap, key, &area)?;
     let Caller {
         opening,
         plan,
         signer,
-    } = begin(rt, alloc, shelf, image, cap, key, &area)?;
+    } = caller;
     let nonce = nonce_of(&draw(noise)?);
     let Opening { state, rows, first } = opening;
     let called = call(rt, alloc, state, &plan, to.as_str(), signer, nonce, door)?;
     finish(alloc, shelf, &name, rows, first, called)
+}
+
+// The same as `begin`, and the name of the image once more.
+fn begin_named<R: Threads + Sync, H: Shelf>(
+    rt: &R,
+    alloc: Global,
+    shelf: &mut H,
+    image: String,
+    cap: String,
+    key: SignerWord,
+    area: &AreaWords,
+) -> Result<(String, Caller), Stop>
+    requires { IsSigner key }
+    ensures name { IfOk result (λ x. string_bytes x.0 ≡ string_bytes image) }
+    ensures begins { IfOk result (λ x. (others : World) → Begins image cap key area.now (record others { shelf = H.facts shelf.old }) (record others { shelf = H.facts shelf.new }) (Ok x.1)) }
+    ensures stops { IfErr result (λ e. (others : World) → Begins image cap key area.now (record others { shelf = H.facts shelf.old }) (record others { shelf = H.facts shelf.new }) (Err e)) }
+{
+    let Ok(name) = copy_of(&image) else {
+        return Err(stop_without_copy(alloc, shelf, image));
+    };
+    let caller = begin(rt, alloc, shelf, image, cap, key, area)?;
+    Ok((name, caller))
 }
 
 // Gets the image and the capability, judges the own hello, and reserves what signs.

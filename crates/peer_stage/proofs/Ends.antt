@@ -7,7 +7,7 @@ use Rattle.std.proofs.lemmas.Bool.Decides.{nat_tests}
 use Rattle.mc_cap.specs.declared.refusal.RefusedRow.{RefusedRow}
 use Rattle.session_end.specs.declared.end.SessionEnd.{SessionEnd}
 use Rattle.session_end.specs.declared.end.SessionEnd.TheVariants as ending
-use Rattle.peer_stage.specs.Status.{status_of, refused_status, first_status, end_status, session_status, followed_status, put_status, statuses_met, first_met, told_order}
+use Rattle.peer_stage.specs.Status.{status_of, stop_status, refused_status, first_status, end_status, session_status, followed_status, put_status, statuses_met, first_met, told_order}
 use Rattle.peer_stage.specs.declared.outcome.FollowCounts.{FollowCounts}
 use Rattle.peer_stage.specs.declared.outcome.SessionCounts.{SessionCounts}
 use Rattle.peer_stage.specs.declared.outcome.Synced.{Synced}
@@ -67,6 +67,7 @@ none_met = refl
 abbrev pub IsLocal : Done → Type 0
 IsLocal (done.Synced s) = ⊥
 IsLocal (done.Served s) = ⊥
+IsLocal (done.Stopped s) = ⊥
 IsLocal d = Unit {0}
 
 -- what is done without one gives 0 or 1
@@ -76,6 +77,7 @@ done_small (done.Shown counts) is = rw (refused_only counts.refused) (refused_sm
 done_small (done.Met counts) is = rw (first_only counts.first) (first_small counts.first)
 done_small (done.Synced s) is = absurd is
 done_small (done.Served s) is = absurd is
+done_small (done.Stopped s) is = absurd is
 done_small (done.Watched counts) is = rw (first_only counts.first) (first_small counts.first)
 done_small done.Made is = rw none_met (omega arith)
 
@@ -189,17 +191,22 @@ synced_known s = told_known (statuses_met (done.Synced s))
 pub served_known : (s : Served) → IsCallStatus (status_of (Ok (done.Served s)))
 served_known s = told_known (statuses_met (done.Served s))
 
+-- no stop has another status
+pub stop_known : (e : Stop) → stop_status e ≤ 9
+stop_known stop.NoMemory = omega arith
+stop_known e = omega arith
+
 -- no end has another status
 pub known : (end : Result Done Stop) → status_of end ≤ 9
 known (Ok (done.Synced s)) = omega (arith, (synced_known s).small)
 known (Ok (done.Served s)) = omega (arith, (served_known s).small)
+known (Ok (done.Stopped s)) = stop_known s.stop
 known (Ok (done.Joined counts)) = omega (arith, done_small (done.Joined counts) tt)
 known (Ok (done.Shown counts)) = omega (arith, done_small (done.Shown counts) tt)
 known (Ok (done.Met counts)) = omega (arith, done_small (done.Met counts) tt)
 known (Ok (done.Watched counts)) = omega (arith, done_small (done.Watched counts) tt)
 known (Ok done.Made) = omega (arith, done_small done.Made tt)
-known (Err stop.NoMemory) = omega arith
-known (Err e) = omega arith
+known (Err e) = stop_known e
 
 -- ---- stops
 

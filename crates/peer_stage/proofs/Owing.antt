@@ -27,6 +27,7 @@ stands w =
       report_faults = omega arith;
       door_faults = omega arith;
       noise_faults = omega arith;
+      bay_faults = omega arith;
     }
 
 pub onward : (old between new : World) → NeverFall old between → NeverFall between new → NeverFall old new
@@ -40,10 +41,11 @@ onward old between new a b =
       report_faults = omega (arith, a.report_faults, b.report_faults);
       door_faults = omega (arith, a.door_faults, b.door_faults);
       noise_faults = omega (arith, a.noise_faults, b.noise_faults);
+      bay_faults = omega (arith, a.bay_faults, b.bay_faults);
     }
 
 pub unfailed_same : (w : World) → Unfailed w w
-unfailed_same w = record { shelf_reads = refl; shelf_writes = refl; input = refl; output = refl; report = refl; door = refl; noise = refl }
+unfailed_same w = record { shelf_reads = refl; shelf_writes = refl; input = refl; output = refl; report = refl; door = refl; noise = refl; bay = refl }
 
 pub unfailed_on : (old between new : World) → Unfailed old between → Unfailed between new → Unfailed old new
 unfailed_on old between new a b =
@@ -55,6 +57,7 @@ unfailed_on old between new a b =
       report = b.report ∙ a.report;
       door = b.door ∙ a.door;
       noise = b.noise ∙ a.noise;
+      bay = b.bay ∙ a.bay;
     }
 
 -- a count that did not fall and then rose has risen
@@ -129,19 +132,19 @@ pub inside_counts : {A : Type 0} (P : Result A Stop → Type 0) (old new : World
 inside_counts P old new end s = subst (λ (w : World). NeverFall old w) (sym s.1) (stands old)
 
 pub input_counts : {A : Type 0} (P : SourceFacts → SourceFacts → Result A Stop → Type 0) (old new : World) (end : Result A Stop) → OnInput P old new end → NeverFall old new
-input_counts P old new end s = subst (λ (w : World). NeverFall old w) (sym s.others) (record { shelf_reads = omega arith; shelf_writes = omega arith; input_faults = never_falls _ _ end s.faults; input_ends = s.ends; output_faults = omega arith; report_faults = omega arith; door_faults = omega arith; noise_faults = omega arith })
+input_counts P old new end s = subst (λ (w : World). NeverFall old w) (sym s.others) (record { shelf_reads = omega arith; shelf_writes = omega arith; input_faults = never_falls _ _ end s.faults; input_ends = s.ends; output_faults = omega arith; report_faults = omega arith; door_faults = omega arith; noise_faults = omega arith; bay_faults = omega arith })
 
 pub output_counts : {A : Type 0} (P : SinkFacts → SinkFacts → Result A Stop → Type 0) (old new : World) (end : Result A Stop) → OnOutput P old new end → NeverFall old new
-output_counts P old new end s = subst (λ (w : World). NeverFall old w) (sym s.others) (record { shelf_reads = omega arith; shelf_writes = omega arith; input_faults = omega arith; input_ends = omega arith; output_faults = never_falls _ _ end s.faults; report_faults = omega arith; door_faults = omega arith; noise_faults = omega arith })
+output_counts P old new end s = subst (λ (w : World). NeverFall old w) (sym s.others) (record { shelf_reads = omega arith; shelf_writes = omega arith; input_faults = omega arith; input_ends = omega arith; output_faults = never_falls _ _ end s.faults; report_faults = omega arith; door_faults = omega arith; noise_faults = omega arith; bay_faults = omega arith })
 
 pub shelf_counts : {A : Type 0} (P : ShelfFacts → ShelfFacts → Result A Stop → Type 0) (old new : World) (end : Result A Stop) → OnShelf P old new end → NeverFall old new
-shelf_counts P old new end s = subst (λ (w : World). NeverFall old w) (sym s.others) (record { shelf_reads = never_falls _ _ end s.read_faults; shelf_writes = never_falls _ _ end s.write_faults; input_faults = omega arith; input_ends = omega arith; output_faults = omega arith; report_faults = omega arith; door_faults = omega arith; noise_faults = omega arith })
+shelf_counts P old new end s = subst (λ (w : World). NeverFall old w) (sym s.others) (record { shelf_reads = never_falls _ _ end s.read_faults; shelf_writes = never_falls _ _ end s.write_faults; input_faults = omega arith; input_ends = omega arith; output_faults = omega arith; report_faults = omega arith; door_faults = omega arith; noise_faults = omega arith; bay_faults = omega arith })
 
 pub noise_counts : {A : Type 0} (P : NoiseFacts → NoiseFacts → Result A Stop → Type 0) (old new : World) (end : Result A Stop) → OnNoise P old new end → NeverFall old new
-noise_counts P old new end s = subst (λ (w : World). NeverFall old w) (sym s.others) (record { shelf_reads = omega arith; shelf_writes = omega arith; input_faults = omega arith; input_ends = omega arith; output_faults = omega arith; report_faults = omega arith; door_faults = omega arith; noise_faults = never_falls _ _ end s.faults })
+noise_counts P old new end s = subst (λ (w : World). NeverFall old w) (sym s.others) (record { shelf_reads = omega arith; shelf_writes = omega arith; input_faults = omega arith; input_ends = omega arith; output_faults = omega arith; report_faults = omega arith; door_faults = omega arith; noise_faults = never_falls _ _ end s.faults; bay_faults = omega arith })
 
 pub door_counts : {A : Type 0} (P : DoorFacts → DoorFacts → Result A Stop → Type 0) (old new : World) (end : Result A Stop) → OnDoor P old new end → NeverFall old new
-door_counts P old new end s = subst (λ (w : World). NeverFall old w) (sym s.others) (record { shelf_reads = omega arith; shelf_writes = omega arith; input_faults = omega arith; input_ends = omega arith; output_faults = omega arith; report_faults = omega arith; door_faults = never_falls _ _ end s.faults; noise_faults = omega arith })
+door_counts P old new end s = subst (λ (w : World). NeverFall old w) (sym s.others) (record { shelf_reads = omega arith; shelf_writes = omega arith; input_faults = omega arith; input_ends = omega arith; output_faults = omega arith; report_faults = omega arith; door_faults = never_falls _ _ end s.faults; noise_faults = omega arith; bay_faults = omega arith })
 
 -- ---- no fault of one object is passed over
 
@@ -149,19 +152,19 @@ pub inside_unfailed : {A : Type 0} (P : Result A Stop → Type 0) (old new : Wor
 inside_unfailed P old new end none s = subst (λ (w : World). Unfailed old w) (sym s.1) (unfailed_same old)
 
 pub input_unfailed : {A : Type 0} (P : SourceFacts → SourceFacts → Result A Stop → Type 0) (old new : World) (end : Result A Stop) → EndsUnfailed end → OnInput P old new end → Unfailed old new
-input_unfailed P old new end none s = subst (λ (w : World). Unfailed old w) (sym s.others) (record { shelf_reads = refl; shelf_writes = refl; input = stood _ _ end none s.faults; output = refl; report = refl; door = refl; noise = refl })
+input_unfailed P old new end none s = subst (λ (w : World). Unfailed old w) (sym s.others) (record { shelf_reads = refl; shelf_writes = refl; input = stood _ _ end none s.faults; output = refl; report = refl; door = refl; noise = refl; bay = refl })
 
 pub output_unfailed : {A : Type 0} (P : SinkFacts → SinkFacts → Result A Stop → Type 0) (old new : World) (end : Result A Stop) → EndsUnfailed end → OnOutput P old new end → Unfailed old new
-output_unfailed P old new end none s = subst (λ (w : World). Unfailed old w) (sym s.others) (record { shelf_reads = refl; shelf_writes = refl; input = refl; output = stood _ _ end none s.faults; report = refl; door = refl; noise = refl })
+output_unfailed P old new end none s = subst (λ (w : World). Unfailed old w) (sym s.others) (record { shelf_reads = refl; shelf_writes = refl; input = refl; output = stood _ _ end none s.faults; report = refl; door = refl; noise = refl; bay = refl })
 
 pub shelf_unfailed : {A : Type 0} (P : ShelfFacts → ShelfFacts → Result A Stop → Type 0) (old new : World) (end : Result A Stop) → EndsUnfailed end → OnShelf P old new end → Unfailed old new
-shelf_unfailed P old new end none s = subst (λ (w : World). Unfailed old w) (sym s.others) (record { shelf_reads = stood _ _ end none s.read_faults; shelf_writes = stood _ _ end none s.write_faults; input = refl; output = refl; report = refl; door = refl; noise = refl })
+shelf_unfailed P old new end none s = subst (λ (w : World). Unfailed old w) (sym s.others) (record { shelf_reads = stood _ _ end none s.read_faults; shelf_writes = stood _ _ end none s.write_faults; input = refl; output = refl; report = refl; door = refl; noise = refl; bay = refl })
 
 pub noise_unfailed : {A : Type 0} (P : NoiseFacts → NoiseFacts → Result A Stop → Type 0) (old new : World) (end : Result A Stop) → EndsUnfailed end → OnNoise P old new end → Unfailed old new
-noise_unfailed P old new end none s = subst (λ (w : World). Unfailed old w) (sym s.others) (record { shelf_reads = refl; shelf_writes = refl; input = refl; output = refl; report = refl; door = refl; noise = stood _ _ end none s.faults })
+noise_unfailed P old new end none s = subst (λ (w : World). Unfailed old w) (sym s.others) (record { shelf_reads = refl; shelf_writes = refl; input = refl; output = refl; report = refl; door = refl; noise = stood _ _ end none s.faults; bay = refl })
 
 pub door_unfailed : {A : Type 0} (P : DoorFacts → DoorFacts → Result A Stop → Type 0) (old new : World) (end : Result A Stop) → EndsUnfailed end → OnDoor P old new end → Unfailed old new
-door_unfailed P old new end none s = subst (λ (w : World). Unfailed old w) (sym s.others) (record { shelf_reads = refl; shelf_writes = refl; input = refl; output = refl; report = refl; door = stood _ _ end none s.faults; noise = refl })
+door_unfailed P old new end none s = subst (λ (w : World). Unfailed old w) (sym s.others) (record { shelf_reads = refl; shelf_writes = refl; input = refl; output = refl; report = refl; door = stood _ _ end none s.faults; noise = refl; bay = refl })
 
 -- ---- the last stage
 

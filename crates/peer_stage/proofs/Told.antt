@@ -1,13 +1,15 @@
 -- From the status of what is done back to what was met on the way, for a call and for a server.
-use Rattle.std.proofs.Common.{◌≡◌, ◌≢◌, ◌∙◌, ◌⊎◌, inl, inr, ℕ, ◌<◌, ◌≤◌, ◌==◌, ◌||◌, ◌&&◌, Bool, true, false, cond, if◌then◌else◌, List, [], ◌∷◌, map, refl, sym, ap, arith}
-use Rattle.std.specs.Prelude.{Option, Some, None, Result, Ok, Err, is_ok}
+use Rattle.std.proofs.Common.{◌≡◌, ◌≢◌, ◌∙◌, ◌⊎◌, inl, inr, ℕ, ◌<◌, ◌≤◌, ◌==◌, ◌||◌, ◌&&◌, Bool, true, false, cond, if◌then◌else◌, List, [], ◌∷◌, ◌++◌, map, refl, sym, ap, arith}
+use Rattle.std.specs.Prelude.{Option, Some, None, Result, Ok, Err, is_ok, is_none}
 use Rattle.std.specs.List.{list_any, list_all}
 use Rattle.std.proofs.lemmas.Bool.{eqb-true, false≢true}
 use Rattle.std.proofs.lemmas.List.Folds.{list_any-append}
 use Rattle.mc_cap.specs.declared.refusal.RefusedRow.{RefusedRow}
 use Rattle.session_end.specs.declared.end.SessionEnd.{SessionEnd}
 use Rattle.session_end.specs.declared.end.SessionEnd.TheVariants as ending
-use Rattle.peer_stage.specs.Status.{status_of, statuses_met, first_met, told_order, session_status, followed_status, accept_status, put_status, first_status}
+use Rattle.peer_stage.specs.Status.{status_of, statuses_met, first_met, told_order, session_status, followed_status, feed_status, accept_status, put_status, first_status}
+use Rattle.peer_stage.specs.declared.outcome.FeedStop.{FeedStop}
+use Rattle.peer_stage.specs.declared.outcome.FeedStop.TheVariants as feed
 use Rattle.peer_stage.specs.declared.outcome.SessionCounts.{SessionCounts}
 use Rattle.peer_stage.specs.declared.outcome.Served.{Served}
 use Rattle.peer_stage.specs.declared.outcome.Synced.{Synced}
@@ -20,6 +22,10 @@ met_in status met = list_any (λ m. m == status) met
 -- a session gave a status
 abbrev pub given_by : ℕ → List (Result SessionCounts SessionEnd) → Bool
 given_by status sessions = list_any (λ session. session_status session == status) sessions
+
+-- a feed gave a status
+abbrev pub fed_by : ℕ → List (Option FeedStop) → Bool
+fed_by status feeds = list_any (λ stopped. feed_status stopped == status) feeds
 
 -- ---- what is told was met
 
@@ -96,9 +102,18 @@ synced_from s status is high =
 
 -- ---- what a server met
 
--- what a server met beside its sessions
+-- what a server met behind its links
+abbrev pub behind_links : Served → List ℕ
+behind_links s = accept_status s.all_came ∷ (put_status s.put ∷ (first_status s.first ∷ []))
+
+-- what it met beside its sessions
 abbrev pub beside : Served → List ℕ
-beside s = accept_status s.all_came ∷ (put_status s.put ∷ (first_status s.first ∷ []))
+beside s = map feed_status s.feeds.items ++ behind_links s
+
+pub beside_parts : (s : Served) (status : ℕ) → met_in status (beside s) ≡ (fed_by status s.feeds.items || met_in status (behind_links s))
+beside_parts s status =
+    list_any-append (λ m. m == status) (map feed_status s.feeds.items) (behind_links s)
+    ∙ ap (λ b. b || met_in status (behind_links s)) (any_of_map (λ m. m == status) feed_status s.feeds.items)
 
 pub served_parts : (s : Served) (status : ℕ) → met_in status (statuses_met (done.Served s)) ≡ (given_by status s.sessions.items || met_in status (beside s))
 served_parts s status =
@@ -109,9 +124,23 @@ served_parts s status =
 pub served_from : (s : Served) (status : ℕ) → status_of (Ok (done.Served s)) ≡ status → status ≢ 0 → (given_by status s.sessions.items ≡ true) ⊎ (met_in status (beside s) ≡ true)
 served_from s status is some = or_true _ _ (sym (served_parts s status) ∙ told_was_met told_order (statuses_met (done.Served s)) status is some)
 
+-- no feed reads
+no_feed_read : (feeds : List (Option FeedStop)) → fed_by 3 feeds ≡ false
+no_feed_read [] = refl
+no_feed_read (None ∷ feeds) = no_feed_read feeds
+no_feed_read (Some feed.LinkWrite ∷ feeds) = no_feed_read feeds
+no_feed_read (Some feed.NoMemory ∷ feeds) = no_feed_read feeds
+
+-- what was met beside the sessions was met by a feed or behind the links
+beside_from : (s : Served) (status : ℕ) → met_in status (beside s) ≡ true → (fed_by status s.feeds.items ≡ true) ⊎ (met_in status (behind_links s) ≡ true)
+beside_from s status met = or_true _ _ (sym (beside_parts s status) ∙ met)
+
 -- a fault of reading is that of a session, or of accepting
 pub served_read : (s : Served) → status_of (Ok (done.Served s)) ≡ 3 → (given_by 3 s.sessions.items ≡ true) ⊎ (s.all_came ≡ false)
-served_read s is = elim (served_from s 3 is (λ e. omega (arith, e))) [ inl given ↦ inl given | inr other ↦ inr (told s.all_came s.put s.first other) ] where
+served_read s is = elim (served_from s 3 is (λ e. omega (arith, e))) [
+  | inl given ↦ inl given
+  | inr other ↦ elim (beside_from s 3 other) [ inl fed ↦ absurd (false≢true (sym (no_feed_read s.feeds.items) ∙ fed)) | inr last ↦ inr (told s.all_came s.put s.first last) ]
+] where
   told : (all_came put : Bool) (first : Option RefusedRow) → met_in 3 (accept_status all_came ∷ (put_status put ∷ (first_status first ∷ []))) ≡ true → all_came ≡ false
   told false put first e = refl
   told true true None e = cc
@@ -119,9 +148,12 @@ served_read s is = elim (served_from s 3 is (λ e. omega (arith, e))) [ inl give
   told true false None e = cc
   told true false (Some first) e = cc
 
--- a fault of writing is that of a session, or of the put
-pub served_write : (s : Served) → status_of (Ok (done.Served s)) ≡ 4 → (given_by 4 s.sessions.items ≡ true) ⊎ (s.put ≡ false)
-served_write s is = elim (served_from s 4 is (λ e. omega (arith, e))) [ inl given ↦ inl given | inr other ↦ inr (told s.all_came s.put s.first other) ] where
+-- a fault of writing is that of a session, of a feed behind one, or of the put
+pub served_write : (s : Served) → status_of (Ok (done.Served s)) ≡ 4 → (given_by 4 s.sessions.items ≡ true) ⊎ ((fed_by 4 s.feeds.items ≡ true) ⊎ (s.put ≡ false))
+served_write s is = elim (served_from s 4 is (λ e. omega (arith, e))) [
+  | inl given ↦ inl given
+  | inr other ↦ inr (elim (beside_from s 4 other) [ inl fed ↦ inl fed | inr last ↦ inr (told s.all_came s.put s.first last) ])
+] where
   told : (all_came put : Bool) (first : Option RefusedRow) → met_in 4 (accept_status all_came ∷ (put_status put ∷ (first_status first ∷ []))) ≡ true → put ≡ false
   told all_came false first e = refl
   told true true None e = cc
@@ -137,6 +169,7 @@ served_session s status is none some = elim (served_from s status is some) [ inl
 
 pub record IsWholeServed (s : Served) : Type 0 where
   pub sessions : list_all is_ok s.sessions.items ≡ true
+  pub feeds : list_all is_none s.feeds.items ≡ true
   pub all_came : s.all_came ≡ true
   pub put : s.put ≡ true
 
@@ -164,19 +197,33 @@ sessions_done (session ∷ rest) seven three four six eight =
     let e = or_false (session_status session == 8) (given_by 8 rest) eight in
     ap (λ ok. ok && list_all is_ok rest) (session_done session a.0 b.0 c.0 d.0 e.0) ∙ sessions_done rest a.1 b.1 c.1 d.1 e.1
 
+-- a feed that gave neither 7 nor 4 was not stopped
+feeds_whole : (feeds : List (Option FeedStop)) → fed_by 7 feeds ≡ false → fed_by 4 feeds ≡ false → list_all is_none feeds ≡ true
+feeds_whole [] seven four = refl
+feeds_whole (None ∷ feeds) seven four = feeds_whole feeds seven four
+feeds_whole (Some feed.LinkWrite ∷ feeds) seven four = cc
+feeds_whole (Some feed.NoMemory ∷ feeds) seven four = cc
+
 pub served_small : (s : Served) → status_of (Ok (done.Served s)) ≤ 1 → IsWholeServed s
 served_small s small =
     let mild = small_told (statuses_met (done.Served s)) small in
-    let seven = or_false (given_by 7 s.sessions.items) (met_in 7 (beside s)) (sym (served_parts s 7) ∙ mild.memory) in
-    let three = or_false (given_by 3 s.sessions.items) (met_in 3 (beside s)) (sym (served_parts s 3) ∙ mild.read) in
-    let four = or_false (given_by 4 s.sessions.items) (met_in 4 (beside s)) (sym (served_parts s 4) ∙ mild.write) in
-    let six = or_false (given_by 6 s.sessions.items) (met_in 6 (beside s)) (sym (served_parts s 6) ∙ mild.refused) in
-    let eight = or_false (given_by 8 s.sessions.items) (met_in 8 (beside s)) (sym (served_parts s 8) ∙ mild.full) in
+    let seven = parts 7 mild.memory in
+    let three = parts 3 mild.read in
+    let four = parts 4 mild.write in
+    let six = parts 6 mild.refused in
+    let eight = parts 8 mild.full in
     record {
       sessions = sessions_done s.sessions.items seven.0 three.0 four.0 six.0 eight.0;
-      all_came = came s.all_came (put_status s.put ∷ (first_status s.first ∷ [])) three.1;
-      put = written (accept_status s.all_came) s.put (first_status s.first ∷ []) four.1;
+      feeds = feeds_whole s.feeds.items seven.1 four.1;
+      all_came = came s.all_came (put_status s.put ∷ (first_status s.first ∷ [])) three.2;
+      put = written (accept_status s.all_came) s.put (first_status s.first ∷ []) four.2;
     } where
+      parts : (status : ℕ) → met_in status (statuses_met (done.Served s)) ≡ false → (given_by status s.sessions.items ≡ false) × (fed_by status s.feeds.items ≡ false) × (met_in status (behind_links s) ≡ false)
+      parts status none =
+          let first = or_false (given_by status s.sessions.items) (met_in status (beside s)) (sym (served_parts s status) ∙ none) in
+          let second = or_false (fed_by status s.feeds.items) (met_in status (behind_links s)) (sym (beside_parts s status) ∙ first.1) in
+          (first.0, second.0, second.1)
+
       came : (all_came : Bool) (rest : List ℕ) → met_in 3 (accept_status all_came ∷ rest) ≡ false → all_came ≡ true
       came true rest e = refl
       came false rest e = cc

@@ -9,7 +9,7 @@ use Rattle.willow_outside.specs.Counts.{Rose}
 use Rattle.willow_outside.specs.declared.fault.Fault.{Fault}
 use Rattle.willow_outside.specs.declared.fault.Fault.TheVariants as fault
 use Rattle.willow_outside.specs.Facts.{ShelfFacts}
-use Rattle.willow_outside.specs.Names.{GetsName, name_put}
+use Rattle.willow_outside.specs.Names.{GetsName, IsToldMissing, name_put}
 use Rattle.peer_stage.specs.declared.outcome.Origin.{Origin}
 use Rattle.peer_stage.specs.declared.outcome.Origin.TheVariants as origin
 use Rattle.peer_stage.specs.declared.outcome.Stop.{Stop}
@@ -30,12 +30,12 @@ HoldsBytes name old new bytes = GetsName old.names name (Some bytes) × (new.nam
 abbrev pub HoldsNone : List ℕ → ShelfFacts → ShelfFacts → Type 0
 HoldsNone name old new = GetsName old.names name None × (new.names ≡ old.names)
 
--- how the getting of a name ends: its bytes are handed on with it
+-- how the getting of a name ends: its bytes are handed on with it; where it is told to be missing, that takes no memory
 abbrev pub GetsBytes : String Global → ShelfFacts → ShelfFacts → Result (String Global × Vec ℕ) Stop → Type 0
 GetsBytes name old new (Ok x) = (x.0 ≡ name) × HoldsBytes (string_bytes name) old new x.1.items
 GetsBytes name old new (Err stop.ReadFault) = Rose old.read_faults new.read_faults × (new.names ≡ old.names)
 GetsBytes name old new (Err (stop.Missing other)) = (other ≡ name) × HoldsNone (string_bytes name) old new
-GetsBytes name old new (Err stop.NoMemory) = new.names ≡ old.names
+GetsBytes name old new (Err stop.NoMemory) = (IsToldMissing old.names (string_bytes name) → ⊥) × (new.names ≡ old.names)
 GetsBytes name old new (Err e) = ⊥
 
 -- what is told of what the shelf answered under a name; want of memory is told of no other answer

@@ -4,6 +4,8 @@ use Rattle.std.specs.List.{list_any}
 use Rattle.mc_cap.specs.declared.refusal.RefusedRow.{RefusedRow}
 use Rattle.session_end.specs.declared.end.SessionEnd.{SessionEnd}
 use Rattle.session_end.specs.declared.end.SessionEnd.TheVariants as ending
+use Rattle.peer_stage.specs.declared.outcome.FeedStop.{FeedStop}
+use Rattle.peer_stage.specs.declared.outcome.FeedStop.TheVariants as feed
 use Rattle.peer_stage.specs.declared.outcome.FollowCounts.{FollowCounts}
 use Rattle.peer_stage.specs.declared.outcome.SessionCounts.{SessionCounts}
 use Rattle.peer_stage.specs.declared.outcome.Done.{Done}
@@ -46,6 +48,12 @@ followed_status None = 0
 followed_status (Some (Ok counts)) = 0
 followed_status (Some (Err end)) = end_status end
 
+-- of a feed that was to be written: 4 for a fault of its link, 7 for want of memory, 0 where nothing stopped it
+abbrev pub feed_status : Option FeedStop → ℕ
+feed_status None = 0
+feed_status (Some feed.LinkWrite) = 4
+feed_status (Some feed.NoMemory) = 7
+
 -- 4 where the image was not put, else 0
 abbrev pub put_status : Bool → ℕ
 put_status true = 0
@@ -63,7 +71,8 @@ statuses_met (done.Joined counts) = refused_status counts.refused ∷ []
 statuses_met (done.Shown counts) = refused_status counts.refused ∷ []
 statuses_met (done.Met counts) = first_status counts.first ∷ []
 statuses_met (done.Synced s) = session_status s.session ∷ (followed_status s.followed ∷ (put_status s.put ∷ (first_status s.first ∷ [])))
-statuses_met (done.Served s) = map session_status s.sessions.items ++ (accept_status s.all_came ∷ (put_status s.put ∷ (first_status s.first ∷ [])))
+statuses_met (done.Served s) = map session_status s.sessions.items ++ (map feed_status s.feeds.items ++ (accept_status s.all_came ∷ (put_status s.put ∷ (first_status s.first ∷ []))))
+statuses_met (done.Stopped s) = []
 statuses_met (done.Watched counts) = first_status counts.first ∷ []
 statuses_met done.Made = []
 
@@ -95,6 +104,11 @@ stop_status stop.KeySpent = 9
 
 -- ---- both
 
+-- of what is done the first that was met on the way; where a log was open as the command stopped, that of the stop
+abbrev pub done_status : Done → ℕ
+done_status (done.Stopped s) = stop_status s.stop
+done_status d = first_met told_order (statuses_met d)
+
 abbrev pub status_of : Result Done Stop → ℕ
-status_of (Ok d) = first_met told_order (statuses_met d)
+status_of (Ok d) = done_status d
 status_of (Err e) = stop_status e

@@ -130,12 +130,24 @@ pub struct Synced {
     pub put: bool,
 }
 
-/// What came of a server: how the session of each link ended, which stops nothing, whether all links came, and whether
-/// the image was put behind them.
+/// Why a feed was not written whole.
+#[derive(Clone, Copy)]
+pub enum FeedStop {
+    /// Writing to the link failed.
+    LinkWrite,
+    /// No memory was found.
+    NoMemory,
+}
+
+/// What came of a server: how the session of each link ended, which stops nothing, nor does what stopped the feed behind
+/// it, whether all links came, and whether the image was put behind them.
 #[derive(Drop)]
 pub struct Served {
     /// How the session of each link ended, in the order in which the links came.
     pub sessions: Vec<Result<SessionCounts, SessionEnd>>,
+    /// What stopped the feed behind the session of each link, in the same order: None where it was written whole, or the
+    /// link got none. Empty where no link of the server gets one.
+    pub feeds: Vec<Option<FeedStop>>,
     /// Whether as many links came as were asked for; where not, accepting one failed.
     pub all_came: bool,
     /// The first row that is not authorised, counted over the image, then the file of the log, and then the rows that
@@ -149,8 +161,18 @@ pub struct Served {
     pub put: bool,
 }
 
-/// What a command did that came to its end. What it met on the way gives the status: the rows that were left out, in a
-/// call or a server how the sessions ended and whether the image was put, and in a server whether all links came.
+/// What came of a server that stopped while it had a log open: the stop, and what the log keeps all the same.
+#[derive(Drop)]
+pub struct Stopped {
+    /// Why it stopped.
+    pub stop: Stop,
+    /// How many rows the file of the log held when it was last made, opened or written.
+    pub kept: u64,
+}
+
+/// What a command did that came to its end, or has more to tell than why it stopped. What it met on the way gives the
+/// status: the rows that were left out, in a call or a server how the sessions and what is behind them ended and whether
+/// the image was put, and in a server whether all links came.
 #[derive(Drop)]
 pub enum Done {
     /// Rows were joined.
@@ -163,6 +185,8 @@ pub enum Done {
     Synced(Synced),
     /// Links were served, and the image put or tried to be put.
     Served(Served),
+    /// The server stopped, with a log open.
+    Stopped(Stopped),
     /// The rows of the input were told as they came, and the image was put.
     Watched(WatchCounts),
     /// What was to be made is written; there is nothing to report.

@@ -8,7 +8,7 @@ use Rattle.willow_area.specs.Boxes.{Ranges}
 use Rattle.willow_entry.specs.Entry.{bytes_cmp}
 use Rattle.willow_entry.specs.Row.{RowValue}
 use Rattle.block_store.specs.InBox.{rows_in}
-use Rattle.range_split.specs.Points.{Points, by_subspace, by_path}
+use Rattle.range_split.specs.Points.{DimensionPoints, by_subspace, by_path}
 use Rattle.range_split.specs.Least.{least_above}
 use Rattle.range_split.specs.Choice.{choice, points_of, subspaces_of, Chooses}
 use Rattle.range_split.specs.declared.choice.Choice.{Choice}
@@ -23,19 +23,19 @@ choice_few [] few = refl
 choice_few (first ∷ rest) few = ap (λ t. cond t None (Some (points_of first (get_or (first ∷ rest) (length (first ∷ rest) / 2) first) (first ∷ rest)))) (le-leb (length (first ∷ rest)) ENTRIES_MAX few)
 
 -- what many rows are
-pub record AreMany (rows : List RowValue) (points : Points) : Type 0 where
+pub record AreMany (rows : List RowValue) (points : DimensionPoints) : Type 0 where
   pub first : RowValue
   pub rest : List RowValue
   pub all : rows ≡ first ∷ rest
   pub many : ENTRIES_MAX < length rows
   pub parted : points_of first (get_or rows (length rows / 2) first) rows ≡ points
 
-pub are_many : (rows : List RowValue) (points : Points) → choice rows ≡ Some points → AreMany rows points
+pub are_many : (rows : List RowValue) (points : DimensionPoints) → choice rows ≡ Some points → AreMany rows points
 unfolding choice
 are_many [] points h = absurd cc
 are_many (first ∷ rest) points h = by_number (nat_le (length (first ∷ rest)) ENTRIES_MAX) refl h
   where
-    here : Points
+    here : DimensionPoints
     here = points_of first (get_or (first ∷ rest) (length (first ∷ rest) / 2) first) (first ∷ rest)
 
     by_number : (few : Bool) → nat_le (length (first ∷ rest)) ENTRIES_MAX ≡ few → cond few None (Some here) ≡ Some points → AreMany (first ∷ rest) points
@@ -53,7 +53,7 @@ unfolding choice
 few [] h = omega arith
 few (first ∷ rest) h = by_number (nat_le (length (first ∷ rest)) ENTRIES_MAX) refl h
   where
-    here : Points
+    here : DimensionPoints
     here = points_of first (get_or (first ∷ rest) (length (first ∷ rest) / 2) first) (first ∷ rest)
 
     by_number : (test : Bool) → nat_le (length (first ∷ rest)) ENTRIES_MAX ≡ test → cond test None (Some here) ≡ None → length (first ∷ rest) ≤ ENTRIES_MAX
@@ -100,7 +100,7 @@ module _ (rows : List RowValue) (first middle : RowValue) (h : HasMiddle rows fi
 -- ---- one answer
 
 -- a cut at a path is one
-cut_at_path : (chosen : Option Points) (row : Option RowValue) → IsSomeAnd row (λ row. chosen ≡ Some (by_path (row.entry.path ∷ []))) → (path : List (List ℕ)) × (chosen ≡ Some (by_path (path ∷ [])))
+cut_at_path : (chosen : Option DimensionPoints) (row : Option RowValue) → IsSomeAnd row (λ row. chosen ≡ Some (by_path (row.entry.path ∷ []))) → (path : List (List ℕ)) × (chosen ≡ Some (by_path (path ∷ [])))
 cut_at_path chosen (Some row) h = (row.entry.path, h)
 cut_at_path chosen None h = absurd h
 

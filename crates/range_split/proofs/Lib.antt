@@ -1,5 +1,16 @@
 pub mod LeastKeys
 pub mod Shares
-mod Spans
+pub mod Spans
 pub mod Choosing
 pub mod Parting
+pub mod Sorting
+pub mod Dividing
+pub mod Quartering
+pub mod Evenly
+pub mod Paths
+pub mod Subspaces
+pub mod Timely
+pub mod Loads
+pub mod Rising
+pub mod Pointing
+pub mod CutTest

@@ -26,7 +26,7 @@ use Rattle.willow_entry.specs.Row.{RowValue, inner_place_cmp}
 use Rattle.willow_entry.proofs.Members.{Member, contains_from_member, member_from_contains, member_filter, filter_member}
 use Rattle.willow_entry.proofs.Ranks.{greater_from_test}
 use Rattle.block_store.specs.InBox.{is_in, rows_in}
-use Rattle.range_split.specs.Points.{Points, by_subspace, by_path, cuts_at}
+use Rattle.range_split.specs.Points.{DimensionPoints, by_subspace, by_path, cuts_at}
 use Rattle.range_split.specs.Least.{least_above}
 use Rattle.range_split.specs.Choice.{choice, subspaces_of}
 use Rattle.range_split.specs.Sides.{StandsAt, is_row_below, AreRising, PartRows, LeavesRows}
@@ -67,7 +67,7 @@ module _ {A : Type 0} (cmp : A → A → Ordering) (order : IsTotalOrder cmp) wh
       (le_then_lt range.start low point (both_of (is_le (cmp range.start low)) (is_before_end cmp low range.end) h).0 k)
       (both_of (is_le (cmp range.start point)) (is_before_end cmp point range.end) l).1
 
-can_cut_between : (area : Ranges) (at : CutAt) (first row : RowValue) → is_in area first ≡ true → is_row_below at first ≡ true → is_in area row ≡ true → StandsAt at row → can_cut area at ≡ true
+pub can_cut_between : (area : Ranges) (at : CutAt) (first row : RowValue) → is_in area first ≡ true → is_row_below at first ≡ true → is_in area row ≡ true → StandsAt at row → can_cut area at ≡ true
 unfolding can_cut is_below
 can_cut_between area (Subspace key) first row h below k same =
     let p = passes_box area first.entry.subspace first.entry.path first.entry.timestamp h in
@@ -144,7 +144,7 @@ first_least rows rest first n e rise h k =
         All-get_or P rest n first (omega arith) (All-from_recursion P rest all)
 
 -- points that rise and are each between rows
-record ArePoints (rows : List RowValue) (points : Points) : Type 0 where
+record ArePoints (rows : List RowValue) (points : DimensionPoints) : Type 0 where
   rise : AreRising points
   between : All (IsBetween rows) (cuts_at points)
 
@@ -199,7 +199,7 @@ module _ (rows : List RowValue) (first middle : RowValue) (is_first : slice_get 
   are_points false (Some key) e k = one_subspace rows key (at_least key k)
   are_points false None e k = one_path rows middle.entry.path (at_path e)
 
-points_between : (rows : List RowValue) (points : Points) → IsStrictlySortedBy inner_place_cmp rows → choice rows ≡ Some points → ArePoints rows points
+points_between : (rows : List RowValue) (points : DimensionPoints) → IsStrictlySortedBy inner_place_cmp rows → choice rows ≡ Some points → ArePoints rows points
 points_between rows points rise h =
     let m = are_many rows points h in
     let half = length rows / 2 in
@@ -210,7 +210,7 @@ points_between rows points rise h =
     (are_points rows m.first middle (ap (λ l. slice_get l 0) m.all) (Contains-get_or rows half m.first within) (first_least rows m.rest m.first half m.all rise low within)
     (is_gt (bytes_cmp middle.entry.subspace m.first.entry.subspace)) (least_above m.first.entry.subspace (subspaces_of rows)) refl refl)
 
-pub part_rows : (rows : List RowValue) (points : Points) → IsStrictlySortedBy inner_place_cmp rows → choice rows ≡ Some points → PartRows rows points
+pub part_rows : (rows : List RowValue) (points : DimensionPoints) → IsStrictlySortedBy inner_place_cmp rows → choice rows ≡ Some points → PartRows rows points
 part_rows rows points rise h =
     let p = points_between rows points rise h in
     record {
@@ -221,7 +221,7 @@ part_rows rows points rise h =
       rows_there = All-weaker (IsBetween rows) (λ at. Any (StandsAt at) rows) (λ at b. any_there (StandsAt at) rows b.row b.there b.stands) (cuts_at points) p.between;
     }
 
-pub all_leave_rows : (area : Ranges) (rows : List RowValue) (points : Points) → IsStrictlySortedBy inner_place_cmp rows → choice (rows_in area rows) ≡ Some points → All (LeavesRows area rows) (cuts_at points)
+pub all_leave_rows : (area : Ranges) (rows : List RowValue) (points : DimensionPoints) → IsStrictlySortedBy inner_place_cmp rows → choice (rows_in area rows) ≡ Some points → All (LeavesRows area rows) (cuts_at points)
 all_leave_rows area rows points rise h =
     let p = points_between (rows_in area rows) points (IsStrictlySortedBy-filter inner_place_cmp (is_in area) rows rise) h in
     All-weaker (IsBetween (rows_in area rows)) (LeavesRows area rows) (leaves_rows area rows) (cuts_at points) p.between

@@ -7,7 +7,7 @@ use Rattle.willow_entry.specs.Entry.{bytes_cmp}
 use Rattle.willow_entry.specs.Row.{RowValue}
 use Rattle.block_store.specs.InBox.{is_in, rows_in}
 use Rattle.block_store.specs.Positions.{positions}
-use Rattle.range_split.specs.Points.{Points, by_subspace, by_path}
+use Rattle.range_split.specs.Points.{DimensionPoints, by_subspace, by_path}
 use Rattle.range_split.specs.Least.{least_above}
 use Rattle.range_split.specs.declared.choice.Choice.{Choice}
 use Rattle.range_split.specs.declared.choice.Choice.TheVariants.{Entries, AtSubspace, AtPathOf}
@@ -20,7 +20,7 @@ subspaces_of rows = map (λ row. row.entry.subspace) rows
 -- The points at which many rows are cut, told by the first and by the middle one of them. That is the middle one's
 -- subspace, where it is above the first one's; else the least subspace of all rows that is above the first one's, where
 -- there is one; else the path of the middle one.
-abbrev pub points_of : RowValue → RowValue → List RowValue → Points
+abbrev pub points_of : RowValue → RowValue → List RowValue → DimensionPoints
 points_of first middle rows =
     if is_gt (bytes_cmp middle.entry.subspace first.entry.subspace)
     then by_subspace (middle.entry.subspace ∷ [])
@@ -28,7 +28,7 @@ points_of first middle rows =
 
 -- The points at which the rows of a box are cut, or none where the rows are few. Of many rows the middle one is that
 -- before which half of them stand, rounded down.
-unfoldable pub choice : List RowValue → Option Points
+unfoldable pub choice : List RowValue → Option DimensionPoints
 choice [] = None
 choice (first ∷ rest) =
     if nat_le (length (first ∷ rest)) ENTRIES_MAX

@@ -2,3 +2,5 @@ pub mod Points
 pub mod Least
 pub mod Choice
 pub mod Sides
+pub mod Parts
+pub mod Quarters

@@ -1,6 +1,7 @@
 -- What stands on the two sides of the points at which rows are cut.
 use Rattle.std.specs.Prelude.{◌≡◌, ◌<◌, Bool, List, length, slice_get, All, Any, IsTrue, IfSome}
 use Rattle.std.specs.List.Sorted.{IsStrictlySortedBy}
+use Rattle.std.specs.Ordering.{nat_cmp}
 use Rattle.willow_path.specs.Path.{path_cmp}
 use Rattle.willow_area.specs.Boxes.{Ranges}
 use Rattle.willow_area.specs.Cuts.{can_cut, lower_part, upper_part, is_below}
@@ -9,7 +10,7 @@ use Rattle.willow_area.specs.declared.cut.CutAt.TheVariants.{Subspace, Path, Tim
 use Rattle.willow_entry.specs.Entry.{bytes_cmp}
 use Rattle.willow_entry.specs.Row.{RowValue}
 use Rattle.block_store.specs.InBox.{rows_in}
-use Rattle.range_split.specs.Points.{Points, by_subspace, by_path, cuts_at}
+use Rattle.range_split.specs.Points.{DimensionPoints, by_subspace, by_path, by_time, cuts_at}
 
 -- the row stands at the point itself
 abbrev pub StandsAt : CutAt → RowValue → Type 0
@@ -22,12 +23,13 @@ abbrev pub is_row_below : CutAt → RowValue → Bool
 is_row_below at row = is_below at row.entry.subspace row.entry.path row.entry.timestamp
 
 -- each point is above the one before it
-abbrev pub AreRising : Points → Type 0
+abbrev pub AreRising : DimensionPoints → Type 0
 AreRising (by_subspace keys) = IsStrictlySortedBy bytes_cmp keys
 AreRising (by_path paths) = IsStrictlySortedBy path_cmp paths
+AreRising (by_time times) = IsStrictlySortedBy nat_cmp times
 
 -- The points rise. The first row is below each of them, and at each of them stands a row.
-pub record PartRows (rows : List RowValue) (points : Points) : Type 0 where
+pub record PartRows (rows : List RowValue) (points : DimensionPoints) : Type 0 where
   pub rise : AreRising points
   pub first_below : All (λ at. IfSome (slice_get rows 0) (λ first. IsTrue (is_row_below at first))) (cuts_at points)
   pub rows_there : All (λ at. Any (StandsAt at) rows) (cuts_at points)

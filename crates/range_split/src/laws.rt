@@ -10,9 +10,11 @@ ghost use Rattle.willow_area.specs.declared.cut.CutAt.{CutAt};
 ghost use Rattle.willow_entry.specs.Entry.{bytes_cmp};
 ghost use Rattle.willow_entry.specs.Row.{RowValue, inner_place_cmp};
 ghost use Rattle.block_store.specs.InBox.{rows_in};
-ghost use Rattle.range_split.specs.Points.{Points, cuts_at};
+ghost use Rattle.range_split.specs.Points.{DimensionPoints, cuts_at};
 ghost use Rattle.range_split.specs.Least.{least_above, IsNext};
 ghost use Rattle.range_split.specs.Choice.{choice, Chooses};
+ghost use Rattle.range_split.specs.Parts.{Divides};
+ghost use Rattle.range_split.specs.Quarters.{even_choice};
 ghost use Rattle.range_split.specs.Sides.{is_row_below, PartRows, LeavesRows};
 ghost use Rattle.range_split.specs.declared.choice.Choice.{Choice};
 
@@ -50,6 +52,18 @@ pub fn parts()
 /// Where rows rise by subspace and path, as those of one namespace do in a store, the points of a choice rise above the
 /// first row, with a row at each of them, and a cut of the box at any of them leaves rows of the box in both parts.
 pub fn sides()
-    ensures points { (rows : List RowValue) (points : Points) → IsStrictlySortedBy inner_place_cmp rows → choice rows ≡ Some points → PartRows rows points }
-    ensures parts { (area : Ranges) (rows : List RowValue) (points : Points) → IsStrictlySortedBy inner_place_cmp rows → choice (rows_in area rows) ≡ Some points → All (LeavesRows area rows) (cuts_at points) }
+    ensures points { (rows : List RowValue) (points : DimensionPoints) → IsStrictlySortedBy inner_place_cmp rows → choice rows ≡ Some points → PartRows rows points }
+    ensures parts { (area : Ranges) (rows : List RowValue) (points : DimensionPoints) → IsStrictlySortedBy inner_place_cmp rows → choice (rows_in area rows) ≡ Some points → All (LeavesRows area rows) (cuts_at points) }
+{}
+
+/// Where rows rise by subspace and path, the points of a choice of up to four parts divide the rows of the box: into two
+/// to four parts, each with a row, and a row of the box is in just one of them.
+pub fn even_parts()
+    ensures divides { (area : Ranges) (rows : List RowValue) (points : DimensionPoints) → IsStrictlySortedBy inner_place_cmp rows → even_choice (rows_in area rows) ≡ Some points → Divides area rows (cuts_at points) }
+{}
+
+/// In a choice of up to four parts too, rows are told without a cut exactly where they are no more than `ENTRIES_MAX`.
+#[tactic(auto, using(crate::proofs::Quartering::even_none))]
+pub fn even_limit()
+    ensures entries { (rows : List RowValue) → (even_choice rows ≡ None) ↔ (length rows ≤ ENTRIES_MAX) }
 {}

@@ -1,13 +1,18 @@
 //! How two stores that differ in a box go on: with all of the rows of the box where these are few, else with a cut of
-//! the box.
+//! the box, in two or in up to four parts.
 //! The contract: the choice is made by the rows that the box includes alone, and where these rise by subspace and path,
-//! each cut leaves some of them on both sides.
+//! each cut leaves some of them in each part.
 #![tactic(auto)]
 
 mod choice;
+mod even;
+mod inside;
 pub mod laws;
 mod least;
+mod parts;
 mod rows;
 
 pub use choice::{Choice, ENTRIES_MAX, choose};
-pub use rows::nth;
+pub use even::choose_parts;
+pub use parts::box_parts;
+pub use rows::{nth, row_at};

@@ -1,6 +1,9 @@
 //! Rows of a snapshot by their positions.
 
 ghost use Rattle.std.specs.Prelude.{◌≡◌, ◌<◌, Some, length, map, slice_get};
+ghost use Rattle.std.specs.List.Sorted.{IsStrictlySortedBy};
+ghost use Rattle.willow_entry.specs.Row.{inner_place_cmp};
+ghost use Rattle.block_store.specs.BoxKinds.{IsOfOneNamespace};
 ghost use Rattle.block_store.specs.InBox.{is_in, rows_in};
 ghost use Rattle.block_store.specs.Positions.{positions};
 
@@ -9,8 +12,8 @@ use block_store::laws::numbering;
 use willow_area::Box3;
 use willow_entry::Row;
 
-// The row at the position.
-pub(crate) fn row_at<R: Row>(snapshot: &Snapshot<R>, at: u32) -> &R
+/// The row at the position.
+pub fn row_at<R: Row>(snapshot: &Snapshot<R>, at: u32) -> &R
     requires { at < length snapshot.now }
     ensures { slice_get (map R.value snapshot.now) at ≡ Some (R.value result.now) }
 {
@@ -32,4 +35,13 @@ pub fn nth<'a, R: Row>(snapshot: &'a Snapshot<R>, area: &Box3, n: u32) -> (u32, 
         None => unreachable!(),
         Some(at) => (at, row_at(snapshot, at)),
     }
+}
+
+// Does nothing: it is called for its clause, that rows of one namespace rise by subspace and path.
+#[tactic(auto, using(crate::proofs::Rising::live_rows_rise))]
+pub(crate) fn known_rising<R: Row>(snapshot: &Snapshot<R>)
+    requires { IsOfOneNamespace (map R.value snapshot.now) }
+    ensures { IsStrictlySortedBy inner_place_cmp (map R.value snapshot.now) }
+{
+    let _row = snapshot.get(0);
 }

@@ -4,8 +4,8 @@ use Rattle.session_rules.specs.Machine.{Seen, Machine}
 use Rattle.session_rules.specs.Reading.{Stand, Waits, Over, Broken, Refused, Move, then, stepped, move, read, start, ending_of, out, got, ending}
 use Rattle.session_rules.specs.Messages.{IsReadAs}
 use Rattle.session_rules.specs.Talk.{Role, Caller, Answerer, Talk}
-use Rattle.session_rules.specs.Greeting.{Greeting, Own, common_box, Greets, greeting_bytes}
-use Rattle.session_rules.specs.Session.{Message, Hello, Proof, Item, Stage, Opening, Proving, Talking, Cause, opening, to_hello, to_proof, common_rows, exchange_with, hello_read, proof_read, seen_as, message_spelling, session, ends_as}
+use Rattle.session_rules.specs.Greeting.{Greeting, Own, agreed_with, Greets, greeting_bytes}
+use Rattle.session_rules.specs.Session.{Message, Hello, Proof, Item, Stage, Opening, Proving, Talking, Cause, opening, to_hello, to_proof, rows_offered, exchange_with, hello_read, proof_read, seen_as, message_spelling, session, ends_as, Offering}
 use Rattle.session_rules.proofs.Runs.{move_of, run_append}
 use Rattle.session_rules.proofs.Growing.{says_of, rows_of}
 use Rattle.session_rules.proofs.Spelled.{read_due}
@@ -25,9 +25,9 @@ flat_map-map : {A B C : Type 0} (f : A → B) (spell : B → List C) (xs : List 
 flat_map-map f spell [] = refl
 flat_map-map f spell (x ∷ xs) = ap (λ rest. spell (f x) ++ rest) (flat_map-map f spell xs)
 
-module _ {H P X F R T I G : Type 0} (g : Greeting H P X F) (k : Talk R X T I G) (own : Own H P) (rows : List R) where
+module _ {H P A F R T I G : Type 0} (g : Greeting H P A F) (k : Talk R A T I G) (own : Own H P) (offers : Offering A R) where
   abbrev here : Machine (Stage H T) (Message H P I) (Message H P I) R (Cause F G)
-  here = session g k own rows
+  here = session g k own offers
 
   -- what a side says to a greeting, and then
   greeting_said : (role : Role) (first later : List I)
@@ -42,7 +42,7 @@ module _ {H P X F R T I G : Type 0} (g : Greeting H P X F) (k : Talk R X T I G) 
 
   module _ (hello : H) (proof : P) (greets : Greets g own hello proof) (bytes : List ℕ) where
     abbrev with_other : Machine T I I R G
-    with_other = exchange_with g k own rows hello
+    with_other = exchange_with g k own offers hello
 
     abbrev length_of_greeting : ℕ
     length_of_greeting = length (greeting_bytes g hello proof)
@@ -67,7 +67,7 @@ module _ {H P X F R T I G : Type 0} (g : Greeting H P X F) (k : Talk R X T I G) 
 
     exchanged : (n : ℕ) → read here (Waits (Talking with_other.first) (n + 0) []) bytes ≡ lift H P T I R F G (shift n (read with_other (start with_other) bytes))
     exchanged n =
-        talking g k own rows own.role (common_rows g k own rows hello) (common_box g own hello) (Waits with_other.first (n + 0) []) bytes
+        talking g k own offers own.role (rows_offered g own offers hello) (agreed_with g own hello) (Waits with_other.first (n + 0) []) bytes
         ∙ ap (lift H P T I R F G) (shift-read with_other n (start with_other) bytes)
 
     -- all of it

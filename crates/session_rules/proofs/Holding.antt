@@ -7,14 +7,14 @@ use Rattle.session_rules.specs.Talk.{Role, Talk, speaks_from, speaks, spoken, an
 use Rattle.session_rules.proofs.Members.{none_in, in_one}
 
 -- each row that is told by these items is one of the rows
-abbrev pub AreOwn : {R X T I G : Type 0} → Talk R X T I G → List R → List I → Type 0
+abbrev pub AreOwn : {R A T I G : Type 0} → Talk R A T I G → List R → List I → Type 0
 AreOwn {R} {I = I} k rows items = (item : I) (row : R) → Contains items item → k.row_in item ≡ Some row → Contains rows row
 
 -- its first row is its own, if it is one
-abbrev pub IsOwn : {R X T I G : Type 0} → Talk R X T I G → List R → I → Type 0
+abbrev pub IsOwn : {R A T I G : Type 0} → Talk R A T I G → List R → I → Type 0
 IsOwn {R} k rows item = (row : R) → k.row_in item ≡ Some row → Contains rows row
 
-module _ {R X T I G : Type 0} (k : Talk R X T I G) (rows : List R) where
+module _ {R A T I G : Type 0} (k : Talk R A T I G) (rows : List R) where
   own_none : AreOwn k rows []
   own_none item row c = absurd (none_in item c)
 
@@ -65,9 +65,9 @@ module _ {R X T I G : Type 0} (k : Talk R X T I G) (rows : List R) where
         kept_answered at (k.is_done (spoken k next).1) (spoken k next) (option_to_list (k.row_in item)) (kept_speaking (k.to_say next) next (hears t next item holds is))
     kept_heard at t item holds (Err cause) is = (own_none, tt)
 
-    module _ (role : Role) (begun : List R) (box : Option X) where
+    module _ (role : Role) (begun : List R) (agreed : A) where
       abbrev side : Machine T I I R G
-      side = talk k role begun box
+      side = talk k role begun agreed
 
       kept_judged : (t : T) (at : ℕ) (held : List ℕ) → Holds t → (seen : Seen I) → Keeps (judged side t at held seen)
       kept_judged t at held holds (Whole item) = kept_heard (at + length held) t item holds (k.heard t item) refl
@@ -87,7 +87,7 @@ module _ {R X T I G : Type 0} (k : Talk R X T I G) (rows : List R) where
       kept_reading (Broken at) (byte ∷ bytes) holds = kept_reading (Broken at) bytes holds
       kept_reading (Refused cause) (byte ∷ bytes) holds = kept_reading (Refused cause) bytes holds
 
-      pub own_told : Holds (k.begin role begun box) → (bytes : List ℕ) → AreOwn k rows (side.opening ++ (read side (start side) bytes).says)
+      pub own_told : Holds (k.begin role begun agreed) → (bytes : List ℕ) → AreOwn k rows (side.opening ++ (read side (start side) bytes).says)
       own_told holds bytes =
-          let first = kept_speaking (k.to_say (k.begin role begun box)) (k.begin role begun box) holds in
+          let first = kept_speaking (k.to_say (k.begin role begun agreed)) (k.begin role begun agreed) holds in
           own_append side.opening (read side (start side) bytes).says first.0 (kept_reading (start side) bytes first.1).0

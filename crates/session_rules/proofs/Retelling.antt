@@ -4,17 +4,17 @@ use Rattle.session_rules.specs.Machine.{Seen, Whole, Part, Wrong, Step, Goes, En
 use Rattle.session_rules.specs.Reading.{Stand, Waits, Over, Broken, Refused, Move, then, stepped, judged, move, run, read, start, ending_of, said, got, ending}
 use Rattle.session_rules.specs.Talk.{Role, Caller, Answerer, Talk, item_heard}
 use Rattle.session_rules.specs.Greeting.{Greeting, Own, other_refusal}
-use Rattle.session_rules.specs.Session.{Message, Hello, Proof, Item, Stage, Opening, Proving, Talking, Cause, opening, to_hello, to_proof, exchange_with, hello_read, proof_read, item_read, seen_as, session, with_proof, retold}
+use Rattle.session_rules.specs.Session.{Message, Hello, Proof, Item, Stage, Opening, Proving, Talking, Cause, opening, to_hello, to_proof, exchange_with, hello_read, proof_read, item_read, seen_as, session, with_proof, retold, Offering}
 use Rattle.session_rules.proofs.Growing.{rows_of}
 use Rattle.session_rules.proofs.Runs.{move_of}
 use Rattle.session_rules.proofs.Talking.{map-append}
 
-module _ {H P X F R T I G : Type 0} (g : Greeting H P X F) (k : Talk R X T I G) (own : Own H P) (proof : P) (rows : List R) where
+module _ {H P A F R T I G : Type 0} (g : Greeting H P A F) (k : Talk R A T I G) (own : Own H P) (proof : P) (offers : Offering A R) where
   abbrev one : Machine (Stage H T) (Message H P I) (Message H P I) R (Cause F G)
-  one = session g k own rows
+  one = session g k own offers
 
   abbrev other : Machine (Stage H T) (Message H P I) (Message H P I) R (Cause F G)
-  other = session g k (with_proof proof own) rows
+  other = session g k (with_proof proof own) offers
 
   abbrev AMove : Type 0
   AMove = Move (Stage H T) (Message H P I) R (Cause F G)
@@ -72,7 +72,7 @@ module _ {H P X F R T I G : Type 0} (g : Greeting H P X F) (k : Talk R X T I G) 
 
   proving_judged : (hello : H) (at : ℕ) (held : List ℕ) (seen : Seen P)
       → judged other (Proving hello) at held (seen_as Proof seen) ≡ told (judged one (Proving hello) at held (seen_as Proof seen))
-  proving_judged hello at held (Whole theirs) = proof_told (at + length held) (exchange_with g k own rows hello) (other_refusal g own hello theirs)
+  proving_judged hello at held (Whole theirs) = proof_told (at + length held) (exchange_with g k own offers hello) (other_refusal g own hello theirs)
   proving_judged hello at held Part = refl
   proving_judged hello at held Wrong = refl
 

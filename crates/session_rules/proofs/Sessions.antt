@@ -4,8 +4,8 @@ use Rattle.std.proofs.lemmas.List.Elements.{Contains-append_cases, Contains-appe
 use Rattle.session_rules.specs.Machine.{Whole, Machine}
 use Rattle.session_rules.specs.Reading.{Stand, Waits, Broken, Refused, Move, stay, then, stepped, move, read, start, said, got}
 use Rattle.session_rules.specs.Talk.{Role, Caller, Answerer, Talk}
-use Rattle.session_rules.specs.Greeting.{Greeting, Own, other_refusal, common_box, HasHello, IsGreeted}
-use Rattle.session_rules.specs.Session.{Message, Hello, Proof, Item, Stage, Opening, Proving, Talking, Cause, InGreeting, opening, to_hello, to_proof, common_rows, exchange_with, hello_read, proof_read, session}
+use Rattle.session_rules.specs.Greeting.{Greeting, Own, other_refusal, agreed_with, HasHello, IsGreeted}
+use Rattle.session_rules.specs.Session.{Message, Hello, Proof, Item, Stage, Opening, Proving, Talking, Cause, InGreeting, opening, to_hello, to_proof, rows_offered, exchange_with, hello_read, proof_read, session, Offering}
 use Rattle.session_rules.proofs.Members.{none_in, in_one}
 use Rattle.session_rules.proofs.Runs.{run_idle}
 use Rattle.session_rules.proofs.Firsts.{First, Found, Unfinished, Bad, first_of, IsFirst, first_is, first_as, first_of-as, by_first, read_first}
@@ -56,9 +56,9 @@ in_mapped (x ∷ items) item c =
     (λ second. Contains-append_right (x ∷ []) items item (in_mapped items item second))
     (Contains-append_cases (Item x ∷ []) (map Item items) (Item item) c)
 
-module _ {H P X F R T I G : Type 0} (g : Greeting H P X F) (k : Talk R X T I G) (own : Own H P) (rows : List R) where
+module _ {H P A F R T I G : Type 0} (g : Greeting H P A F) (k : Talk R A T I G) (own : Own H P) (offers : Offering A R) where
   abbrev here : Machine (Stage H T) (Message H P I) (Message H P I) R (Cause F G)
-  here = session g k own rows
+  here = session g k own offers
 
   pub read_opening : (bytes : List ℕ) → read here (start here) bytes ≡ by_first here Opening 0 (first_as Hello (first_of g.sees_hello [] bytes))
   read_opening bytes = read_first here Opening 0 [] bytes ∙ ap (by_first here Opening 0) (first_of-as Hello g.sees_hello [] bytes)
@@ -85,10 +85,10 @@ module _ {H P X F R T I G : Type 0} (g : Greeting H P X F) (k : Talk R X T I G) 
     not_refused cause bytes wanted = nothing (Refused cause) (subst Wanted (refused_idle cause bytes) wanted)
 
     module _ (Then : H → List ℕ → Type 0) (hello : H) (at : ℕ)
-        (goes_on : (n : ℕ) (rest : List ℕ) → (let m = stepped n (proof_read own (exchange_with g k own rows hello) None) in Wanted (then m (read here m.stand rest))) → Then hello rest) where
+        (goes_on : (n : ℕ) (rest : List ℕ) → (let m = stepped n (proof_read own (exchange_with g k own offers hello) None) in Wanted (then m (read here m.stand rest))) → Then hello rest) where
       proof_judged : (proof : P) (all message rest : List ℕ) (refusal : Option F) → other_refusal g own hello proof ≡ refusal
           → g.sees_proof message ≡ Whole proof → all ≡ message ++ rest
-          → (n : ℕ) → (let m = stepped n (proof_read own (exchange_with g k own rows hello) refusal) in Wanted (then m (read here m.stand rest)))
+          → (n : ℕ) → (let m = stepped n (proof_read own (exchange_with g k own offers hello) refusal) in Wanted (then m (read here m.stand rest)))
           → HasProof Then hello all
       proof_judged proof all message rest (Some cause) e is joined n wanted = absurd (not_refused (InGreeting cause) rest wanted)
       proof_judged proof all message rest None e is joined n wanted = (proof, message, rest, is, joined, e, goes_on n rest wanted)
@@ -128,19 +128,19 @@ module _ {H P X F R T I G : Type 0} (g : Greeting H P X F) (k : Talk R X T I G) 
 
   -- ---- the exchange behind the greeting
 
-  exchange_read : (hello : H) (n : ℕ) (rest : List ℕ) → (let e = exchange_with g k own rows hello in
+  exchange_read : (hello : H) (n : ℕ) (rest : List ℕ) → (let e = exchange_with g k own offers hello in
       read here (Waits (Talking e.first) n []) rest ≡ lift H P T I R F G (shift n (read e (start e) rest)))
   exchange_read hello n rest =
-      let e = exchange_with g k own rows hello in
+      let e = exchange_with g k own offers hello in
       ap (λ at. read here (Waits (Talking e.first) at []) rest) (sym (add-zero n))
-      ∙ talking g k own rows own.role (common_rows g k own rows hello) (common_box g own hello) (Waits e.first (n + 0) []) rest
+      ∙ talking g k own offers own.role (rows_offered g own offers hello) (agreed_with g own hello) (Waits e.first (n + 0) []) rest
       ∙ ap (lift H P T I R F G) (shift-read e n (start e) rest)
 
   item_in_exchange : (hello : H) (item : I) (n : ℕ) (rest : List ℕ)
-      → (let m = stepped n (proof_read own (exchange_with g k own rows hello) None) in Contains (then m (read here m.stand rest)).says (Item item))
-      → Contains (said (exchange_with g k own rows hello) rest) item
+      → (let m = stepped n (proof_read own (exchange_with g k own offers hello) None) in Contains (then m (read here m.stand rest)).says (Item item))
+      → Contains (said (exchange_with g k own offers hello) rest) item
   item_in_exchange hello item n rest c =
-      let e = exchange_with g k own rows hello in
+      let e = exchange_with g k own offers hello in
       let later = (read e (start e) rest).says in
       let told : (to_proof own.role own ++ map Item e.opening) ++ (read here (Waits (Talking e.first) n []) rest).says ≡ to_proof own.role own ++ map Item (e.opening ++ later)
       = ap (λ m. (to_proof own.role own ++ map Item e.opening) ++ says_of m) (exchange_read hello n rest)
@@ -150,8 +150,8 @@ module _ {H P X F R T I G : Type 0} (g : Greeting H P X F) (k : Talk R X T I G) 
       (Contains-append_cases (to_proof own.role own) (map Item (e.opening ++ later)) (Item item) (subst (λ says. Contains says (Item item)) told c))
 
   row_in_exchange : (hello : H) (row : R) (n : ℕ) (rest : List ℕ)
-      → (let m = stepped n (proof_read own (exchange_with g k own rows hello) None) in Contains (then m (read here m.stand rest)).rows row)
-      → Contains (got (exchange_with g k own rows hello) rest) row
+      → (let m = stepped n (proof_read own (exchange_with g k own offers hello) None) in Contains (then m (read here m.stand rest)).rows row)
+      → Contains (got (exchange_with g k own offers hello) rest) row
   row_in_exchange hello row n rest c = subst (λ m. Contains m.rows row) (exchange_read hello n rest) c
 
   abbrev GreetedThen : (H → List ℕ → Type 0) → List ℕ → Type 0
@@ -162,10 +162,10 @@ module _ {H P X F R T I G : Type 0} (g : Greeting H P X F) (k : Talk R X T I G) 
       (record { hello = w.0; greets = w.1; proof = w.2.0; proof_bytes = w.2.1; behind = w.2.2; is_proof = w.2.3; joined = w.2.4; proof_passes = w.2.5 }, w.2.6)
 
   pub items_granted : (bytes : List ℕ) (item : I) → Contains (said here bytes) (Item item)
-      → (w : IsGreeted g own bytes) × Contains (said (exchange_with g k own rows w.hello) w.behind) item
+      → (w : IsGreeted g own bytes) × Contains (said (exchange_with g k own offers w.hello) w.behind) item
   items_granted bytes item c =
       let Wanted : AMove → Type 0 = λ m. Contains m.says (Item item) in
-      let Then : H → List ℕ → Type 0 = λ hello rest. Contains (said (exchange_with g k own rows hello) rest) item in
+      let Then : H → List ℕ → Type 0 = λ hello rest. Contains (said (exchange_with g k own offers hello) rest) item in
       let nothing : (q : Stand (Stage H T) (Cause F G)) → Wanted (stay q) → ⊥ = λ q wanted. none_in (Item item) wanted in
       let goes_on : (hello : H) (n : ℕ) (rest : List ℕ) → (let m = stepped n (hello_read own hello None) in Wanted (then m (read here m.stand rest))) → HasProof Then hello rest
       = λ hello n rest wanted. proved Wanted nothing Then hello n (item_in_exchange hello item) rest
@@ -176,10 +176,10 @@ module _ {H P X F R T I G : Type 0} (g : Greeting H P X F) (k : Talk R X T I G) 
       (Contains-append_cases (opening own.role own) (read here (start here) bytes).says (Item item) c)))
 
   pub rows_granted : (bytes : List ℕ) (row : R) → Contains (got here bytes) row
-      → (w : IsGreeted g own bytes) × Contains (got (exchange_with g k own rows w.hello) w.behind) row
+      → (w : IsGreeted g own bytes) × Contains (got (exchange_with g k own offers w.hello) w.behind) row
   rows_granted bytes row c =
       let Wanted : AMove → Type 0 = λ m. Contains m.rows row in
-      let Then : H → List ℕ → Type 0 = λ hello rest. Contains (got (exchange_with g k own rows hello) rest) row in
+      let Then : H → List ℕ → Type 0 = λ hello rest. Contains (got (exchange_with g k own offers hello) rest) row in
       let nothing : (q : Stand (Stage H T) (Cause F G)) → Wanted (stay q) → ⊥ = λ q wanted. none_in row wanted in
       let goes_on : (hello : H) (n : ℕ) (rest : List ℕ) → (let m = stepped n (hello_read own hello None) in Wanted (then m (read here m.stand rest))) → HasProof Then hello rest
       = λ hello n rest wanted. proved Wanted nothing Then hello n (row_in_exchange hello row) rest wanted in

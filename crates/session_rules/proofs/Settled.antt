@@ -19,7 +19,7 @@ done_over end is more = apart (sym is ∙ more)
     apart : {G : Type 0} → ◌≡◌ {A = Ending G} Done More → ⊥
     apart e = cc
 
-module _ {H P X F R T I G C : Type 0} (p : Pair H P X F R T I G) (v : View R X C T I) (rules : Rules R X C) (rows others : List R) (box : Option X)
+module _ {H P A F R X T I G C : Type 0} (p : Pair H P A F R T I G) (v : View R X C T I) (rules : Rules R X C) (rows others : List R) (box : Option X)
     (disjoint : HasDisjointParts rules) (can : CanCut rules rows) (can' : CanCut rules others) (greet : GreetEachOther p)
     (take_turns : TakeTurns v rules (caller_side p) (answerer_side p) rows others box)
     (can_read : CanReadTurns v (caller_side p) (answerer_side p) (exchange rules rows others box)) where

@@ -20,7 +20,7 @@ over_as n (Refusal cause) over = λ e. cc
 abbrev both : List ℕ → List ℕ → List ℕ × List ℕ
 both x y = (x, y)
 
-module _ {H P X F R T I G : Type 0} (p : Pair H P X F R T I G) (greet : GreetEachOther p) where
+module _ {H P A F R T I G : Type 0} (p : Pair H P A F R T I G) (greet : GreetEachOther p) where
   -- before it reads the caller writes its hello
   first_written : out (calling p) [] ≡ p.greeting.hello_spelling p.caller.hello
   unfolding run
@@ -32,15 +32,15 @@ module _ {H P X F R T I G : Type 0} (p : Pair H P X F R T I G) (greet : GreetEac
   then_written : out (answering p) (p.greeting.hello_spelling p.caller.hello) ≡ by_answerer p
   then_written =
       let spell = flat_map (message_spelling p.greeting p.talk) in
-      ap (λ m. spell (opening p.answerer.role p.answerer ++ says_of m)) (hello_whole p.greeting p.talk p.answerer p.answerer_rows p.caller.hello p.caller.proof greet.answerer_hears [])
+      ap (λ m. spell (opening p.answerer.role p.answerer ++ says_of m)) (hello_whole p.greeting p.talk p.answerer p.answerer_offers p.caller.hello p.caller.proof greet.answerer_hears [])
       ∙ ap (λ role. spell (opening role p.answerer ++ to_hello role p.answerer)) greet.answers
       ∙ ap (λ rest. p.greeting.hello_spelling p.answerer.hello ++ rest) (append-nil (p.greeting.proof_spelling p.answerer.proof))
 
   caller_goes_on : (read : List ℕ) → out (calling p) (by_answerer p ++ read) ≡ by_caller p ++ out (caller_side p) read
-  caller_goes_on read = out_is_exchange p.greeting p.talk p.caller p.caller_rows p.answerer.hello p.answerer.proof greet.caller_hears read
+  caller_goes_on read = out_is_exchange p.greeting p.talk p.caller p.caller_offers p.answerer.hello p.answerer.proof greet.caller_hears read
 
   answerer_goes_on : (read : List ℕ) → out (answering p) (by_caller p ++ read) ≡ by_answerer p ++ out (answerer_side p) read
-  answerer_goes_on read = out_is_exchange p.greeting p.talk p.answerer p.answerer_rows p.caller.hello p.caller.proof greet.answerer_hears read
+  answerer_goes_on read = out_is_exchange p.greeting p.talk p.answerer p.answerer_offers p.caller.hello p.caller.proof greet.answerer_hears read
 
   -- the answerer's greeting, and what it writes in a round of the exchange, in the next round of the session
   second_rounds : (n : ℕ) → (rounds (out (calling p)) (out (answering p)) (suc n)).1 ≡ by_answerer p ++ (rounds (out (caller_side p)) (out (answerer_side p)) n).1
@@ -68,7 +68,7 @@ module _ {H P X F R T I G : Type 0} (p : Pair H P X F R T I G) (greet : GreetEac
     session_over more =
         let read = (rounds (out (caller_side p)) (out (answerer_side p)) n).1 in
         over_as (length (by_answerer p)) (ending (caller_side p) read) (over_in_bytes (caller_side p) (answerer_side p) n can over)
-        (sym (ap (ending (calling p)) (second_rounds n) ∙ ending_is_exchange p.greeting p.talk p.caller p.caller_rows p.answerer.hello p.answerer.proof greet.caller_hears read) ∙ more)
+        (sym (ap (ending (calling p)) (second_rounds n) ∙ ending_is_exchange p.greeting p.talk p.caller p.caller_offers p.answerer.hello p.answerer.proof greet.caller_hears read) ∙ more)
 
     pub sessions_write : (left right : List ℕ) → Meet (out (calling p)) (out (answering p)) left right
         → both left right ≡ both (by_caller p ++ flat_map p.talk.spelling (exchanged p (suc n)).0) (by_answerer p ++ flat_map p.talk.spelling (exchanged p (suc n)).1)
@@ -87,8 +87,8 @@ module _ {H P X F R T I G : Type 0} (p : Pair H P X F R T I G) (greet : GreetEac
         record {
           caller_writes = first;
           answerer_writes = second;
-          caller_ends = ap (ending (calling p)) second ∙ ending_is_exchange p.greeting p.talk p.caller p.caller_rows p.answerer.hello p.answerer.proof greet.caller_hears by_right ∙ ap (ends_as (length (by_answerer p))) is.first_ends;
-          caller_got = ap (got (calling p)) second ∙ got_is_exchange p.greeting p.talk p.caller p.caller_rows p.answerer.hello p.answerer.proof greet.caller_hears by_right ∙ is.first_got;
-          answerer_ends = ap (ending (answering p)) first ∙ ending_is_exchange p.greeting p.talk p.answerer p.answerer_rows p.caller.hello p.caller.proof greet.answerer_hears by_left ∙ ap (ends_as (length (by_caller p))) is.second_ends;
-          answerer_got = ap (got (answering p)) first ∙ got_is_exchange p.greeting p.talk p.answerer p.answerer_rows p.caller.hello p.caller.proof greet.answerer_hears by_left ∙ is.second_got;
+          caller_ends = ap (ending (calling p)) second ∙ ending_is_exchange p.greeting p.talk p.caller p.caller_offers p.answerer.hello p.answerer.proof greet.caller_hears by_right ∙ ap (ends_as (length (by_answerer p))) is.first_ends;
+          caller_got = ap (got (calling p)) second ∙ got_is_exchange p.greeting p.talk p.caller p.caller_offers p.answerer.hello p.answerer.proof greet.caller_hears by_right ∙ is.first_got;
+          answerer_ends = ap (ending (answering p)) first ∙ ending_is_exchange p.greeting p.talk p.answerer p.answerer_offers p.caller.hello p.caller.proof greet.answerer_hears by_left ∙ ap (ends_as (length (by_caller p))) is.second_ends;
+          answerer_got = ap (got (answering p)) first ∙ got_is_exchange p.greeting p.talk p.answerer p.answerer_offers p.caller.hello p.caller.proof greet.answerer_hears by_left ∙ is.second_got;
         }

@@ -112,6 +112,6 @@ first_holds Caller rows = λ row c. c
 first_holds Answerer rows = λ row c. c
 
 pub they_tell_own : TellsOwn by_telling
-they_tell_own role rows box bytes item row c is =
+they_tell_own role rows agreed bytes item row c is =
     own_told by_telling rows (HoldsOf rows) (λ t next item holds e. kept_said rows t (item, next) holds e) (λ t next item holds e. kept_heard rows t next item holds e)
-    role rows box (first_holds role rows) bytes item row c is
+    role rows agreed (first_holds role rows) bytes item row c is

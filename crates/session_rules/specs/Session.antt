@@ -1,9 +1,9 @@
--- A session of one side: it greets the other, and then they exchange their rows in the area that both may read.
+-- A session of one side: it greets the other, and then they exchange the rows that they offer each other.
 use Rattle.std.specs.Prelude.{◌≡◌, ℕ, ◌+◌, List, [], ◌∷◌, ◌++◌, map, Option, None, Some}
 use Rattle.session_rules.specs.Machine.{Seen, Whole, Part, Wrong, Step, Goes, Ends, Refuses, Machine}
 use Rattle.session_rules.specs.Reading.{Ending, Done, More, BadMessage, Refusal}
-use Rattle.session_rules.specs.Talk.{Role, Caller, Answerer, Talk, rows_in, talk, item_heard}
-use Rattle.session_rules.specs.Greeting.{Greeting, Own, other_refusal, common_box, HasHello}
+use Rattle.session_rules.specs.Talk.{Role, Caller, Answerer, Talk, talk, item_heard}
+use Rattle.session_rules.specs.Greeting.{Greeting, Own, other_refusal, agreed_with, HasHello}
 
 -- what is read and said
 pub data Message (H P I : Type 0) : Type 0 where
@@ -41,13 +41,17 @@ to_proof Answerer own = []
 
 -- ---- what comes of a message
 
--- the rows in the area that both may read
-abbrev pub common_rows : {H P X F R T I G : Type 0} → Greeting H P X F → Talk R X T I G → Own H P → List R → H → List R
-common_rows g k own rows hello = rows_in k (common_box g own hello) rows
+-- what a side offers: rows, by what it agreed on with the other
+abbrev pub Offering : Type 0 → Type 0 → Type 0
+Offering A R = A → List R
 
--- the exchange with a side that said this hello: it begins over the rows in that area alone
-abbrev pub exchange_with : {H P X F R T I G : Type 0} → Greeting H P X F → Talk R X T I G → Own H P → List R → H → Machine T I I R G
-exchange_with g k own rows hello = talk k own.role (common_rows g k own rows hello) (common_box g own hello)
+-- what it offers to a side that said this hello
+abbrev pub rows_offered : {H P A F R : Type 0} → Greeting H P A F → Own H P → Offering A R → H → List R
+rows_offered g own offers hello = offers (agreed_with g own hello)
+
+-- the exchange with a side that said this hello: it begins over these rows alone
+abbrev pub exchange_with : {H P A F R T I G : Type 0} → Greeting H P A F → Talk R A T I G → Own H P → Offering A R → H → Machine T I I R G
+exchange_with g k own offers hello = talk k own.role (rows_offered g own offers hello) (agreed_with g own hello)
 
 -- a hello, by why it is refused, if it is
 abbrev pub hello_read : {H P T I R F G : Type 0} → Own H P → H → Option F → Step (Stage H T) (Message H P I) R (Cause F G)
@@ -66,11 +70,11 @@ item_read (Ends items rows) = Ends (map Item items) rows
 item_read (Refuses cause) = Refuses (InTalk cause)
 
 -- what comes of a message at each stage; its reader reads no other there
-abbrev pub session_step : {H P X F R T I G : Type 0} → Greeting H P X F → Talk R X T I G → Own H P → List R → Stage H T → Message H P I → Step (Stage H T) (Message H P I) R (Cause F G)
-session_step g k own rows Opening (Hello hello) = hello_read own hello (g.hello_refusal hello)
-session_step g k own rows (Proving hello) (Proof proof) = proof_read own (exchange_with g k own rows hello) (other_refusal g own hello proof)
-session_step g k own rows (Talking t) (Item item) = item_read (item_heard k item (k.heard t item))
-session_step g k own rows stage other = Goes stage [] []
+abbrev pub session_step : {H P A F R T I G : Type 0} → Greeting H P A F → Talk R A T I G → Own H P → Offering A R → Stage H T → Message H P I → Step (Stage H T) (Message H P I) R (Cause F G)
+session_step g k own offers Opening (Hello hello) = hello_read own hello (g.hello_refusal hello)
+session_step g k own offers (Proving hello) (Proof proof) = proof_read own (exchange_with g k own offers hello) (other_refusal g own hello proof)
+session_step g k own offers (Talking t) (Item item) = item_read (item_heard k item (k.heard t item))
+session_step g k own offers stage other = Goes stage [] []
 
 -- ---- bytes
 
@@ -81,33 +85,33 @@ seen_as f Part = Part
 seen_as f Wrong = Wrong
 
 -- at each stage just the messages that are due there are read
-abbrev pub session_sees : {H P X F R T I G : Type 0} → Greeting H P X F → Talk R X T I G → Stage H T → List ℕ → Seen (Message H P I)
+abbrev pub session_sees : {H P A F R T I G : Type 0} → Greeting H P A F → Talk R A T I G → Stage H T → List ℕ → Seen (Message H P I)
 session_sees g k Opening bytes = seen_as Hello (g.sees_hello bytes)
 session_sees g k (Proving hello) bytes = seen_as Proof (g.sees_proof bytes)
 session_sees g k (Talking t) bytes = seen_as Item (k.sees t bytes)
 
 -- the bytes of a message
-abbrev pub message_spelling : {H P X F R T I G : Type 0} → Greeting H P X F → Talk R X T I G → Message H P I → List ℕ
+abbrev pub message_spelling : {H P A F R T I G : Type 0} → Greeting H P A F → Talk R A T I G → Message H P I → List ℕ
 message_spelling g k (Hello hello) = g.hello_spelling hello
 message_spelling g k (Proof proof) = g.proof_spelling proof
 message_spelling g k (Item item) = k.spelling item
 
--- the session of a side with these rows
-abbrev pub session : {H P X F R T I G : Type 0} → Greeting H P X F → Talk R X T I G → Own H P → List R → Machine (Stage H T) (Message H P I) (Message H P I) R (Cause F G)
-session g k own rows = record {
+-- the session of a side that offers this
+abbrev pub session : {H P A F R T I G : Type 0} → Greeting H P A F → Talk R A T I G → Own H P → Offering A R → Machine (Stage H T) (Message H P I) (Message H P I) R (Cause F G)
+session g k own offers = record {
   opening = opening own.role own;
   first = Opening;
   sees = session_sees g k;
-  step = session_step g k own rows;
+  step = session_step g k own offers;
   spelling = message_spelling g k;
 }
 
 -- ---- two worlds
 
--- in the area that both may read, by whatever hello passes in front of the bytes, two lists have the same rows
-abbrev pub SameInCommon : {H P X F R T I G : Type 0} → Greeting H P X F → Talk R X T I G → Own H P → List ℕ → List R → List R → Type 0
-SameInCommon {H} g k own bytes rows others =
-    (hello : H) → HasHello g bytes hello → common_rows g k own rows hello ≡ common_rows g k own others hello
+-- by whatever hello passes in front of the bytes, two sides offer the same rows
+abbrev pub OfferSame : {H P A F R : Type 0} → Greeting H P A F → Own H P → List ℕ → Offering A R → Offering A R → Type 0
+OfferSame {H} g own bytes offers others =
+    (hello : H) → HasHello g bytes hello → rows_offered g own offers hello ≡ rows_offered g own others hello
 
 -- ---- another proof
 

@@ -1,108 +1,108 @@
--- What the laws of sessions say, at whatever hellos H, proofs P, boxes X, rows R, places T, items I, cuts C and causes to
--- refuse F and G there are.
+-- What the laws of sessions say, at whatever hellos H, proofs P, things A that two hellos agree on, rows R, places T, items I
+-- and causes to refuse F and G there are.
 use Rattle.std.specs.Prelude.{◌≡◌, ℕ, suc, List, ◌++◌, length, map, flat_map, Contains, Some}
 use Rattle.session_rules.specs.Reading.{said, out, got, ending_of, ending}
 use Rattle.session_rules.specs.Rounds.{IsOver, rounds, Meet}
 use Rattle.session_rules.specs.Messages.{hear, CanTalk}
 use Rattle.session_rules.specs.Talk.{Talk, TellsOwn}
 use Rattle.session_rules.specs.Greeting.{Greeting, Own, HasHello, IsGreeted, Greets, greeting_bytes}
-use Rattle.session_rules.specs.Session.{Item, Proof, common_rows, exchange_with, session, SameInCommon, with_proof, retold, ends_as}
+use Rattle.session_rules.specs.Session.{Item, Proof, Offering, rows_offered, exchange_with, session, OfferSame, with_proof, retold, ends_as}
 use Rattle.session_rules.specs.Pairs.{Pair, calling, answering, caller_side, answerer_side, by_caller, by_answerer, GreetEachOther, exchanged, AreSettled}
 
-module _ (H P X F R T I G : Type 0) where
+module _ (H P A F R T I G : Type 0) where
   -- ---- what a session grants
 
-  -- a side that said an item was greeted, and the exchange over the rows in the area that both may read said it, reading
-  -- what stands behind the greeting
+  -- a side that said an item was greeted, and the exchange over the rows that it offers to the other said it, reading what
+  -- stands behind the greeting
   abbrev pub ItemsAreGranted : Type 0
-  ItemsAreGranted = (g : Greeting H P X F) (k : Talk R X T I G) (own : Own H P) (rows : List R) (bytes : List ℕ) (item : I)
-      → Contains (said (session g k own rows) bytes) (Item item)
+  ItemsAreGranted = (g : Greeting H P A F) (k : Talk R A T I G) (own : Own H P) (offers : Offering A R) (bytes : List ℕ) (item : I)
+      → Contains (said (session g k own offers) bytes) (Item item)
       → (greeted : IsGreeted g own bytes)
-      × Contains (said (exchange_with g k own rows greeted.hello) greeted.behind) item
+      × Contains (said (exchange_with g k own offers greeted.hello) greeted.behind) item
 
   -- a side that took a row was greeted, and that exchange took it
   abbrev pub RowsAreGranted : Type 0
-  RowsAreGranted = (g : Greeting H P X F) (k : Talk R X T I G) (own : Own H P) (rows : List R) (bytes : List ℕ) (row : R)
-      → Contains (got (session g k own rows) bytes) row
+  RowsAreGranted = (g : Greeting H P A F) (k : Talk R A T I G) (own : Own H P) (offers : Offering A R) (bytes : List ℕ) (row : R)
+      → Contains (got (session g k own offers) bytes) row
       → (greeted : IsGreeted g own bytes)
-      × Contains (got (exchange_with g k own rows greeted.hello) greeted.behind) row
+      × Contains (got (exchange_with g k own offers greeted.hello) greeted.behind) row
 
-  -- where sides of the exchange tell only rows that they began with, each row that a side told is in the area that both
-  -- may read
-  abbrev pub ToldRowsAreCommon : Type 0
-  ToldRowsAreCommon = (g : Greeting H P X F) (k : Talk R X T I G) (own : Own H P) (rows : List R) (bytes : List ℕ) (item : I) (row : R)
-      → TellsOwn k → Contains (said (session g k own rows) bytes) (Item item) → k.row_in item ≡ Some row
-      → (greeted : IsGreeted g own bytes) × Contains (common_rows g k own rows greeted.hello) row
+  -- where sides of the exchange tell only rows that they began with, each row that a side told is one that it offers to
+  -- the other
+  abbrev pub ToldRowsAreOffered : Type 0
+  ToldRowsAreOffered = (g : Greeting H P A F) (k : Talk R A T I G) (own : Own H P) (offers : Offering A R) (bytes : List ℕ) (item : I) (row : R)
+      → TellsOwn k → Contains (said (session g k own offers) bytes) (Item item) → k.row_in item ≡ Some row
+      → (greeted : IsGreeted g own bytes) × Contains (rows_offered g own offers greeted.hello) row
 
   -- a side says its proof only where what it read begins with a hello that passes
   abbrev pub ProofsAreGranted : Type 0
-  ProofsAreGranted = (g : Greeting H P X F) (k : Talk R X T I G) (own : Own H P) (rows : List R) (bytes : List ℕ) (proof : P)
-      → Contains (said (session g k own rows) bytes) (Proof proof) → (hello : H) × HasHello g bytes hello
+  ProofsAreGranted = (g : Greeting H P A F) (k : Talk R A T I G) (own : Own H P) (offers : Offering A R) (bytes : List ℕ) (proof : P)
+      → Contains (said (session g k own offers) bytes) (Proof proof) → (hello : H) × HasHello g bytes hello
 
-  -- ---- rows elsewhere
+  -- ---- rows that are not offered
 
-  -- with the same rows in the area that both may read, a side writes the same
-  abbrev pub OutSeesCommonAlone : Type 0
-  OutSeesCommonAlone = (g : Greeting H P X F) (k : Talk R X T I G) (own : Own H P) (rows others : List R) (bytes : List ℕ)
-      → SameInCommon g k own bytes rows others
-      → out (session g k own rows) bytes ≡ out (session g k own others) bytes
+  -- offering the same rows, a side writes the same
+  abbrev pub OutSeesOfferedAlone : Type 0
+  OutSeesOfferedAlone = (g : Greeting H P A F) (k : Talk R A T I G) (own : Own H P) (offers others : Offering A R) (bytes : List ℕ)
+      → OfferSame g own bytes offers others
+      → out (session g k own offers) bytes ≡ out (session g k own others) bytes
 
   -- it takes the same
-  abbrev pub GotSeesCommonAlone : Type 0
-  GotSeesCommonAlone = (g : Greeting H P X F) (k : Talk R X T I G) (own : Own H P) (rows others : List R) (bytes : List ℕ)
-      → SameInCommon g k own bytes rows others
-      → got (session g k own rows) bytes ≡ got (session g k own others) bytes
+  abbrev pub GotSeesOfferedAlone : Type 0
+  GotSeesOfferedAlone = (g : Greeting H P A F) (k : Talk R A T I G) (own : Own H P) (offers others : Offering A R) (bytes : List ℕ)
+      → OfferSame g own bytes offers others
+      → got (session g k own offers) bytes ≡ got (session g k own others) bytes
 
   -- and it ends alike
-  abbrev pub EndingSeesCommonAlone : Type 0
-  EndingSeesCommonAlone = (g : Greeting H P X F) (k : Talk R X T I G) (own : Own H P) (rows others : List R) (bytes : List ℕ)
-      → SameInCommon g k own bytes rows others
-      → ending (session g k own rows) bytes ≡ ending (session g k own others) bytes
+  abbrev pub EndingSeesOfferedAlone : Type 0
+  EndingSeesOfferedAlone = (g : Greeting H P A F) (k : Talk R A T I G) (own : Own H P) (offers others : Offering A R) (bytes : List ℕ)
+      → OfferSame g own bytes offers others
+      → ending (session g k own offers) bytes ≡ ending (session g k own others) bytes
 
   -- ---- another proof
 
   -- a side with another proof says the same, with that in its place
   abbrev pub AnotherProofIsRetold : Type 0
-  AnotherProofIsRetold = (g : Greeting H P X F) (k : Talk R X T I G) (own : Own H P) (proof : P) (rows : List R) (bytes : List ℕ)
-      → said (session g k (with_proof proof own) rows) bytes ≡ map (retold proof) (said (session g k own rows) bytes)
+  AnotherProofIsRetold = (g : Greeting H P A F) (k : Talk R A T I G) (own : Own H P) (proof : P) (offers : Offering A R) (bytes : List ℕ)
+      → said (session g k (with_proof proof own) offers) bytes ≡ map (retold proof) (said (session g k own offers) bytes)
 
   -- it takes the same rows
   abbrev pub AnotherProofGetsSame : Type 0
-  AnotherProofGetsSame = (g : Greeting H P X F) (k : Talk R X T I G) (own : Own H P) (proof : P) (rows : List R) (bytes : List ℕ)
-      → got (session g k (with_proof proof own) rows) bytes ≡ got (session g k own rows) bytes
+  AnotherProofGetsSame = (g : Greeting H P A F) (k : Talk R A T I G) (own : Own H P) (proof : P) (offers : Offering A R) (bytes : List ℕ)
+      → got (session g k (with_proof proof own) offers) bytes ≡ got (session g k own offers) bytes
 
   -- and comes to the same end
   abbrev pub AnotherProofEndsAlike : Type 0
-  AnotherProofEndsAlike = (g : Greeting H P X F) (k : Talk R X T I G) (own : Own H P) (proof : P) (rows : List R) (bytes : List ℕ)
-      → ending (session g k (with_proof proof own) rows) bytes ≡ ending (session g k own rows) bytes
+  AnotherProofEndsAlike = (g : Greeting H P A F) (k : Talk R A T I G) (own : Own H P) (proof : P) (offers : Offering A R) (bytes : List ℕ)
+      → ending (session g k (with_proof proof own) offers) bytes ≡ ending (session g k own offers) bytes
 
   -- ---- behind the greeting
 
   -- behind a greeting that passes a session writes its own greeting and what the exchange writes
   abbrev pub GreetedWritesExchange : Type 0
-  GreetedWritesExchange = (g : Greeting H P X F) (k : Talk R X T I G) (own : Own H P) (rows : List R) (hello : H) (proof : P) (bytes : List ℕ)
+  GreetedWritesExchange = (g : Greeting H P A F) (k : Talk R A T I G) (own : Own H P) (offers : Offering A R) (hello : H) (proof : P) (bytes : List ℕ)
       → Greets g own hello proof
-      → out (session g k own rows) (greeting_bytes g hello proof ++ bytes)
-      ≡ greeting_bytes g own.hello own.proof ++ out (exchange_with g k own rows hello) bytes
+      → out (session g k own offers) (greeting_bytes g hello proof ++ bytes)
+      ≡ greeting_bytes g own.hello own.proof ++ out (exchange_with g k own offers hello) bytes
 
   -- it takes what the exchange takes
   abbrev pub GreetedGetsExchange : Type 0
-  GreetedGetsExchange = (g : Greeting H P X F) (k : Talk R X T I G) (own : Own H P) (rows : List R) (hello : H) (proof : P) (bytes : List ℕ)
+  GreetedGetsExchange = (g : Greeting H P A F) (k : Talk R A T I G) (own : Own H P) (offers : Offering A R) (hello : H) (proof : P) (bytes : List ℕ)
       → Greets g own hello proof
-      → got (session g k own rows) (greeting_bytes g hello proof ++ bytes) ≡ got (exchange_with g k own rows hello) bytes
+      → got (session g k own offers) (greeting_bytes g hello proof ++ bytes) ≡ got (exchange_with g k own offers hello) bytes
 
   -- and it ends as the exchange does, which begins behind the greeting
   abbrev pub GreetedEndsAsExchange : Type 0
-  GreetedEndsAsExchange = (g : Greeting H P X F) (k : Talk R X T I G) (own : Own H P) (rows : List R) (hello : H) (proof : P) (bytes : List ℕ)
+  GreetedEndsAsExchange = (g : Greeting H P A F) (k : Talk R A T I G) (own : Own H P) (offers : Offering A R) (hello : H) (proof : P) (bytes : List ℕ)
       → Greets g own hello proof
-      → ending (session g k own rows) (greeting_bytes g hello proof ++ bytes)
-      ≡ ends_as (length (greeting_bytes g hello proof)) (ending (exchange_with g k own rows hello) bytes)
+      → ending (session g k own offers) (greeting_bytes g hello proof ++ bytes)
+      ≡ ends_as (length (greeting_bytes g hello proof)) (ending (exchange_with g k own offers hello) bytes)
 
   -- ---- two sessions
 
   -- two sessions whose greetings pass write these and what the two exchanges write, round by round
   abbrev pub SessionRoundsAreExchange : Type 0
-  SessionRoundsAreExchange = (p : Pair H P X F R T I G) (n : ℕ) → GreetEachOther p
+  SessionRoundsAreExchange = (p : Pair H P A F R T I G) (n : ℕ) → GreetEachOther p
       → rounds (out (calling p)) (out (answering p)) (suc (suc n))
       ≡ (
         by_caller p ++ (rounds (out (caller_side p)) (out (answerer_side p)) (suc n)).0,
@@ -111,14 +111,14 @@ module _ (H P X F R T I G : Type 0) where
 
   -- where the caller has ended in a round of these, this is all that they write, whatever it is
   abbrev pub SessionsSettle : Type 0
-  SessionsSettle = (p : Pair H P X F R T I G) (n : ℕ) (left right : List ℕ)
+  SessionsSettle = (p : Pair H P A F R T I G) (n : ℕ) (left right : List ℕ)
       → GreetEachOther p → CanTalk (caller_side p) (answerer_side p) n
       → IsOver (ending_of (hear (caller_side p) p.talk.spelling (exchanged p n).1).stand)
       → Meet (out (calling p)) (out (answering p)) left right → AreSettled p n left right
 
   -- and so there is such a pair
   abbrev pub SessionsMeet : Type 0
-  SessionsMeet = (p : Pair H P X F R T I G) (n : ℕ)
+  SessionsMeet = (p : Pair H P A F R T I G) (n : ℕ)
       → GreetEachOther p → CanTalk (caller_side p) (answerer_side p) n
       → IsOver (ending_of (hear (caller_side p) p.talk.spelling (exchanged p n).1).stand)
       → Meet (out (calling p)) (out (answering p))

@@ -1,5 +1,5 @@
 -- One side of an exchange, item by item, as a machine that reads items.
-use Rattle.std.specs.Prelude.{◌≡◌, ℕ, zero, suc, Bool, true, false, List, [], ◌∷◌, Option, None, Some, option_to_list, Result, Ok, Err, filter, Contains}
+use Rattle.std.specs.Prelude.{◌≡◌, ℕ, zero, suc, Bool, true, false, List, [], ◌∷◌, Option, None, Some, option_to_list, Result, Ok, Err, Contains}
 use Rattle.session_rules.specs.Machine.{Seen, Step, Goes, Ends, Refuses, Machine}
 use Rattle.session_rules.specs.Reading.{said}
 
@@ -8,12 +8,10 @@ pub data Role : Type 0 where
   Caller : Role
   Answerer : Role
 
--- What a side of an exchange goes by. Rows, boxes, places, items and causes to refuse stay abstract.
-pub record Talk (R X T I G : Type 0) : Type 0 where
-  -- the box has the row
-  pub has : X → R → Bool
-  -- the place of a side at the beginning, with its rows and the box, if there is one
-  pub begin : Role → List R → Option X → T
+-- What a side of an exchange goes by. Rows, what is agreed on before it, places, items and causes to refuse stay abstract.
+pub record Talk (R A T I G : Type 0) : Type 0 where
+  -- the place of a side at the beginning, with the rows that it offers, by what is agreed on
+  pub begin : Role → List R → A → T
   -- the next item that it says, and its place then; none where it reads
   pub said : T → Option (I × T)
   -- it says no more items than so many until it reads
@@ -28,11 +26,6 @@ pub record Talk (R X T I G : Type 0) : Type 0 where
   pub sees : T → List ℕ → Seen I
   pub spelling : I → List ℕ
 
--- the rows in a box, in order
-abbrev pub rows_in : {R X T I G : Type 0} → Talk R X T I G → Option X → List R → List R
-rows_in k None rows = []
-rows_in k (Some x) rows = filter (k.has x) rows
-
 -- ---- what is said
 
 -- an item, and what is said behind it
@@ -45,12 +38,12 @@ speaks_from behind t None = ([], t)
 speaks_from behind t (Some next) = with_item next.0 (behind next.1)
 
 -- at most so many items that it says, one after the other, and its place then
-unfoldable pub speaks : {R X T I G : Type 0} → Talk R X T I G → ℕ → T → List I × T
+unfoldable pub speaks : {R A T I G : Type 0} → Talk R A T I G → ℕ → T → List I × T
 speaks k zero t = ([], t)
 speaks k (suc most) t = speaks_from (speaks k most) t (k.said t)
 
 -- all that it says until it reads, and its place then
-abbrev pub spoken : {R X T I G : Type 0} → Talk R X T I G → T → List I × T
+abbrev pub spoken : {R A T I G : Type 0} → Talk R A T I G → T → List I × T
 spoken k t = speaks k (k.to_say t) t
 
 -- ---- what is read
@@ -61,21 +54,21 @@ answered true spoken rows = Ends spoken.0 rows
 answered false spoken rows = Goes spoken.1 spoken.0 rows
 
 -- what comes of an item, by its place then
-abbrev pub item_heard : {R X T I G : Type 0} → Talk R X T I G → I → Result T G → Step T I R G
+abbrev pub item_heard : {R A T I G : Type 0} → Talk R A T I G → I → Result T G → Step T I R G
 item_heard k item (Err cause) = Refuses cause
 item_heard k item (Ok t) = answered (k.is_done (spoken k t).1) (spoken k t) (option_to_list (k.row_in item))
 
 -- a side of an exchange as a machine: it begins with what it says first
-abbrev pub talk : {R X T I G : Type 0} → Talk R X T I G → Role → List R → Option X → Machine T I I R G
-talk k role rows box = record {
-  opening = (spoken k (k.begin role rows box)).0;
-  first = (spoken k (k.begin role rows box)).1;
+abbrev pub talk : {R A T I G : Type 0} → Talk R A T I G → Role → List R → A → Machine T I I R G
+talk k role rows agreed = record {
+  opening = (spoken k (k.begin role rows agreed)).0;
+  first = (spoken k (k.begin role rows agreed)).1;
   sees = k.sees;
   step = λ t item. item_heard k item (k.heard t item);
   spelling = k.spelling;
 }
 
 -- whatever it reads, a side tells no rows but those that it began with
-abbrev pub TellsOwn : {R X T I G : Type 0} → Talk R X T I G → Type 0
-TellsOwn {R} {X} {I = I} k = (role : Role) (rows : List R) (box : Option X) (bytes : List ℕ) (item : I) (row : R)
-    → Contains (said (talk k role rows box) bytes) item → k.row_in item ≡ Some row → Contains rows row
+abbrev pub TellsOwn : {R A T I G : Type 0} → Talk R A T I G → Type 0
+TellsOwn {R} {A} {I = I} k = (role : Role) (rows : List R) (agreed : A) (bytes : List ℕ) (item : I) (row : R)
+    → Contains (said (talk k role rows agreed) bytes) item → k.row_in item ≡ Some row → Contains rows row

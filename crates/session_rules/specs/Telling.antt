@@ -1,11 +1,14 @@
--- A small session, to look at. Hellos and proofs are bytes, rows are numbers, and a box has those below a number. The
--- caller tells its rows, then the answerer those that it was not told.
-use Rattle.std.specs.Prelude.{ℕ, suc, ◌+◌, ◌-◌, Bool, true, false, not, ◌==◌, List, [], ◌∷◌, ◌++◌, length, min, nat_eq, nat_lt, nat_le, Option, None, Some, Result, Ok, Err, filter, if◌then◌else◌}
+-- A small session, to look at. Hellos and proofs are bytes, rows are numbers, and two hellos agree on a number below which
+-- rows are offered, or on none. The caller tells its rows, then the answerer those that it was not told.
+use Rattle.std.specs.Prelude.{◌≡◌, ℕ, suc, ◌+◌, ◌-◌, Bool, true, false, not, ◌==◌, List, [], ◌∷◌, ◌++◌, length, min, nat_eq, nat_lt, nat_le, Option, None, Some, Result, Ok, Err, filter, if◌then◌else◌}
 use Rattle.std.specs.List.{list_any}
 use Rattle.session_rules.specs.Machine.{Seen, Whole, Part, Wrong}
+use Rattle.session_rules.specs.Reading.{Over}
+use Rattle.session_rules.specs.Messages.{hear}
 use Rattle.session_rules.specs.Talk.{Role, Caller, Answerer, Talk}
 use Rattle.session_rules.specs.Greeting.{Greeting}
-use Rattle.session_rules.specs.Pairs.{Pair}
+use Rattle.session_rules.specs.Session.{Offering}
+use Rattle.session_rules.specs.Pairs.{Pair, caller_side, exchanged}
 
 -- one byte
 abbrev pub byte_seen : List ℕ → Seen ℕ
@@ -19,7 +22,7 @@ digit_seen [] = Part
 digit_seen (byte ∷ []) = if nat_le byte 9 then Whole byte else Wrong
 digit_seen (byte ∷ next ∷ bytes) = Wrong
 
--- what two hellos have in common, where that is more than the row 0
+-- what two hellos agree on, where that is more than the row 0
 abbrev pub lower : ℕ → ℕ → Option ℕ
 lower caller answerer = if nat_le (min caller answerer) 1 then None else Some (min caller answerer)
 
@@ -32,7 +35,7 @@ abbrev pub refused_if : Bool → ℕ → Option ℕ
 refused_if true cause = Some cause
 refused_if false cause = None
 
-abbrev pub by_digits : Greeting ℕ ℕ ℕ ℕ
+abbrev pub by_digits : Greeting ℕ ℕ (Option ℕ) ℕ
 by_digits = record {
   sees_hello = digit_seen;
   hello_spelling = λ hello. hello ∷ [];
@@ -40,7 +43,7 @@ by_digits = record {
   sees_proof = byte_seen;
   proof_spelling = λ proof. proof ∷ [];
   proof_refusal = λ signer caller answerer proof. refused_if (not (proof == caller + answerer + side_number signer)) 1;
-  common = lower;
+  agreed = lower;
 }
 
 -- ---- the exchange
@@ -101,10 +104,9 @@ abbrev pub told_spelling : NumberTold → List ℕ
 told_spelling (Row n) = suc n ∷ []
 told_spelling All = 0 ∷ []
 
-abbrev pub by_telling : Talk ℕ ℕ Teller NumberTold ℕ
+abbrev pub by_telling : Talk ℕ (Option ℕ) Teller NumberTold ℕ
 by_telling = record {
-  has = λ limit n. nat_lt n limit;
-  begin = λ role rows box. told_first role rows;
+  begin = λ role rows agreed. told_first role rows;
   said = next_told;
   to_say = left_to_tell;
   heard = listened;
@@ -114,15 +116,20 @@ by_telling = record {
   spelling = told_spelling;
 }
 
+-- of some rows those below the number that was agreed on are offered
+abbrev pub offers_below : List ℕ → Offering (Option ℕ) ℕ
+offers_below rows None = []
+offers_below rows (Some limit) = filter (λ n. nat_lt n limit) rows
+
 -- a caller that asks for what is below 9, and an answerer that asks for what is below 6
-abbrev pub tellers : Pair ℕ ℕ ℕ ℕ ℕ Teller NumberTold ℕ
+abbrev pub tellers : Pair ℕ ℕ (Option ℕ) ℕ ℕ Teller NumberTold ℕ
 tellers = record {
   greeting = by_digits;
   talk = by_telling;
   caller = record { role = Caller; hello = 9; proof = 15 };
   answerer = record { role = Answerer; hello = 6; proof = 16 };
-  caller_rows = 1 ∷ 3 ∷ 5 ∷ 8 ∷ [];
-  answerer_rows = 2 ∷ 3 ∷ 7 ∷ [];
+  caller_offers = offers_below (1 ∷ 3 ∷ 5 ∷ 8 ∷ []);
+  answerer_offers = offers_below (2 ∷ 3 ∷ 7 ∷ []);
 }
 
 -- what they write: 1, 3 and 5 are told, and 2
@@ -131,3 +138,7 @@ caller_told = 9 ∷ 15 ∷ 2 ∷ 4 ∷ 6 ∷ 0 ∷ []
 
 abbrev pub answerer_told : List ℕ
 answerer_told = 6 ∷ 16 ∷ 3 ∷ 0 ∷ []
+
+-- once it has read what the answerer says in the first round behind their greetings, the caller is over
+abbrev pub TellingCallerIsOver : Type 0
+TellingCallerIsOver = (hear (caller_side tellers) told_spelling (exchanged tellers 1).1).stand ≡ Over

@@ -49,11 +49,11 @@ WholeTurnsAreTaken R X C = (rules : Rules R X C) (rows others : List R) (box : O
 
 -- ---- two sessions
 
-module _ (H P X F R T I G C : Type 0) where
+module _ (H P A F R X T I G C : Type 0) where
   -- two sessions whose sides take the turns of an exchange, and which each read what the other writes: whatever they write
   -- are their greetings and these turns, both are done, and each has the rows that the exchange sends it
   abbrev pub TurnsSettle : Type 0
-  TurnsSettle = (p : Pair H P X F R T I G) (v : View R X C T I) (rules : Rules R X C) (rows others : List R) (box : Option X) (left right : List ℕ)
+  TurnsSettle = (p : Pair H P A F R T I G) (v : View R X C T I) (rules : Rules R X C) (rows others : List R) (box : Option X) (left right : List ℕ)
       → HasDisjointParts rules → CanCut rules rows → CanCut rules others
       → GreetEachOther p → TakeTurns v rules (caller_side p) (answerer_side p) rows others box
       → CanReadTurns v (caller_side p) (answerer_side p) (exchange rules rows others box)
@@ -62,7 +62,7 @@ module _ (H P X F R T I G C : Type 0) where
 
   -- and there is such a pair
   abbrev pub TurnsMeet : Type 0
-  TurnsMeet = (p : Pair H P X F R T I G) (v : View R X C T I) (rules : Rules R X C) (rows others : List R) (box : Option X)
+  TurnsMeet = (p : Pair H P A F R T I G) (v : View R X C T I) (rules : Rules R X C) (rows others : List R) (box : Option X)
       → HasDisjointParts rules → CanCut rules rows → CanCut rules others
       → GreetEachOther p → TakeTurns v rules (caller_side p) (answerer_side p) rows others box
       → CanReadTurns v (caller_side p) (answerer_side p) (exchange rules rows others box)

@@ -104,7 +104,7 @@ pub record CanReadTurns {R X C T I G : Type 0} (v : View R X C T I) (caller answ
   pub answerer_can : CanReadAll answerer caller.spelling (start answerer) (flat_map v.items_of (caller_turns ts))
 
 -- Two sessions write their greetings and their turns, are done, and have the rows that the other one sent.
-pub record AreExchanged {H P X F R T I G C : Type 0} (p : Pair H P X F R T I G) (v : View R X C T I) (ts : List (Turn R C)) (left right : List ℕ) : Type 0 where
+pub record AreExchanged {H P A F R X T I G C : Type 0} (p : Pair H P A F R T I G) (v : View R X C T I) (ts : List (Turn R C)) (left right : List ℕ) : Type 0 where
   pub caller_writes : left ≡ by_caller p ++ flat_map p.talk.spelling (flat_map v.items_of (caller_turns ts))
   pub answerer_writes : right ≡ by_answerer p ++ flat_map p.talk.spelling (flat_map v.items_of (answerer_turns ts))
   pub caller_done : ending (calling p) right ≡ Done

@@ -2,16 +2,16 @@
 //! to refuse there are.
 
 ghost use Rattle.std.specs.Prelude.{◌≡◌, [], ◌∷◌};
-ghost use Rattle.session_rules.specs.Reading.{Over, Done, More, BadMessage, Refusal, said, out, got, ending, Shows};
+ghost use Rattle.session_rules.specs.Reading.{Done, More, BadMessage, Refusal, said, out, got, ending, Shows};
 ghost use Rattle.session_rules.specs.Rounds.{rounds};
-ghost use Rattle.session_rules.specs.Messages.{hear, CanTalk};
+ghost use Rattle.session_rules.specs.Messages.{CanTalk};
 ghost use Rattle.session_rules.specs.Talk.{TellsOwn};
 ghost use Rattle.session_rules.specs.Session.{InGreeting};
-ghost use Rattle.session_rules.specs.Pairs.{calling, answering, caller_side, answerer_side, GreetEachOther, exchanged};
+ghost use Rattle.session_rules.specs.Pairs.{calling, answering, caller_side, answerer_side, GreetEachOther};
 ghost use Rattle.session_rules.specs.Adding.{adding};
-ghost use Rattle.session_rules.specs.Telling.{told_spelling, by_telling, tellers, caller_told, answerer_told};
+ghost use Rattle.session_rules.specs.Telling.{by_telling, tellers, caller_told, answerer_told, TellingCallerIsOver};
 ghost use Rattle.session_rules.specs.Laws.{TwoPiecesReadAlike, PiecesReadAlike, OutGrows, GotGrows, OverWritesNoMore, OverTakesNoMore, OverStaysOver, PartsWriteNothing, PartsTakeNothing, PartsEndNothing, MoreWaits, DoneByMessage, BadByMessage, RefusedByMessage, ReadsMessages, RoundsWriteFronts, FirstOverSettles, SecondOverSettles, OverRoundsMeet, RoundsSpellDialogue, OverIsDialogue, OverDialogueMeets};
-ghost use Rattle.session_rules.specs.SessionLaws.{ItemsAreGranted, RowsAreGranted, ToldRowsAreCommon, ProofsAreGranted, OutSeesCommonAlone, GotSeesCommonAlone, EndingSeesCommonAlone, AnotherProofIsRetold, AnotherProofGetsSame, AnotherProofEndsAlike, GreetedWritesExchange, GreetedGetsExchange, GreetedEndsAsExchange, SessionRoundsAreExchange, SessionsSettle, SessionsMeet};
+ghost use Rattle.session_rules.specs.SessionLaws.{ItemsAreGranted, RowsAreGranted, ToldRowsAreOffered, ProofsAreGranted, OutSeesOfferedAlone, GotSeesOfferedAlone, EndingSeesOfferedAlone, AnotherProofIsRetold, AnotherProofGetsSame, AnotherProofEndsAlike, GreetedWritesExchange, GreetedGetsExchange, GreetedEndsAsExchange, SessionRoundsAreExchange, SessionsSettle, SessionsMeet};
 ghost use Rattle.session_rules.specs.TurnLaws.{ItemsTellTurns, CallerHearsTurns, AnswererHearsTurns, WholeTurnsAreTaken, TurnsSettle, TurnsMeet};
 
 /// A small machine on no bytes, on two messages, on one and a half, on one behind that which ends it, on one that it
@@ -42,7 +42,7 @@ pub fn a_small_session()
 pub fn a_small_session_is_lawful()
     ensures greets { GreetEachOther tellers }
     ensures reads { CanTalk (caller_side tellers) (answerer_side tellers) 1 }
-    ensures over { (hear (caller_side tellers) told_spelling (exchanged tellers 1).1).stand ≡ Over }
+    ensures over { TellingCallerIsOver }
     ensures own { TellsOwn by_telling }
 {}
 
@@ -103,47 +103,47 @@ pub fn messages_meet<S, M, O, R, E, S2, R2, E2>()
 {}
 
 /// Where a side said an item or took a row, what it read begins with a hello that passes and a proof that is accepted, and
-/// the exchange over the rows in the area that both may read said or took it, reading what stands behind them. So if
-/// sides of the exchange tell only rows that they began with, each row that it told is in that area. It says its own proof
-/// only where what it read begins with a hello that passes.
-pub fn grants<H, P, X, F, R, T, I, G>()
-    ensures items { ItemsAreGranted H P X F R T I G }
-    ensures rows { RowsAreGranted H P X F R T I G }
-    ensures told { ToldRowsAreCommon H P X F R T I G }
-    ensures proofs { ProofsAreGranted H P X F R T I G }
+/// the exchange over the rows that it offers, by what it agreed on with the other, said or took it, reading what stands
+/// behind them. So if sides of the exchange tell only rows that they began with, each row that it told is one that it offers.
+/// It says its own proof only where what it read begins with a hello that passes.
+pub fn grants<H, P, A, F, R, T, I, G>()
+    ensures items { ItemsAreGranted H P A F R T I G }
+    ensures rows { RowsAreGranted H P A F R T I G }
+    ensures told { ToldRowsAreOffered H P A F R T I G }
+    ensures proofs { ProofsAreGranted H P A F R T I G }
 {}
 
-/// What a side writes and takes and how it ends is a function of the rows in the area that both may read, of its own part,
-/// and of the bytes that it reads: rows elsewhere change nothing.
-pub fn worlds<H, P, X, F, R, T, I, G>()
-    ensures out { OutSeesCommonAlone H P X F R T I G }
-    ensures got { GotSeesCommonAlone H P X F R T I G }
-    ensures ending { EndingSeesCommonAlone H P X F R T I G }
+/// What a side writes and takes and how it ends is a function of the rows that it offers, of its own part, and of the bytes
+/// that it reads: rows that it does not offer to the other change nothing.
+pub fn worlds<H, P, A, F, R, T, I, G>()
+    ensures out { OutSeesOfferedAlone H P A F R T I G }
+    ensures got { GotSeesOfferedAlone H P A F R T I G }
+    ensures ending { EndingSeesOfferedAlone H P A F R T I G }
 {}
 
 /// The own proof is told, and nothing else hangs on it: a side with another one says the same with that in its place, takes
 /// the same rows and comes to the same end.
-pub fn another_proof<H, P, X, F, R, T, I, G>()
-    ensures said { AnotherProofIsRetold H P X F R T I G }
-    ensures got { AnotherProofGetsSame H P X F R T I G }
-    ensures ending { AnotherProofEndsAlike H P X F R T I G }
+pub fn another_proof<H, P, A, F, R, T, I, G>()
+    ensures said { AnotherProofIsRetold H P A F R T I G }
+    ensures got { AnotherProofGetsSame H P A F R T I G }
+    ensures ending { AnotherProofEndsAlike H P A F R T I G }
 {}
 
-/// Behind a hello that passes and a proof that is accepted a session is the exchange, over the rows in the area that both
-/// may read.
-pub fn goes_on_as_exchange<H, P, X, F, R, T, I, G>()
-    ensures out { GreetedWritesExchange H P X F R T I G }
-    ensures got { GreetedGetsExchange H P X F R T I G }
-    ensures ending { GreetedEndsAsExchange H P X F R T I G }
+/// Behind a hello that passes and a proof that is accepted a session is the exchange, by what both hellos agree on and over
+/// the rows that the side offers.
+pub fn goes_on_as_exchange<H, P, A, F, R, T, I, G>()
+    ensures out { GreetedWritesExchange H P A F R T I G }
+    ensures got { GreetedGetsExchange H P A F R T I G }
+    ensures ending { GreetedEndsAsExchange H P A F R T I G }
 {}
 
 /// Two sessions whose greetings pass, each of which reads what the other writes: they write their greetings and what the
 /// two exchanges write. Where the caller has ended in a round of these, this is all that they write, whatever it is; and so
 /// there is such a pair.
-pub fn sessions_meet<H, P, X, F, R, T, I, G>()
-    ensures rounds { SessionRoundsAreExchange H P X F R T I G }
-    ensures settled { SessionsSettle H P X F R T I G }
-    ensures they_meet { SessionsMeet H P X F R T I G }
+pub fn sessions_meet<H, P, A, F, R, T, I, G>()
+    ensures rounds { SessionRoundsAreExchange H P A F R T I G }
+    ensures settled { SessionsSettle H P A F R T I G }
+    ensures they_meet { SessionsMeet H P A F R T I G }
 {}
 
 /// Two sides that take the turns of an exchange by its rules say these turns in items, and each is over with the rows
@@ -162,7 +162,7 @@ pub fn whole_turns<R, X, C>()
 /// Two sessions whose greetings pass and whose sides take the turns of an exchange, each of which reads what the other
 /// writes: whatever they write are their greetings and these turns, both are done, and each has the rows that the exchange
 /// sends it; and so there is such a pair.
-pub fn settles<H, P, X, F, R, T, I, G, C>()
-    ensures settled { TurnsSettle H P X F R T I G C }
-    ensures they_meet { TurnsMeet H P X F R T I G C }
+pub fn settles<H, P, A, F, R, X, T, I, G, C>()
+    ensures settled { TurnsSettle H P A F R X T I G C }
+    ensures they_meet { TurnsMeet H P A F R X T I G C }
 {}

@@ -1,6 +1,7 @@
 //! Two sides that read what each other writes.
 
-use crate::rows::{Rows, signer};
+use crate::plans::Side;
+use crate::rows::signer;
 use crate::runs::{Ran, run_with};
 use std::alloc::Global;
 use std::sync::Wait;
@@ -28,12 +29,12 @@ fn unrun(alloc: Global) -> Ran {
     }
 }
 
-// What comes of a side with these rows on all that the other has written, of which it reads at most so many bytes at a time.
+// What comes of a side on all that the other has written, of which it reads at most so many bytes at a time.
 fn ran_on<R: Wait + Threads + Sync>(
     rt: &R,
     alloc: Global,
     role: Role,
-    which: Rows,
+    which: Side,
     heard: &[u8],
     most: usize,
 ) -> Option<Ran> {
@@ -57,7 +58,7 @@ fn run_again<R: Wait + Threads + Sync>(
     rt: &R,
     alloc: Global,
     role: Role,
-    which: Rows,
+    which: Side,
     heard: &[u8],
     most: usize,
     side: &mut Ran,
@@ -73,8 +74,8 @@ fn run_again<R: Wait + Threads + Sync>(
 fn run_in_turn<R: Wait + Threads + Sync>(
     rt: &R,
     alloc: Global,
-    callers: Rows,
-    answerers: Rows,
+    caller: Side,
+    answerer: Side,
     most: usize,
     met: &mut Met,
 ) -> Option<()> {
@@ -83,7 +84,7 @@ fn run_in_turn<R: Wait + Threads + Sync>(
             rt,
             alloc,
             Role::Caller,
-            callers,
+            caller,
             &met.answerer.written,
             most,
             &mut met.caller,
@@ -93,7 +94,7 @@ fn run_in_turn<R: Wait + Threads + Sync>(
             rt,
             alloc,
             Role::Answerer,
-            answerers,
+            answerer,
             &met.caller.written,
             most,
             &mut met.answerer,
@@ -103,12 +104,12 @@ fn run_in_turn<R: Wait + Threads + Sync>(
     Some(())
 }
 
-// The meeting of two sides with these rows, which read at most so many bytes at a time.
+// The meeting of two sides, which read at most so many bytes at a time.
 pub(crate) fn meeting<R: Wait + Threads + Sync>(
     rt: &R,
     alloc: Global,
-    callers: Rows,
-    answerers: Rows,
+    caller: Side,
+    answerer: Side,
     most: usize,
 ) -> Option<Met> {
     let mut met = Met {
@@ -116,7 +117,7 @@ pub(crate) fn meeting<R: Wait + Threads + Sync>(
         caller: unrun(alloc),
         answerer: unrun(alloc),
     };
-    run_in_turn(rt, alloc, callers, answerers, most, &mut met)?;
+    run_in_turn(rt, alloc, caller, answerer, most, &mut met)?;
     Some(met)
 }
 

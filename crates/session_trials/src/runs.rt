@@ -4,10 +4,11 @@ ghost use Rattle.std.specs.Prelude.{◌≡◌, ◌≤◌, None};
 ghost use Rattle.scheme_core.specs.Open.{open_rules};
 ghost use Rattle.sync_hello.specs.Checked.{hello_refusal};
 ghost use Rattle.ns_cell.specs.Passes.{IsPassOf};
+ghost use Rattle.sync_core.specs.SyncRules.{IsVersion};
 ghost use Rattle.sync_link.specs.Plans.{own_hello};
 
 use crate::fakes::CountingChecker;
-use crate::plans::{nonce, plan};
+use crate::plans::{Side, nonce, plan};
 use crate::rows::{Rows, namespace, rows_of};
 use auth_entry::{AuthorisedEntry, Checker, authorise};
 use cap_codec::RawRow;
@@ -112,6 +113,7 @@ fn run_over<R: Wait + Threads + Sync, K: Signer>(
     requires pass { IsPassOf cell.now pass.old }
     requires namespace { ⟦<CountingChecker as Checker<OpenScheme>>⟧.judged_in checker.old ≡ cell.now.namespace }
     requires hello { hello_refusal open_rules cell.now.namespace (own_hello plan.now nonce) ≡ None }
+    requires version { IsVersion plan.now.version }
     requires signs { 1 ≤ K.left signer.old }
 {
     let answer = run_session(rt, alloc, cell, pass, plan, checker, signer, nonce, link);
@@ -139,6 +141,7 @@ fn run_in<R: Wait + Threads + Sync, K: Signer>(
     requires pass { IsPassOf cell.now pass.old }
     requires namespace { namespace.now ≡ cell.now.namespace }
     requires hello { hello_refusal open_rules namespace.now (own_hello plan.now nonce) ≡ None }
+    requires version { IsVersion plan.now.version }
 {
     fill(rt, alloc, namespace, cell, pass, rows_of(alloc, which)?)?;
     if signer.left() < 1 {
@@ -173,6 +176,7 @@ fn run_planned<R: Wait + Threads + Sync, K: Signer>(
     link: &mut MemLink,
 ) -> Option<Ran>
     requires hello { hello_refusal open_rules namespace.now (own_hello plan.now nonce) ≡ None }
+    requires version { IsVersion plan.now.version }
 {
     let (cell, mut passes) = NsCell::new(alloc, NsState::new(alloc, *namespace), 1).ok()?;
     let mut pass = passes.pop()?;
@@ -181,29 +185,29 @@ fn run_planned<R: Wait + Threads + Sync, K: Signer>(
     )
 }
 
-// The same with the plan of this role.
+// The same of this side, with the plan of this role.
 fn run_as<R: Wait + Threads + Sync, K: Signer>(
     rt: &R,
     alloc: Global,
     role: Role,
-    which: Rows,
+    side: Side,
     signer: &mut K,
     link: &mut MemLink,
 ) -> Option<Ran> {
     let namespace = namespace()?;
     let nonce = nonce(role);
-    let plan = plan(alloc, &namespace, role, nonce)?;
-    run_planned(rt, alloc, &namespace, which, &plan, nonce, signer, link)
+    let plan = plan(alloc, &namespace, role, side.version, nonce)?;
+    run_planned(rt, alloc, &namespace, side.rows, &plan, nonce, signer, link)
 }
 
-// A session of a store with these rows, in this role, over the link.
+// A session of this side, in this role, over the link.
 pub(crate) fn run_with<R: Wait + Threads + Sync, K: Signer>(
     rt: &R,
     alloc: Global,
     role: Role,
-    which: Rows,
+    side: Side,
     mut signer: K,
     mut link: MemLink,
 ) -> Option<Ran> {
-    run_as(rt, alloc, role, which, &mut signer, &mut link)
+    run_as(rt, alloc, role, side, &mut signer, &mut link)
 }

@@ -1,6 +1,7 @@
 //! Sessions over links in memory: two that meet, and ones whose other side, link or signer fails.
 
 use crate::fakes::FailingSigner;
+use crate::plans::Side;
 use crate::rounds::{Met, have_lengths, meeting};
 use crate::rows::{Rows, signature_at, signer};
 use crate::runs::{Ran, run_with};
@@ -40,13 +41,16 @@ fn rows(count: u8, newer: Option<u8>) -> Rows {
 // and read.
 type Numbers = (u32, u32, u64, u32, u32);
 
-// How many rows each side has, which one is newer at the answerer, the numbers of bytes of what both write in turn, and what
-// the caller and the answerer report.
-type Case = (u8, Option<u8>, &'static [usize], Numbers, Numbers);
+// The versions that the caller and the answerer speak, how many rows each has, which one is newer at the answerer, the numbers
+// of bytes of what both write in turn, and what the caller and the answerer report.
+type Case = ((u8, u8), u8, Option<u8>, &'static [usize], Numbers, Numbers);
 
-// A hello has 136 bytes and a proof 34; the caller's proof comes with its first turn.
-static CASES: [Case; 2] = [
+// A hello has 136 bytes and a proof 34; the caller's proof comes with its first turn. In a session of version 1 the answerer
+// cuts the area in two, and the caller its upper half; in one of version 2 the answerer cuts it in four, and the caller tells
+// its rows of the third part.
+static CASES: [Case; 5] = [
     (
+        (1, 1),
         40,
         Some(25),
         &[136, 136 + 34, 34 + 34, 70, 71, 2234, 229, 1],
@@ -54,6 +58,31 @@ static CASES: [Case; 2] = [
         (40, 0, 1, 3, 4),
     ),
     (
+        (2, 1),
+        40,
+        Some(25),
+        &[136, 136 + 34, 34 + 34, 70, 71, 2234, 229, 1],
+        (40, 1, 9, 4, 3),
+        (40, 0, 1, 3, 4),
+    ),
+    (
+        (1, 2),
+        40,
+        Some(25),
+        &[136, 136 + 34, 34 + 34, 70, 71, 2234, 229, 1],
+        (40, 1, 9, 4, 3),
+        (40, 0, 1, 3, 4),
+    ),
+    (
+        (2, 2),
+        40,
+        Some(25),
+        &[136, 136 + 34, 34 + 34, 141, 2236, 229, 1],
+        (40, 1, 0, 5, 2),
+        (40, 0, 10, 2, 5),
+    ),
+    (
+        (2, 2),
         0,
         None,
         &[136, 136 + 34, 34 + 34, 2, 1],
@@ -79,7 +108,7 @@ fn reported(numbers: Numbers) -> SessionReport {
 
 // Whether two sides met as the case says.
 fn is_as_told(met: &Met, case: &Case) -> bool {
-    let (_, _, turns, caller, answerer) = case;
+    let (_, _, _, turns, caller, answerer) = case;
     have_lengths(&met.turns, turns)
         && met.caller.answer == Ok(reported(*caller))
         && met.answerer.answer == Ok(reported(*answerer))
@@ -92,9 +121,16 @@ fn meet_so<R: Wait + Threads + Sync>(
     case: &Case,
     most: usize,
 ) -> Option<bool> {
-    let (count, newer, _, _, _) = case;
-    let (one, other) = (rows(*count, None), rows(*count, *newer));
-    Some(is_as_told(&meeting(rt, alloc, one, other, most)?, case))
+    let (versions, count, newer, _, _, _) = case;
+    let caller = Side {
+        version: versions.0,
+        rows: rows(*count, None),
+    };
+    let answerer = Side {
+        version: versions.1,
+        rows: rows(*count, *newer),
+    };
+    Some(is_as_told(&meeting(rt, alloc, caller, answerer, most)?, case))
 }
 
 #[test]
@@ -107,16 +143,22 @@ fn meetings(rt: HostRuntime) {
     }
 }
 
-// The own rows, and those of the other side: it has a newer row at the path of 1, and one more at the path of 3.
-const OWN: Rows = Rows {
-    count: 3,
-    newer: None,
+// The own side speaks both versions.
+const OWN: Side = Side {
+    version: 2,
+    rows: Rows {
+        count: 3,
+        newer: None,
+    },
 };
 
-const OTHERS: Rows = Rows {
-    count: 4,
-    newer: Some(1),
-};
+// The other side has a newer row at the path of 1, and one more at the path of 3.
+fn other(version: u8) -> Side {
+    Side {
+        version,
+        rows: rows(4, Some(1)),
+    }
+}
 
 // Where the bytes first have this part.
 fn place_of(bytes: &[u8], part: &[u8]) -> Option<usize> {
@@ -138,11 +180,11 @@ fn without_signature(alloc: Global, bytes: &[u8]) -> Option<Vec<u8>> {
     Some(spoiled)
 }
 
-// The meeting of the own side in this role with the other.
-fn met<R: Wait + Threads + Sync>(rt: &R, alloc: Global, role: Role) -> Option<Met> {
+// The meeting of the own side in this role with the other, which speaks this version.
+fn met<R: Wait + Threads + Sync>(rt: &R, alloc: Global, role: Role, version: u8) -> Option<Met> {
     match role {
-        Role::Caller => meeting(rt, alloc, OWN, OTHERS, 1_000_000),
-        Role::Answerer => meeting(rt, alloc, OTHERS, OWN, 1_000_000),
+        Role::Caller => meeting(rt, alloc, OWN, other(version), 1_000_000),
+        Role::Answerer => meeting(rt, alloc, other(version), OWN, 1_000_000),
     }
 }
 
@@ -232,7 +274,7 @@ fn session_comes_out<R: Wait + Threads + Sync>(
     most: usize,
     calls: u64,
 ) -> Option<bool> {
-    let met = met(rt, alloc, role)?;
+    let met = met(rt, alloc, role, 2)?;
     comes_out(rt, alloc, role, written(&met, role), most, calls)
 }
 
@@ -252,18 +294,26 @@ fn sessions(rt: HostRuntime) {
     }
 }
 
-// What the other side says to the own caller; its row at the path of 3 is not signed.
-fn said<R: Wait + Threads + Sync>(rt: &R, alloc: Global) -> Option<Vec<u8>> {
-    without_signature(alloc, &met(rt, alloc, Role::Caller)?.answerer.written)
+// What the other side says to the own caller, where it speaks this version; its row at the path of 3 is not signed.
+fn said<R: Wait + Threads + Sync>(rt: &R, alloc: Global, version: u8) -> Option<Vec<u8>> {
+    let met = met(rt, alloc, Role::Caller, version)?;
+    without_signature(alloc, &met.answerer.written)
 }
 
-// A cut of the asked area that begins, one at the empty path, and what is no item.
-const BEGUN: &[u8] = b"\x03\x01";
+// A cut of the asked area in two that begins, and one at the empty path.
+const TWO_BEGUN: &[u8] = b"\x03\x01";
 
-const AT_NO_PATH: &[u8] =
+const TWO_AT_NO_PATH: &[u8] =
     b"\x03\x01\x00................................................................";
 
-const NO_ITEM: &[u8] = b"\x08";
+// A cut of the asked area in parts that begins, one at two points of which the second is below the first, and what begins as
+// one at four points.
+const PARTS_BEGUN: &[u8] = b"\x08\x01\x02\x01";
+
+const PARTS_FALLING: &[u8] =
+    b"\x08\x01\x02\x01\x01\x14\x01\x01\x0a................................................................................................";
+
+const FIVE_PARTS: &[u8] = b"\x08\x01\x04";
 
 // The answerer's hello and proof, of which the hello may be of version 0, and these bytes behind them.
 fn greeting(alloc: Global, said: &[u8], version: u8, behind: &[u8]) -> Option<Vec<u8>> {
@@ -277,48 +327,46 @@ fn greeting(alloc: Global, said: &[u8], version: u8, behind: &[u8]) -> Option<Ve
 type Ending = (u8, &'static [u8], SessionEnd, usize);
 
 // A caller that says its hello, its proof and its first item reads that greeting and these bytes, and the link ends.
-static ENDINGS: [Ending; 5] = [
+static ENDINGS: [Ending; 9] = [
     (1, b"", SessionEnd::ClosedEarly { at: 170 }, 204),
-    (1, BEGUN, SessionEnd::ClosedEarly { at: 172 }, 204),
-    (1, AT_NO_PATH, SessionEnd::Core(CoreRefusal::BadCut), 204),
-    (1, NO_ITEM, SessionEnd::BadMessage { at: 170 }, 204),
+    (1, TWO_BEGUN, SessionEnd::ClosedEarly { at: 172 }, 204),
+    (
+        1,
+        TWO_AT_NO_PATH,
+        SessionEnd::Core(CoreRefusal::BadCut),
+        204,
+    ),
+    (1, PARTS_BEGUN, SessionEnd::BadMessage { at: 170 }, 204),
+    (2, PARTS_BEGUN, SessionEnd::ClosedEarly { at: 174 }, 204),
+    (2, PARTS_FALLING, SessionEnd::Core(CoreRefusal::BadCut), 204),
+    (2, FIVE_PARTS, SessionEnd::BadMessage { at: 170 }, 204),
+    (2, TWO_BEGUN, SessionEnd::BadMessage { at: 170 }, 204),
     (0, b"", SessionEnd::Hello(HelloRefusal::VersionUnknown), 136),
 ];
 
-// Whether the caller ends so.
+// Whether the caller ends so. The answerer's proof is for the version that it speaks, which is 1 at least.
 fn ends_so<R: Wait + Threads + Sync>(
     rt: &R,
     alloc: Global,
-    said: &[u8],
     ending: &Ending,
     most: usize,
 ) -> Option<bool> {
     let (version, behind, end, written) = ending;
-    let heard = greeting(alloc, said, *version, behind)?;
+    let said = said(rt, alloc, (*version).max(1))?;
+    let heard = greeting(alloc, &said, *version, behind)?;
     let ran = run_on(rt, alloc, Role::Caller, heard, most)?;
     Some(ran.answer == Err(*end) && ran.written.len() == *written)
 }
 
-// Whether it ends as the table says, however many bytes it reads at a time.
-fn all_end_so<R: Wait + Threads + Sync>(rt: &R, alloc: Global, said: &[u8]) -> bool {
-    for ending in &ENDINGS {
-        for most in [1, 1_000_000] {
-            if ends_so(rt, alloc, said, ending, most) != Some(true) {
-                return false;
-            }
-        }
-    }
-    true
-}
-
-// The same of what the other side says.
-fn endings_come_out<R: Wait + Threads + Sync>(rt: &R, alloc: Global) -> Option<bool> {
-    Some(all_end_so(rt, alloc, &said(rt, alloc)?))
-}
-
+// However many bytes it reads at a time, the caller ends as the table says.
 #[test]
 fn endings(rt: HostRuntime) {
-    assert!(rt; endings_come_out(&rt, rt.alloc()) == Some(true));
+    let alloc = rt.alloc();
+    for ending in &ENDINGS {
+        for most in [1, 1_000_000] {
+            assert!(rt; ends_so(&rt, alloc, ending, most) == Some(true));
+        }
+    }
 }
 
 // The call of the link that fails, how the session ends, how many bytes are written, and the times of the rows then.
@@ -369,7 +417,7 @@ fn all_fail_so<R: Wait + Threads + Sync>(rt: &R, alloc: Global, said: &[u8]) -> 
 
 // The same on what the other side says.
 fn failures_come_out<R: Wait + Threads + Sync>(rt: &R, alloc: Global) -> Option<bool> {
-    Some(all_fail_so(rt, alloc, &said(rt, alloc)?))
+    Some(all_fail_so(rt, alloc, &said(rt, alloc, 2)?))
 }
 
 #[test]
@@ -415,7 +463,7 @@ fn third_is_broken_off<R: Wait + Threads + Sync>(
 
 // The same of what the other side says.
 fn list_is_broken_off<R: Wait + Threads + Sync>(rt: &R, alloc: Global) -> Option<[bool; 2]> {
-    third_is_broken_off(rt, alloc, &said(rt, alloc)?)
+    third_is_broken_off(rt, alloc, &said(rt, alloc, 2)?)
 }
 
 #[test]
@@ -435,7 +483,7 @@ fn run_unsigned<R: Wait + Threads + Sync>(rt: &R, alloc: Global, heard: Vec<u8>)
 
 // Whether it then ends for that reason, behind its hello.
 fn fails_to_sign<R: Wait + Threads + Sync>(rt: &R, alloc: Global) -> Option<bool> {
-    let ran = run_unsigned(rt, alloc, said(rt, alloc)?)?;
+    let ran = run_unsigned(rt, alloc, said(rt, alloc, 2)?)?;
     Some(ran.answer == Err(SessionEnd::SignFault) && ran.written.len() == 136)
 }
 

@@ -1,5 +1,5 @@
 -- A side that has read an item.
-use Rattle.std.proofs.Common.{◌≡◌, ◌+◌, Bool, true, false, cond, List, nat_le, Option, Some, None, Result, Ok, Err, refl, sym, subst}
+use Rattle.std.proofs.Common.{◌≡◌, ℕ, ◌+◌, Bool, true, false, cond, List, nat_le, Option, Some, None, Result, Ok, Err, refl, sym, subst}
 use Rattle.std.specs.Prelude.{IsOk}
 use Rattle.spelling.specs.declared.ending.End.{End}
 use Rattle.spelling.specs.declared.ending.End.TheVariants as end
@@ -7,7 +7,7 @@ use Rattle.willow_area.specs.Boxes.{Ranges}
 use Rattle.willow_entry.specs.Row.{RowValue}
 use Rattle.sync_msg.specs.Items.{ItemValue, is_counted, item_value}
 use Rattle.sync_msg.specs.declared.item.Item.{Item}
-use Rattle.sync_msg.specs.declared.item.Item.TheVariants.{First, Agree, Split, Entries, Rest, Row, EndTurn, Bye}
+use Rattle.sync_msg.specs.declared.item.Item.TheVariants.{First, Agree, Split, Parts, Entries, Rest, Row, EndTurn, Bye}
 use Rattle.sync_msg.specs.declared.refusal.CoreRefusal.{CoreRefusal}
 use Rattle.sync_msg.specs.declared.refusal.CoreRefusal.TheVariants.{ItemMismatch, BadCut, EntryOutside, RowsOutOfOrder, TooManyItems}
 use Rattle.sync_core.specs.declared.work.Due.{Due}
@@ -22,6 +22,7 @@ pub counted_value : {Q : Type 0} (value : Q → RowValue) (item : Item Q) → is
 counted_value value (First print) = refl
 counted_value value Agree = refl
 counted_value value (Split at lower upper) = refl
+counted_value value (Parts points prints) = refl
 counted_value value (Entries count) = refl
 counted_value value (Rest count) = refl
 counted_value value (Row row) = refl
@@ -29,13 +30,13 @@ counted_value value EndTurn = refl
 counted_value value Bye = refl
 
 -- an item of a turn, by whether rows are due
-abbrev pub heard_in : List RowValue → List AskValue → List AskValue → Option Due → ItemValue → Result Doing CoreRefusal
-heard_in rows asks opens None item = turn_heard rows asks opens item
-heard_in rows asks opens (Some due) item = due_in asks opens (Some due) item
+abbrev pub heard_in : ℕ → List RowValue → List AskValue → List AskValue → Option Due → ItemValue → Result Doing CoreRefusal
+heard_in version rows asks opens None item = turn_heard version rows asks opens item
+heard_in version rows asks opens (Some due) item = due_in asks opens (Some due) item
 
-pub next_hearing : (area : Option Ranges) (rows : List RowValue) (asks opens : List AskValue) (due : Option Due) (item : ItemValue) → next_heard area rows (hearing_of asks opens due) item ≡ heard_in rows asks opens due item
-next_hearing area rows asks opens None item = refl
-next_hearing area rows asks opens (Some due) item = refl
+pub next_hearing : (version : ℕ) (area : Option Ranges) (rows : List RowValue) (asks opens : List AskValue) (due : Option Due) (item : ItemValue) → next_heard version area rows (hearing_of asks opens due) item ≡ heard_in version rows asks opens due item
+next_hearing version area rows asks opens None item = refl
+next_hearing version area rows asks opens (Some due) item = refl
 
 -- what an answer says of the place that the rules give, and of the place behind; without memory the same is done, and
 -- there is such a place
@@ -85,7 +86,7 @@ module _ (place : Place) (item : ItemValue) where
   matches old new next (Err end.NoMemory) e = wanting old new next e.0 e.1
 
   -- the answer to an item, by what the side does then
-  pub answer_matches : (new : Doing) (outcome : Result (Unit {0}) (End CoreRefusal)) → Does place.doing new (next_heard place.area place.rows place.doing item) outcome
+  pub answer_matches : (new : Doing) (outcome : Result (Unit {0}) (End CoreRefusal)) → Does place.doing new (next_heard place.version place.area place.rows place.doing item) outcome
       → MatchesHeard (heard place item) (place_then place item new) (new ≡ place.doing) (within outcome (items_with place item) (most_items place.area place.rows))
   unfolding heard
-  answer_matches new outcome does = matches place.doing new (next_heard place.area place.rows place.doing item) outcome does
+  answer_matches new outcome does = matches place.doing new (next_heard place.version place.area place.rows place.doing item) outcome does

@@ -16,5 +16,6 @@ pub mod TurnsCounted
 pub mod SpelledTurns
 pub mod TurnItems
 pub mod TwoSides
-pub mod Rising
 pub mod OneByOne
+pub mod Walking
+pub mod Parts

@@ -1,20 +1,7 @@
 -- Steps on lists.
-use Rattle.std.proofs.Common.{◌≡◌, ℕ, suc, ◌+◌, ◌≤◌, Bool, true, false, cond, List, [], ◌∷◌, ◌++◌, map, length, take, filter, filter_map, slice_get, Option, Some, None, refl, sym, ap, ap₂, ◌∙◌, arith}
+use Rattle.std.proofs.Common.{◌≡◌, suc, ◌+◌, ◌≤◌, List, [], ◌∷◌, map, length, filter_map, Option, Some, None, refl, ap, ap₂, arith}
 use Rattle.std.specs.List.{cons_option}
-use Rattle.std.proofs.lemmas.Option.{slice_get_within, get_or_from_slice_get}
-use Rattle.std.proofs.lemmas.List.{append-nil, length-map, map-append}
-use Rattle.std.proofs.lemmas.List.Elements.{filter_more}
-
--- ---- what is kept of a front
-
--- the item alone, if it passes
-abbrev pub kept_one : {X : Type 0} → (X → Bool) → X → List X
-kept_one keep x = cond (keep x) (x ∷ []) []
-
-pub filter-take_more : {X : Type 0} (keep : X → Bool) (xs : List X) (n : ℕ) (x : X) → slice_get xs n ≡ Some x → filter keep (take (n + 1) xs) ≡ filter keep (take n xs) ++ kept_one keep x
-filter-take_more keep xs n x e =
-    filter_more keep xs n x (slice_get_within xs n x e)
-    ∙ ap (λ y. filter keep (take n xs) ++ kept_one keep y) (get_or_from_slice_get xs n x x e)
+use Rattle.std.proofs.lemmas.List.{length-map}
 
 -- ---- values that are there
 
@@ -49,22 +36,3 @@ has_first_by h x xs (Some y) e all = record { value = y; here = e; rest = (cc) }
 
 pub has_first : {X Y : Type 0} (h : X → Option Y) (x : X) (xs : List X) → map h (x ∷ xs) ≡ map Some (filter_map h (x ∷ xs)) → HasFirst h x xs
 has_first h x xs all = has_first_by h x xs (h x) refl all
-
--- ---- positions of what is kept
-
-module _ {X : Type 0} (keep : X → Bool) (rows held : List X) (positions : List ℕ) (n : ℕ) (x : X) (there : slice_get held n ≡ Some x)
-    (found : map (slice_get rows) positions ≡ map (λ (r : X). Some r) (filter keep (take n held))) where
-  pub found_kept : (at : ℕ) → slice_get rows at ≡ Some x → keep x ≡ true → map (slice_get rows) (positions ++ at ∷ []) ≡ map (λ (r : X). Some r) (filter keep (take (n + 1) held))
-  found_kept at here passes =
-      map-append (slice_get rows) positions (at ∷ [])
-      ∙ ap₂ (λ l o. l ++ o ∷ []) found here
-      ∙ sym (map-append (λ (r : X). Some r) (filter keep (take n held)) (x ∷ []))
-      ∙ ap (λ b. map (λ (r : X). Some r) (filter keep (take n held) ++ cond b (x ∷ []) [])) (sym passes)
-      ∙ ap (map (λ (r : X). Some r)) (sym (filter-take_more keep held n x there))
-
-  pub found_left : keep x ≡ false → map (slice_get rows) positions ≡ map (λ (r : X). Some r) (filter keep (take (n + 1) held))
-  found_left fails =
-      found
-      ∙ ap (map (λ (r : X). Some r)) (sym (append-nil (filter keep (take n held))))
-      ∙ ap (λ b. map (λ (r : X). Some r) (filter keep (take n held) ++ cond b (x ∷ []) [])) (sym fails)
-      ∙ ap (map (λ (r : X). Some r)) (sym (filter-take_more keep held n x there))

@@ -1,7 +1,6 @@
 -- What two sides say and hear, taken apart item by item and turn by turn.
-use Rattle.std.proofs.Common.{◌≡◌, ℕ, zero, suc, ◌+◌, Bool, true, false, cond, List, [], ◌∷◌, ◌++◌, length, flat_map, nat_le, Option, Some, None, Result, Ok, Err, refl, sym, ap, ap₂, ◌∙◌, subst, arith}
+use Rattle.std.proofs.Common.{◌≡◌, ℕ, zero, suc, ◌+◌, Bool, true, false, cond, List, [], ◌∷◌, ◌++◌, length, flat_map, nat_le, Option, Some, None, Result, Ok, Err, refl, sym, ap, ◌∙◌, subst, arith}
 use Rattle.std.specs.Prelude.{IsOk, IsOkAnd, is_ok}
-use Rattle.std.proofs.lemmas.List.{length-append}
 use Rattle.std.proofs.lemmas.Option.{same_Some}
 use Rattle.willow_entry.specs.Row.{RowValue}
 use Rattle.sync_msg.specs.Items.{ItemValue}
@@ -23,6 +22,7 @@ pub record SaysFirst (place next : Place) (item : ItemValue) : Type 0 where
   pub all : says_all place ≡ with_item item (says_all next)
   pub fewer : left_to_say place.doing ≡ left_to_say next.doing + 1
   pub rows : next.rows ≡ place.rows
+  pub version : next.version ≡ place.version
 
 left-going_on : (items : List ItemValue) (asks : List AskValue) → left_to_say (going_on items asks) ≡ length items
 left-going_on [] [] = refl
@@ -34,12 +34,13 @@ unfolding says said
 says_first place next item e = by_doing place.doing refl e
   where
     -- a step to where so many items are left
-    step : (n : ℕ) (first : ItemValue) (then : Place) → left_to_say place.doing ≡ suc n → said place ≡ Some (first, then) → left_to_say then.doing ≡ n → then.rows ≡ place.rows → SaysFirst place then first
-    step n first then left is more same =
+    step : (n : ℕ) (first : ItemValue) (then : Place) → left_to_say place.doing ≡ suc n → said place ≡ Some (first, then) → left_to_say then.doing ≡ n → then.rows ≡ place.rows → then.version ≡ place.version → SaysFirst place then first
+    step n first then left is more same spoken =
         record {
           all = ap (λ k. says k place) left ∙ ap (said_from (says n) place) is ∙ ap (λ k. with_item first (says k then)) (sym more);
           fewer = omega (arith, left, more);
           rows = same;
+          version = spoken;
         }
 
     of_pair : (one other : ItemValue × Place) → one ≡ other → SaysFirst place one.1 one.0 → SaysFirst place other.1 other.0
@@ -50,11 +51,11 @@ says_first place next item e = by_doing place.doing refl e
     by_doing (Saying (first ∷ items) asks) is h =
         let then : Place = record place { sent = place.sent + count_one first; doing = going_on items asks } in
         of_pair (first, then) (item, next) (same_Some (first, then) (item, next) h)
-        (step (length items) first then (ap left_to_say is) (ap (λ d. said_at place (next_said d)) is) (left-going_on items asks) refl)
+        (step (length items) first then (ap left_to_say is) (ap (λ d. said_at place (next_said d)) is) (left-going_on items asks) refl refl)
     by_doing Replying is h =
         let then : Place = record place { sent = place.sent + count_one {R = RowValue} Bye; doing = Finished } in
         of_pair (Bye, then) (item, next) (same_Some (Bye, then) (item, next) h)
-        (step 0 Bye then (ap left_to_say is) (ap (λ d. said_at place (next_said d)) is) refl refl)
+        (step 0 Bye then (ap left_to_say is) (ap (λ d. said_at place (next_said d)) is) refl refl refl)
     by_doing Beginning is h = absurd cc
     by_doing (Hearing asks opens) is h = absurd cc
     by_doing (HearingRows asks left read opens) is h = absurd cc
@@ -118,7 +119,7 @@ pub reads_to_hear : (place : Place) (item : ItemValue) → IsOk (heard place ite
 unfolding heard
 reads_to_hear place item ok = by_doing place.doing ok
   where
-    by_doing : (d : Doing) → IsOk (heard_within place item (next_heard place.area place.rows d item)) → stage_of d ≡ stage.Reading
+    by_doing : (d : Doing) → IsOk (heard_within place item (next_heard place.version place.area place.rows d item)) → stage_of d ≡ stage.Reading
     by_doing (Saying items asks) h = absurd cc
     by_doing Replying h = absurd cc
     by_doing Beginning h = refl
@@ -135,7 +136,7 @@ pub record HearsCounted (place : Place) (n : ℕ) (next : Place) : Type 0 where
 
 one_counted : (place next : Place) (item : ItemValue) → heard place item ≡ Ok next → HearsCounted place (count_one item) next
 unfolding heard
-one_counted place next item e = by_next (next_heard place.area place.rows place.doing item) e
+one_counted place next item e = by_next (next_heard place.version place.area place.rows place.doing item) e
   where
     refused_if : (b : Bool) (one other : CoreRefusal) → ◌≡◌ {A = Result Place CoreRefusal} (cond b (Err one) (Err other)) (Ok next) → ⊥
     refused_if true one other h = cc
@@ -182,24 +183,24 @@ some_item : (items : List ItemValue) (end : ItemValue) → HasItem (items ++ end
 some_item [] end = record { first = end; rest = []; all = refl }
 some_item (item ∷ items) end = record { first = item; rest = items ++ end ∷ []; all = refl }
 
-turn_item : (t : TurnValue) → HasItem (turn_items t)
-turn_item t = some_item (flat_map items_of t.items) (cond t.ends_with_bye Bye EndTurn)
+turn_item : (version : ℕ) (t : TurnValue) → HasItem (turn_items version t)
+turn_item version t = some_item (flat_map (items_of version) t.items) (cond t.ends_with_bye Bye EndTurn)
 
 -- two sides of which one says a turn and the other hears it
 pub record SaysTurn (t : TurnValue) (ts : List TurnValue) (writer reader : Place) : Type 0 where
-  pub says : (says_all writer).0 ≡ turn_items t
+  pub says : (says_all writer).0 ≡ turn_items writer.version t
   pub next : Place
-  pub hears : hears reader (turn_items t) ≡ Ok next
+  pub hears : hears reader (turn_items writer.version t) ≡ Ok next
   pub rest : SayTurns ts next (says_all writer).1
   pub writes : stage_of writer.doing ≡ stage.Writing
   pub reads : stage_of reader.doing ≡ stage.Reading
 
 pub says_turn_first : (t : TurnValue) (ts : List TurnValue) (writer reader : Place) → SayTurns (t ∷ ts) writer reader → SaysTurn t ts writer reader
 unfolding SayTurns
-says_turn_first t ts writer reader h = by_heard (hears reader (turn_items t)) refl h.1
+says_turn_first t ts writer reader h = by_heard (hears reader (turn_items writer.version t)) refl h.1
   where
-    one : HasItem (turn_items t)
-    one = turn_item t
+    one : HasItem (turn_items writer.version t)
+    one = turn_item writer.version t
 
     ok_from : (o : Result Place CoreRefusal) (next : Place) → o ≡ Ok next → IsOk o
     ok_from o next e = ap is_ok e
@@ -219,7 +220,7 @@ says_turn_first t ts writer reader h = by_heard (hears reader (turn_items t)) re
         by_stage stage.Done is = absurd (none (λ w. let no : stage.Done ≡ stage.Writing = sym is ∙ w in cc))
         by_stage stage.Refused is = absurd (none (λ w. let no : stage.Refused ≡ stage.Writing = sym is ∙ w in cc))
 
-    by_heard : (o : Result Place CoreRefusal) → hears reader (turn_items t) ≡ o → IsOkAnd o (λ next. SayTurns ts next (says_all writer).1) → SaysTurn t ts writer reader
+    by_heard : (o : Result Place CoreRefusal) → hears reader (turn_items writer.version t) ≡ o → IsOkAnd o (λ next. SayTurns ts next (says_all writer).1) → SaysTurn t ts writer reader
     by_heard (Err cause) is rest = absurd rest
     by_heard (Ok next) is rest =
         let heard_one = hears_first_item reader one.first one.rest (ok_from (hears reader (one.first ∷ one.rest)) next (ap (hears reader) (sym one.all) ∙ is)) in

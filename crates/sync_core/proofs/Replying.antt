@@ -13,26 +13,26 @@ use Rattle.sync_core.specs.Held.{ask_value, item_at, owed_value}
 use Rattle.sync_core.specs.Answers.{Adds}
 
 -- the turn has the answers to some asks, and what they open
-pub record HasAnswers (rows : List RowValue) (made : Turn) (asks : List AskValue) : Type 0 where
-  pub items : map (item_at rows) made.items.items ≡ map (λ (i : ItemValue). Some i) (flat_map items_of (turn sync_rules rows asks).items)
-  pub opens : map (owed_value rows) made.opens.items ≡ opened sync_rules rows asks
+pub record HasAnswers (version : ℕ) (rows : List RowValue) (made : Turn) (asks : List AskValue) : Type 0 where
+  pub items : map (item_at rows) made.items.items ≡ map (λ (i : ItemValue). Some i) (flat_map (items_of version) (turn (sync_rules version) rows asks).items)
+  pub opens : map (owed_value rows) made.opens.items ≡ opened (sync_rules version) rows asks
 
-module _ (rows : List RowValue) (old new : Turn) where
-  pub answers_more : (asks : List AskValue) (ask : AskValue) → HasAnswers rows old asks → Adds rows old new (reply sync_rules rows ask) → HasAnswers rows new (asks ++ ask ∷ [])
+module _ (version : ℕ) (rows : List RowValue) (old new : Turn) where
+  pub answers_more : (asks : List AskValue) (ask : AskValue) → HasAnswers version rows old asks → Adds version rows old new (reply (sync_rules version) rows ask) → HasAnswers version rows new (asks ++ ask ∷ [])
   answers_more asks ask h a = record {
     items =
-        let item = (reply sync_rules rows ask).item in
-        let more : flat_map items_of (turn sync_rules rows (asks ++ ask ∷ [])).items ≡ flat_map items_of (turn sync_rules rows asks).items ++ items_of item =
-        ap (flat_map items_of) (map-append (λ x. (reply sync_rules rows x).item) asks (ask ∷ []))
-        ∙ flat_map-append items_of (map (λ x. (reply sync_rules rows x).item) asks) (item ∷ [])
-        ∙ ap (λ l. flat_map items_of (turn sync_rules rows asks).items ++ l) (append-nil (items_of item)) in
-        a.items ∙ ap (λ l. l ++ map (λ (i : ItemValue). Some i) (items_of item)) h.items
-        ∙ sym (map-append (λ (i : ItemValue). Some i) (flat_map items_of (turn sync_rules rows asks).items) (items_of item))
+        let item = (reply (sync_rules version) rows ask).item in
+        let more : flat_map (items_of version) (turn (sync_rules version) rows (asks ++ ask ∷ [])).items ≡ flat_map (items_of version) (turn (sync_rules version) rows asks).items ++ items_of version item =
+        ap (flat_map (items_of version)) (map-append (λ x. (reply (sync_rules version) rows x).item) asks (ask ∷ []))
+        ∙ flat_map-append (items_of version) (map (λ x. (reply (sync_rules version) rows x).item) asks) (item ∷ [])
+        ∙ ap (λ l. flat_map (items_of version) (turn (sync_rules version) rows asks).items ++ l) (append-nil (items_of version item)) in
+        a.items ∙ ap (λ l. l ++ map (λ (i : ItemValue). Some i) (items_of version item)) h.items
+        ∙ sym (map-append (λ (i : ItemValue). Some i) (flat_map (items_of version) (turn (sync_rules version) rows asks).items) (items_of version item))
         ∙ ap (map (λ (i : ItemValue). Some i)) (sym more);
     opens =
-        let opens = (reply sync_rules rows ask).opens in
+        let opens = (reply (sync_rules version) rows ask).opens in
         a.opens ∙ ap (λ l. l ++ opens) h.opens
-        ∙ sym (flat_map-append (λ x. (reply sync_rules rows x).opens) asks (ask ∷ []) ∙ ap (λ l. opened sync_rules rows asks ++ l) (append-nil opens));
+        ∙ sym (flat_map-append (λ x. (reply (sync_rules version) rows x).opens) asks (ask ∷ []) ∙ ap (λ l. opened (sync_rules version) rows asks ++ l) (append-nil opens));
   }
 
 -- the values of one more of some asks

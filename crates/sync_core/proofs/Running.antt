@@ -29,7 +29,8 @@ says_items : (place : Place) (items : List ItemValue) (end : ItemValue) (asks : 
 says_items place [] end asks = says_all place end [] asks
 says_items place (item ∷ items) end asks = says_all place item (items ++ end ∷ []) asks
 
-pub says_turn : (place : Place) (t : TurnValue) (asks : List AskValue) → place.doing ≡ saying t asks → says (length (turn_items t)) place ≡ (turn_items t, place_after place t asks)
+pub says_turn : (place : Place) (t : TurnValue) (asks : List AskValue) → place.doing ≡ saying place.version t asks → says (length (turn_items place.version t)) place ≡ (turn_items place.version t, place_after place t asks)
 says_turn place t asks is =
-    let same : before place (turn_items t) asks ≡ place = ap (λ d. record place { doing = d }) (sym is) in
-    ap (says (length (turn_items t))) (sym same) ∙ says_items place (flat_map items_of t.items) (cond t.ends_with_bye Bye EndTurn) asks
+    let items = turn_items place.version t in
+    let same : before place (turn_items place.version t) asks ≡ place = ap (λ d. record place { doing = d }) (sym is) in
+    ap (says (length items)) (sym same) ∙ says_items place (flat_map (items_of place.version) t.items) (cond t.ends_with_bye Bye EndTurn) asks

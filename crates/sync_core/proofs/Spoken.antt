@@ -30,6 +30,7 @@ pub counts_same : (rows : List RowValue) (o : OutItem) (item : ItemValue) → it
 counts_same rows (out.First print) item e = let same : items.First print ≡ item = cc in sym (ap is_counted same)
 counts_same rows out.Agree item e = let same : items.Agree ≡ item = cc in sym (ap is_counted same)
 counts_same rows (out.Split at lower upper) item e = let same : items.Split at lower upper ≡ item = cc in sym (ap is_counted same)
+counts_same rows (out.Parts points prints) item e = let same : items.Parts points prints ≡ item = cc in sym (ap is_counted same)
 counts_same rows (out.Entries count) item e = let same : items.Entries count ≡ item = cc in sym (ap is_counted same)
 counts_same rows (out.Rest count) item e = let same : items.Rest count ≡ item = cc in sym (ap is_counted same)
 counts_same rows (out.Row at) item e = counted_row (slice_get rows at) item e

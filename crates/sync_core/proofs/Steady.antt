@@ -7,7 +7,7 @@ use Rattle.spelling.specs.declared.ending.End.{End}
 use Rattle.spelling.specs.declared.ending.End.TheVariants as end
 use Rattle.willow_area.specs.Boxes.{Ranges}
 use Rattle.willow_entry.specs.Row.{RowValue}
-use Rattle.sync_msg.specs.Items.{ItemValue, is_counted, item_value}
+use Rattle.sync_msg.specs.Items.{ItemValue, HasPrints, is_counted, item_value}
 use Rattle.sync_msg.specs.declared.item.Item.{Item}
 use Rattle.sync_msg.specs.declared.refusal.CoreRefusal.{CoreRefusal}
 use Rattle.sync_msg.specs.declared.refusal.CoreRefusal.TheVariants.{ItemMismatch, BadCut, EntryOutside, RowsOutOfOrder, TooManyItems}
@@ -66,14 +66,14 @@ module _ (place : Place) (most : ℕ) (work : Work) (steady : IsSteady place mos
   pub few_read : place.read ≤ 393216
   few_read = omega (arith, steady.heard, steady.limit, most_few place.area place.rows steady.few)
 
-  pub few_sent : place.sent ≤ 786433
+  pub few_sent : place.sent ≤ 1572865
   few_sent = omega (arith, few_read, steady.said)
 
-  owes : (item : ItemValue) (doing : Doing) → next_heard place.area place.rows place.doing item ≡ Ok doing → owing doing ≤ owing place.doing + 2 * count_one item
-  owes item doing e = subst (λ o. OwesAtMost (owing place.doing + 2 * count_one item) o) e (next_owes place.area place.rows place.doing item)
+  owes : (item : ItemValue) (doing : Doing) → HasPrints item → next_heard place.version place.area place.rows place.doing item ≡ Ok doing → owing doing ≤ owing place.doing + 4 * count_one item
+  owes item doing has e = subst (λ o. OwesAtMost (owing place.doing + 4 * count_one item) o) e (next_owes place.version place.area place.rows place.doing item has)
 
   -- a side that has read an item, which counts so many
-  module _ (item : ItemValue) (new : Work) (outcome : Result (Unit {0}) (End CoreRefusal)) (does : Does place.doing (doing_of place.rows new) (next_heard place.area place.rows place.doing item) outcome) (count : ℕ) (counted : count ≡ count_one item) where
+  module _ (item : ItemValue) (new : Work) (outcome : Result (Unit {0}) (End CoreRefusal)) (does : Does place.doing (doing_of place.rows new) (next_heard place.version place.area place.rows place.doing item) outcome) (count : ℕ) (counted : count ≡ count_one item) where
     -- its place then
     abbrev behind : ℕ → Place
     behind n = record place { read = place.read + n; doing = doing_of place.rows new }
@@ -101,15 +101,17 @@ module _ (place : Place) (most : ℕ) (work : Work) (steady : IsSteady place mos
         let same : (doing_of place.rows new ≡ place.doing) × IsOk (heard place item) = subst (λ r. Matches r) e has_heard in
         (ap (λ d. record place { doing = d }) same.0, same.1)
 
-    pub steady_heard : IsReady place.rows new → told ≡ Ok tt → IsSteady (behind count) most new
-    steady_heard ready e =
+    pub steady_heard : HasPrints item → IsReady place.rows new → told ≡ Ok tt → IsSteady (behind count) most new
+    steady_heard has ready e =
         let w = within_ok outcome (place.sent + place.read + count) most e in
-        let next : next_heard place.area place.rows place.doing item ≡ Ok (doing_of place.rows new) = subst (λ o. Does place.doing (doing_of place.rows new) (next_heard place.area place.rows place.doing item) o) w.0 does in
+        let next : next_heard place.version place.area place.rows place.doing item ≡ Ok (doing_of place.rows new) = subst (λ o. Does place.doing (doing_of place.rows new) (next_heard place.version place.area place.rows place.doing item) o) w.0 does in
         record {
+          version = steady.version;
+          one = steady.one;
           few = steady.few;
           limit = steady.limit;
           ready = ready;
-          said = omega (arith, counted, owes item (doing_of place.rows new) next, steady.said);
+          said = omega (arith, counted, owes item (doing_of place.rows new) has next, steady.said);
           heard = omega (arith, w.1);
         }
 
@@ -117,6 +119,8 @@ module _ (place : Place) (most : ℕ) (work : Work) (steady : IsSteady place mos
   pub steady_said : (new : Work) (item : OutItem) (sent : ℕ) → IsReady place.rows new → item_at place.rows item ≡ option_map (λ step. step.0) (next_said place.doing) → option_map (λ step. step.1) (next_said place.doing) ≡ Some (doing_of place.rows new)
       → sent ≡ place.sent + cond (counts item) 1 0 → IsSteady (record place { sent = sent; doing = doing_of place.rows new }) most new
   steady_said new item sent ready i d e = record {
+    version = steady.version;
+    one = steady.one;
     few = steady.few;
     limit = steady.limit;
     ready = ready;

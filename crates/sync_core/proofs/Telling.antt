@@ -12,14 +12,13 @@ use Rattle.willow_entry.specs.Row.{RowValue}
 use Rattle.block_store.specs.Fingerprint.{fingerprint_of}
 use Rattle.block_store.specs.InBox.{is_in, rows_in}
 use Rattle.range_split.specs.Points.{cuts_at}
-use Rattle.range_split.specs.Choice.{choice}
 use Rattle.exchange_rules.specs.Items as rules
 use Rattle.exchange_rules.specs.Answer.{reply, differing, lacking}
 use Rattle.sync_msg.specs.Items.{ItemValue}
 use Rattle.sync_msg.specs.declared.item.Item.TheVariants as items
 use Rattle.sync_core.specs.declared.out_item.OutItem.{OutItem}
 use Rattle.sync_core.specs.declared.out_item.OutItem.TheVariants as out
-use Rattle.sync_core.specs.SyncRules.{sync_rules}
+use Rattle.sync_core.specs.SyncRules.{choice_in, sync_rules}
 use Rattle.sync_core.specs.Held.{item_at}
 use Rattle.sync_core.specs.Answers.{ReplyValue}
 use Rattle.sync_core.proofs.Naming.{named_rows}
@@ -29,17 +28,17 @@ use Rattle.sync_core.proofs.Naming.{named_rows}
 abbrev pub agreeing : ReplyValue
 agreeing = record { item = rules.Agree; opens = [] }
 
-pub reply_same : (rows : List RowValue) (area : Ranges) (print : List ℕ) → same_bytes print (fingerprint_of (rows_in area rows)) ≡ true → reply sync_rules rows (rules.Print area print) ≡ agreeing
+pub reply_same : (version : ℕ) (rows : List RowValue) (area : Ranges) (print : List ℕ) → same_bytes print (fingerprint_of (rows_in area rows)) ≡ true → reply (sync_rules version) rows (rules.Print area print) ≡ agreeing
 unfolding reply
-reply_same rows area print e = ap (λ b. cond b agreeing (differing sync_rules rows area (option_map cuts_at (choice (rows_in area rows))))) e
+reply_same version rows area print e = ap (λ b. cond b agreeing (differing (sync_rules version) rows area (option_map cuts_at (choice_in version (rows_in area rows))))) e
 
-pub reply_differs : (rows : List RowValue) (area : Ranges) (print : List ℕ) → same_bytes print (fingerprint_of (rows_in area rows)) ≡ false → reply sync_rules rows (rules.Print area print) ≡ differing sync_rules rows area (option_map cuts_at (choice (rows_in area rows)))
+pub reply_differs : (version : ℕ) (rows : List RowValue) (area : Ranges) (print : List ℕ) → same_bytes print (fingerprint_of (rows_in area rows)) ≡ false → reply (sync_rules version) rows (rules.Print area print) ≡ differing (sync_rules version) rows area (option_map cuts_at (choice_in version (rows_in area rows)))
 unfolding reply
-reply_differs rows area print e = ap (λ b. cond b agreeing (differing sync_rules rows area (option_map cuts_at (choice (rows_in area rows))))) e
+reply_differs version rows area print e = ap (λ b. cond b agreeing (differing (sync_rules version) rows area (option_map cuts_at (choice_in version (rows_in area rows))))) e
 
-pub reply_sent : (rows : List RowValue) (area : Ranges) (sent : List RowValue) → reply sync_rules rows (rules.Sent area sent) ≡ record { item = rules.Rest (lacking sync_rules rows area sent); opens = [] }
+pub reply_sent : (version : ℕ) (rows : List RowValue) (area : Ranges) (sent : List RowValue) → reply (sync_rules version) rows (rules.Sent area sent) ≡ record { item = rules.Rest (lacking (sync_rules version) rows area sent); opens = [] }
 unfolding reply
-reply_sent rows area sent = refl
+reply_sent version rows area sent = refl
 
 -- the fingerprint of the rows of a box
 abbrev print_in : List RowValue → Ranges → List ℕ
@@ -50,10 +49,10 @@ abbrev split_reply : List RowValue → CutAt → List Ranges → ReplyValue
 split_reply rows at parts = record { item = rules.Split (at ∷ []) (map (print_in rows) parts); opens = map (λ y. rules.Print y (print_in rows y)) parts }
 
 pub differing_inside : (rows : List RowValue) (area : Ranges) (at : CutAt) → can_cut area at ≡ true
-    → differing sync_rules rows area (Some (at ∷ [])) ≡ record { item = rules.Split (at ∷ []) (fingerprint_of (rows_in (lower_part area at) rows) ∷ fingerprint_of (rows_in (upper_part area at) rows) ∷ []); opens = rules.Print (lower_part area at) (fingerprint_of (rows_in (lower_part area at) rows)) ∷ rules.Print (upper_part area at) (fingerprint_of (rows_in (upper_part area at) rows)) ∷ [] }
+    → differing (sync_rules 1) rows area (Some (at ∷ [])) ≡ record { item = rules.Split (at ∷ []) (fingerprint_of (rows_in (lower_part area at) rows) ∷ fingerprint_of (rows_in (upper_part area at) rows) ∷ []); opens = rules.Print (lower_part area at) (fingerprint_of (rows_in (lower_part area at) rows)) ∷ rules.Print (upper_part area at) (fingerprint_of (rows_in (upper_part area at) rows)) ∷ [] }
 differing_inside rows area at can = ap (λ b. split_reply rows at (unwrap_or (cond b (Some (lower_part area at ∷ upper_part area at ∷ [])) None) [])) can
 
-pub differing_outside : (rows : List RowValue) (area : Ranges) (at : CutAt) → can_cut area at ≡ false → differing sync_rules rows area (Some (at ∷ [])) ≡ record { item = rules.Split (at ∷ []) []; opens = [] }
+pub differing_outside : (rows : List RowValue) (area : Ranges) (at : CutAt) → can_cut area at ≡ false → differing (sync_rules 1) rows area (Some (at ∷ [])) ≡ record { item = rules.Split (at ∷ []) []; opens = [] }
 differing_outside rows area at cannot = ap (λ b. split_reply rows at (unwrap_or (cond b (Some (lower_part area at ∷ upper_part area at ∷ [])) None) [])) cannot
 
 -- a test that gives no cause passed, and one that gives a cause failed
@@ -72,8 +71,8 @@ filter_passing [] = refl
 filter_passing (x ∷ xs) = ap (λ l. x ∷ l) (filter_passing xs)
 
 -- where none was sent, none is left out
-pub lacking_none : (rows : List RowValue) (area : Ranges) → lacking sync_rules rows area [] ≡ rows_in area rows
-lacking_none rows area = filter_passing (rows_in area rows)
+pub lacking_none : (version : ℕ) (rows : List RowValue) (area : Ranges) → lacking (sync_rules version) rows area [] ≡ rows_in area rows
+lacking_none version rows area = filter_passing (rows_in area rows)
 
 pub found_length : (rows : List RowValue) (positions : List ℕ) (found : List RowValue) → map (slice_get rows) positions ≡ map (λ r. Some r) found → length positions ≡ length found
 found_length rows positions found e =

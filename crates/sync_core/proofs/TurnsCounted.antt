@@ -27,17 +27,17 @@ may_come place item doing few =
     ap (λ b. cond b (Ok (read_more place (count_one item) doing)) (Err (TooManyItems (items_with place item)))) (le-leb (items_with place item) (most_items place.area place.rows) few)
 
 -- where no more are counted than may be, a side does what it does but for their number
-hears_counted : (place : Place) (items : List ItemValue) (doing : Doing) → next_all place.area place.rows place.doing items ≡ Ok doing → place.sent + place.read + to_count items ≤ most_items place.area place.rows
+hears_counted : (place : Place) (items : List ItemValue) (doing : Doing) → next_all place.version place.area place.rows place.doing items ≡ Ok doing → place.sent + place.read + to_count items ≤ most_items place.area place.rows
     → hears place items ≡ Ok (read_more place (to_count items) doing)
 unfolding hears next_all heard
 hears_counted place [] doing e few =
     let same : place.doing ≡ doing = cc in
     let none : place.read ≡ place.read + 0 = omega arith in
     ap₂ (λ n d. Ok (record place { read = n; doing = d })) none same
-hears_counted place (item ∷ items) doing e few = by_first (next_heard place.area place.rows place.doing item) e (λ then. hears_counted then items doing)
+hears_counted place (item ∷ items) doing e few = by_first (next_heard place.version place.area place.rows place.doing item) e (λ then. hears_counted then items doing)
   where
-    by_first : (o : Result Doing CoreRefusal) → heard_from (λ d. next_all place.area place.rows d items) o ≡ Ok doing
-        → ((then : Place) → next_all then.area then.rows then.doing items ≡ Ok doing → then.sent + then.read + to_count items ≤ most_items then.area then.rows → hears then items ≡ Ok (read_more then (to_count items) doing))
+    by_first : (o : Result Doing CoreRefusal) → heard_from (λ d. next_all place.version place.area place.rows d items) o ≡ Ok doing
+        → ((then : Place) → next_all then.version then.area then.rows then.doing items ≡ Ok doing → then.sent + then.read + to_count items ≤ most_items then.area then.rows → hears then items ≡ Ok (read_more then (to_count items) doing))
         → heard_from (λ p. hears p items) (heard_within place item o) ≡ Ok (read_more place (to_count (item ∷ items)) doing)
     by_first (Err cause) h later = absurd cc
     by_first (Ok next) h later =
@@ -64,16 +64,16 @@ err_behind behind (Ok place) e = absurd cc
 err_behind behind (Err cause) e = refl
 
 -- where an item is refused whatever their number, an item is refused
-hears_refused : (place : Place) (items : List ItemValue) → IsErr (next_all place.area place.rows place.doing items) → IsErr (hears place items)
+hears_refused : (place : Place) (items : List ItemValue) → IsErr (next_all place.version place.area place.rows place.doing items) → IsErr (hears place items)
 unfolding hears next_all heard
 hears_refused place [] e = absurd cc
-hears_refused place (item ∷ items) e = by_first (next_heard place.area place.rows place.doing item) e (λ then. hears_refused then items)
+hears_refused place (item ∷ items) e = by_first (next_heard place.version place.area place.rows place.doing item) e (λ then. hears_refused then items)
   where
     counted : (b : Bool) (then : Place) → IsErr (hears then items) → IsErr (heard_from (λ p. hears p items) (cond b (Ok then) (Err (TooManyItems (items_with place item)))))
     counted true then h = h
     counted false then h = refl
 
-    by_first : (o : Result Doing CoreRefusal) → IsErr (heard_from (λ d. next_all place.area place.rows d items) o) → ((then : Place) → IsErr (next_all then.area then.rows then.doing items) → IsErr (hears then items))
+    by_first : (o : Result Doing CoreRefusal) → IsErr (heard_from (λ d. next_all place.version place.area place.rows d items) o) → ((then : Place) → IsErr (next_all then.version then.area then.rows then.doing items) → IsErr (hears then items))
         → IsErr (heard_from (λ p. hears p items) (heard_within place item o))
     by_first (Err cause) h later = err_behind (λ p. hears p items) (heard_within place item (Err cause)) (refused_by place item cause)
     by_first (Ok next) h later =
@@ -83,53 +83,53 @@ hears_refused place (item ∷ items) e = by_first (next_heard place.area place.r
 -- ---- turns
 
 -- what a side does that hears a turn is what the turn opens
-module _ (place : Place) (t : TurnValue) (o : Option (List AskValue)) (does : DoesOpen place.area place.rows (replying place.rows) o (next_all place.area place.rows place.doing (turn_items t))) where
-  answers_opened : (opens : List AskValue) → o ≡ Some opens → HasRoom place t → hears place (turn_items t) ≡ Ok (place_behind place t opens)
+module _ (place : Place) (t : TurnValue) (o : Option (List AskValue)) (does : DoesOpen place.version place.area place.rows (replying place.version place.rows) o (next_all place.version place.area place.rows place.doing (turn_items place.version t))) where
+  answers_opened : (opens : List AskValue) → o ≡ Some opens → HasRoom place t → hears place (turn_items place.version t) ≡ Ok (place_behind place t opens)
   answers_opened opens is room =
-      hears_counted place (turn_items t) (replying place.rows opens)
-      (subst (λ x. DoesOpen place.area place.rows (replying place.rows) x (next_all place.area place.rows place.doing (turn_items t))) is does) room
+      hears_counted place (turn_items place.version t) (replying place.version place.rows opens)
+      (subst (λ x. DoesOpen place.version place.area place.rows (replying place.version place.rows) x (next_all place.version place.area place.rows place.doing (turn_items place.version t))) is does) room
 
-  refuses_turn : o ≡ None → IsErr (hears place (turn_items t))
+  refuses_turn : o ≡ None → IsErr (hears place (turn_items place.version t))
   refuses_turn is =
-      hears_refused place (turn_items t) (subst (λ x. DoesOpen place.area place.rows (replying place.rows) x (next_all place.area place.rows place.doing (turn_items t))) is does)
+      hears_refused place (turn_items place.version t) (subst (λ x. DoesOpen place.version place.area place.rows (replying place.version place.rows) x (next_all place.version place.area place.rows place.doing (turn_items place.version t))) is does)
 
-module _ (place : Place) (t : TurnValue) (told : IsToldTurn t) where
+module _ (place : Place) (t : TurnValue) (told : IsToldTurn place.version t) where
   -- a side that hears the answers to some asks
   module _ (asks : List AskValue) (is : place.doing ≡ Hearing asks []) where
-    does_hearing : DoesOpen place.area place.rows (replying place.rows) (peer.heard sync_rules asks t) (next_all place.area place.rows place.doing (turn_items t))
+    does_hearing : DoesOpen place.version place.area place.rows (replying place.version place.rows) (peer.heard (sync_rules place.version) asks t) (next_all place.version place.area place.rows place.doing (turn_items place.version t))
     does_hearing =
-        subst (λ d. DoesOpen place.area place.rows (replying place.rows) (peer.heard sync_rules asks t) (next_all place.area place.rows d (turn_items t))) (sym is) (does_turn place.area place.rows asks t told)
+        subst (λ d. DoesOpen place.version place.area place.rows (replying place.version place.rows) (peer.heard (sync_rules place.version) asks t) (next_all place.version place.area place.rows d (turn_items place.version t))) (sym is) (does_turn place.version place.area place.rows asks t told)
 
-    pub hears_turn : (opens : List AskValue) → peer.heard sync_rules asks t ≡ Some opens → HasRoom place t → hears place (turn_items t) ≡ Ok (place_behind place t opens)
-    hears_turn = answers_opened place t (peer.heard sync_rules asks t) does_hearing
+    pub hears_turn : (opens : List AskValue) → peer.heard (sync_rules place.version) asks t ≡ Some opens → HasRoom place t → hears place (turn_items place.version t) ≡ Ok (place_behind place t opens)
+    hears_turn = answers_opened place t (peer.heard (sync_rules place.version) asks t) does_hearing
 
-    pub refused_turn : peer.heard sync_rules asks t ≡ None → IsErr (hears place (turn_items t))
-    refused_turn = refuses_turn place t (peer.heard sync_rules asks t) does_hearing
+    pub refused_turn : peer.heard (sync_rules place.version) asks t ≡ None → IsErr (hears place (turn_items place.version t))
+    refused_turn = refuses_turn place t (peer.heard (sync_rules place.version) asks t) does_hearing
 
   -- one that has read nothing yet, and has an area
   module _ (box : Ranges) (is : place.doing ≡ Beginning) (of : place.area ≡ Some box) where
-    does_beginning : DoesOpen place.area place.rows (replying place.rows) (peer.first_opens box t.items t.ends_with_bye) (next_all place.area place.rows place.doing (turn_items t))
+    does_beginning : DoesOpen place.version place.area place.rows (replying place.version place.rows) (peer.first_opens box t.items t.ends_with_bye) (next_all place.version place.area place.rows place.doing (turn_items place.version t))
     does_beginning =
-        let P : Option Ranges → Doing → Type 0 = λ a d. DoesOpen a place.rows (replying place.rows) (peer.first_opens box t.items t.ends_with_bye) (next_all a place.rows d (turn_items t)) in
-        subst (λ d. P place.area d) (sym is) (subst (λ a. P a Beginning) (sym of) (does_first box place.rows t told))
+        let P : Option Ranges → Doing → Type 0 = λ a d. DoesOpen place.version a place.rows (replying place.version place.rows) (peer.first_opens box t.items t.ends_with_bye) (next_all place.version a place.rows d (turn_items place.version t)) in
+        subst (λ d. P place.area d) (sym is) (subst (λ a. P a Beginning) (sym of) (does_first place.version box place.rows t told))
 
-    pub hears_first : (opens : List AskValue) → peer.first_opens box t.items t.ends_with_bye ≡ Some opens → HasRoom place t → hears place (turn_items t) ≡ Ok (place_behind place t opens)
+    pub hears_first : (opens : List AskValue) → peer.first_opens box t.items t.ends_with_bye ≡ Some opens → HasRoom place t → hears place (turn_items place.version t) ≡ Ok (place_behind place t opens)
     hears_first = answers_opened place t (peer.first_opens box t.items t.ends_with_bye) does_beginning
 
-    pub refused_first : peer.first_opens box t.items t.ends_with_bye ≡ None → IsErr (hears place (turn_items t))
+    pub refused_first : peer.first_opens box t.items t.ends_with_bye ≡ None → IsErr (hears place (turn_items place.version t))
     refused_first = refuses_turn place t (peer.first_opens box t.items t.ends_with_bye) does_beginning
 
 -- a farewell alone, where the side does something in which it may come
 module _ (place : Place) (room : HasRoom place rules.bye) where
-  hears_bye : (doing next : Doing) → place.doing ≡ doing → next_heard place.area place.rows doing Bye ≡ Ok next → hears place (turn_items rules.bye) ≡ Ok (read_more place 0 next)
+  hears_bye : (doing next : Doing) → place.doing ≡ doing → next_heard place.version place.area place.rows doing Bye ≡ Ok next → hears place (turn_items place.version rules.bye) ≡ Ok (read_more place 0 next)
   unfolding next_all
   hears_bye doing next is e =
-      hears_counted place (turn_items rules.bye) next (ap (λ d. heard_from (λ x. Ok x) (next_heard place.area place.rows d Bye)) is ∙ ap (heard_from (λ x. Ok x)) e) room
+      hears_counted place (turn_items place.version rules.bye) next (ap (λ d. heard_from (λ x. Ok x) (next_heard place.version place.area place.rows d Bye)) is ∙ ap (heard_from (λ x. Ok x)) e) room
 
-  pub hears_first_bye : place.doing ≡ Beginning → place.area ≡ None → hears place (turn_items rules.bye) ≡ Ok (place_behind place rules.bye [])
+  pub hears_first_bye : place.doing ≡ Beginning → place.area ≡ None → hears place (turn_items place.version rules.bye) ≡ Ok (place_behind place rules.bye [])
   hears_first_bye is none = hears_bye Beginning Replying is (ap (λ o. first_heard o Bye) none)
 
-  pub hears_last_bye : place.doing ≡ Parting → hears place (turn_items rules.bye) ≡ Ok (record place { doing = Finished })
+  pub hears_last_bye : place.doing ≡ Parting → hears place (turn_items place.version rules.bye) ≡ Ok (record place { doing = Finished })
   hears_last_bye is =
       let none : place.read + 0 ≡ place.read = omega arith in
       hears_bye Parting Finished is refl ∙ ap (λ r. Ok (record place { read = r; doing = Finished })) none

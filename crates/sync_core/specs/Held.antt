@@ -1,10 +1,12 @@
 -- What contracts see of a side in memory.
 use Rattle.std.specs.Prelude.{◌≡◌, ℕ, ◌+◌, ◌*◌, ◌<◌, ◌≤◌, Bool, true, false, List, [], ◌∷◌, map, length, filter_map, slice_get, option_map, Option, None, Some, Result, Err}
 use Rattle.willow_entry.specs.Row.{RowValue}
+use Rattle.block_store.specs.BoxKinds.{IsOfOneNamespace}
 use Rattle.block_store.specs.InBox.{rows_in}
 use Rattle.exchange_rules.specs.Items.{Print, Sent}
 use Rattle.sync_msg.specs.Items.{ItemValue}
 use Rattle.sync_msg.specs.declared.item.Item.TheVariants as items
+use Rattle.sync_core.specs.SyncRules.{IsVersion}
 use Rattle.sync_core.specs.Flat.{AskValue}
 use Rattle.sync_core.specs.Place.{Doing, Saying, Replying, Beginning, Hearing, HearingRows, Parting, Finished, Refused, Place, most_items}
 use Rattle.sync_core.specs.declared.stage.TheConstants.{SNAPSHOT_MAX}
@@ -28,6 +30,7 @@ abbrev pub item_at : List RowValue → OutItem → Option ItemValue
 item_at rows (out.First print) = Some (items.First print)
 item_at rows out.Agree = Some items.Agree
 item_at rows (out.Split at lower upper) = Some (items.Split at lower upper)
+item_at rows (out.Parts points prints) = Some (items.Parts points prints)
 item_at rows (out.Entries count) = Some (items.Entries count)
 item_at rows (out.Rest count) = Some (items.Rest count)
 item_at rows (out.Row at) = option_map items.Row (slice_get rows at)
@@ -128,12 +131,14 @@ owing Parting = 0
 owing Finished = 0
 owing (Refused cause) = 0
 
--- What a side keeps to. Each item read opens two asks at most, and the first turn says one item.
+-- What a side keeps to. Each item read opens four asks at most, and the first turn says one item.
 pub record IsSteady (place : Place) (most : ℕ) (work : Work) : Type 0 where
+  pub version : IsVersion place.version
+  pub one : IsOfOneNamespace place.rows
   pub few : length place.rows ≤ SNAPSHOT_MAX
   pub limit : most ≡ most_items place.area place.rows
   pub ready : IsReady place.rows work
-  pub said : place.sent + owing place.doing ≤ 2 * place.read + 1
+  pub said : place.sent + owing place.doing ≤ 4 * place.read + 1
   pub heard : place.read ≤ most
 
 -- the items that count against the limit of an exchange
@@ -141,6 +146,7 @@ abbrev pub counts : OutItem → Bool
 counts (out.First print) = true
 counts out.Agree = true
 counts (out.Split at lower upper) = true
+counts (out.Parts points prints) = true
 counts (out.Entries count) = true
 counts (out.Rest count) = true
 counts (out.Row at) = false

@@ -36,9 +36,10 @@ pub data Doing : Type 0 where
   -- what it read was refused
   Refused : CoreRefusal → Doing
 
--- its side, its rows, the box of the area that both peers read, where there is one, the counted items that it sent and
--- read, and what it is doing
+-- the version of the session, its side, its rows, the box of the area that both peers read, where there is one, the counted
+-- items that it sent and read, and what it is doing
 pub record Place : Type 0 where
+  pub version : ℕ
   pub role : Role
   pub rows : List RowValue
   pub area : Option Ranges
@@ -56,22 +57,22 @@ abbrev pub most_items : Option Ranges → List RowValue → ℕ
 most_items area rows = 3 * (length (rows_of_area area rows) + SNAPSHOT_MAX)
 
 -- it begins to say a turn
-abbrev pub saying : TurnValue → List AskValue → Doing
-saying t asks = Saying (turn_items t) asks
+abbrev pub saying : ℕ → TurnValue → List AskValue → Doing
+saying version t asks = Saying (turn_items version t) asks
 
 -- it begins to say its answers to some asks
-abbrev pub answering : List RowValue → List AskValue → Doing
-answering rows asks = saying (turn sync_rules rows asks) (opened sync_rules rows asks)
+abbrev pub answering : ℕ → List RowValue → List AskValue → Doing
+answering version rows asks = saying version (turn (sync_rules version) rows asks) (opened (sync_rules version) rows asks)
 
 -- what a side begins with: the caller with the fingerprint of the area, or without one with a farewell
-abbrev pub first_doing : Role → Option Ranges → List RowValue → Doing
-first_doing Caller None rows = saying bye []
-first_doing Caller (Some area) rows = saying (first_turn sync_rules rows area) (first_asks sync_rules rows area)
-first_doing Answerer area rows = Beginning
+abbrev pub first_doing : ℕ → Role → Option Ranges → List RowValue → Doing
+first_doing version Caller None rows = saying version bye []
+first_doing version Caller (Some area) rows = saying version (first_turn (sync_rules version) rows area) (first_asks (sync_rules version) rows area)
+first_doing version Answerer area rows = Beginning
 
--- the place of a side at the beginning
-abbrev pub first_place : Role → List RowValue → Option Ranges → Place
-first_place role rows area = record { role = role; rows = rows; area = area; sent = 0; read = 0; doing = first_doing role area rows }
+-- the place of a side at the beginning of a session of a version
+abbrev pub first_place : ℕ → Role → List RowValue → Option Ranges → Place
+first_place version role rows area = record { version = version; role = role; rows = rows; area = area; sent = 0; read = 0; doing = first_doing version role area rows }
 
 -- it writes, reads, is done, or has refused
 abbrev pub stage_of : Doing → Stage

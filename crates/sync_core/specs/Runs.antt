@@ -42,7 +42,7 @@ says_all place = says (left_to_say place.doing) place
 
 -- the place of a side that has said a turn which opened these asks
 abbrev pub place_after : Place → TurnValue → List AskValue → Place
-place_after place t asks = record place { sent = place.sent + to_count (turn_items t); doing = waiting asks }
+place_after place t asks = record place { sent = place.sent + to_count (turn_items place.version t); doing = waiting asks }
 
 -- ---- what is heard
 
@@ -70,16 +70,16 @@ HearsLast place = place.doing ≡ Parting
 
 -- with the items of the turn no more are counted than may be
 abbrev pub HasRoom : Place → TurnValue → Type 0
-HasRoom place t = place.sent + place.read + to_count (turn_items t) ≤ most_items place.area place.rows
+HasRoom place t = place.sent + place.read + to_count (turn_items place.version t) ≤ most_items place.area place.rows
 
 -- what a side does that has heard a turn which opened these asks: it answers them, or says farewell where there is none
-abbrev pub replying : List RowValue → List AskValue → Doing
-replying rows [] = Replying
-replying rows (ask ∷ asks) = answering rows (ask ∷ asks)
+abbrev pub replying : ℕ → List RowValue → List AskValue → Doing
+replying version rows [] = Replying
+replying version rows (ask ∷ asks) = answering version rows (ask ∷ asks)
 
 -- its place then
 abbrev pub place_behind : Place → TurnValue → List AskValue → Place
-place_behind place t opens = record place { read = place.read + to_count (turn_items t); doing = replying place.rows opens }
+place_behind place t opens = record place { read = place.read + to_count (turn_items place.version t); doing = replying place.version place.rows opens }
 
 -- its place behind the last farewell
 abbrev pub place_at_end : Place → Place
@@ -87,9 +87,9 @@ place_at_end place = record place { doing = Finished }
 
 -- ---- two sides
 
--- Of two sides the first says the first of these turns, which the second hears, then the second says the next, and so
--- on to the last, behind which both are done.
+-- Of two sides of one version the first says the first of these turns, which the second hears, then the second says the
+-- next, and so on to the last, behind which both are done.
 unfoldable pub SayTurns : List TurnValue → Place → Place → Type 0
 SayTurns [] writer reader = (writer.doing ≡ Finished) × (reader.doing ≡ Finished)
 SayTurns (t ∷ ts) writer reader =
-    ((says_all writer).0 ≡ turn_items t) × IsOkAnd (hears reader (turn_items t)) (λ next. SayTurns ts next (says_all writer).1)
+    ((says_all writer).0 ≡ turn_items writer.version t) × IsOkAnd (hears reader (turn_items writer.version t)) (λ next. SayTurns ts next (says_all writer).1)

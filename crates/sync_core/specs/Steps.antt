@@ -1,5 +1,5 @@
 -- One step of a side: what it says next, and what becomes of an item that it reads.
-use Rattle.std.specs.Prelude.{ℕ, zero, suc, ◌+◌, ◌-◌, Bool, true, not, List, [], ◌∷◌, ◌++◌, Option, None, Some, Result, Ok, Err, nat_le, if◌then◌else◌}
+use Rattle.std.specs.Prelude.{ℕ, zero, suc, ◌+◌, ◌-◌, Bool, true, not, List, [], ◌∷◌, ◌++◌, Option, None, Some, Result, Ok, Err, nat_eq, nat_le, if◌then◌else◌}
 use Rattle.std.specs.Ordering.{is_lt}
 use Rattle.spelling.specs.Answers.{cause_if}
 use Rattle.willow_area.specs.Boxes.{Ranges}
@@ -7,10 +7,12 @@ use Rattle.willow_area.specs.Cuts.{can_cut, lower_part, upper_part}
 use Rattle.willow_area.specs.declared.cut.CutAt.{CutAt}
 use Rattle.willow_entry.specs.Row.{RowValue, inner_place_cmp}
 use Rattle.block_store.specs.InBox.{is_in}
+use Rattle.exchange_rules.specs.AnyPeer.{part_asks}
 use Rattle.exchange_rules.specs.Items.{Print, Sent}
+use Rattle.range_split.specs.Parts.{can_cut_at, parts_at}
 use Rattle.sync_msg.specs.Items.{ItemValue, is_counted}
 use Rattle.sync_msg.specs.declared.item.Item.{Item}
-use Rattle.sync_msg.specs.declared.item.Item.TheVariants.{First, Agree, Split, Entries, Rest, Row, EndTurn, Bye}
+use Rattle.sync_msg.specs.declared.item.Item.TheVariants.{First, Agree, Split, Parts, Entries, Rest, Row, EndTurn, Bye}
 use Rattle.sync_msg.specs.declared.refusal.CoreRefusal.{CoreRefusal}
 use Rattle.sync_msg.specs.declared.refusal.CoreRefusal.TheVariants.{BadCut, ItemMismatch, EntryOutside, RowsOutOfOrder, TooManyItems}
 use Rattle.sync_core.specs.Flat.{AskValue}
@@ -93,30 +95,38 @@ abbrev pub row_heard : AskValue → List AskValue → ℕ → List RowValue → 
 row_heard ask asks left read opens row =
     unless (row_cause (box_of ask) read row) (hearing_rows ask asks (left - 1) (remembered ask read row) opens)
 
--- a cut of the asked box, with the fingerprints of its parts
+-- a cut in two of the asked box, with the fingerprints of its parts
 abbrev pub cut_heard : Ranges → List AskValue → List AskValue → CutAt → List ℕ → List ℕ → Result Doing CoreRefusal
 cut_heard area asks opens at lower upper =
     unless (cause_if (not (can_cut area at)) BadCut)
     (Hearing asks (opens ++ Print (lower_part area at) lower ∷ Print (upper_part area at) upper ∷ []))
 
--- a head that answers an ask
-abbrev pub head_heard : AskValue → List AskValue → List AskValue → ItemValue → Result Doing CoreRefusal
-head_heard (Print area print) asks opens Agree = Ok (Hearing asks opens)
-head_heard (Print area print) asks opens (Split at lower upper) = cut_heard area asks opens at lower upper
-head_heard (Print area print) asks opens (Entries count) = Ok (hearing_rows (Print area print) asks count [] opens)
-head_heard (Sent area sent) asks opens (Rest count) = Ok (hearing_rows (Sent area sent) asks count [] opens)
-head_heard ask asks opens item = Err ItemMismatch
+-- a cut of the asked box in parts, with the fingerprint of each
+abbrev pub parts_heard : Ranges → List AskValue → List AskValue → List CutAt → List (List ℕ) → Result Doing CoreRefusal
+parts_heard area asks opens points prints =
+    unless (cause_if (not (can_cut_at area points)) BadCut) (Hearing asks (opens ++ part_asks (parts_at area points) prints))
+
+-- A head that answers an ask. A cut in two may come in version 1 alone, one in parts not there.
+abbrev pub head_heard : ℕ → AskValue → List AskValue → List AskValue → ItemValue → Result Doing CoreRefusal
+head_heard version (Print area print) asks opens Agree = Ok (Hearing asks opens)
+head_heard version (Print area print) asks opens (Split at lower upper) =
+    if nat_eq version 1 then cut_heard area asks opens at lower upper else Err ItemMismatch
+head_heard version (Print area print) asks opens (Parts points prints) =
+    if nat_eq version 1 then Err ItemMismatch else parts_heard area asks opens points prints
+head_heard version (Print area print) asks opens (Entries count) = Ok (hearing_rows (Print area print) asks count [] opens)
+head_heard version (Sent area sent) asks opens (Rest count) = Ok (hearing_rows (Sent area sent) asks count [] opens)
+head_heard version ask asks opens item = Err ItemMismatch
 
 -- the end of a turn whose asks are all answered: a farewell exactly where it opened nothing
-abbrev pub end_heard : List RowValue → List AskValue → ItemValue → Result Doing CoreRefusal
-end_heard rows [] Bye = Ok Replying
-end_heard rows (ask ∷ asks) EndTurn = Ok (answering rows (ask ∷ asks))
-end_heard rows asks item = Err ItemMismatch
+abbrev pub end_heard : ℕ → List RowValue → List AskValue → ItemValue → Result Doing CoreRefusal
+end_heard version rows [] Bye = Ok Replying
+end_heard version rows (ask ∷ asks) EndTurn = Ok (answering version rows (ask ∷ asks))
+end_heard version rows asks item = Err ItemMismatch
 
 -- an item of a turn that the side reads, where no row is due
-abbrev pub turn_heard : List RowValue → List AskValue → List AskValue → ItemValue → Result Doing CoreRefusal
-turn_heard rows [] opens item = end_heard rows opens item
-turn_heard rows (ask ∷ asks) opens item = head_heard ask asks opens item
+abbrev pub turn_heard : ℕ → List RowValue → List AskValue → List AskValue → ItemValue → Result Doing CoreRefusal
+turn_heard version rows [] opens item = end_heard version rows opens item
+turn_heard version rows (ask ∷ asks) opens item = head_heard version ask asks opens item
 
 -- the first item that the side reads that does not begin
 abbrev pub first_heard : Option Ranges → ItemValue → Result Doing CoreRefusal
@@ -135,12 +145,12 @@ bye_heard Bye = Ok Finished
 bye_heard item = Err ItemMismatch
 
 -- what a side does that has read an item, but for the number of items; or why it is refused
-abbrev pub next_heard : Option Ranges → List RowValue → Doing → ItemValue → Result Doing CoreRefusal
-next_heard area rows Beginning item = first_heard area item
-next_heard area rows (Hearing asks opens) item = turn_heard rows asks opens item
-next_heard area rows (HearingRows asks left read opens) item = due_heard asks left read opens item
-next_heard area rows Parting item = bye_heard item
-next_heard area rows doing item = Err ItemMismatch
+abbrev pub next_heard : ℕ → Option Ranges → List RowValue → Doing → ItemValue → Result Doing CoreRefusal
+next_heard version area rows Beginning item = first_heard area item
+next_heard version area rows (Hearing asks opens) item = turn_heard version rows asks opens item
+next_heard version area rows (HearingRows asks left read opens) item = due_heard asks left read opens item
+next_heard version area rows Parting item = bye_heard item
+next_heard version area rows doing item = Err ItemMismatch
 
 -- the items that a side has sent and read, with one more that it reads
 abbrev pub items_with : Place → ItemValue → ℕ
@@ -160,7 +170,7 @@ heard_within place item outcome =
 
 -- the place of a side that has read an item, or why it is refused
 unfoldable pub heard : Place → ItemValue → Result Place CoreRefusal
-heard place item = heard_within place item (next_heard place.area place.rows place.doing item)
+heard place item = heard_within place item (next_heard place.version place.area place.rows place.doing item)
 
 -- the place of a side that has refused: all else is as it was
 abbrev pub refused : Place → CoreRefusal → Place

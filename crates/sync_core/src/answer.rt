@@ -1,15 +1,19 @@
 //! The answers to asks.
 
-ghost use Rattle.std.specs.Prelude.{◌≡◌, ◌++◌, ◌<◌, ◌≤◌, List, [], ◌∷◌, map, flat_map, option_map, slice_get, Some, None, OnOk, IfOk, length};
+ghost use Rattle.std.specs.Prelude.{◌≡◌, ℕ, ◌++◌, ◌<◌, ◌≤◌, List, [], ◌∷◌, map, flat_map, option_map, slice_get, Some, None, IsTrue, OnOk, IfOk, length};
 ghost use Rattle.willow_area.specs.declared.cut.CutAt.TheVariants as cuts;
 ghost use Rattle.willow_entry.specs.Row.{RowValue};
+ghost use Rattle.block_store.specs.BoxKinds.{IsOfOneNamespace};
 ghost use Rattle.block_store.specs.InBox.{rows_in};
-ghost use Rattle.exchange_rules.specs.Answer.{reply, differing, lacking, opened, turn};
+ghost use Rattle.exchange_rules.specs.Answer.{reply, differing, lacking, opened, print_ask, turn};
+ghost use Rattle.exchange_rules.specs.Rules.{box_print};
 ghost use Rattle.exchange_rules.specs.Items as rules;
 ghost use Rattle.range_split.specs.Choice.{choice};
 ghost use Rattle.range_split.specs.declared.choice.TheConstants.{ENTRIES_MAX};
 ghost use Rattle.range_split.specs.Points.{cuts_at};
-ghost use Rattle.sync_core.specs.SyncRules.{sync_rules};
+ghost use Rattle.range_split.specs.Quarters.{even_choice};
+ghost use Rattle.sync_msg.specs.CutPoints.{are_of_one};
+ghost use Rattle.sync_core.specs.SyncRules.{IsVersion, sync_rules};
 ghost use Rattle.sync_core.specs.Flat.{items_of, turn_items};
 ghost use Rattle.sync_core.specs.Held.{Tell, ask_value, owed_value};
 ghost use Rattle.sync_core.specs.Answers.{Adds};
@@ -19,8 +23,10 @@ use crate::out_item::OutItem;
 use crate::print::print_of;
 use crate::rows::{positions_lacking, push_rows};
 use block_store::Snapshot;
-use range_split::{Choice, choose};
+use range_split::{Choice, box_parts, choose, choose_parts};
 use std::alloc::Global;
+use std::collections::VecDeque;
+use sync_msg::{Points, Prints};
 use willow_area::{Box3, CutAt};
 use willow_entry::{BareRow, Row};
 use willow_path::{End, NoMemory};
@@ -48,13 +54,16 @@ impl Turn {
 // The turn that answers the asks, in order, and ends with a farewell where it opens nothing.
 pub(crate) fn turn_of<R: Row>(
     alloc: Global,
+    version: u8,
     snapshot: &Snapshot<R>,
     asks: &[Ask],
 ) -> Result<Turn, NoMemory>
-    ensures items { IfOk result (λ made. Tell (map R.value snapshot.now) made.items.items (turn_items (turn sync_rules (map R.value snapshot.now) (map ask_value asks.now)))) }
-    ensures opens { IfOk result (λ made. map (owed_value (map R.value snapshot.now)) made.opens.items ≡ opened sync_rules (map R.value snapshot.now) (map ask_value asks.now)) }
+    requires version { IsVersion version }
+    requires one { IsOfOneNamespace (map R.value snapshot.now) }
+    ensures items { IfOk result (λ made. Tell (map R.value snapshot.now) made.items.items (turn_items version (turn (sync_rules version) (map R.value snapshot.now) (map ask_value asks.now)))) }
+    ensures opens { IfOk result (λ made. map (owed_value (map R.value snapshot.now)) made.opens.items ≡ opened (sync_rules version) (map R.value snapshot.now) (map ask_value asks.now)) }
 {
-    let mut turn = answers_to(alloc, snapshot, asks)?;
+    let mut turn = answers_to(alloc, version, snapshot, asks)?;
     let end = if turn.opens.is_empty() {
         OutItem::Bye
     } else {
@@ -65,13 +74,20 @@ pub(crate) fn turn_of<R: Row>(
 }
 
 // The answers to the asks, in order.
-fn answers_to<R: Row>(alloc: Global, snapshot: &Snapshot<R>, asks: &[Ask]) -> Result<Turn, NoMemory>
-    ensures items { IfOk result (λ made. Tell (map R.value snapshot.now) made.items.items (flat_map items_of (turn sync_rules (map R.value snapshot.now) (map ask_value asks.now)).items)) }
-    ensures opens { IfOk result (λ made. map (owed_value (map R.value snapshot.now)) made.opens.items ≡ opened sync_rules (map R.value snapshot.now) (map ask_value asks.now)) }
+fn answers_to<R: Row>(
+    alloc: Global,
+    version: u8,
+    snapshot: &Snapshot<R>,
+    asks: &[Ask],
+) -> Result<Turn, NoMemory>
+    requires version { IsVersion version }
+    requires one { IsOfOneNamespace (map R.value snapshot.now) }
+    ensures items { IfOk result (λ made. Tell (map R.value snapshot.now) made.items.items (flat_map (items_of version) (turn (sync_rules version) (map R.value snapshot.now) (map ask_value asks.now)).items)) }
+    ensures opens { IfOk result (λ made. map (owed_value (map R.value snapshot.now)) made.opens.items ≡ opened (sync_rules version) (map R.value snapshot.now) (map ask_value asks.now)) }
 {
     let mut turn = Turn::new(alloc);
     for ask in asks {
-        answer(alloc, snapshot, ask, &mut turn)?;
+        answer(alloc, version, snapshot, ask, &mut turn)?;
     }
     Ok(turn)
 }
@@ -79,18 +95,21 @@ fn answers_to<R: Row>(alloc: Global, snapshot: &Snapshot<R>, asks: &[Ask]) -> Re
 // Says the answer to an ask.
 fn answer<R: Row>(
     alloc: Global,
+    version: u8,
     snapshot: &Snapshot<R>,
     ask: &Ask,
     turn: &mut Turn,
 ) -> Result<(), NoMemory>
-    ensures { OnOk result (Adds (map R.value snapshot.now) turn.old turn.new (reply sync_rules (map R.value snapshot.now) (ask_value ask.now))) }
+    requires version { IsVersion version }
+    requires one { IsOfOneNamespace (map R.value snapshot.now) }
+    ensures { OnOk result (Adds version (map R.value snapshot.now) turn.old turn.new (reply (sync_rules version) (map R.value snapshot.now) (ask_value ask.now))) }
 {
     match ask {
         Ask::Print { area, print } => {
             if *print == print_of(snapshot, area) {
                 agree(turn)
             } else {
-                differ(alloc, snapshot, area, turn)
+                differ(alloc, version, snapshot, area, turn)
             }
         }
         Ask::Sent { area, rows } => rest(alloc, snapshot, area, rows, turn),
@@ -99,25 +118,60 @@ fn answer<R: Row>(
 
 // Says that the fingerprints are equal.
 fn agree(turn: &mut Turn) -> Result<(), NoMemory>
-    ensures { OnOk result ((rows : List RowValue) → Adds rows turn.old turn.new (record { item = rules.Agree; opens = [] })) }
+    ensures { OnOk result ((version : ℕ) (rows : List RowValue) → Adds version rows turn.old turn.new (record { item = rules.Agree; opens = [] })) }
 {
     turn.items.push(OutItem::Agree)?;
     Ok(())
 }
 
-// Says how the rows of a box differ: by all of them, or by a cut of the box.
+// Says how the rows of a box differ: by all of them, or by the cut of the version.
 fn differ<R: Row>(
+    alloc: Global,
+    version: u8,
+    snapshot: &Snapshot<R>,
+    area: &Box3,
+    turn: &mut Turn,
+) -> Result<(), NoMemory>
+    requires version { IsVersion version }
+    requires one { IsOfOneNamespace (map R.value snapshot.now) }
+    ensures { OnOk result (Adds version (map R.value snapshot.now) turn.old turn.new (differing (sync_rules version) (map R.value snapshot.now) area.now ((sync_rules version).choice (rows_in area.now (map R.value snapshot.now))))) }
+{
+    if version == 1 {
+        differ_in_two(alloc, snapshot, area, turn)
+    } else {
+        differ_in_parts(alloc, snapshot, area, turn)
+    }
+}
+
+// The same in version 1: by all of them, or by a cut of the box in two.
+fn differ_in_two<R: Row>(
     alloc: Global,
     snapshot: &Snapshot<R>,
     area: &Box3,
     turn: &mut Turn,
 ) -> Result<(), NoMemory>
-    ensures { OnOk result (Adds (map R.value snapshot.now) turn.old turn.new (differing sync_rules (map R.value snapshot.now) area.now (option_map cuts_at (choice (rows_in area.now (map R.value snapshot.now)))))) }
+    ensures { OnOk result (Adds 1 (map R.value snapshot.now) turn.old turn.new (differing (sync_rules 1) (map R.value snapshot.now) area.now (option_map cuts_at (choice (rows_in area.now (map R.value snapshot.now)))))) }
 {
     match choose(snapshot, area) {
         Choice::Entries => entries(alloc, snapshot, area, turn),
         Choice::AtSubspace(key) => split(snapshot, area, CutAt::Subspace(key), turn),
         Choice::AtPathOf(at) => split(snapshot, area, path_at(snapshot, at)?, turn),
+    }
+}
+
+// The same in version 2: by all of them, or by a cut of the box in parts.
+fn differ_in_parts<R: Row>(
+    alloc: Global,
+    snapshot: &Snapshot<R>,
+    area: &Box3,
+    turn: &mut Turn,
+) -> Result<(), NoMemory>
+    requires { IsOfOneNamespace (map R.value snapshot.now) }
+    ensures { OnOk result (Adds 2 (map R.value snapshot.now) turn.old turn.new (differing (sync_rules 2) (map R.value snapshot.now) area.now (option_map cuts_at (even_choice (rows_in area.now (map R.value snapshot.now)))))) }
+{
+    match choose_parts(alloc, snapshot, area)? {
+        None => entries(alloc, snapshot, area, turn),
+        Some(points) => parts(alloc, snapshot, area, points, turn),
     }
 }
 
@@ -140,7 +194,7 @@ fn entries<R: Row>(
     turn: &mut Turn,
 ) -> Result<(), NoMemory>
     requires { length (rows_in area.now (map R.value snapshot.now)) ≤ ENTRIES_MAX }
-    ensures { OnOk result (Adds (map R.value snapshot.now) turn.old turn.new (differing sync_rules (map R.value snapshot.now) area.now None)) }
+    ensures { OnOk result ((version : ℕ) → Adds version (map R.value snapshot.now) turn.old turn.new (differing (sync_rules version) (map R.value snapshot.now) area.now None)) }
 {
     let positions = positions_lacking(alloc, snapshot, area, &[])?;
     turn.items.push(OutItem::Entries {
@@ -159,7 +213,7 @@ fn rest<R: Row>(
     sent: &[BareRow],
     turn: &mut Turn,
 ) -> Result<(), NoMemory>
-    ensures { OnOk result (Adds (map R.value snapshot.now) turn.old turn.new (record { item = rules.Rest (lacking sync_rules (map R.value snapshot.now) area.now sent.now); opens = [] })) }
+    ensures { OnOk result ((version : ℕ) → Adds version (map R.value snapshot.now) turn.old turn.new (record { item = rules.Rest (lacking (sync_rules version) (map R.value snapshot.now) area.now sent.now); opens = [] })) }
 {
     let positions = positions_lacking(alloc, snapshot, area, sent)?;
     turn.items.push(OutItem::Rest {
@@ -168,15 +222,15 @@ fn rest<R: Row>(
     push_rows(&positions, &mut turn.items)
 }
 
-// Says a cut of a box with the fingerprints of its parts, and opens them. Rows of one namespace are never cut at a
-// point that is not inside the box; of others nothing is said then.
+// Says a cut of a box in two with the fingerprints of both parts, and opens them. Rows of one namespace are never cut at
+// a point that is not inside the box; of others nothing is said then.
 fn split<R: Row>(
     snapshot: &Snapshot<R>,
     area: &Box3,
     at: CutAt,
     turn: &mut Turn,
 ) -> Result<(), NoMemory>
-    ensures { OnOk result (Adds (map R.value snapshot.now) turn.old turn.new (differing sync_rules (map R.value snapshot.now) area.now (Some (at ∷ [])))) }
+    ensures { OnOk result (Adds 1 (map R.value snapshot.now) turn.old turn.new (differing (sync_rules 1) (map R.value snapshot.now) area.now (Some (at ∷ [])))) }
 {
     match area.cut(&at) {
         Ok((below, above)) => {
@@ -195,4 +249,53 @@ fn split<R: Row>(
         Err(End::Refused(_)) => Ok(()),
         Err(End::NoMemory) => Err(NoMemory),
     }
+}
+
+// Says a cut of a box in parts with the fingerprint of each, and opens them. Rows of one namespace are never cut at points
+// at which the box cannot be; nothing is said then.
+fn parts<R: Row>(
+    alloc: Global,
+    snapshot: &Snapshot<R>,
+    area: &Box3,
+    points: Points,
+    turn: &mut Turn,
+) -> Result<(), NoMemory>
+    requires { IsTrue (are_of_one points) }
+    ensures { OnOk result (Adds 2 (map R.value snapshot.now) turn.old turn.new (differing (sync_rules 2) (map R.value snapshot.now) area.now (Some points))) }
+{
+    match box_parts(alloc, area, &points) {
+        Ok(parts) => {
+            let prints = print_parts(alloc, snapshot, parts, &mut turn.opens)?;
+            turn.items.push(OutItem::Parts { points, prints })?;
+            Ok(())
+        }
+        Err(End::Refused(_)) => Ok(()),
+        Err(End::NoMemory) => Err(NoMemory),
+    }
+}
+
+// The own fingerprint of each part, which opens it.
+fn print_parts<R: Row>(
+    alloc: Global,
+    snapshot: &Snapshot<R>,
+    parts: Vec<Box3>,
+    opens: &mut Vec<Owed>,
+) -> Result<Prints, NoMemory>
+    ensures prints { IfOk result (λ prints. prints ≡ map (λ part. box_print (sync_rules 2) part (map R.value snapshot.now)) parts.items) }
+    ensures opens { OnOk result (map (owed_value (map R.value snapshot.now)) opens.new.items ≡ map (owed_value (map R.value snapshot.now)) opens.old.items ++ map (print_ask (sync_rules 2) (map R.value snapshot.now)) parts.items) }
+{
+    let mut prints = Prints::new(alloc);
+    let count = parts.len();
+    let mut rest = VecDeque::from_vec(parts);
+    for _ in 0..count {
+        match rest.pop_front() {
+            None => unreachable!(),
+            Some(area) => {
+                let print = print_of(snapshot, &area);
+                prints.push(print)?;
+                opens.push(Owed::Print { area, print })?;
+            }
+        }
+    }
+    Ok(prints)
 }

@@ -1,10 +1,12 @@
 //! Answers to single asks, as a side hears them.
 
-ghost use Rattle.std.specs.Prelude.{◌≡◌, ◌+◌, ◌<◌, ◌≤◌, ◌++◌, List, [], ◌∷◌, map, length, drop, not, None, IsSome, IfOk, OnOk, OnErr, vec_len, vec_capacity};
+ghost use Rattle.std.specs.Prelude.{◌≡◌, ◌+◌, ◌<◌, ◌≤◌, ◌++◌, List, [], ◌∷◌, map, length, drop, not, None, Some, IsSome, IfOk, OnOk, OnErr, vec_len, vec_capacity};
 ghost use Rattle.spelling.specs.Answers.{JudgesFirst, cause_if};
 ghost use Rattle.willow_area.specs.Cuts.{can_cut, lower_part, upper_part};
 ghost use Rattle.willow_entry.specs.Row.{RowValue};
-ghost use Rattle.sync_msg.specs.Items.{item_value};
+ghost use Rattle.exchange_rules.specs.AnyPeer.{part_asks};
+ghost use Rattle.range_split.specs.Parts.{can_cut_at, cut_all};
+ghost use Rattle.sync_msg.specs.Items.{HasPrints, item_value};
 ghost use Rattle.sync_msg.specs.declared.item.Item.TheVariants as items;
 ghost use Rattle.sync_msg.specs.declared.refusal.CoreRefusal.TheVariants.{BadCut};
 ghost use Rattle.sync_core.specs.Steps.{box_of, is_above_last, remembered, row_cause, turn_heard};
@@ -14,8 +16,10 @@ ghost use Rattle.sync_core.specs.declared.ask.Ask.TheVariants as asks;
 
 use crate::ask::{Ask, Owed};
 use crate::work::{Due, Ear};
+use range_split::box_parts;
 use std::alloc::Global;
-use sync_msg::{CoreRefusal, Item};
+use std::collections::VecDeque;
+use sync_msg::{CoreRefusal, Item, Points, Prints};
 use willow_area::{Box3, CutAt};
 use willow_entry::{BareRow, Row, by_inner_place};
 use willow_path::{End, NoMemory};
@@ -23,21 +27,36 @@ use willow_path::{End, NoMemory};
 // Takes in a head that answers the first of the asks.
 pub(crate) fn head<Q: Row>(
     alloc: Global,
+    version: u8,
     ear: &mut Ear,
     item: &Item<Q>,
 ) -> Result<(), End<CoreRefusal>>
     requires no_rows { ear.old.due ≡ None }
     requires asked { 0 < length ear.old.owed.items }
-    ensures { (rows : List RowValue) → Does (hearing_in rows ear.old) (hearing_in rows ear.new) (turn_heard rows (map (owed_value rows) ear.old.owed.items) (map ask_value ear.old.opens.items) (item_value Q.value item.now)) result }
+    requires prints { HasPrints (item_value Q.value item.now) }
+    ensures { (rows : List RowValue) → Does (hearing_in rows ear.old) (hearing_in rows ear.new) (turn_heard version rows (map (owed_value rows) ear.old.owed.items) (map ask_value ear.old.opens.items) (item_value Q.value item.now)) result }
 {
     match (ear.owed.front(), item) {
         (Some(Owed::Print { .. }), Item::Agree) => {
             let _agreed = ear.owed.pop_front();
             Ok(())
         }
-        (Some(Owed::Print { area, .. }), Item::Split { at, lower, upper }) => {
+        (Some(Owed::Print { area, .. }), Item::Split { at, lower, upper }) if version == 1 => {
             let (below, above) = cut(area, at)?;
-            open_parts(ear, (below, *lower), (above, *upper))?;
+            open_two(ear, (below, *lower), (above, *upper))?;
+            Ok(())
+        }
+        (
+            Some(
+                Owed::Print {
+                    area,
+                    print: _print,
+                },
+            ),
+            Item::Parts { points, prints },
+        ) if version != 1 => {
+            let parts = parts_of(alloc, area, points)?;
+            open_parts(ear, parts, prints)?;
             Ok(())
         }
         (
@@ -60,7 +79,7 @@ pub(crate) fn head<Q: Row>(
     }
 }
 
-// Both parts of a cut of an asked box.
+// Both parts of a cut in two of an asked box.
 fn cut(area: &Box3, at: &CutAt) -> Result<(Box3, Box3), End<CoreRefusal>>
     ensures answer { JudgesFirst result (cause_if (not (can_cut area.now at.now)) BadCut) }
     ensures lower { IfOk result (λ parts. parts.0 ≡ lower_part area.now at.now) }
@@ -73,12 +92,55 @@ fn cut(area: &Box3, at: &CutAt) -> Result<(Box3, Box3), End<CoreRefusal>>
     }
 }
 
+// The parts of an asked box at some points.
+fn parts_of(alloc: Global, area: &Box3, points: &Points) -> Result<Vec<Box3>, End<CoreRefusal>>
+    ensures answer { JudgesFirst result (cause_if (not (can_cut_at area.now points.now)) BadCut) }
+    ensures parts { IfOk result (λ parts. cut_all area.now points.now ≡ Some parts.items) }
+{
+    match box_parts(alloc, area, points) {
+        Ok(parts) => Ok(parts),
+        Err(End::Refused(_)) => Err(End::Refused(CoreRefusal::BadCut)),
+        Err(End::NoMemory) => Err(End::NoMemory),
+    }
+}
+
+// The first of the asks is answered, and opens the parts with the peer's fingerprints, from the lowest up.
+fn open_parts(ear: &mut Ear, parts: Vec<Box3>, prints: &Prints) -> Result<(), NoMemory>
+    requires { length prints.now ≡ vec_len parts }
+    ensures opens { OnOk result (map ask_value ear.new.opens.items ≡ map ask_value ear.old.opens.items ++ part_asks parts.items prints.now) }
+    ensures owed { OnOk result (ear.new.owed.items ≡ drop 1 ear.old.owed.items) }
+    ensures kept { OnErr result ((rows : List RowValue) → hearing_in rows ear.new ≡ hearing_in rows ear.old) }
+    ensures due { ear.new.due ≡ ear.old.due }
+{
+    ear.opens.reserve(parts.len())?;
+    push_parts(&mut ear.opens, parts, prints);
+    let _answered = ear.owed.pop_front();
+    Ok(())
+}
+
+// Appends an ask for each part with its fingerprint, where there is room.
+fn push_parts(opens: &mut Vec<Ask>, parts: Vec<Box3>, prints: &Prints)
+    requires room { vec_len opens.old + vec_len parts ≤ vec_capacity opens.old }
+    requires prints { length prints.now ≡ vec_len parts }
+    ensures { map ask_value opens.new.items ≡ map ask_value opens.old.items ++ part_asks parts.items prints.now }
+{
+    let mut rest = VecDeque::from_vec(parts);
+    for i in 0..prints.len() {
+        match (rest.pop_front(), prints.get(i)) {
+            (Some(area), Some(print)) => push_reserved(
+                opens,
+                Ask::Print {
+                    area,
+                    print: *print,
+                },
+            ),
+            _ => unreachable!(),
+        }
+    }
+}
+
 // The first of the asks is answered, and opens two boxes with the peer's fingerprints.
-fn open_parts(
-    ear: &mut Ear,
-    lower: (Box3, [u8; 32]),
-    upper: (Box3, [u8; 32]),
-) -> Result<(), NoMemory>
+fn open_two(ear: &mut Ear, lower: (Box3, [u8; 32]), upper: (Box3, [u8; 32])) -> Result<(), NoMemory>
     ensures opens { OnOk result (ear.new.opens.items ≡ ear.old.opens.items ++ asks.Print lower.0 lower.1 ∷ asks.Print upper.0 upper.1 ∷ []) }
     ensures owed { OnOk result (ear.new.owed.items ≡ drop 1 ear.old.owed.items) }
     ensures kept { OnErr result ((rows : List RowValue) → hearing_in rows ear.new ≡ hearing_in rows ear.old) }

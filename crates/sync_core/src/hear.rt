@@ -2,7 +2,9 @@
 
 ghost use Rattle.std.specs.Prelude.{◌≡◌, List, map};
 ghost use Rattle.willow_entry.specs.Row.{RowValue};
-ghost use Rattle.sync_msg.specs.Items.{item_value};
+ghost use Rattle.block_store.specs.BoxKinds.{IsOfOneNamespace};
+ghost use Rattle.sync_msg.specs.Items.{HasPrints, item_value};
+ghost use Rattle.sync_core.specs.SyncRules.{IsVersion};
 ghost use Rattle.sync_core.specs.Steps.{bye_heard, end_heard, first_heard, next_heard};
 ghost use Rattle.sync_core.specs.Held.{IsReady, ask_value, doing_of};
 ghost use Rattle.sync_core.specs.Hears.{Does};
@@ -22,21 +24,27 @@ use willow_path::End;
 // Takes in an item, but for the number of items. Where it is refused, what the side is doing is left to the caller.
 pub(crate) fn hear<R: Row, Q: Row>(
     alloc: Global,
+    version: u8,
     snapshot: &Snapshot<R>,
     area: &Option<Box3>,
     work: &mut Work,
     item: &Item<Q>,
 ) -> Result<(), End<CoreRefusal>>
-    requires { IsReady (map R.value snapshot.now) work.old }
+    requires version { IsVersion version }
+    requires one { IsOfOneNamespace (map R.value snapshot.now) }
+    requires ready { IsReady (map R.value snapshot.now) work.old }
+    requires prints { HasPrints (item_value Q.value item.now) }
     ensures does { Does (doing_of (map R.value snapshot.now) work.old) (doing_of (map R.value snapshot.now) work.new)
-        (next_heard area.now (map R.value snapshot.now) (doing_of (map R.value snapshot.now) work.old) (item_value Q.value item.now)) result }
+        (next_heard version area.now (map R.value snapshot.now) (doing_of (map R.value snapshot.now) work.old) (item_value Q.value item.now)) result }
     ensures ready { IsReady (map R.value snapshot.now) work.new }
 {
     match work.phase {
         Phase::Beginning => first(alloc, area, work, item),
         Phase::Hearing if work.ear.due.is_some() => row_due(alloc, &mut work.ear, item),
-        Phase::Hearing if work.ear.owed.is_empty() => end_of_turn(alloc, snapshot, work, item),
-        Phase::Hearing => head(alloc, &mut work.ear, item),
+        Phase::Hearing if work.ear.owed.is_empty() => {
+            end_of_turn(alloc, version, snapshot, work, item)
+        }
+        Phase::Hearing => head(alloc, version, &mut work.ear, item),
         Phase::Parting => farewell(work, item),
         _ => Err(End::Refused(CoreRefusal::ItemMismatch)),
     }
@@ -78,12 +86,16 @@ fn first<Q: Row>(
 // The end of a turn whose asks are all answered.
 fn end_of_turn<R: Row, Q: Row>(
     alloc: Global,
+    version: u8,
     snapshot: &Snapshot<R>,
     work: &mut Work,
     item: &Item<Q>,
 ) -> Result<(), End<CoreRefusal>>
-    requires { IsReady (map R.value snapshot.now) work.old }
-    ensures does { Does (doing_of (map R.value snapshot.now) work.old) (doing_of (map R.value snapshot.now) work.new) (end_heard (map R.value snapshot.now) (map ask_value work.old.ear.opens.items) (item_value Q.value item.now)) result }
+    requires version { IsVersion version }
+    requires one { IsOfOneNamespace (map R.value snapshot.now) }
+    requires ready { IsReady (map R.value snapshot.now) work.old }
+    ensures does { Does (doing_of (map R.value snapshot.now) work.old) (doing_of (map R.value snapshot.now) work.new)
+        (end_heard version (map R.value snapshot.now) (map ask_value work.old.ear.opens.items) (item_value Q.value item.now)) result }
     ensures ready { IsReady (map R.value snapshot.now) work.new }
 {
     match item {
@@ -92,7 +104,7 @@ fn end_of_turn<R: Row, Q: Row>(
             Ok(())
         }
         Item::EndTurn if !work.ear.opens.is_empty() => {
-            let turn = turn_of(alloc, snapshot, &work.ear.opens)?;
+            let turn = turn_of(alloc, version, snapshot, &work.ear.opens)?;
             work.items = VecDeque::from_vec(turn.items);
             work.ear.owed = VecDeque::from_vec(turn.opens);
             work.phase = Phase::Saying;

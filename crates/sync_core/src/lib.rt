@@ -1,6 +1,6 @@
 //! One side of an exchange between two stores, item by item, over its rows as they were when it began.
 //! The contract: what a side says, what it makes of each item that it reads, and when it refuses one, are those of the
-//! rules of the exchange.
+//! rules of the exchange in the version of the session.
 #![tactic(auto)]
 
 mod answer;

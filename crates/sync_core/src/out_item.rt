@@ -3,6 +3,7 @@
 ghost use Rattle.std.specs.Prelude.{◌≡◌};
 ghost use Rattle.sync_core.specs.Held.{counts};
 
+use sync_msg::{Points, Prints};
 use willow_area::CutAt;
 
 /// An item that a side says: an item of an exchange, in which a row is named by its position.
@@ -15,7 +16,7 @@ pub enum OutItem {
     },
     /// The fingerprints of a box agree.
     Agree,
-    /// The box is cut in two.
+    /// The box is cut in two: in sessions of version 1.
     Split {
         /// Where it is cut.
         at: CutAt,
@@ -23,6 +24,13 @@ pub enum OutItem {
         lower: [u8; 32],
         /// The fingerprint of the part from the point on.
         upper: [u8; 32],
+    },
+    /// The box is cut in parts: in sessions of version 2.
+    Parts {
+        /// Where it is cut: at one to three rising points.
+        points: Points,
+        /// The fingerprints of the parts, from the lowest up: one more than points.
+        prints: Prints,
     },
     /// The rows of a box follow.
     Entries {
@@ -51,6 +59,7 @@ impl OutItem {
             OutItem::First { .. }
             | OutItem::Agree
             | OutItem::Split { .. }
+            | OutItem::Parts { .. }
             | OutItem::Entries { .. }
             | OutItem::Rest { .. } => true,
             OutItem::Row(_) | OutItem::EndTurn | OutItem::Bye => false,

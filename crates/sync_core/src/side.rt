@@ -2,7 +2,9 @@
 
 ghost use Rattle.std.specs.Prelude.{◌≡◌, ◌≤◌, length, map, slice_get, option_map, Some, IsOk, IfOk, IfErr, MatchOption};
 ghost use Rattle.willow_area.specs.AreaBox.{area_box};
-ghost use Rattle.sync_msg.specs.Items.{item_value};
+ghost use Rattle.block_store.specs.BoxKinds.{IsOfOneNamespace};
+ghost use Rattle.sync_msg.specs.Items.{HasPrints, item_value};
+ghost use Rattle.sync_core.specs.SyncRules.{IsVersion};
 ghost use Rattle.sync_core.specs.Flat.{row_in};
 ghost use Rattle.sync_core.specs.Place.{first_place, most_items, refusal_of, rows_of_area, stage_of};
 ghost use Rattle.sync_core.specs.Steps.{said};
@@ -28,6 +30,7 @@ use willow_path::{End, NoMemory};
 #[derive(Drop)]
 pub struct SyncCore<R: Row> {
     alloc: Global,
+    version: u8,
     role: Role,
     snapshot: Snapshot<R>,
     area: Option<Box3>,
@@ -46,31 +49,36 @@ impl<R: Row> Model for SyncCore<R> {
     ghost use Rattle.sync_core.specs.Place.{most_items};
     ghost use Rattle.sync_core.specs.Held.{IsReady, IsSteady, doing_of};
 
-    ghost view = { λ s. record { role = s.role; rows = map R.value s.snapshot; area = s.area; sent = s.sent; read = s.read; doing = doing_of (map R.value s.snapshot) s.work } };
+    ghost view = { λ s. record { version = s.version; role = s.role; rows = map R.value s.snapshot; area = s.area; sent = s.sent; read = s.read; doing = doing_of (map R.value s.snapshot) s.work } };
 
-    ghost invariant = { λ s. IsSteady (record { role = s.role; rows = map R.value s.snapshot; area = s.area; sent = s.sent; read = s.read; doing = doing_of (map R.value s.snapshot) s.work }) s.most s.work };
+    ghost invariant = { λ s. IsSteady (record { version = s.version; role = s.role; rows = map R.value s.snapshot; area = s.area; sent = s.sent; read = s.read; doing = doing_of (map R.value s.snapshot) s.work }) s.most s.work };
 }
 
 impl<R: Row> SyncCore<R> {
-    /// A side at the beginning, over the box of the area that both peers read, if there is one. The caller begins: with
-    /// its fingerprint of the box, or without an area with its farewell. The snapshot has at most `SNAPSHOT_MAX` rows.
+    /// A side at the beginning of a session of version 1 or 2, over the box of the area that both peers read, if there is
+    /// one. The caller begins: with its fingerprint of the box, or without an area with its farewell. The snapshot has at
+    /// most `SNAPSHOT_MAX` rows, of one namespace.
     pub fn begin(
         alloc: Global,
+        version: u8,
         role: Role,
         snapshot: Snapshot<R>,
         area: Option<Area>,
     ) -> Result<SyncCore<R>, NoMemory>
-        requires { length snapshot ≤ SNAPSHOT_MAX }
-        ensures { IfOk result (λ side. side ≡ first_place role (map R.value snapshot) (option_map area_box area)) }
+        requires version { IsVersion version }
+        requires few { length snapshot ≤ SNAPSHOT_MAX }
+        requires one { IsOfOneNamespace (map R.value snapshot) }
+        ensures { IfOk result (λ side. side ≡ first_place version role (map R.value snapshot) (option_map area_box area)) }
     {
         let area = match area {
             None => None,
             Some(area) => Some(box_of(alloc, &area)?),
         };
         let most = most_of(&snapshot, &area);
-        let work = first_work(alloc, role, &snapshot, &area)?;
+        let work = first_work(alloc, version, role, &snapshot, &area)?;
         Ok(SyncCore {
             alloc,
+            version,
             role,
             snapshot,
             area,
@@ -133,12 +141,13 @@ impl<R: Row> SyncCore<R> {
 
     /// Takes in an item, at stage Reading, and hands back its row, if it is one. An item is refused exactly by the
     /// first of these causes: `ItemMismatch` where no such item may come, `TooManyItems` where with it more items count
-    /// than may, `BadCut` at a cut outside the asked box, `EntryOutside` at a row outside the asked box,
-    /// `RowsOutOfOrder` at a row that is not above the one before it for that box. Then the stage is Refused, and
-    /// `refusal` keeps the cause. Without memory the side stands as it did; want of memory comes only where nothing is
-    /// against the item.
+    /// than may, `BadCut` at a cut outside the asked box or at points that do not rise, `EntryOutside` at a row outside
+    /// the asked box, `RowsOutOfOrder` at a row that is not above the one before it for that box. Then the stage is
+    /// Refused, and `refusal` keeps the cause. Without memory the side stands as it did; want of memory comes only where
+    /// nothing is against the item. A cut in parts has one to three points, and one fingerprint more.
     pub fn give_item<Q: Row>(&mut self, item: Item<Q>) -> Result<Option<Q>, End<CoreRefusal>>
-        requires { stage_of self.old.doing ≡ Reading }
+        requires reads { stage_of self.old.doing ≡ Reading }
+        requires prints { HasPrints (item_value Q.value item) }
         ensures hears { Hears self.old self.new (item_value Q.value item) result }
         ensures row { IfOk result (λ row. row ≡ row_in item) }
     {
@@ -146,6 +155,7 @@ impl<R: Row> SyncCore<R> {
         let items = self.sent + self.read + counted;
         let outcome = hear(
             self.alloc,
+            self.version,
             &self.snapshot,
             &self.area,
             &mut self.work,

@@ -17,14 +17,15 @@ use willow_area::Box3;
 use willow_entry::Row;
 use willow_path::NoMemory;
 
-// What a side begins with, by the box of the area that both peers read.
+// What a side begins with in a session of the version, by the box of the area that both peers read.
 pub(crate) fn first_work<R: Row>(
     alloc: Global,
+    version: u8,
     role: Role,
     snapshot: &Snapshot<R>,
     area: &Option<Box3>,
 ) -> Result<Work, NoMemory>
-    ensures doing { IfOk result (λ work. doing_of (map R.value snapshot.now) work ≡ first_doing role area.now (map R.value snapshot.now)) }
+    ensures doing { IfOk result (λ work. doing_of (map R.value snapshot.now) work ≡ first_doing version role area.now (map R.value snapshot.now)) }
     ensures ready { IfOk result (λ work. IsReady (map R.value snapshot.now) work) }
 {
     let mut turn = Turn::new(alloc);

@@ -5,3 +5,4 @@ pub mod HelloSteps
 pub mod Checked
 pub mod Proof
 pub mod Common
+pub mod Version

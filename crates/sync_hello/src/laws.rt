@@ -12,11 +12,13 @@ ghost use Rattle.sync_hello.specs.HelloSteps.{AreNeverBoth, HaveOneHello};
 ghost use Rattle.sync_hello.specs.Checked.{hello_refusal, Passes};
 ghost use Rattle.sync_hello.specs.Common.{AsksWithinGrant, BothGrantCommon};
 
+use crate::version::HIGHEST_VERSION;
 use willow_entry::MAX_FRAME;
 
-/// The greatest number of bytes of a capability in a hello.
+/// The greatest number of bytes of a capability in a hello, and the highest version that is spoken.
 pub fn limits()
     ensures capability { MAX_FRAME ≡ 131072 }
+    ensures version { HIGHEST_VERSION ≡ 2 }
 {}
 
 /// The reader of hellos, before their capability is read, goes by the spellings alone: a value is whole exactly where

@@ -11,7 +11,7 @@ use Rattle.session_rules.specs.Session.{InGreeting, InTalk}
 use Rattle.session_rules.proofs.Growing.{says_of, rows_of}
 use Rattle.session_rules.proofs.Worlds.{same_read}
 use Rattle.sync_link.specs.Greetings.{greeting}
-use Rattle.sync_link.specs.Places.{places}
+use Rattle.sync_link.specs.Places.{offers_of, places}
 use Rattle.sync_link.specs.Sessions.{Party, SessionCause, AreSameInCommon, own_part, session_of, out, got, ending}
 use Rattle.sync_link.specs.Run.{Answer, IsAllOf, Ends}
 use Rattle.sync_link.specs.Ran.{Ran, side, opening_of, BringSame, HasProved, IsUnfailed, IsDone, EndAlike, AreAlike}
@@ -66,7 +66,7 @@ module _ (p q : List ℕ → Party) (one : Ran p) (other : Ran q) (bring : Bring
   as_twin f e = e ∙ ap (f twin (opening_of other)) (sym heard) ∙ ap (λ party. f party (opening_of other) other.did.bytes) (sym bring)
 
   same_moves : read (session_of twin rows) (start (session_of twin rows)) bytes ≡ read (session_of twin (opening_of other)) (start (session_of twin (opening_of other))) bytes
-  same_moves = same_read (greeting party.rules party.namespace) places (own_part twin) rows (opening_of other) bytes same
+  same_moves = same_read (greeting party.rules party.namespace) places (own_part twin) (offers_of rows) (offers_of (opening_of other)) bytes same
 
   out_alike : out twin rows bytes ≡ out (side other) (opening_of other) other.did.bytes
   out_alike = let a = session_of twin rows in as_twin out (ap (λ m. flat_map a.spelling (a.opening ++ says_of m)) same_moves)

@@ -26,7 +26,8 @@ use Rattle.session_rules.specs.Turns.{CanReadTurns}
 use Rattle.session_rules.specs.Pairs.{Pair, GreetEachOther, caller_side, answerer_side}
 use Rattle.session_rules.proofs.Exchanging.{all_said}
 use Rattle.session_rules.proofs.Growing.{read_over}
-use Rattle.sync_link.specs.Sessions.{Party, SessionStage, SessionMessage, SessionCause, session_of, said, out, ending, box_with}
+use Rattle.sync_link.specs.Greetings.{Agreement}
+use Rattle.sync_link.specs.Sessions.{Party, SessionStage, SessionMessage, SessionCause, session_of, said, out, ending, box_with, version_with}
 use Rattle.sync_link.specs.Settling.{IsOpening, Accepts, CanMeet, turns_between}
 use Rattle.sync_link.specs.Fed.{heard, counted, noting}
 use Rattle.sync_link.specs.Run.{Reports}
@@ -37,18 +38,18 @@ use Rattle.sync_link.proofs.CoveringRuns.{same_box}
 use Rattle.sync_link.proofs.MetSides.{is_met}
 use Rattle.sync_link.proofs.OtherSides.{IsMet, meets, meets_back, is_over, all_written, own_opens}
 use Rattle.sync_link.proofs.ReadOn.{noting_stands}
-use Rattle.sync_link.proofs.Settled.{caller, answerer, pair, greet, exchanged, inside, inside_rises, inside_few, inside_sendable, same_exchange, rises, calling, answering}
+use Rattle.sync_link.proofs.Settled.{caller, answerer, pair, greet, exchanged, inside, inside_rises, inside_few, inside_sent, same_exchange, session_version_spoken, rises, calling, answering}
 use Rattle.sync_link.proofs.TakingTurns.{by_items, take_turns}
 use Rattle.sync_link.proofs.CanRead.{can_read_turns}
 
 -- ---- the items of turns
 
-abbrev all_items : List TurnValue → List ItemValue
-all_items ts = flat_map turn_items ts
+abbrev all_items : ℕ → List TurnValue → List ItemValue
+all_items version ts = flat_map (turn_items version) ts
 
-turns_few : (ts : List TurnValue) → to_count (all_items ts) ≤ count_of_items ts
-turns_few [] = omega arith
-turns_few (t ∷ ts) = omega (arith, to_count-append (turn_items t) (all_items ts), to_count-turn t, turns_few ts, sum_by-cons (λ (u : TurnValue). length u.items) t ts)
+turns_few : (version : ℕ) (ts : List TurnValue) → to_count (all_items version ts) ≤ count_of_items ts
+turns_few version [] = omega arith
+turns_few version (t ∷ ts) = omega (arith, to_count-append (turn_items version t) (all_items version ts), to_count-turn version t, turns_few version ts, sum_by-cons (λ (u : TurnValue). length u.items) t ts)
 
 -- what both sides of a meeting say and read counts no more than the exchange does
 pub record AreCounted (p q : Party) (rows others : List RowValue) (left right : List ℕ) : Type 0 where
@@ -68,6 +69,9 @@ module _ (rules : Rules) (namespace : List ℕ) (hello other : Hello) (signature
   abbrev x : Option Ranges
   x = box_with one other
 
+  abbrev v : ℕ
+  v = version_with one other
+
   abbrev mine : List RowValue
   mine = inside x rows
 
@@ -75,9 +79,9 @@ module _ (rules : Rules) (namespace : List ℕ) (hello other : Hello) (signature
   theirs_in = inside x others
 
   abbrev ts : List TurnValue
-  ts = exchange sync_rules mine theirs_in x
+  ts = exchange (sync_rules v) mine theirs_in x
 
-  abbrev both : Pair Hello (List ℕ) Ranges HelloRefusal RowValue Place ItemValue CoreRefusal
+  abbrev both : Pair Hello (List ℕ) Agreement HelloRefusal RowValue Place ItemValue CoreRefusal
   both = pair rules namespace hello other signature proof rows others
 
   greets : GreetEachOther both
@@ -89,23 +93,23 @@ module _ (rules : Rules) (namespace : List ℕ) (hello other : Hello) (signature
   down : IsStrictlySortedBy inner_place_cmp theirs_in
   down = inside_rises namespace others theirs x
 
-  can_read : CanReadTurns by_items (caller_side both) (answerer_side both) ts
+  can_read : CanReadTurns (by_items v) (caller_side both) (answerer_side both) ts
   can_read =
-      can_read_turns mine theirs_in up down (inside_few namespace rows own x) (inside_few namespace others theirs x) (inside_sendable namespace rows own x) (inside_sendable namespace others theirs x) x
+      can_read_turns v (session_version_spoken hello other is_accepted.hello_passes.speaks accepts.hello_passes.speaks) mine theirs_in (inside_sent namespace rows own x) (inside_sent namespace others theirs x) x
 
-  dialogues : (n : ℕ) → length ts ≤ n → dialogue (caller_side both) (answerer_side both) n ≡ (all_items (caller_turns ts), all_items (answerer_turns ts))
+  dialogues : (n : ℕ) → length ts ≤ n → dialogue (caller_side both) (answerer_side both) n ≡ (all_items v (caller_turns ts), all_items v (answerer_turns ts))
   dialogues n h =
-      all_said by_items sync_rules (caller_side both) (answerer_side both) mine theirs_in x disjoint (can_cut_rows mine up) (can_cut_rows theirs_in down)
-      (take_turns mine theirs_in up down (inside_few namespace others theirs x) (inside_few namespace rows own x) x) n h
+      all_said (by_items v) (sync_rules v) (caller_side both) (answerer_side both) mine theirs_in x (disjoint v) (can_cut_rows v mine up) (can_cut_rows v theirs_in down)
+      (take_turns v mine theirs_in up down (inside_few namespace others theirs x) (inside_few namespace rows own x) x) n h
 
-  caller_tells : tells (caller_side both) item_spelling (all_items (answerer_turns ts)) ≡ all_items (caller_turns ts)
+  caller_tells : tells (caller_side both) item_spelling (all_items v (answerer_turns ts)) ≡ all_items v (caller_turns ts)
   unfolding rounds
   caller_tells =
       let n = length ts in
       sym (ap (λ (d : List ItemValue × List ItemValue). tells (caller_side both) item_spelling d.1) (dialogues n (omega arith)))
       ∙ ap (λ (d : List ItemValue × List ItemValue). d.0) (dialogues (suc n) (omega arith))
 
-  answerer_tells : tells (answerer_side both) item_spelling (all_items (caller_turns ts)) ≡ all_items (answerer_turns ts)
+  answerer_tells : tells (answerer_side both) item_spelling (all_items v (caller_turns ts)) ≡ all_items v (answerer_turns ts)
   unfolding rounds
   answerer_tells =
       let n = length ts in
@@ -115,16 +119,16 @@ module _ (rules : Rules) (namespace : List ℕ) (hello other : Hello) (signature
   counts : (left right : List ℕ) → Meet (out one rows) (out two others) left right → AreCounted one two rows others left right
   counts left right meet =
       let e = exchanged rules namespace hello other signature proof rows others own theirs accepts is_accepted left right meet in
-      let to_caller = all_items (answerer_turns ts) in
-      let to_answerer = all_items (caller_turns ts) in
+      let to_caller = all_items v (answerer_turns ts) in
+      let to_answerer = all_items v (caller_turns ts) in
       let said_there = ap (λ l. counted (said one rows l)) e.answerer_writes ∙ said_items one rows other proof greets.caller_hears to_caller can_read.caller_can ∙ ap to_count caller_tells in
       let heard_there = heard_count one rows other proof greets.caller_hears to_caller can_read.caller_can in
       let said_back = ap (λ l. counted (said two others l)) e.caller_writes ∙ said_items two others hello signature greets.answerer_hears to_answerer can_read.answerer_can ∙ ap to_count answerer_tells in
       let heard_back = heard_count two others hello signature greets.answerer_hears to_answerer can_read.answerer_can in
-      let all = ap (λ (l : List TurnValue). count_of_items l) (same_exchange x rows others) in
+      let all = ap (λ (l : List TurnValue). count_of_items l) (same_exchange v x rows others) in
       record {
-        by_caller = omega (arith, said_there, heard_there, ap (λ l. counted (heard one rows l)) e.answerer_writes, turns_few (caller_turns ts), turns_few (answerer_turns ts), counted_sides ts, all);
-        by_answerer = omega (arith, said_back, heard_back, ap (λ l. counted (heard two others l)) e.caller_writes, turns_few (caller_turns ts), turns_few (answerer_turns ts), counted_sides ts, all);
+        by_caller = omega (arith, said_there, heard_there, ap (λ l. counted (heard one rows l)) e.answerer_writes, turns_few v (caller_turns ts), turns_few v (answerer_turns ts), counted_sides ts, all);
+        by_answerer = omega (arith, said_back, heard_back, ap (λ l. counted (heard two others l)) e.caller_writes, turns_few v (caller_turns ts), turns_few v (answerer_turns ts), counted_sides ts, all);
       }
 
 -- ---- two parties
@@ -145,10 +149,10 @@ few_turns : (p q : Party) (rows others : List RowValue) → IsOpening p.namespac
     → count_of_items (turns_between p q rows others) ≤ most_counted (box_with p q.hello) (length (rows_of_area (box_with p q.hello) rows)) (length (rows_of_area (box_with p q.hello) others))
 few_turns p q rows others own theirs = by_box (box_with p q.hello)
   where
-    by_box : (box : Option Ranges) → count_of_items (exchange sync_rules rows others box) ≤ most_counted box (length (rows_of_area box rows)) (length (rows_of_area box others))
+    by_box : (box : Option Ranges) → count_of_items (exchange (sync_rules (version_with p q.hello)) rows others box) ≤ most_counted box (length (rows_of_area box rows)) (length (rows_of_area box others))
     by_box None = omega arith
     by_box (Some area) =
-        omega (arith, counted_exchange sync_rules rows others area disjoint (can_cut_rows rows (rises p.namespace rows own)) (can_cut_rows others (rises p.namespace others theirs)))
+        omega (arith, counted_exchange (sync_rules (version_with p q.hello)) rows others area (disjoint (version_with p q.hello)) (can_cut_rows (version_with p q.hello) rows (rises p.namespace rows own)) (can_cut_rows (version_with p q.hello) others (rises p.namespace others theirs)))
 
 -- whichever side the rows are of
 either_way : (box : Option Ranges) (a b : ℕ) → most_counted box a b ≤ most_counted box b a

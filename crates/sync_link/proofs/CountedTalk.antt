@@ -1,6 +1,5 @@
 -- How many counted items a session says and reads behind a greeting that passes.
 use Rattle.std.proofs.Common.{◌≡◌, ℕ, ◌+◌, ◌≤◌, List, [], ◌∷◌, ◌++◌, map, length, flat_map, append_assoc, sym, refl, ap, ◌∙◌, subst, arith}
-use Rattle.willow_area.specs.Boxes.{Ranges}
 use Rattle.willow_entry.specs.Row.{RowValue}
 use Rattle.mc_cap.specs.Signature.{signature_spelling}
 use Rattle.session_end.specs.declared.refusal.HelloRefusal.{HelloRefusal}
@@ -17,16 +16,16 @@ use Rattle.session_rules.specs.Reading as reading
 use Rattle.session_rules.specs.Reading.{Stand, Waits, Over, Broken, Refused, Move, stay, then, stepped, move, run, read, start}
 use Rattle.session_rules.specs.Messages.{IsReadAs, taken, CanReadAll, hear, tells}
 use Rattle.session_rules.specs.Talk.{Role, Caller, Answerer, item_heard}
-use Rattle.session_rules.specs.Greeting.{Greeting, common_box, Greets, greeting_bytes}
-use Rattle.session_rules.specs.Session.{Proving, Talking, Hello as HelloMessage, Proof, Item, opening, to_hello, to_proof, common_rows, exchange_with, hello_read, proof_read, item_read, seen_as, message_spelling, InTalk}
+use Rattle.session_rules.specs.Greeting.{Greeting, agreed_with, Greets, greeting_bytes}
+use Rattle.session_rules.specs.Session.{Proving, Talking, Hello as HelloMessage, Proof, Item, opening, to_hello, to_proof, rows_offered, exchange_with, hello_read, proof_read, item_read, seen_as, message_spelling, InTalk}
 use Rattle.session_rules.proofs.Runs.{move_of, run_append}
 use Rattle.session_rules.proofs.Growing.{says_of}
 use Rattle.session_rules.proofs.Greeted.{hello_whole}
 use Rattle.session_rules.proofs.Shifting.{shift-read}
 use Rattle.session_rules.proofs.Spelled.{read_due, read_messages, got_is}
 use Rattle.session_rules.proofs.Talking.{talking}
-use Rattle.sync_link.specs.Greetings.{greeting}
-use Rattle.sync_link.specs.Places.{places}
+use Rattle.sync_link.specs.Greetings.{Agreement, greeting}
+use Rattle.sync_link.specs.Places.{offers_of, places}
 use Rattle.sync_link.specs.Sessions.{Party, SessionStage, SessionMessage, SessionCause, own_part, session_of, said}
 use Rattle.sync_link.specs.Fed.{heard, counted, noted, noting}
 use Rattle.sync_link.proofs.ReadOn.{counted-append}
@@ -74,7 +73,7 @@ module _ (a : Machine SessionStage SessionMessage SessionMessage RowValue Sessio
       omega (arith, counted-append one.rows (run (taken (noting a) spelling) one.stand ms).rows, counted-append (m ∷ []) ms, taken_few q m, heard_few one.stand ms)
 
 module _ (p : Party) (rows : List RowValue) (hello : Hello) (proof : List ℕ) (greets : Greets (greeting p.rules p.namespace) (own_part p) hello proof) where
-  abbrev rules : Greeting Hello (List ℕ) Ranges HelloRefusal
+  abbrev rules : Greeting Hello (List ℕ) Agreement HelloRefusal
   rules = greeting p.rules p.namespace
 
   abbrev here : Machine SessionStage SessionMessage SessionMessage RowValue SessionCause
@@ -82,7 +81,7 @@ module _ (p : Party) (rows : List RowValue) (hello : Hello) (proof : List ℕ) (
 
   -- the exchange behind the greeting
   abbrev pub talks : Machine Place ItemValue ItemValue RowValue CoreRefusal
-  talks = exchange_with rules places (own_part p) rows hello
+  talks = exchange_with rules places (own_part p) (offers_of rows) hello
 
   abbrev first_bytes : List ℕ
   first_bytes = hello_spelling hello
@@ -108,7 +107,7 @@ module _ (p : Party) (rows : List RowValue) (hello : Hello) (proof : List ℕ) (
 
   talked : (at : ℕ) (bytes : List ℕ) → (read here (Waits (Talking talks.first) (at + 0) []) bytes).says ≡ map Item (read talks (start talks) bytes).says
   talked at bytes =
-      ap says_of (talking rules places (own_part p) rows (own_part p).role (common_rows rules places (own_part p) rows hello) (common_box rules (own_part p) hello) (Waits talks.first (at + 0) []) bytes)
+      ap says_of (talking rules places (own_part p) (offers_of rows) (own_part p).role (rows_offered rules (own_part p) (offers_of rows) hello) (agreed_with rules (own_part p) hello) (Waits talks.first (at + 0) []) bytes)
       ∙ ap (λ (m : Move Place ItemValue RowValue CoreRefusal). map Item m.says) (shift-read talks at (start talks) bytes)
 
   abbrev says_all : List ℕ → List SessionMessage
@@ -120,7 +119,7 @@ module _ (p : Party) (rows : List RowValue) (hello : Hello) (proof : List ℕ) (
       let none : n ≡ n + 0 = omega arith in
       ap (λ l. (read here (start here) l).says) (append_assoc first_bytes second_bytes bytes)
       ∙ ap says_of (run_append (move here) (start here) first_bytes (second_bytes ++ bytes))
-      ∙ ap (λ (m : AMove). m.says ++ (read here m.stand (second_bytes ++ bytes)).says) (hello_whole rules places (own_part p) rows hello proof greets [])
+      ∙ ap (λ (m : AMove). m.says ++ (read here m.stand (second_bytes ++ bytes)).says) (hello_whole rules places (own_part p) (offers_of rows) hello proof greets [])
       ∙ ap (λ l. to_first.says ++ l) (
       ap says_of (run_append (move here) to_first.stand second_bytes bytes)
       ∙ ap (λ (m : AMove). m.says ++ (read here m.stand bytes).says) (proof_whole (length first_bytes))

@@ -14,7 +14,7 @@ use Rattle.session_rules.specs.Talk.{answered, item_heard, spoken}
 use Rattle.session_rules.specs.Greeting.{other_refusal}
 use Rattle.session_rules.specs.Session.{Opening, Proving, Talking, Hello as HelloMessage, Proof, Item, exchange_with, hello_read, proof_read, item_read}
 use Rattle.sync_link.specs.Greetings.{greeting}
-use Rattle.sync_link.specs.Places.{places}
+use Rattle.sync_link.specs.Places.{offers_of, places}
 use Rattle.sync_link.specs.Sessions.{Party, SessionStage, SessionMessage, SessionCause, own_part, session_of}
 use Rattle.sync_link.specs.Standing.{Side, Feeds, party_of}
 use Rattle.sync_link.proofs.Reaching.{chosen, may_chosen}
@@ -71,7 +71,7 @@ module _ (p : Party) (rows : List RowValue) where
   hello_few hello None = omega arith
   hello_few hello (Some cause) = omega arith
 
-  proof_few : (hello : Hello) (o : Option HelloRefusal) → length (rows_in_step (proof_read {H = Hello} (own_part p) (exchange_with (greeting p.rules p.namespace) places (own_part p) rows hello) o)) ≤ 1
+  proof_few : (hello : Hello) (o : Option HelloRefusal) → length (rows_in_step (proof_read {H = Hello} (own_part p) (exchange_with (greeting p.rules p.namespace) places (own_part p) (offers_of rows) hello) o)) ≤ 1
   proof_few hello None = omega arith
   proof_few hello (Some cause) = omega arith
 

@@ -24,7 +24,8 @@ use Rattle.session_rules.proofs.Members.{none_in}
 use Rattle.sync_core.specs.Place.{rows_of_area}
 use Rattle.sync_core.specs.SyncRules.{sync_rules}
 use Rattle.sync_core.proofs.Lawful.{deciding, disjoint, can_cut_rows}
-use Rattle.sync_link.specs.Sessions.{Party, box_with}
+use Rattle.sync_link.specs.Greetings.{Agreement}
+use Rattle.sync_link.specs.Sessions.{Party, agreement_with, box_with, version_with}
 use Rattle.sync_link.specs.Settling.{IsOpening, CanMeet, AreApartIn}
 use Rattle.auth_entry.specs.Rows.{authorised_rows}
 use Rattle.sync_link.specs.Kept.{log_rows}
@@ -85,30 +86,33 @@ within_box x rows sent r (inl c) = inl (in_rows rows (Some x) r c)
 within_box x rows sent r (inr c) = inr c
 
 module _ (namespace : List ℕ) (rows others : List RowValue) (own : IsOpening namespace rows) (theirs : IsOpening namespace others) where
-  caller_gets : (box : Option Ranges) → AreApartIn box rows others → Gets box rows others (to_left (exchange sync_rules rows others box))
-  caller_gets None apart r c = absurd (none_in r c)
-  caller_gets (Some x) apart r c =
-      within_box x rows (to_left (exchange sync_rules rows others (Some x))) r
-      (left_gets sync_rules deciding disjoint rows others x (can_cut_rows rows (rises namespace rows own)) (can_cut_rows others (rises namespace others theirs)) apart r c)
+  caller_gets : (version : ℕ) (box : Option Ranges) → AreApartIn version box rows others → Gets box rows others (to_left (exchange (sync_rules version) rows others box))
+  caller_gets version None apart r c = absurd (none_in r c)
+  caller_gets version (Some x) apart r c =
+      within_box x rows (to_left (exchange (sync_rules version) rows others (Some x))) r
+      (left_gets (sync_rules version) (deciding version) (disjoint version) rows others x (can_cut_rows version rows (rises namespace rows own)) (can_cut_rows version others (rises namespace others theirs)) apart r c)
 
-  answerer_gets : (box : Option Ranges) → AreApartIn box others rows → Gets box rows others (to_right (exchange sync_rules others rows box))
-  answerer_gets None apart r c = absurd (none_in r c)
-  answerer_gets (Some x) apart r c =
-      within_box x rows (to_right (exchange sync_rules others rows (Some x))) r
-      (right_gets sync_rules deciding disjoint others rows x (can_cut_rows others (rises namespace others theirs)) (can_cut_rows rows (rises namespace rows own)) apart r c)
+  answerer_gets : (version : ℕ) (box : Option Ranges) → AreApartIn version box others rows → Gets box rows others (to_right (exchange (sync_rules version) others rows box))
+  answerer_gets version None apart r c = absurd (none_in r c)
+  answerer_gets version (Some x) apart r c =
+      within_box x rows (to_right (exchange (sync_rules version) others rows (Some x))) r
+      (right_gets (sync_rules version) (deciding version) (disjoint version) others rows x (can_cut_rows version others (rises namespace others theirs)) (can_cut_rows version rows (rises namespace rows own)) apart r c)
 
--- ---- the two boxes are one
+-- ---- both agree on one
+
+same_agreement : (p q : Party) → p.role ≡ roles.Answerer → q.role ≡ roles.Caller → agreement_with q p.hello ≡ agreement_with p q.hello
+same_agreement p q answers calls =
+    ap (λ role. agreement_with (record q { role = role }) p.hello) calls
+    ∙ sym (ap (λ role. agreement_with (record p { role = role }) q.hello) answers)
 
 pub same_box : (p q : Party) → p.role ≡ roles.Answerer → q.role ≡ roles.Caller → box_with q p.hello ≡ box_with p q.hello
-same_box p q answers calls =
-    ap (λ role. box_with (record q { role = role }) p.hello) calls
-    ∙ sym (ap (λ role. box_with (record p { role = role }) q.hello) answers)
+same_box p q answers calls = ap (λ (a : Agreement). a.box) (same_agreement p q answers calls)
 
-apart_as : (role : roles_of.Role) (box : Option Ranges) (rows others : List RowValue) → role ≡ roles.Caller → AreApartAs role box rows others → AreApartIn box rows others
-apart_as role box rows others calls h = subst (λ r. AreApartAs r box rows others) calls h
+apart_as : (version : ℕ) (role : roles_of.Role) (box : Option Ranges) (rows others : List RowValue) → role ≡ roles.Caller → AreApartAs version role box rows others → AreApartIn version box rows others
+apart_as version role box rows others calls h = subst (λ r. AreApartAs version r box rows others) calls h
 
-apart_back : (role : roles_of.Role) (box : Option Ranges) (rows others : List RowValue) → role ≡ roles.Answerer → AreApartAs role box rows others → AreApartIn box others rows
-apart_back role box rows others answers h = subst (λ r. AreApartAs r box rows others) answers h
+apart_back : (version : ℕ) (role : roles_of.Role) (box : Option Ranges) (rows others : List RowValue) → role ≡ roles.Answerer → AreApartAs version role box rows others → AreApartIn version box others rows
+apart_back version role box rows others answers h = subst (λ r. AreApartAs version r box rows others) answers h
 
 -- ---- the log
 
@@ -127,22 +131,22 @@ module _ (p : List ℕ → Party) (ran : Ran p) (q : Party) (others : List RowVa
       let front = ran.did.opening.1 in
       subst (λ l. HasCovering l r) (sym (rows_behind ran.did.log ran.after.seen front)) (covers_live_front (log_rows ran.did.log) (log_rows front.0) r c)
 
-  pub gets_as_caller : CanMeet party q → AreApartAs party.role (box_with party q.hello) rows others → Gets (box_with party q.hello) rows others (map row_of ran.did.rows)
+  pub gets_as_caller : CanMeet party q → AreApartAs (version_with party q.hello) party.role (box_with party q.hello) rows others → Gets (box_with party q.hello) rows others (map row_of ran.did.rows)
   gets_as_caller can apart =
       let own = own_opens p ran q others other done in
       subst (Gets (box_with party q.hello) rows others)
       (sym (got_as_caller p ran q others other own (is_over p ran q others other done) (all_written p ran q others other done) can) ∙ sym (all_sent p ran q others other done))
-      (caller_gets party.namespace rows others own other.opens (box_with party q.hello) (apart_as party.role (box_with party q.hello) rows others can.calls apart))
+      (caller_gets party.namespace rows others own other.opens (version_with party q.hello) (box_with party q.hello) (apart_as (version_with party q.hello) party.role (box_with party q.hello) rows others can.calls apart))
 
-  pub gets_as_answerer : CanMeet q party → AreApartAs party.role (box_with party q.hello) rows others → Gets (box_with party q.hello) rows others (map row_of ran.did.rows)
+  pub gets_as_answerer : CanMeet q party → AreApartAs (version_with party q.hello) party.role (box_with party q.hello) rows others → Gets (box_with party q.hello) rows others (map row_of ran.did.rows)
   gets_as_answerer can apart =
       let own = own_opens p ran q others other done in
-      let box = same_box party q can.answers can.calls in
+      let same = same_agreement party q can.answers can.calls in
       subst (Gets (box_with party q.hello) rows others)
-      (ap (λ x. to_right (exchange sync_rules others rows x)) (sym box) ∙ sym (got_as_answerer p ran q others other own (is_over p ran q others other done) (all_written p ran q others other done) can) ∙ sym (all_sent p ran q others other done))
-      (answerer_gets party.namespace rows others own other.opens (box_with party q.hello) (apart_back party.role (box_with party q.hello) rows others can.answers apart))
+      (ap (λ (a : Agreement). to_right (exchange (sync_rules a.version) others rows a.box)) (sym same) ∙ sym (got_as_answerer p ran q others other own (is_over p ran q others other done) (all_written p ran q others other done) can) ∙ sym (all_sent p ran q others other done))
+      (answerer_gets party.namespace rows others own other.opens (version_with party q.hello) (box_with party q.hello) (apart_back (version_with party q.hello) party.role (box_with party q.hello) rows others can.answers apart))
 
-  gets : AreApartAs party.role (box_with party q.hello) rows others → Gets (box_with party q.hello) rows others (map row_of ran.did.rows)
+  gets : AreApartAs (version_with party q.hello) party.role (box_with party q.hello) rows others → Gets (box_with party q.hello) rows others (map row_of ran.did.rows)
   gets apart = by_role other.can_meet
     where
       by_role : CanMeet party q ⊎ CanMeet q party → Gets (box_with party q.hello) rows others (map row_of ran.did.rows)
@@ -170,7 +174,7 @@ module _ (p : List ℕ → Party) (ran : Ran p) (report : SessionReport) (q : Pa
   covered r whose (inl c) = own_covered p ran q others met is_done r c
   covered r whose (inr c) = sent_covered r whose c
 
-  pub runs_cover : AreApartAs here.role (box_with here q.hello) (opening_of ran) others → All (HasCovering (log_rows ran.after.seen)) (other_common ran q others)
+  pub runs_cover : AreApartAs (version_with here q.hello) here.role (box_with here q.hello) (opening_of ran) others → All (HasCovering (log_rows ran.after.seen)) (other_common ran q others)
   runs_cover apart k d within =
       let r = get_or (other_common ran q others) k d in
       let c = All-contains_itself (other_common ran q others) k d within in
@@ -196,7 +200,7 @@ runs_keep p ran k d within =
     (subst (λ l. HasCovering l r) (sym (rows_behind ran.did.log ran.after.seen front)) (covers_live_front (log_rows ran.did.log) (log_rows front.0) r (All-contains_itself rows k d within)))
 
 module _ (p : List ℕ → Party) (ran : Ran p) (report : SessionReport) (q : Party) (others : List RowValue) (ok : ran.answer ≡ Ok report) (other : IsOther ran q others) (leave : AreAuthorised ran others)
-    (apart : AreApartAs (side ran).role (box_with (side ran) q.hello) (opening_of ran) others) where
+    (apart : AreApartAs (version_with (side ran) q.hello) (side ran).role (box_with (side ran) q.hello) (opening_of ran) others) where
   abbrev own : List RowValue
   own = opening_of ran
 

@@ -1,10 +1,12 @@
 -- What comes of an item is what the session makes of it.
-use Rattle.std.proofs.Common.{◌≡◌, ℕ, zero, suc, ◌+◌, ◌-◌, ◌≤◌, ◌<◌, Bool, true, false, cond, not, List, [], ◌∷◌, ◌++◌, map, take, flat_map, append-nil, Option, Some, None, Result, Ok, Err, option_to_list, refl, sym, ap, ◌∙◌, subst, arith}
+use Rattle.std.proofs.Common.{◌≡◌, ℕ, zero, suc, ◌+◌, ◌-◌, ◌≤◌, ◌<◌, Bool, true, false, cond, not, List, [], ◌∷◌, ◌++◌, map, take, flat_map, append-nil, Option, Some, None, Result, Ok, Err, option_to_list, refl, sym, ap, ap₂, ◌∙◌, subst, arith}
 use Rattle.spelling.specs.Answers.{cause_if}
 use Rattle.scheme_core.specs.Rules.{Rules}
 use Rattle.willow_area.specs.Boxes.{Ranges}
 use Rattle.willow_area.specs.Cuts.{can_cut, lower_part, upper_part}
 use Rattle.willow_entry.specs.Row.{RowValue}
+use Rattle.range_split.specs.Parts.{can_cut_at, parts_at}
+use Rattle.exchange_rules.specs.AnyPeer.{part_asks}
 use Rattle.exchange_rules.specs.Items.{Print, Sent}
 use Rattle.sync_msg.specs.Items.{ItemValue, item_spelling, due_behind}
 use Rattle.sync_msg.specs.declared.item.Item.TheVariants.{Bye}
@@ -40,8 +42,8 @@ use Rattle.sync_link.specs.declared.due.Exchange.{Exchange}
 use Rattle.sync_link.specs.declared.talker.Talker.{Talker}
 use Rattle.sync_link.proofs.Cases.{AreCases, by_cases, heard_as}
 use Rattle.sync_link.proofs.Own.{same_some, same_ok, not_err, unless_ok}
-use Rattle.sync_link.proofs.Heard.{reading_on}
-use Rattle.sync_link.proofs.Speaking.{spoken_as}
+use Rattle.sync_link.proofs.Heard.{reading_on, version_heard}
+use Rattle.sync_link.proofs.Speaking.{spoken_as, version_spoken}
 use Rattle.sync_link.proofs.Sound.{all_within, heard_alike, says_all_alike}
 use Rattle.sync_link.proofs.Moves.{some_taken, broken_silent, part_reads, part_silent, wrong_reads, found_reads, feeds, feeds_quiet}
 use Rattle.sync_link.proofs.Greeting.{items_said, party_with}
@@ -54,35 +56,36 @@ due_hearing (Sent box sent) asks zero read opens due e = e
 due_hearing (Print box print) asks (suc left) read opens due e = (e, omega (arith, e))
 due_hearing (Sent box sent) asks (suc left) read opens due e = (e, omega (arith, e))
 
-module _ (area : Option Ranges) (rows : List RowValue) (due : ℕ) where
+module _ (version : ℕ) (area : Option Ranges) (rows : List RowValue) (due : ℕ) where
   abbrev DueThen : Doing → ItemValue → Result Doing CoreRefusal → Type 0
   DueThen doing item r = (d : Doing) → r ≡ Ok d → AreDueIn due doing → AreDueIn (due_behind due item) d
 
   due_ok : (now : ℕ) (doing d : Doing) → AreDueIn now doing → ◌≡◌ {A = Result Doing CoreRefusal} (Ok doing) (Ok d) → AreDueIn now d
   due_ok now doing d h e = subst (AreDueIn now) (same_ok doing d e) h
 
-  due_cases : AreCases area rows DueThen
+  due_cases : AreCases version area rows DueThen
   due_cases = record {
     mismatch = λ doing item d e h. absurd (not_err d ItemMismatch e);
     first_bye = λ is d e h. due_ok due Replying d h e;
     first_print = λ box print is d e h. due_ok due (Hearing [] (Print box print ∷ [])) d h e;
     agree = λ box print asks opens d e h. due_ok due (Hearing asks opens) d h e;
-    split = λ box print asks opens at lower upper d e h.
+    split = λ box print asks opens at lower upper is d e h.
         subst (AreDueIn due) (unless_ok (cause_if (not (can_cut box at)) BadCut) (Hearing asks (opens ++ Print (lower_part box at) lower ∷ Print (upper_part box at) upper ∷ [])) d e) h;
+    parts = λ box print asks opens points prints is d e h. subst (AreDueIn due) (unless_ok (cause_if (not (can_cut_at box points)) BadCut) (Hearing asks (opens ++ part_asks (parts_at box points) prints)) d e) h;
     entries = λ box print asks opens count d e h. due_ok count (hearing_rows (Print box print) asks count [] opens) d (due_hearing (Print box print) asks count [] opens count refl) e;
     rest = λ box sent asks opens count d e h. due_ok count (hearing_rows (Sent box sent) asks count [] opens) d (due_hearing (Sent box sent) asks count [] opens count refl) e;
     row = λ ask asks left read opens row d e h.
         subst (AreDueIn (due - 1)) (unless_ok (row_cause (box_of ask) read row) (hearing_rows ask asks (left - 1) (remembered ask read row) opens) d e)
         (due_hearing ask asks (left - 1) (remembered ask read row) opens (due - 1) (ap (λ n. n - 1) h.0));
     last_bye = λ d e h. due_ok due Replying d h e;
-    end_turn = λ ask asks d e h. due_ok due (answering rows (ask ∷ asks)) d h e;
+    end_turn = λ ask asks d e h. due_ok due (answering version rows (ask ∷ asks)) d h e;
     farewell = λ d e h. due_ok due Finished d h e;
   }
 
 due_heard : (place next : Place) (item : ItemValue) (due : ℕ) → heard place item ≡ Ok next → AreDueIn due place.doing → AreDueIn (due_behind due item) next.doing
 due_heard place next item due e h =
     let to = heard_as place item next e in
-    subst (λ p. AreDueIn (due_behind due item) p.doing) (sym to.then) (by_cases place.area place.rows (DueThen place.area place.rows due) (due_cases place.area place.rows due) place.doing item to.doing to.comes h)
+    subst (λ p. AreDueIn (due_behind due item) p.doing) (sym to.then) (by_cases place.version place.area place.rows (DueThen place.version place.area place.rows due) (due_cases place.version place.area place.rows due) place.doing item to.doing to.comes h)
 
 due_waiting : (due : ℕ) (asks : List AskValue) → due ≡ 0 → AreDueIn due (waiting asks)
 due_waiting due [] h = h
@@ -124,6 +127,10 @@ pub due_then : (place next last : Place) (item : ItemValue) (due : ℕ) → hear
 due_then place next last item due e is h =
     subst (λ p. AreDueIn (due_behind due item) p.doing) (sym is) (due_says (left_to_say next.doing) (due_behind due item) next (due_heard place next item due e h))
 
+-- the version stays
+version_then : (place next last : Place) (item : ItemValue) → heard place item ≡ Ok next → last ≡ (says_all next).1 → last.version ≡ place.version
+version_then place next last item e is = ap (λ p. p.version) is ∙ version_spoken next ∙ version_heard place next item e
+
 -- a row is awaited exactly where some are due
 some_due : (due : ℕ) → 0 < due → is_due due ≡ true
 some_due zero some = absurd (omega arith)
@@ -156,13 +163,13 @@ module _ {R S : Type 0} (rules : Rules) (value : R → RowValue) (talker : Talke
   talks = Talking (within old.core)
 
   abbrev sees : List ℕ → Seen ItemValue
-  sees = item_seen (awaits_row old.core.doing)
+  sees = item_seen old.core.version (awaits_row old.core.doing)
 
   stands : from ≡ Waits talks at []
   stands = ap (λ b. cond b Over (Waits talks at [])) (reading_on old.core.doing waits)
 
-  same_sees : item_seen (is_due old.reader.due) ≡ sees
-  same_sees = ap item_seen (awaits_due old.reader.due old.core.doing is.due)
+  same_sees : item_seen old.reader.version (is_due old.reader.due) ≡ sees
+  same_sees = ap₂ item_seen is.version (awaits_due old.reader.due old.core.doing is.due)
 
   stands_on : (held : List ℕ) → stand_of (dues.Items old) at held ≡ Waits talks at held
   stands_on held = ap (λ b. cond b Over (Waits talks at held)) (reading_on old.core.doing waits)
@@ -170,23 +177,23 @@ module _ {R S : Type 0} (rules : Rules) (value : R → RowValue) (talker : Talke
   reads_from : (signature read : List ℕ) (to : Stand SessionStage SessionCause) (written : List ℕ) (taken : List RowValue) → Reads (party signature) own_rows (Waits talks at []) read to written taken → Reads (party signature) own_rows from read to written taken
   reads_from signature read to written taken h = subst (λ q. Reads (party signature) own_rows q read to written taken) (sym stands) h
 
-  pub item_part : ArePart (item_seen (is_due old.reader.due)) [] bytes → (signature : List ℕ) → Reads (party signature) own_rows from bytes (stand_of (dues.Items old) at bytes) [] []
+  pub item_part : ArePart (item_seen old.reader.version (is_due old.reader.due)) [] bytes → (signature : List ℕ) → Reads (party signature) own_rows from bytes (stand_of (dues.Items old) at bytes) [] []
   item_part part signature =
       subst (λ q. Reads (party signature) own_rows from bytes q [] []) (sym (stands_on bytes))
       (reads_from signature bytes (Waits talks at bytes) [] [] (part_reads (party signature) own_rows talks session.Item sees refl at bytes (subst (λ look. ArePart look [] bytes) same_sees part)))
 
-  pub item_silent : ArePart (item_seen (is_due old.reader.due)) [] bytes → (signature : List ℕ) → IsSilent (party signature) own_rows from bytes (stand_of (dues.Items old) at bytes)
+  pub item_silent : ArePart (item_seen old.reader.version (is_due old.reader.due)) [] bytes → (signature : List ℕ) → IsSilent (party signature) own_rows from bytes (stand_of (dues.Items old) at bytes)
   item_silent part signature =
       subst (λ q. IsSilent (party signature) own_rows from bytes q) (sym (stands_on bytes))
       (subst (λ q. IsSilent (party signature) own_rows q bytes (Waits talks at bytes)) (sym stands) (part_silent (party signature) own_rows talks session.Item sees refl at bytes (subst (λ look. ArePart look [] bytes) same_sees part)))
 
-  pub item_more : ArePart (item_seen (is_due old.reader.due)) [] bytes → new ≡ old → out_new ≡ out_old → rows_new ≡ rows_old
+  pub item_more : ArePart (item_seen old.reader.version (is_due old.reader.due)) [] bytes → new ≡ old → out_new ≡ out_old → rows_new ≡ rows_old
       → Steps (waiting_side rules value talker (dues.Items old)) (waiting_side rules value talker (dues.Items new)) at bytes None out_old out_new rows_old rows_new
   item_more part same silent none =
       feeds_quiet rules value talker talker from (stand_of (dues.Items new) at bytes) bytes out_old out_new rows_old rows_new refl silent [] (none ∙ sym (append-nil rows_old))
       (λ signature. subst (λ x. Reads (party signature) own_rows from bytes (stand_of (dues.Items x) at bytes) [] []) (sym same) (item_part part signature))
 
-  pub item_bad : GoWrong (item_seen (is_due old.reader.due)) [] bytes → out_new ≡ out_old → rows_new ≡ rows_old
+  pub item_bad : GoWrong (item_seen old.reader.version (is_due old.reader.due)) [] bytes → out_new ≡ out_old → rows_new ≡ rows_old
       → Steps (waiting_side rules value talker (dues.Items old)) (waiting_side rules value talker (dues.Nothing causes.Bad)) at bytes None out_old out_new rows_old rows_new
   item_bad wrong silent none =
       feeds_quiet rules value talker talker from (reading.Broken at) bytes out_old out_new rows_old rows_new refl silent [] (none ∙ sym (append-nil rows_old))
@@ -195,7 +202,7 @@ module _ {R S : Type 0} (rules : Rules) (value : R → RowValue) (talker : Talke
   abbrev step_of : List ℕ → ItemValue → ℕ → Move SessionStage SessionMessage RowValue SessionCause
   step_of signature item now = stepped now ((session_of (party signature) own_rows).step talks (session.Item item))
 
-  pub item_refused : (item : ItemValue) (n : ℕ) (cause : CoreRefusal) → IsFound (item_seen (is_due old.reader.due)) bytes item n → RefusesItem old.core item cause out_old out_new rows_old rows_new
+  pub item_refused : (item : ItemValue) (n : ℕ) (cause : CoreRefusal) → IsFound (item_seen old.reader.version (is_due old.reader.due)) bytes item n → RefusesItem old.core item cause out_old out_new rows_old rows_new
       → Steps (waiting_side rules value talker (dues.Items old)) (waiting_side rules value talker (dues.Nothing (causes.Core cause))) at bytes (Some n) out_old out_new rows_old rows_new
   item_refused item n cause found h =
       let found_here = subst (λ look. IsFound look bytes item n) same_sees found in
@@ -265,6 +272,7 @@ module _ {R S : Type 0} (rules : Rules) (value : R → RowValue) (talker : Talke
     sound = t.hears.says.sound;
     silent = t.silent;
     due = subst (λ r. AreDueIn r.due new.core.doing) (sym t.reader) (due_then old.core t.hears.next new.core t.item old.reader.due t.hears.heard_to t.hears.says.place is.due);
+    version = ap (λ r. r.version) t.reader ∙ is.version ∙ sym (version_then old.core t.hears.next new.core t.item t.hears.heard_to t.hears.says.place);
   }
 
 -- ---- whatever came

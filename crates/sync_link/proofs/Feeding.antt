@@ -21,7 +21,7 @@ use Rattle.sync_link.specs.Sound.{AreSound, IsUnrefused}
 use Rattle.sync_link.specs.Standing.{Side, MayBe, Reads, Feeds, party_of, within}
 use Rattle.sync_link.specs.Due.{stand_of}
 use Rattle.sync_link.specs.Fed.{noting}
-use Rattle.sync_link.specs.Talking.{IsSigned, SignsBy, own_message, side_with}
+use Rattle.sync_link.specs.Talking.{IsSigned, SignsBy, own_message, side_with, SpeaksSome}
 use Rattle.sync_link.specs.Held.{IsHeld}
 use Rattle.sync_link.specs.Taking.{Fits, Holds, IsExchange, IsOpen, IsSilent, Steps, waiting_side}
 use Rattle.sync_link.specs.declared.due.Cause.TheVariants as causes
@@ -186,10 +186,11 @@ module _ {R S : Type 0} (rules : Rules) (value : R → RowValue) where
 
 -- ---- the beginning
 
-pub begun_held : {R S : Type 0} (rules : Rules) (value : R → RowValue) (talker : Talker R S) → HasSpelling talker.hello → AreSound (map value talker.snapshot) → talker.signature ≡ None → IsHeld rules value talker dues.Hello 0 []
+pub begun_held : {R S : Type 0} (rules : Rules) (value : R → RowValue) (talker : Talker R S) → HasSpelling talker.hello → SpeaksSome talker.hello → AreSound (map value talker.snapshot) → talker.signature ≡ None → IsHeld rules value talker dues.Hello 0 []
 unfolding run
-begun_held rules value talker own rows unsigned = record {
+begun_held rules value talker own speaks rows unsigned = record {
   own = own;
+  speaks = speaks;
   rows = rows;
   fits = unsigned;
   few = omega arith;

@@ -21,8 +21,8 @@ use Rattle.willow_entry.specs.Frame.{row_frame}
 use Rattle.willow_entry.specs.RowBody.{row_body}
 use Rattle.willow_entry.specs.declared.frame.TheConstants.{MAX_FRAME}
 use Rattle.mc_cap.specs.Signature.{signature_spelling}
-use Rattle.sync_msg.specs.Items.{ItemValue, IsHead, IsRowItem, item_spelling, item_value}
-use Rattle.sync_msg.specs.declared.item.Item.TheVariants.{Row}
+use Rattle.sync_msg.specs.Items.{ItemValue, HasPrints, IsHead, IsRowItem, item_spelling, item_value}
+use Rattle.sync_msg.specs.declared.item.Item.TheVariants.{First, Agree, Split, Parts, Entries, Rest, Row, EndTurn, Bye}
 use Rattle.sync_msg.specs.declared.reader.BadItem.{BadItem}
 use Rattle.sync_msg.specs.declared.reader.Step.{Step}
 use Rattle.sync_msg.specs.declared.reader.Step.TheVariants.{Got, More}
@@ -103,21 +103,21 @@ finds_hello bytes (Err e) are h = tt
 
 -- ---- items
 
-head_none : head_seen [] ≡ Part
+head_none : (version : ℕ) → head_seen version [] ≡ Part
 unfolding head_seen head_at
-head_none = refl
+head_none version = refl
 
-head_back : (bytes : List ℕ) (item : ItemValue) → AreBytes bytes → head_seen bytes ≡ Whole item → IsHead item × (bytes ≡ item_spelling item)
+head_back : (version : ℕ) (bytes : List ℕ) (item : ItemValue) → AreBytes bytes → head_seen version bytes ≡ Whole item → IsHead version item × (bytes ≡ item_spelling item)
 unfolding head_seen
-head_back bytes item are e = read_back head-reads bytes item are e
+head_back version bytes item are e = read_back (head-reads version) bytes item are e
 
-head_parts : (bytes : List ℕ) → AreBytes bytes → Begins item_spelling IsHead bytes → ArePart head_seen [] bytes
+head_parts : (version : ℕ) (bytes : List ℕ) → AreBytes bytes → Begins item_spelling (IsHead version) bytes → ArePart (head_seen version) [] bytes
 unfolding head_seen
-head_parts bytes are begins = parts_by head-reads head_seen (λ held e. ap all_seen e) [] bytes ((head_reader.part bytes are).1 begins)
+head_parts version bytes are begins = parts_by (head-reads version) (head_seen version) (λ held e. ap all_seen e) [] bytes (((head_reader version).part bytes are).1 begins)
 
-head_part : (bytes : List ℕ) → AreBytes bytes → head_seen bytes ≡ Part → Begins item_spelling IsHead bytes
+head_part : (version : ℕ) (bytes : List ℕ) → AreBytes bytes → head_seen version bytes ≡ Part → Begins item_spelling (IsHead version) bytes
 unfolding head_seen
-head_part bytes are e = (head_reader.part bytes are).0 (part_front (head_at bytes) e)
+head_part version bytes are e = ((head_reader version).part bytes are).0 (part_front (head_at version bytes) e)
 
 row_none : row_seen [] ≡ Part
 unfolding row_seen body_at text_at
@@ -157,32 +157,59 @@ row_found bytes item taken comes within spelled =
 
 -- ---- an item, by how many rows are due
 
-found_item : (due : ℕ) (bytes : List ℕ) (item : ItemValue) (taken : ℕ) → TakesItem (MayCome IsRawRow due) bytes item taken → IsFound (item_seen (is_due due)) bytes item taken
-found_item zero bytes item taken t = record { within = t.within; reads = subst (λ l. IsReadAs head_seen l item) (sym t.spelled) (head_as item t.comes) }
-found_item (suc due) bytes item taken t = row_found bytes item taken t.comes t.within t.spelled
+found_item : (version due : ℕ) (bytes : List ℕ) (item : ItemValue) (taken : ℕ) → TakesItem (MayCome IsRawRow version due) bytes item taken → IsFound (item_seen version (is_due due)) bytes item taken
+found_item version zero bytes item taken t = record { within = t.within; reads = subst (λ l. IsReadAs (head_seen version) l item) (sym t.spelled) (head_as version item t.comes) }
+found_item version (suc due) bytes item taken t = row_found bytes item taken t.comes t.within t.spelled
 
-begun_item : (due : ℕ) (bytes : List ℕ) → AreBytes bytes → BeginsItem due bytes → ArePart (item_seen (is_due due)) [] bytes
-begun_item zero bytes are begins = head_parts bytes are begins
-begun_item (suc due) bytes are begins = row_parts bytes are begins
+begun_item : (version due : ℕ) (bytes : List ℕ) → AreBytes bytes → BeginsItem version due bytes → ArePart (item_seen version (is_due due)) [] bytes
+begun_item version zero bytes are begins = head_parts version bytes are begins
+begun_item version (suc due) bytes are begins = row_parts bytes are begins
 
-no_item : (due : ℕ) (bytes : List ℕ) → AreBytes bytes → HasNoItem (MayCome IsRawRow due) (BeginsItem due) bytes → GoWrong (item_seen (is_due due)) [] bytes
-no_item zero bytes are none =
-    all_wrong head_seen bytes
+no_item : (version due : ℕ) (bytes : List ℕ) → AreBytes bytes → HasNoItem (MayCome IsRawRow version due) (BeginsItem version due) bytes → GoWrong (item_seen version (is_due due)) [] bytes
+no_item version zero bytes are none =
+    all_wrong (head_seen version) bytes
     (λ held rest item e whole.
-    let back = head_back held item (All-left _ held rest (subst AreBytes e are)) whole in
+    let back = head_back version held item (All-left _ held rest (subst AreBytes e are)) whole in
     none.none_whole item rest back.0 (e ∙ ap (λ l. l ++ rest) back.1))
-    (λ part. none.none_begun (head_part bytes are part)) head_none
-no_item (suc due) bytes are none =
+    (λ part. none.none_begun (head_part version bytes are part)) (head_none version)
+no_item version (suc due) bytes are none =
     all_wrong row_seen bytes
     (λ held rest item e whole.
     let back = row_back held item (All-left _ held rest (subst AreBytes e are)) whole in
     none.none_whole item rest back.0 (e ∙ ap (λ l. l ++ rest) back.1))
     (λ part. none.none_begun (row_part bytes are part)) row_none
 
+-- an item that may come has its fingerprints
+head_prints : (version : ℕ) (item : ItemValue) → IsHead version item → HasPrints item
+head_prints version (First print) f = tt
+head_prints version Agree f = tt
+head_prints version (Split at lower upper) f = tt
+head_prints version (Parts points prints) f = (f.1.0.0, (f.1.0.1.0, f.1.1.0))
+head_prints version (Entries count) f = tt
+head_prints version (Rest count) f = tt
+head_prints version (Row row) f = tt
+head_prints version EndTurn f = tt
+head_prints version Bye f = tt
+
+row_prints : (item : ItemValue) → IsRowItem IsRawRow item → HasPrints item
+row_prints (First print) f = tt
+row_prints Agree f = tt
+row_prints (Split at lower upper) f = tt
+row_prints (Parts points prints) f = absurd f
+row_prints (Entries count) f = tt
+row_prints (Rest count) f = tt
+row_prints (Row row) f = tt
+row_prints EndTurn f = tt
+row_prints Bye f = tt
+
+may_prints : (version due : ℕ) (item : ItemValue) → MayCome IsRawRow version due item → HasPrints item
+may_prints version zero item f = head_prints version item f
+may_prints version (suc due) item f = row_prints item f
+
 pub finds_item : (old new : ReaderState) (bytes : List ℕ) (result : Result (Step RawValue) (End BadItem)) → AreBytes bytes → StepsItem IsRawRow row_of old new bytes result → FindsItem old new bytes result
-finds_item old new bytes (Ok (Got item taken)) are h = (found_item old.due bytes (item_value row_of item) taken h.0, h.1)
-finds_item old new bytes (Ok More) are h = (begun_item old.due bytes are h.0, h.1)
-finds_item old new bytes (Err (ends.Refused bad)) are h = (no_item old.due bytes are h.0, h.1.1)
+finds_item old new bytes (Ok (Got item taken)) are h = (found_item old.version old.due bytes (item_value row_of item) taken h.0, (h.1, may_prints old.version old.due (item_value row_of item) h.0.comes))
+finds_item old new bytes (Ok More) are h = (begun_item old.version old.due bytes are h.0, h.1)
+finds_item old new bytes (Err (ends.Refused bad)) are h = (no_item old.version old.due bytes are h.0, h.1.1)
 finds_item old new bytes (Err ends.NoMemory) are h = h
 
 -- ---- proofs

@@ -26,15 +26,15 @@ use Rattle.sync_hello.specs.Common.{common_area}
 use Rattle.sync_hello.specs.declared.hello.Hello.{Hello}
 use Rattle.sync_hello.proofs.Meaning.{passes}
 use Rattle.sync_hello.proofs.Granting.{asks_within}
+use Rattle.sync_core.specs.Place.{rows_of_area}
 use Rattle.sync_core.proofs.Telling.{no_cause}
-use Rattle.session_rules.specs.Greeting.{IsGreeted, other_refusal, common_box, caller_of, answerer_of}
-use Rattle.session_rules.specs.Session.{Item, common_rows}
-use Rattle.session_rules.specs.Talk as talk
+use Rattle.session_rules.specs.Greeting.{IsGreeted, other_refusal, caller_of, answerer_of}
+use Rattle.session_rules.specs.Session.{Item}
 use Rattle.session_rules.proofs.Members.{none_in}
 use Rattle.session_rules.proofs.Sessions.{items_granted}
 use Rattle.sync_link.specs.Greetings.{side_of, greeting}
-use Rattle.sync_link.specs.Places.{places}
-use Rattle.sync_link.specs.Sessions.{Party, own_part, said}
+use Rattle.sync_link.specs.Places.{offers_of, places}
+use Rattle.sync_link.specs.Sessions.{Party, own_part, said, agreement_with, box_with, rows_with}
 use Rattle.sync_link.specs.Granting.{message_due, IsGranted, GrantsRow}
 use Rattle.sync_link.proofs.Spellings.{hello_back, proof_back}
 use Rattle.sync_link.proofs.Own.{tells_own}
@@ -90,14 +90,14 @@ kept_from keep rows row c =
     let m = filter_member keep rows row (member_from_contains (filter keep rows) row c) in
     (contains_from_member rows row m.0, m.1)
 
-pub in_rows : (rows : List RowValue) (box : Option Ranges) (row : RowValue) → Contains (talk.rows_in places box rows) row → Contains rows row
+pub in_rows : (rows : List RowValue) (box : Option Ranges) (row : RowValue) → Contains (rows_of_area box rows) row → Contains rows row
 in_rows rows None row c = absurd (none_in row c)
 in_rows rows (Some box) row c = (kept_from (is_in box) rows row c).0
 
 module _ (p : Party) (rows : List RowValue) (own_fits : IsArea p.hello.ask) (hello : Hello) (fits : IsHello hello) (none : hello_refusal p.rules p.namespace hello ≡ None) (row : RowValue) where
   -- the box of an area that both ask for
   in_area_of : (role : Role) (area : Option Area) → common_area (caller_of (side_of role) p.hello hello) (answerer_of (side_of role) p.hello hello) ≡ area
-      → Contains (talk.rows_in places (option_map area_box area) rows) row → IsEntry row.entry → IsTrue (in_area hello.ask row.entry.subspace row.entry.path row.entry.timestamp)
+      → Contains (rows_of_area (option_map area_box area) rows) row → IsEntry row.entry → IsTrue (in_area hello.ask row.entry.subspace row.entry.path row.entry.timestamp)
   unfolding common_area
   in_area_of role None is c entry = absurd (none_in row c)
   in_area_of Caller (Some area) is c entry =
@@ -105,7 +105,7 @@ module _ (p : Party) (rows : List RowValue) (own_fits : IsArea p.hello.ask) (hel
   in_area_of Answerer (Some area) is c entry =
       (in_both hello.ask p.hello.ask area row entry fits.ask_fits own_fits is (kept_from (is_in (area_box area)) rows row c).1).0
 
-  pub row_granted : IsEntry row.entry → Contains (common_rows (greeting p.rules p.namespace) places (own_part p) rows hello) row → GrantsRow hello row
+  pub row_granted : IsEntry row.entry → Contains (rows_with p hello rows) row → GrantsRow hello row
   row_granted entry c =
       let asked = in_area_of p.role (common_area (caller_of (side_of p.role) p.hello hello) (answerer_of (side_of p.role) p.hello hello)) refl c entry in
       let triple : IsTriple row.entry.subspace row.entry.path row.entry.timestamp = record { key = entry.subspace; path_fits = entry.path; time_fits = entry.timestamp } in
@@ -115,14 +115,14 @@ module _ (p : Party) (rows : List RowValue) (own_fits : IsArea p.hello.ask) (hel
 
 module _ (p : Party) (rows : List RowValue) (bytes : List ℕ) (are : AreBytes bytes) where
   pub item_granted : (item : ItemValue) → Contains (said p rows bytes) (Item item) → IsGranted p bytes
-  item_granted item c = is_granted p bytes are (items_granted (greeting p.rules p.namespace) places (own_part p) rows bytes item c).0
+  item_granted item c = is_granted p bytes are (items_granted (greeting p.rules p.namespace) places (own_part p) (offers_of rows) bytes item c).0
 
   pub row_told : IsArea p.hello.ask → All (λ r. IsEntry r.entry) rows → (row : RowValue) → Contains (said p rows bytes) (Item (Row row)) → (granted : IsGranted p bytes) × (Contains rows row × GrantsRow granted.hello row)
   unfolding is_granted
   row_told own_fits fit row c =
-      let told = items_granted (greeting p.rules p.namespace) places (own_part p) rows bytes (Row row) c in
+      let told = items_granted (greeting p.rules p.namespace) places (own_part p) (offers_of rows) bytes (Row row) c in
       let hello = told.0.hello in
       let granted = is_granted p bytes are told.0 in
-      let own = tells_own (side_of p.role) (common_rows (greeting p.rules p.namespace) places (own_part p) rows hello) (common_box (greeting p.rules p.namespace) (own_part p) hello) told.0.behind (Row row) row told.1 refl in
-      let within = in_rows rows (common_box (greeting p.rules p.namespace) (own_part p) hello) row own in
+      let own = tells_own (side_of p.role) (rows_with p hello rows) (agreement_with p hello) told.0.behind (Row row) row told.1 refl in
+      let within = in_rows rows (box_with p hello) row own in
       (granted, (within, row_granted p rows own_fits hello granted.fits told.0.greets.passes row (All-contains (λ r. IsEntry r.entry) rows row fit within) own))

@@ -4,11 +4,11 @@ use Rattle.session_rules.specs.Machine.{Machine, Seen, Whole, Part, Wrong, Step,
 use Rattle.session_rules.specs.Reading.{Stand, Waits, Over, Broken, Refused, Move, judged, move, stepped, run, read, start, said}
 use Rattle.session_rules.specs.Talk.{Role, Caller, Answerer, Talk, item_heard}
 use Rattle.session_rules.specs.Greeting.{Greeting, Own, other_refusal, HasHello}
-use Rattle.session_rules.specs.Session.{Message, Hello, Proof, Item, Stage, Opening, Proving, Talking, Cause, opening, to_hello, to_proof, exchange_with, hello_read, proof_read, item_read, seen_as, session}
+use Rattle.session_rules.specs.Session.{Message, Hello, Proof, Item, Stage, Opening, Proving, Talking, Cause, opening, to_hello, to_proof, exchange_with, hello_read, proof_read, item_read, seen_as, session, Offering}
 
-module _ {H P X F R T I G : Type 0} (g : Greeting H P X F) (k : Talk R X T I G) (own : Own H P) (rows : List R) where
+module _ {H P A F R T I G : Type 0} (g : Greeting H P A F) (k : Talk R A T I G) (own : Own H P) (offers : Offering A R) where
   abbrev here : Machine (Stage H T) (Message H P I) (Message H P I) R (Cause F G)
-  here = session g k own rows
+  here = session g k own offers
 
   -- ---- the other side's hello
 
@@ -39,7 +39,7 @@ module _ {H P X F R T I G : Type 0} (g : Greeting H P X F) (k : Talk R X T I G) 
   opening_judged at held Part is = refl
   opening_judged at held Wrong is = tt
 
-  proof_judged : (bytes : List ℕ) (hello : H) (n : ℕ) (o : Option F) → Knows bytes (stepped n (proof_read own (exchange_with g k own rows hello) o)).stand
+  proof_judged : (bytes : List ℕ) (hello : H) (n : ℕ) (o : Option F) → Knows bytes (stepped n (proof_read own (exchange_with g k own offers hello) o)).stand
   proof_judged bytes hello n None = tt
   proof_judged bytes hello n (Some cause) = tt
 
@@ -147,9 +147,9 @@ module _ {H P X F R T I G : Type 0} (g : Greeting H P X F) (k : Talk R X T I G) 
   opening_says says at held Part e = append-nil says ∙ e
   opening_says says at held Wrong e = quietly says (subst Told (sym e) (first_told own.role))
 
-  proof_says : (says : List AMessage) (hello : H) (n : ℕ) (o : Option F) → says ≡ opening own.role own ++ to_hello own.role own → SaysOn says (stepped n (proof_read own (exchange_with g k own rows hello) o))
+  proof_says : (says : List AMessage) (hello : H) (n : ℕ) (o : Option F) → says ≡ opening own.role own ++ to_hello own.role own → SaysOn says (stepped n (proof_read own (exchange_with g k own offers hello) o))
   proof_says says hello n None e =
-      let items = map Item (exchange_with g k own rows hello).opening in
+      let items = map Item (exchange_with g k own offers hello).opening in
       subst (λ l. Proved (l ++ (to_proof own.role own ++ items))) (sym e) (third_proved own.role items)
   proof_says says hello n (Some cause) e = quietly says (subst Told (sym e) (second_told own.role))
 

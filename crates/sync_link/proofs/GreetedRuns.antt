@@ -24,7 +24,7 @@ use Rattle.session_rules.proofs.Growing.{front_by, front_is, front_none, front_u
 use Rattle.session_rules.proofs.Greeted.{out_is_exchange}
 use Rattle.session_rules.proofs.Spelled.{read_due}
 use Rattle.sync_link.specs.Greetings.{greeting, side_of}
-use Rattle.sync_link.specs.Places.{places}
+use Rattle.sync_link.specs.Places.{offers_of, places}
 use Rattle.sync_link.specs.Sessions.{Party, SessionStage, SessionMessage, SessionCause, own_part, session_of, out}
 use Rattle.sync_link.specs.Settling.{Accepts}
 use Rattle.sync_link.specs.Ran.{AreBothRoles}
@@ -92,7 +92,7 @@ module _ (p : Party) (rows : List RowValue) where
   greeted_said q a =
       let g = greeting p.rules p.namespace in
       let all = hello_spelling q.hello ++ signature_spelling q.signature in
-      front_by both_bytes (out p rows all) _ (ap (out p rows) (sym (append-nil all)) ∙ out_is_exchange g places (own_part p) rows q.hello q.signature (greets_of p q a) [])
+      front_by both_bytes (out p rows all) _ (ap (out p rows) (sym (append-nil all)) ∙ out_is_exchange g places (own_part p) (offers_of rows) q.hello q.signature (greets_of p q a) [])
 
   -- that is longer than the hello
   pub longer : (written : List ℕ) → IsFront both_bytes written → IsFront written (hello_spelling p.hello) → ⊥

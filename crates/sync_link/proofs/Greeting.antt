@@ -12,6 +12,7 @@ use Rattle.session_end.specs.declared.refusal.HelloRefusal.{HelloRefusal}
 use Rattle.sync_hello.specs.Checked.{hello_refusal}
 use Rattle.sync_hello.specs.HelloForm.{hello_spelling, IsHello}
 use Rattle.sync_hello.specs.declared.hello.Hello.{Hello}
+use Rattle.sync_hello.proofs.Meaning.{passes}
 use Rattle.exchange_rules.specs.Items.{bye}
 use Rattle.exchange_rules.specs.Items as rules_of
 use Rattle.exchange_rules.specs.Exchange.{first_turn, first_asks}
@@ -31,13 +32,13 @@ use Rattle.session_rules.specs.Session.{Opening, Proving, Talking, InGreeting, I
 use Rattle.session_rules.specs.Greeting.{other_refusal}
 use Rattle.session_rules.specs.Talk as talk
 use Rattle.sync_link.specs.Readers.{hello_seen, proof_seen}
-use Rattle.sync_link.specs.Greetings.{side_of, role_of, greeting}
-use Rattle.sync_link.specs.Places.{has_finished, places}
-use Rattle.sync_link.specs.Sessions.{Party, SessionStage, SessionMessage, SessionCause, own_part, box_with, rows_with, session_of}
+use Rattle.sync_link.specs.Greetings.{Agreement, side_of, role_of, greeting}
+use Rattle.sync_link.specs.Places.{has_finished, offers_of, places}
+use Rattle.sync_link.specs.Sessions.{Party, SessionStage, SessionMessage, SessionCause, own_part, agreement_with, box_with, rows_with, session_of, version_with}
 use Rattle.sync_link.specs.Standing.{MayBe, Feeds, within}
 use Rattle.sync_link.specs.Found.{IsFound, GoWrong}
 use Rattle.sync_link.specs.Due.{stand_in, stand_of}
-use Rattle.sync_link.specs.Talking.{HearsHello, HearsProof, AcceptsProof, BeginsExchange, Keeps, UnsignedIf, Writes, box_between, proof_cause, said_to_hello, said_to_proof, side_with}
+use Rattle.sync_link.specs.Talking.{HearsHello, HearsProof, AcceptsProof, BeginsExchange, Keeps, SpeaksSome, UnsignedIf, Writes, box_between, first_with, proof_cause, said_to_hello, said_to_proof, side_with, version_between}
 use Rattle.sync_link.specs.Taking.{AreDueIn, IsExchange, Fits, ComesHello, ComesProof, Holds, Steps, due_after, read_by, taken_after, taken_of, waiting_side}
 use Rattle.sync_link.specs.declared.take.Came.{Came}
 use Rattle.sync_link.specs.declared.take.Came.TheVariants as came
@@ -49,7 +50,7 @@ use Rattle.sync_link.specs.declared.talker.Talker.{Talker}
 use Rattle.sync_link.proofs.Moves.{some_taken, broken_silent, part_reads, part_silent, wrong_reads, found_reads, feeds, feeds_quiet, or_none, may_be, same_written}
 use Rattle.sync_link.proofs.Settled.{filter_twice}
 use Rattle.sync_link.proofs.Sound.{says_all_alike}
-use Rattle.sync_link.proofs.Speaking.{spoken_as}
+use Rattle.sync_link.proofs.Speaking.{spoken_as, version_spoken}
 
 -- ---- the same, by which side it is
 
@@ -72,10 +73,10 @@ pub refused_by : (rules : Rules) (namespace : List ℕ) (role : Role) (own other
 refused_by rules namespace Caller own other signature proof = refl
 refused_by rules namespace Answerer own other signature proof = refl
 
-box_by : (rules : Rules) (namespace : List ℕ) (role : Role) (own other : Hello) (signature : List ℕ)
-    → box_with (record { rules = rules; namespace = namespace; role = role; hello = own; signature = signature }) other ≡ box_between role own other
-box_by rules namespace Caller own other signature = refl
-box_by rules namespace Answerer own other signature = refl
+agreed_by : (rules : Rules) (namespace : List ℕ) (role : Role) (own other : Hello) (signature : List ℕ)
+    → agreement_with (record { rules = rules; namespace = namespace; role = role; hello = own; signature = signature }) other ≡ record { version = version_between role own other; box = box_between role own other }
+agreed_by rules namespace Caller own other signature = refl
+agreed_by rules namespace Answerer own other signature = refl
 
 -- items as messages
 pub items_said : (p : Party) (rows : List RowValue) (items : List ItemValue) → flat_map (session_of p rows).spelling (map session.Item items) ≡ flat_map item_spelling items
@@ -84,52 +85,53 @@ items_said p rows (item ∷ items) = ap (λ l. item_spelling item ++ l) (items_s
 
 -- ---- how an exchange begins
 
-rows_by : (box : Option Ranges) (rows : List RowValue) → talk.rows_in places box rows ≡ rows_of_area box rows
-rows_by None rows = refl
-rows_by (Some x) rows = refl
-
 -- over the rows in the box, or over all
-first_alike : (role : Role) (box : Option Ranges) (rows : List RowValue) → first_place role (rows_of_area box rows) box ≡ within (first_place role rows box)
-first_alike Caller None rows = refl
-first_alike Caller (Some x) rows =
-    ap (λ l. record (within (first_place Caller rows (Some x))) { doing = Saying (turn_items (record { items = rules_of.First (sync_rules.print l) ∷ []; ends_with_bye = false })) (rules_of.Print x (sync_rules.print l) ∷ []) }) (filter_twice (is_in x) rows)
-first_alike Answerer box rows = refl
+first_alike : (version : ℕ) (role : Role) (box : Option Ranges) (rows : List RowValue) → first_place version role (rows_of_area box rows) box ≡ within (first_place version role rows box)
+first_alike version Caller None rows = refl
+first_alike version Caller (Some x) rows =
+    ap (λ l. record (within (first_place version Caller rows (Some x))) {
+      doing = Saying (turn_items version (record { items = rules_of.First ((sync_rules version).print l) ∷ []; ends_with_bye = false })) (rules_of.Print x ((sync_rules version).print l) ∷ []);
+    }) (filter_twice (is_in x) rows)
+first_alike version Answerer box rows = refl
 
 role_again : (role : Role) → role_of (side_of role) ≡ role
 role_again Caller = refl
 role_again Answerer = refl
 
-first_spoken : (role : Role) (box : Option Ranges) (rows : List RowValue) → talk.spoken places (first_place (role_of (side_of role)) (talk.rows_in places box rows) box)
-    ≡ ((says_all (first_place role rows box)).0, within (says_all (first_place role rows box)).1)
-first_spoken role box rows =
-    ap₂ (λ r l. talk.spoken places (first_place r l box)) (role_again role) (rows_by box rows)
-    ∙ ap (talk.spoken places) (first_alike role box rows)
-    ∙ spoken_as (within (first_place role rows box))
-    ∙ says_all_alike (first_place role rows box)
+first_spoken : (version : ℕ) (role : Role) (box : Option Ranges) (rows : List RowValue) → talk.spoken places (first_place version (role_of (side_of role)) (rows_of_area box rows) box)
+    ≡ ((says_all (first_place version role rows box)).0, within (says_all (first_place version role rows box)).1)
+first_spoken version role box rows =
+    ap (λ r. talk.spoken places (first_place version r (rows_of_area box rows) box)) (role_again role)
+    ∙ ap (talk.spoken places) (first_alike version role box rows)
+    ∙ spoken_as (within (first_place version role rows box))
+    ∙ says_all_alike (first_place version role rows box)
 
 abbrev pub party_with : Rules → List ℕ → Role → Hello → List ℕ → Party
 party_with rules namespace role own signature = record { rules = rules; namespace = namespace; role = role; hello = own; signature = signature }
 
 pub begun_spoken : (rules : Rules) (namespace : List ℕ) (role : Role) (own other : Hello) (rows : List RowValue) (signature : List ℕ)
-    → talk.spoken places (first_place (role_of (side_of role)) (rows_with (party_with rules namespace role own signature) other rows) (box_with (party_with rules namespace role own signature) other))
-    ≡ ((says_all (first_place role rows (box_between role own other))).0, within (says_all (first_place role rows (box_between role own other))).1)
+    → (let p = party_with rules namespace role own signature in talk.spoken places (first_place (version_with p other) (role_of (side_of role)) (rows_with p other rows) (box_with p other)))
+    ≡ (let place = first_place (version_between role own other) role rows (box_between role own other) in ((says_all place).0, within (says_all place).1))
 begun_spoken rules namespace role own other rows signature =
-    ap (λ box. talk.spoken places (first_place (role_of (side_of role)) (talk.rows_in places box rows) box)) (box_by rules namespace role own other signature)
-    ∙ first_spoken role (box_between role own other) rows
+    ap (λ (a : Agreement). talk.spoken places (first_place a.version (role_of (side_of role)) (rows_of_area a.box rows) a.box)) (agreed_by rules namespace role own other signature)
+    ∙ first_spoken (version_between role own other) role (box_between role own other) rows
 
-pub first_goes_on : (role : Role) (box : Option Ranges) (rows : List RowValue) → has_finished (says_all (first_place role rows box)).1.doing ≡ false
-first_goes_on Caller None rows = ap (λ s. has_finished s.1.doing) (says_whole (first_place Caller rows None) bye [] refl)
-first_goes_on Caller (Some x) rows = ap (λ s. has_finished s.1.doing) (says_whole (first_place Caller rows (Some x)) (first_turn sync_rules rows x) (first_asks sync_rules rows x) refl)
-first_goes_on Answerer box rows = ap (λ s. has_finished s.1.doing) (says_nothing (first_place Answerer rows box) (λ e. cc))
+pub first_goes_on : (version : ℕ) (role : Role) (box : Option Ranges) (rows : List RowValue) → has_finished (says_all (first_place version role rows box)).1.doing ≡ false
+first_goes_on version Caller None rows = ap (λ s. has_finished s.1.doing) (says_whole (first_place version Caller rows None) bye [] refl)
+first_goes_on version Caller (Some x) rows =
+    ap (λ s. has_finished s.1.doing) (says_whole (first_place version Caller rows (Some x)) (first_turn (sync_rules version) rows x) (first_asks (sync_rules version) rows x) refl)
+first_goes_on version Answerer box rows = ap (λ s. has_finished s.1.doing) (says_nothing (first_place version Answerer rows box) (λ e. cc))
 
 none_waiting : (asks : List AskValue) → AreDueIn 0 (waiting asks)
 none_waiting [] = refl
 none_waiting (ask ∷ asks) = refl
 
-pub none_due : (role : Role) (box : Option Ranges) (rows : List RowValue) → AreDueIn 0 (says_all (first_place role rows box)).1.doing
-none_due Caller None rows = subst (λ s. AreDueIn 0 s.1.doing) (sym (says_whole (first_place Caller rows None) bye [] refl)) (none_waiting [])
-none_due Caller (Some x) rows = subst (λ s. AreDueIn 0 s.1.doing) (sym (says_whole (first_place Caller rows (Some x)) (first_turn sync_rules rows x) (first_asks sync_rules rows x) refl)) (none_waiting (first_asks sync_rules rows x))
-none_due Answerer box rows = subst (λ s. AreDueIn 0 s.1.doing) (sym (says_nothing (first_place Answerer rows box) (λ e. cc))) refl
+pub none_due : (version : ℕ) (role : Role) (box : Option Ranges) (rows : List RowValue) → AreDueIn 0 (says_all (first_place version role rows box)).1.doing
+none_due version Caller None rows = subst (λ s. AreDueIn 0 s.1.doing) (sym (says_whole (first_place version Caller rows None) bye [] refl)) (none_waiting [])
+none_due version Caller (Some x) rows =
+    subst (λ s. AreDueIn 0 s.1.doing) (sym (says_whole (first_place version Caller rows (Some x)) (first_turn (sync_rules version) rows x) (first_asks (sync_rules version) rows x) refl))
+    (none_waiting (first_asks (sync_rules version) rows x))
+none_due version Answerer box rows = subst (λ s. AreDueIn 0 s.1.doing) (sym (says_nothing (first_place version Answerer rows box) (λ e. cc))) refl
 
 -- ---- a hello
 
@@ -200,9 +202,9 @@ module _ {R S : Type 0} (rules : Rules) (value : R → RowValue) (old new : Talk
     step_of p proof now = stepped now ((session_of p own_rows).step (Proving other) (session.Proof proof))
 
     judged : (signature proof : List ℕ) (now : ℕ) (o : Option HelloRefusal) → proof_cause rules old.role old.hello other proof ≡ o
-        → step_of (party signature) proof now ≡ stepped now (proof_read (own_part (party signature)) (exchange_with (greeting rules old.namespace) places (own_part (party signature)) own_rows other) o)
+        → step_of (party signature) proof now ≡ stepped now (proof_read (own_part (party signature)) (exchange_with (greeting rules old.namespace) places (own_part (party signature)) (offers_of own_rows) other) o)
     judged signature proof now o is =
-        ap (λ c. stepped now (proof_read (own_part (party signature)) (exchange_with (greeting rules old.namespace) places (own_part (party signature)) own_rows other) c)) (refused_by rules old.namespace old.role old.hello other signature proof ∙ is)
+        ap (λ c. stepped now (proof_read (own_part (party signature)) (exchange_with (greeting rules old.namespace) places (own_part (party signature)) (offers_of own_rows) other) c)) (refused_by rules old.namespace old.role old.hello other signature proof ∙ is)
 
     proof_refused : (proof : List ℕ) (n : ℕ) (cause : HelloRefusal) → IsFound proof_seen bytes proof n → proof_cause rules old.role old.hello other proof ≡ Some cause → new ≡ old → out_new ≡ out_old
         → FeedsTo (dues.Nothing (causes.Hello cause)) (at + n) [] (Waits (Proving other) at []) (take n bytes)
@@ -215,25 +217,29 @@ module _ {R S : Type 0} (rules : Rules) (value : R → RowValue) (old new : Talk
 
     -- the place at the beginning of the exchange
     abbrev first : Place
-    first = first_place old.role own_rows (box_between old.role old.hello other)
+    first = first_with value old other
 
-    spoken_first : (signature : List ℕ) → talk.spoken places (first_place (role_of (side_of old.role)) (rows_with (party signature) other own_rows) (box_with (party signature) other)) ≡ ((says_all first).0, within (says_all first).1)
+    -- the same of the session
+    abbrev begun : Party → Place
+    begun p = first_place (version_with p other) (role_of (side_of old.role)) (rows_with p other own_rows) (box_with p other)
+
+    spoken_first : (signature : List ℕ) → talk.spoken places (begun (party signature)) ≡ ((says_all first).0, within (says_all first).1)
     spoken_first signature = begun_spoken rules old.namespace old.role old.hello other own_rows signature
 
     accepted_to : (exchange : Exchange R) (now : ℕ) → exchange.core ≡ (says_all first).1 → Waits (Talking (within (says_all first).1)) now [] ≡ stand_of (dues.Items exchange) now []
     accepted_to exchange now is =
-        ap (λ b. cond b Over (Waits (Talking (within (says_all first).1)) now [])) (sym (first_goes_on old.role (box_between old.role old.hello other) own_rows))
+        ap (λ b. cond b Over (Waits (Talking (within (says_all first).1)) now [])) (sym (first_goes_on (version_between old.role old.hello other) old.role (box_between old.role old.hello other) own_rows))
         ∙ ap (λ place. stand_in place now []) (sym is)
 
     proof_accepted : (proof : List ℕ) (n : ℕ) (due : Due R) → IsFound proof_seen bytes proof n → proof_cause rules old.role old.hello other proof ≡ None → AcceptsProof value old new other due out_old out_new
         → FeedsTo due (at + n) [] (Waits (Proving other) at []) (take n bytes)
     proof_accepted proof n due found is h =
         let spoken = said_to_proof old.role in
-        let begun = flat_map item_spelling (says_all first).0 in
-        let written = spoken (or_none new.signature) ++ begun in
+        let items = flat_map item_spelling (says_all first).0 in
+        let written = spoken (or_none new.signature) ++ items in
         let to = stand_of (dues.Items h.exchange) (at + n) [] in
         let wrote : out_new ≡ out_old ++ written =
-        h.begins.said ∙ ap (λ l. l ++ begun) (h.proved (or_none new.signature) (may_be new.signature)) ∙ append_assoc out_old (spoken (or_none new.signature)) begun in
+        h.begins.said ∙ ap (λ l. l ++ items) (h.proved (or_none new.signature) (may_be new.signature)) ∙ append_assoc out_old (spoken (or_none new.signature)) items in
         subst (λ d. FeedsTo d (at + n) [] (Waits (Proving other) at []) (take n bytes)) (sym h.due_is)
         (feeds rules value old new (Waits (Proving other) at []) to (take n bytes) out_old out_new list list keeps h.once written [] wrote no_rows
         (λ signature may.
@@ -243,9 +249,9 @@ module _ {R S : Type 0} (rules : Rules) (value : R → RowValue) (old new : Talk
         found_reads p own_rows (Proving other) session.Proof proof_seen refl at bytes proof n to written [] found
         (ap (λ m. m.stand) step ∙ ap (λ s. Waits (Talking s.1) (at + n) []) first_said ∙ accepted_to h.exchange (at + n) h.begins.core)
         (ap (λ m. flat_map (session_of p own_rows).spelling m.says) step
-        ∙ flat_map-append (session_of p own_rows).spelling (to_proof (side_of old.role) (own_part p)) (map session.Item (talk.spoken places (first_place (role_of (side_of old.role)) (rows_with p other own_rows) (box_with p other))).0)
+        ∙ flat_map-append (session_of p own_rows).spelling (to_proof (side_of old.role) (own_part p)) (map session.Item (talk.spoken places (begun p)).0)
         ∙ ap₂ (λ x y. x ++ y) (proof_said p ∙ same_written new.signature spoken out_old h.between h.proved signature may)
-        (items_said p own_rows (talk.spoken places (first_place (role_of (side_of old.role)) (rows_with p other own_rows) (box_with p other))).0 ∙ ap (λ s. flat_map item_spelling s.0) first_said))
+        (items_said p own_rows (talk.spoken places (begun p)).0 ∙ ap (λ s. flat_map item_spelling s.0) first_said))
         (ap (λ m. m.rows) step)))
 
     proof_by : (proof : List ℕ) (n : ℕ) (due : Due R) → IsFound proof_seen bytes proof n → (o : Option HelloRefusal) → proof_cause rules old.role old.hello other proof ≡ o → HearsProof value old new other due out_old out_new o
@@ -276,14 +282,14 @@ module _ {R S : Type 0} (rules : Rules) (value : R → RowValue) (old new : Talk
   hello_steps unsigned came.Bad h at = hello_bad rules value old new keeps at bytes out_old out_new list h.0 h.1.0 h.1.1
   hello_steps unsigned (came.Next due n) h at = hello_next rules value old new keeps at bytes out_old out_new list h.0 n due h.1.0 unsigned h.1.1.1
 
-  heard_fits : (other : Hello) (due : Due R) → IsHello other → (o : Option HelloRefusal) → HearsHello old new other due out_old out_new o → Fits old.role new.signature due
-  heard_fits other due fits (Some cause) h = subst (λ d. Fits old.role new.signature d) (sym h.0) tt
-  heard_fits other due fits None h = subst (λ d. Fits old.role new.signature d) (sym h.0) (fits.short, h.1.1)
+  heard_fits : (other : Hello) (due : Due R) → IsHello other → (o : Option HelloRefusal) → (o ≡ None → SpeaksSome other) → HearsHello old new other due out_old out_new o → Fits old.role new.signature due
+  heard_fits other due fits (Some cause) speaks h = subst (λ d. Fits old.role new.signature d) (sym h.0) tt
+  heard_fits other due fits None speaks h = subst (λ d. Fits old.role new.signature d) (sym h.0) (fits.short, (speaks refl, h.1.1))
 
   pub hello_fits : old.signature ≡ None → (came : Came R) → ComesHello rules old new bytes out_old out_new came → Fits old.role new.signature (due_after dues.Hello came)
   hello_fits unsigned came.More h = ap (λ t. t.signature) h.1.0 ∙ unsigned
   hello_fits unsigned came.Bad h = tt
-  hello_fits unsigned (came.Next due n) h = heard_fits h.0 due h.1.1.0 (hello_refusal rules old.namespace h.0) h.1.1.1
+  hello_fits unsigned (came.Next due n) h = heard_fits h.0 due h.1.1.0 (hello_refusal rules old.namespace h.0) (λ none. (passes rules old.namespace h.0 none).speaks) h.1.1.1
 
   heard_read : (other : Hello) (due : Due R) (n : ℕ) (o : Option HelloRefusal) → HearsHello old new other due out_old out_new o → read_by due ≤ n
   heard_read other due n (Some cause) h = subst (λ d. read_by d ≤ n) (sym h.0) (omega arith)
@@ -306,11 +312,12 @@ module _ {R S : Type 0} (rules : Rules) (value : R → RowValue) (old new : Talk
     proof_steps came.Bad h at = proof_bad rules value old new keeps at bytes out_old out_new list other h.0 h.1.0 h.1.1
     proof_steps (came.Next due n) h at = proof_next rules value old new keeps at bytes out_old out_new list other h.0 n due h.1.0 h.1.1
 
-    begun_fits : (exchange : Exchange R) (between : List ℕ) → BeginsExchange (first_place old.role (map value old.snapshot) (box_between old.role old.hello other)) exchange between out_new → IsExchange exchange
+    begun_fits : (exchange : Exchange R) (between : List ℕ) → BeginsExchange (first_with value old other) exchange between out_new → IsExchange exchange
     begun_fits exchange between b = record {
       sound = b.sound;
       silent = b.silent;
-      due = subst (λ r. AreDueIn r.due exchange.core.doing) (sym b.reader) (subst (λ p. AreDueIn 0 p.doing) (sym b.core) (none_due old.role (box_between old.role old.hello other) (map value old.snapshot)));
+      due = subst (λ r. AreDueIn r.due exchange.core.doing) (sym b.reader) (subst (λ p. AreDueIn 0 p.doing) (sym b.core) (none_due (version_between old.role old.hello other) old.role (box_between old.role old.hello other) (map value old.snapshot)));
+      version = ap (λ r. r.version) b.reader ∙ sym (ap (λ p. p.version) b.core ∙ version_spoken (first_with value old other));
     }
 
     proved_fits : (due : Due R) (o : Option HelloRefusal) → HearsProof value old new other due out_old out_new o → Fits old.role new.signature due
@@ -318,7 +325,7 @@ module _ {R S : Type 0} (rules : Rules) (value : R → RowValue) (old new : Talk
     proved_fits due None h = subst (λ d. Fits old.role new.signature d) (sym h.due_is) (begun_fits h.exchange h.between h.begins)
 
     pub proof_fits : Fits {R = R} old.role old.signature (dues.Proof other) → (came : Came R) → ComesProof rules value old new other bytes out_old out_new came → Fits old.role new.signature (due_after (dues.Proof other) came)
-    proof_fits fits came.More h = (fits.0, subst (λ s. UnsignedIf old.role s) (sym (ap (λ t. t.signature) h.1.0)) fits.1)
+    proof_fits fits came.More h = (fits.0, (fits.1.0, subst (λ s. UnsignedIf old.role s) (sym (ap (λ t. t.signature) h.1.0)) fits.1.1))
     proof_fits fits came.Bad h = tt
     proof_fits fits (came.Next due n) h = proved_fits due (proof_cause rules old.role old.hello other h.0) h.1.1
 

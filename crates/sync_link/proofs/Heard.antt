@@ -7,7 +7,7 @@ use Rattle.willow_entry.specs.Frame.{HasFrame}
 use Rattle.willow_entry.specs.Row.{RowValue}
 use Rattle.cap_codec.specs.Rows.{IsRawRow}
 use Rattle.sync_msg.specs.Items.{ItemValue, IsHead, item_spelling}
-use Rattle.sync_msg.specs.declared.item.Item.TheVariants.{First, Agree, Split, Entries, Rest, Row, EndTurn, Bye}
+use Rattle.sync_msg.specs.declared.item.Item.TheVariants.{First, Agree, Split, Parts, Entries, Rest, Row, EndTurn, Bye}
 use Rattle.sync_msg.specs.declared.refusal.CoreRefusal.{CoreRefusal}
 use Rattle.sync_msg.specs.declared.refusal.CoreRefusal.TheVariants.{ItemMismatch}
 use Rattle.sync_core.specs.declared.stage.Stage.TheVariants as stage
@@ -21,11 +21,12 @@ use Rattle.session_rules.specs.Reading.{Stand, Waits, Move, stay, then, stepped,
 use Rattle.session_rules.specs.Messages.{IsReadAs, taken, CanReadAll}
 use Rattle.session_rules.specs.Talk as talk
 use Rattle.session_rules.specs.Talk.{Role, answered, item_heard}
+use Rattle.sync_link.specs.Greetings.{Agreement}
 use Rattle.sync_link.specs.Readers.{item_seen}
 use Rattle.sync_link.specs.Places.{awaits_row, has_finished, places}
 use Rattle.sync_link.proofs.Spellings.{head_as, row_as}
 use Rattle.sync_link.proofs.Cases.{AreCases, by_cases, heard_as}
-use Rattle.sync_link.proofs.Own.{not_err}
+use Rattle.sync_link.proofs.Own.{not_err, same_ok}
 use Rattle.sync_link.proofs.Speaking.{spoken_as}
 
 -- ---- which items a side reads
@@ -34,44 +35,48 @@ abbrev pub is_row : ItemValue → Bool
 is_row (First print) = false
 is_row Agree = false
 is_row (Split at lower upper) = false
+is_row (Parts points prints) = false
 is_row (Entries count) = false
 is_row (Rest count) = false
 is_row (Row row) = true
 is_row EndTurn = false
 is_row Bye = false
 
--- an item that the readers read
-abbrev pub IsReadable : ItemValue → Type 0
-IsReadable (First print) = IsHead (First print)
-IsReadable Agree = Unit {0}
-IsReadable (Split at lower upper) = IsHead (Split at lower upper)
-IsReadable (Entries count) = IsHead (Entries count)
-IsReadable (Rest count) = IsHead (Rest count)
-IsReadable (Row row) = IsRawRow row × HasFrame row
-IsReadable EndTurn = Unit {0}
-IsReadable Bye = Unit {0}
+-- an item that the readers of a version read
+abbrev pub IsReadable : ℕ → ItemValue → Type 0
+IsReadable version (First print) = IsHead version (First print)
+IsReadable version Agree = Unit {0}
+IsReadable version (Split at lower upper) = IsHead version (Split at lower upper)
+IsReadable version (Parts points prints) = IsHead version (Parts points prints)
+IsReadable version (Entries count) = IsHead version (Entries count)
+IsReadable version (Rest count) = IsHead version (Rest count)
+IsReadable version (Row row) = IsRawRow row × HasFrame row
+IsReadable version EndTurn = Unit {0}
+IsReadable version Bye = Unit {0}
 
-read_item : (item : ItemValue) → IsReadable item → IsReadAs (item_seen (is_row item)) (item_spelling item) item
-read_item (First print) f = head_as (First print) f
-read_item Agree f = head_as Agree f
-read_item (Split at lower upper) f = head_as (Split at lower upper) f
-read_item (Entries count) f = head_as (Entries count) f
-read_item (Rest count) f = head_as (Rest count) f
-read_item (Row row) f = row_as row f.0 f.1
-read_item EndTurn f = head_as EndTurn f
-read_item Bye f = head_as Bye f
+read_item : (version : ℕ) (item : ItemValue) → IsReadable version item → IsReadAs (item_seen version (is_row item)) (item_spelling item) item
+read_item version (First print) f = head_as version (First print) f
+read_item version Agree f = head_as version Agree f
+read_item version (Split at lower upper) f = head_as version (Split at lower upper) f
+read_item version (Parts points prints) f = head_as version (Parts points prints) f
+read_item version (Entries count) f = head_as version (Entries count) f
+read_item version (Rest count) f = head_as version (Rest count) f
+read_item version (Row row) f = row_as row f.0 f.1
+read_item version EndTurn f = head_as version EndTurn f
+read_item version Bye f = head_as version Bye f
 
 -- a side that hears an item awaits a row exactly where the item is one
 abbrev AwaitsIt : Doing → ItemValue → Result Doing CoreRefusal → Type 0
 AwaitsIt doing item r = (d : Doing) → r ≡ Ok d → awaits_row doing ≡ is_row item
 
-awaits_cases : (area : Option Ranges) (rows : List RowValue) → AreCases area rows AwaitsIt
-awaits_cases area rows = record {
+awaits_cases : (version : ℕ) (area : Option Ranges) (rows : List RowValue) → AreCases version area rows AwaitsIt
+awaits_cases version area rows = record {
   mismatch = λ doing item d e. absurd (not_err d ItemMismatch e);
   first_bye = λ is d e. refl;
   first_print = λ box print is d e. refl;
   agree = λ box print asks opens d e. refl;
-  split = λ box print asks opens at lower upper d e. refl;
+  split = λ box print asks opens at lower upper is d e. refl;
+  parts = λ box print asks opens points prints is d e. refl;
   entries = λ box print asks opens count d e. refl;
   rest = λ box sent asks opens count d e. refl;
   row = λ ask asks left read opens row d e. refl;
@@ -83,11 +88,23 @@ awaits_cases area rows = record {
 pub awaits_it : (place next : Place) (item : ItemValue) → heard place item ≡ Ok next → awaits_row place.doing ≡ is_row item
 awaits_it place next item e =
     let to = heard_as place item next e in
-    by_cases place.area place.rows AwaitsIt (awaits_cases place.area place.rows) place.doing item to.doing to.comes
+    by_cases place.version place.area place.rows AwaitsIt (awaits_cases place.version place.area place.rows) place.doing item to.doing to.comes
+
+-- it stays in its version
+pub version_heard : (place next : Place) (item : ItemValue) → heard place item ≡ Ok next → next.version ≡ place.version
+version_heard place next item e = ap (λ p. p.version) (heard_as place item next e).then
 
 -- so it reads the bytes of one that it hears
-pub reads_it : (place next : Place) (item : ItemValue) → heard place item ≡ Ok next → IsReadable item → IsReadAs (item_seen (awaits_row place.doing)) (item_spelling item) item
-reads_it place next item e f = subst (λ b. IsReadAs (item_seen b) (item_spelling item) item) (sym (awaits_it place next item e)) (read_item item f)
+pub reads_it : (place next : Place) (item : ItemValue) → heard place item ≡ Ok next → IsReadable place.version item → IsReadAs (item_seen place.version (awaits_row place.doing)) (item_spelling item) item
+reads_it place next item e f = subst (λ b. IsReadAs (item_seen place.version b) (item_spelling item) item) (sym (awaits_it place next item e)) (read_item place.version item f)
+
+-- a side that has heard some items is of the version that it was of
+pub heard_version : (place last : Place) (items : List ItemValue) → hears place items ≡ Ok last → last.version ≡ place.version
+unfolding hears
+heard_version place last [] e = sym (ap (λ p. p.version) (same_ok place last e))
+heard_version place last (item ∷ items) e =
+    let first = hears_first_item place item items (subst IsOk (sym e) refl) in
+    heard_version first.next last items (sym first.rest ∙ e) ∙ version_heard place first.next item first.first
 
 -- ---- a side that still reads
 
@@ -118,9 +135,9 @@ first_told (Some row) rows = refl
 abbrev pub answers_to : ℕ → Place → List RowValue → Move Place ItemValue RowValue CoreRefusal
 answers_to at place rows = stepped at (answered (has_finished (says_all place).1.doing) (says_all place) rows)
 
-module _ (role : Role) (begun : List RowValue) (box : Option Ranges) where
+module _ (role : Role) (begun : List RowValue) (agreed : Agreement) where
   abbrev pub side : Machine Place ItemValue ItemValue RowValue CoreRefusal
-  side = talk.talk places role begun box
+  side = talk.talk places role begun agreed
 
   abbrev hear : Stand Place CoreRefusal → List ItemValue → Move Place ItemValue RowValue CoreRefusal
   hear q items = run (taken side item_spelling) q items
@@ -182,7 +199,7 @@ module _ (role : Role) (begun : List RowValue) (box : Option Ranges) where
       )
 
   -- and each of them is read
-  pub reads_all : (place last : Place) (at : ℕ) (items : List ItemValue) → hears place items ≡ Ok last → AllByRecursion IsReadable items → CanReadAll side item_spelling (Waits place at []) items
+  pub reads_all : (place last : Place) (at : ℕ) (items : List ItemValue) → hears place items ≡ Ok last → AllByRecursion (IsReadable place.version) items → CanReadAll side item_spelling (Waits place at []) items
   unfolding hears
   reads_all place last at [] e f = tt
   reads_all place last at (item ∷ []) e f = (reads_it place last item (only_one place last item (heard place item) refl e) f.0, tt)
@@ -194,5 +211,5 @@ module _ (role : Role) (begun : List RowValue) (box : Option Ranges) where
       let reads = reads_to_hear next other (subst IsOk (sym second.first) refl) in
       let on = on_heard place next at item first.first reads in (
         reads_it place next item first.first f.0,
-        subst (λ m. CanReadAll side item_spelling m.stand (other ∷ items)) (sym on) (reads_all next last (at + length (item_spelling item)) (other ∷ items) rest f.1),
+        subst (λ m. CanReadAll side item_spelling m.stand (other ∷ items)) (sym on) (reads_all next last (at + length (item_spelling item)) (other ∷ items) rest (subst (λ v. AllByRecursion (IsReadable v) (other ∷ items)) (sym (version_heard place next item first.first)) f.1)),
       )

@@ -14,7 +14,7 @@ use Rattle.sync_link.specs.Standing.{Side, Feeds, party_of}
 use Rattle.sync_link.specs.Due.{stand_of}
 use Rattle.sync_link.specs.Fed.{CountsOn, counted, noting}
 use Rattle.sync_link.specs.Held.{IsHeld, fed_with, read_of, sent_of}
-use Rattle.sync_link.specs.Talking.{Keeps}
+use Rattle.sync_link.specs.Talking.{Keeps, SpeaksSome}
 use Rattle.sync_link.specs.Taking.{Fits, Holds, IsOpen, waiting_side}
 use Rattle.sync_link.specs.TakingAll.{TakesAll}
 use Rattle.sync_link.specs.declared.due.Cause.TheVariants as causes
@@ -60,6 +60,7 @@ module _ {R S : Type 0} (rules : Rules) (value : R → RowValue) (old new : Talk
         (subst (λ n. IsHeld rules value new next n (drop taken bytes)) (sym there)
         (record {
           own = subst HasSpelling (sym (ap (λ t. t.hello) keeps)) is.own;
+          speaks = subst SpeaksSome (sym (ap (λ t. t.hello) keeps)) is.speaks;
           rows = subst (λ l. AreSound (map value l)) (sym (ap (λ t. t.snapshot) keeps)) is.rows;
           fits = subst (λ role. Fits role new.signature next) (sym (ap (λ t. t.role) keeps)) takes.fits;
           few = omega (arith, is.few, takes.read);
@@ -89,6 +90,7 @@ module _ {R S : Type 0} (rules : Rules) (value : R → RowValue) (talker : Talke
 pub held_shut : {R S : Type 0} (rules : Rules) (value : R → RowValue) (old new : Talker R S) (due : Due R) (at then_at : ℕ) (held : List ℕ) → IsHeld rules value old due at held → Keeps old new → then_at < 2 ^ 64 → IsHeld rules value new (dues.Nothing causes.Bad) then_at []
 held_shut rules value old new due at then_at held is keeps few = record {
   own = subst HasSpelling (sym (ap (λ t. t.hello) keeps)) is.own;
+  speaks = subst SpeaksSome (sym (ap (λ t. t.hello) keeps)) is.speaks;
   rows = subst (λ l. AreSound (map value l)) (sym (ap (λ t. t.snapshot) keeps)) is.rows;
   fits = tt;
   few = omega arith;

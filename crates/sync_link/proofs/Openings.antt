@@ -65,7 +65,7 @@ opening_of namespace pass rows e is_pass same told = record {
 }
 
 pub sound_of : (namespace : List ℕ) (rows : List RowValue) → IsOpening namespace rows → AreSound rows
-sound_of namespace rows o = record { rise = rises namespace rows o; few = o.few; framed = recursion_from_All HasFrame rows o.framed }
+sound_of namespace rows o = record { one = (namespace, o.own); rise = rises namespace rows o; few = o.few; framed = recursion_from_All HasFrame rows o.framed }
 
 -- ---- rows that can be told
 

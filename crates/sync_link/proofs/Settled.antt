@@ -1,6 +1,6 @@
 -- Two sessions that meet come to an end with the rows of their exchange, and hold what the other has in the area that both
 -- may read.
-use Rattle.std.proofs.Common.{◌≡◌, ◌⊎◌, inl, inr, ℕ, ◌≤◌, Bool, true, false, cond, not, List, [], ◌∷◌, ◌++◌, length, filter, get_or, Contains, All, Option, Some, None, refl, sym, ap, ◌∙◌, subst, arith}
+use Rattle.std.proofs.Common.{◌≡◌, ◌≢◌, ◌⊎◌, inl, inr, ℕ, zero, suc, ◌≤◌, Bool, true, false, cond, not, List, [], ◌∷◌, ◌++◌, length, filter, get_or, Contains, All, Option, Some, None, refl, sym, ap, ◌∙◌, subst, arith}
 use Rattle.std.specs.List.{AllByRecursion}
 use Rattle.std.specs.List.Sorted.{IsStrictlySortedBy}
 use Rattle.std.proofs.lemmas.List.Elements.{Contains-append_left, Contains-append_right, recursion_from_All, All-contains_itself}
@@ -20,28 +20,28 @@ use Rattle.sync_msg.specs.declared.role.Role.TheVariants as roles
 use Rattle.sync_msg.specs.declared.refusal.CoreRefusal.{CoreRefusal}
 use Rattle.session_end.specs.declared.refusal.HelloRefusal.{HelloRefusal}
 use Rattle.session_end.specs.declared.refusal.HelloRefusal.TheVariants.{BadProof}
+use Rattle.sync_hello.specs.Version.{session_version}
 use Rattle.sync_hello.specs.declared.hello.Hello.{Hello}
 use Rattle.sync_hello.proofs.Meaning.{passes_means}
 use Rattle.sync_core.specs.declared.stage.TheConstants.{SNAPSHOT_MAX}
 use Rattle.sync_core.specs.Place.{Place, rows_of_area}
-use Rattle.sync_core.specs.SyncRules.{sync_rules}
+use Rattle.sync_core.specs.SyncRules.{IsVersion, sync_rules}
 use Rattle.sync_core.proofs.Lawful.{deciding, disjoint, can_cut_rows}
-use Rattle.sync_core.proofs.Rising.{live_rows_rise}
+use Rattle.range_split.proofs.Rising.{live_rows_rise}
 use Rattle.sync_core.proofs.Telling.{rows_in-le}
-use Rattle.session_rules.specs.Talk as talk
 use Rattle.session_rules.specs.Rounds.{Meet}
 use Rattle.session_rules.specs.Pairs.{Pair, GreetEachOther}
 use Rattle.session_rules.specs.Turns.{AreExchanged}
 use Rattle.session_rules.proofs.Settled.{exchanged_all, they_meet as do_meet}
-use Rattle.sync_link.specs.Greetings.{greeting}
-use Rattle.sync_link.specs.Places.{places}
-use Rattle.sync_link.specs.Sessions.{Party, own_part, out, box_with}
+use Rattle.sync_link.specs.Greetings.{Agreement, greeting}
+use Rattle.sync_link.specs.Places.{offers_of, places}
+use Rattle.sync_link.specs.Sessions.{Party, own_part, out, box_with, version_with}
 use Rattle.sync_link.specs.Settling.{IsOpening, Accepts, CanMeet, AreDone, AreApartIn}
 use Rattle.sync_link.proofs.Own.{all_kept}
 use Rattle.sync_link.proofs.Grants.{in_rows}
 use Rattle.sync_link.proofs.Spellings.{hello_as, proof_as}
 use Rattle.sync_link.proofs.TakingTurns.{by_items, take_turns}
-use Rattle.sync_link.proofs.ReadingTurns.{IsSendable}
+use Rattle.sync_link.proofs.ReadingTurns.{AreSent, IsSendable}
 use Rattle.sync_link.proofs.CanRead.{can_read_turns}
 
 -- ---- the rows of a box
@@ -55,18 +55,18 @@ filter_twice keep (x ∷ xs) = by_test (keep x) refl (filter_twice keep xs)
     by_test false is rest = rest
 
 abbrev pub inside : Option Ranges → List RowValue → List RowValue
-inside box rows = talk.rows_in places box rows
+inside box rows = rows_of_area box rows
 
-pub same_exchange : (box : Option Ranges) (rows others : List RowValue) → exchange sync_rules (inside box rows) (inside box others) box ≡ exchange sync_rules rows others box
-same_exchange None rows others = refl
-same_exchange (Some x) rows others =
-    exchange_alike sync_rules disjoint x (rows_in x rows) rows (rows_in x others) others (filter_twice (is_in x) rows) (filter_twice (is_in x) others)
+pub same_exchange : (version : ℕ) (box : Option Ranges) (rows others : List RowValue) → exchange (sync_rules version) (inside box rows) (inside box others) box ≡ exchange (sync_rules version) rows others box
+same_exchange version None rows others = refl
+same_exchange version (Some x) rows others =
+    exchange_alike (sync_rules version) (disjoint version) x (rows_in x rows) rows (rows_in x others) others (filter_twice (is_in x) rows) (filter_twice (is_in x) others)
 
 module _ (namespace : List ℕ) (rows : List RowValue) (opening : IsOpening namespace rows) where
   pub rises : IsStrictlySortedBy inner_place_cmp rows
   rises = live_rows_rise rows opening.live (namespace, opening.own)
 
-  pub sendable : AllByRecursion IsSendable rows
+  sendable : AllByRecursion IsSendable rows
   sendable = recursion_from_All IsSendable rows (λ k d within. (opening.read_out k d within, opening.framed k d within))
 
   pub inside_rises : (box : Option Ranges) → IsStrictlySortedBy inner_place_cmp (inside box rows)
@@ -78,9 +78,22 @@ module _ (namespace : List ℕ) (rows : List RowValue) (opening : IsOpening name
   inside_few None = omega arith
   inside_few (Some x) = omega (arith, rows_in-le x rows, opening.few)
 
-  pub inside_sendable : (box : Option Ranges) → AllByRecursion IsSendable (inside box rows)
+  inside_sendable : (box : Option Ranges) → AllByRecursion IsSendable (inside box rows)
   inside_sendable None = tt
   inside_sendable (Some x) = all_kept IsSendable (is_in x) rows sendable
+
+  pub inside_sent : (box : Option Ranges) → AreSent (inside box rows)
+  inside_sent box = record { rise = inside_rises box; few = inside_few box; fit = inside_sendable box }
+
+-- ---- the version
+
+some_version : (n : ℕ) → n ≢ 0 → 1 ≤ n
+some_version zero some = absurd (some refl)
+some_version (suc n) some = omega arith
+
+-- where both sides speak some version, their session speaks one that is known
+pub session_version_spoken : (one other : Hello) → one.version ≢ 0 → other.version ≢ 0 → IsVersion (session_version one other)
+session_version_spoken one other some some' = (omega (arith, some_version one.version some, some_version other.version some'), omega arith)
 
 -- ---- a caller and an answerer
 
@@ -91,8 +104,8 @@ module _ (rules : Rules) (namespace : List ℕ) (hello other : Hello) (signature
   abbrev pub answerer : Party
   answerer = record { rules = rules; namespace = namespace; role = roles.Answerer; hello = other; signature = proof }
 
-  abbrev pub pair : List RowValue → List RowValue → Pair Hello (List ℕ) Ranges HelloRefusal RowValue Place ItemValue CoreRefusal
-  pair rows others = record { greeting = greeting rules namespace; talk = places; caller = own_part caller; answerer = own_part answerer; caller_rows = rows; answerer_rows = others }
+  abbrev pub pair : List RowValue → List RowValue → Pair Hello (List ℕ) Agreement HelloRefusal RowValue Place ItemValue CoreRefusal
+  pair rows others = record { greeting = greeting rules namespace; talk = places; caller = own_part caller; answerer = own_part answerer; caller_offers = offers_of rows; answerer_offers = offers_of others }
 
   pub greet : (rows others : List RowValue) → Accepts caller answerer → Accepts answerer caller → GreetEachOther (pair rows others)
   greet rows others accepts is_accepted = record {
@@ -113,19 +126,26 @@ module _ (rules : Rules) (namespace : List ℕ) (hello other : Hello) (signature
   }
 
   module _ (rows others : List RowValue) (own : IsOpening namespace rows) (theirs : IsOpening namespace others) (accepts : Accepts caller answerer) (is_accepted : Accepts answerer caller) where
+    abbrev pub version : ℕ
+    version = version_with caller other
+
     abbrev pub box : Option Ranges
     box = box_with caller other
 
-    pub exchanged : (left right : List ℕ) → Meet (out caller rows) (out answerer others) left right → AreExchanged (pair rows others) by_items (exchange sync_rules (inside box rows) (inside box others) box) left right
+    -- which is one that is spoken
+    spoken : IsVersion version
+    spoken = session_version_spoken hello other is_accepted.hello_passes.speaks accepts.hello_passes.speaks
+
+    pub exchanged : (left right : List ℕ) → Meet (out caller rows) (out answerer others) left right → AreExchanged (pair rows others) (by_items version) (exchange (sync_rules version) (inside box rows) (inside box others) box) left right
     exchanged left right meet =
         let up = inside_rises namespace rows own box in
         let down = inside_rises namespace others theirs box in
         let few = inside_few namespace rows own box in
         let few' = inside_few namespace others theirs box in
-        exchanged_all (pair rows others) by_items sync_rules (inside box rows) (inside box others) box disjoint (can_cut_rows (inside box rows) up) (can_cut_rows (inside box others) down)
+        exchanged_all (pair rows others) (by_items version) (sync_rules version) (inside box rows) (inside box others) box (disjoint version) (can_cut_rows version (inside box rows) up) (can_cut_rows version (inside box others) down)
         (greet rows others accepts is_accepted)
-        (take_turns (inside box rows) (inside box others) up down few' few box)
-        (can_read_turns (inside box rows) (inside box others) up down few few' (inside_sendable namespace rows own box) (inside_sendable namespace others theirs box) box)
+        (take_turns version (inside box rows) (inside box others) up down few' few box)
+        (can_read_turns version spoken (inside box rows) (inside box others) (inside_sent namespace rows own box) (inside_sent namespace others theirs box) box)
         left right meet
 
     they_meet : (left : List ℕ) × (right : List ℕ) × Meet (out caller rows) (out answerer others) left right
@@ -134,15 +154,15 @@ module _ (rules : Rules) (namespace : List ℕ) (hello other : Hello) (signature
         let down = inside_rises namespace others theirs box in
         let few = inside_few namespace rows own box in
         let few' = inside_few namespace others theirs box in
-        do_meet (pair rows others) by_items sync_rules (inside box rows) (inside box others) box disjoint (can_cut_rows (inside box rows) up) (can_cut_rows (inside box others) down)
+        do_meet (pair rows others) (by_items version) (sync_rules version) (inside box rows) (inside box others) box (disjoint version) (can_cut_rows version (inside box rows) up) (can_cut_rows version (inside box others) down)
         (greet rows others accepts is_accepted)
-        (take_turns (inside box rows) (inside box others) up down few' few box)
-        (can_read_turns (inside box rows) (inside box others) up down few few' (inside_sendable namespace rows own box) (inside_sendable namespace others theirs box) box)
+        (take_turns version (inside box rows) (inside box others) up down few' few box)
+        (can_read_turns version spoken (inside box rows) (inside box others) (inside_sent namespace rows own box) (inside_sent namespace others theirs box) box)
 
     both_done : (left right : List ℕ) → Meet (out caller rows) (out answerer others) left right → AreDone caller answerer rows others left right
     both_done left right meet =
         let e = exchanged left right meet in
-        let same = same_exchange box rows others in
+        let same = same_exchange version box rows others in
         record { caller_done = e.caller_done; caller_got = e.caller_got ∙ ap to_left same; answerer_done = e.answerer_done; answerer_got = e.answerer_got ∙ ap to_right same }
 
 -- ---- two parties
@@ -197,16 +217,16 @@ module _ (namespace : List ℕ) (rows others : List RowValue) (own : IsOpening n
   held x all sent r (inl c) = inl (in_rows all (Some x) r c)
   held x all sent r (inr c) = inr c
 
-  pub caller_covers : (box : Option Ranges) → AreApartIn box rows others → All (HasCovering (join rows (to_left (exchange sync_rules rows others box)))) (rows_of_area box others)
-  caller_covers None apart = λ k d within. absurd (omega arith)
-  caller_covers (Some x) apart =
-      let sent = to_left (exchange sync_rules rows others (Some x)) in
+  pub caller_covers : (version : ℕ) (box : Option Ranges) → AreApartIn version box rows others → All (HasCovering (join rows (to_left (exchange (sync_rules version) rows others box)))) (rows_of_area box others)
+  caller_covers version None apart = λ k d within. absurd (omega arith)
+  caller_covers version (Some x) apart =
+      let sent = to_left (exchange (sync_rules version) rows others (Some x)) in
       covered rows sent (rows_in x others)
-      (λ r c. held x rows sent r (left_gets sync_rules deciding disjoint rows others x (can_cut_rows rows (rises namespace rows own)) (can_cut_rows others (rises namespace others theirs)) apart r c))
+      (λ r c. held x rows sent r (left_gets (sync_rules version) (deciding version) (disjoint version) rows others x (can_cut_rows version rows (rises namespace rows own)) (can_cut_rows version others (rises namespace others theirs)) apart r c))
 
-  pub answerer_covers : (box : Option Ranges) → AreApartIn box rows others → All (HasCovering (join others (to_right (exchange sync_rules rows others box)))) (rows_of_area box rows)
-  answerer_covers None apart = λ k d within. absurd (omega arith)
-  answerer_covers (Some x) apart =
-      let sent = to_right (exchange sync_rules rows others (Some x)) in
+  pub answerer_covers : (version : ℕ) (box : Option Ranges) → AreApartIn version box rows others → All (HasCovering (join others (to_right (exchange (sync_rules version) rows others box)))) (rows_of_area box rows)
+  answerer_covers version None apart = λ k d within. absurd (omega arith)
+  answerer_covers version (Some x) apart =
+      let sent = to_right (exchange (sync_rules version) rows others (Some x)) in
       covered others sent (rows_in x rows)
-      (λ r c. held x others sent r (right_gets sync_rules deciding disjoint rows others x (can_cut_rows rows (rises namespace rows own)) (can_cut_rows others (rises namespace others theirs)) apart r c))
+      (λ r c. held x others sent r (right_gets (sync_rules version) (deciding version) (disjoint version) rows others x (can_cut_rows version rows (rises namespace rows own)) (can_cut_rows version others (rises namespace others theirs)) apart r c))

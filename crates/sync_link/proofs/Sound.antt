@@ -1,7 +1,8 @@
 -- What a side of an exchange keeps to, and that it goes by its rows in the area alone.
-use Rattle.std.proofs.Common.{◌≡◌, ℕ, zero, suc, ◌+◌, ◌*◌, ◌-◌, Bool, true, false, cond, not, nat_le, List, [], ◌∷◌, ◌++◌, length, Option, Some, None, Result, Ok, Err, refl, sym, ap, ap₂, ◌∙◌, subst}
+use Rattle.std.proofs.Common.{◌≡◌, ℕ, zero, suc, ◌+◌, ◌*◌, ◌-◌, ◌≤◌, Bool, true, false, cond, not, nat_le, List, [], ◌∷◌, ◌++◌, length, Option, Some, None, Result, Ok, Err, refl, sym, ap, ap₂, ◌∙◌, subst, arith}
 use Rattle.std.specs.Prelude.{option_map}
 use Rattle.std.specs.List.{AllByRecursion}
+use Rattle.std.proofs.lemmas.List.Sums.{sum_by-cons}
 use Rattle.spelling.specs.Answers.{cause_if}
 use Rattle.willow_area.specs.Boxes.{Ranges}
 use Rattle.willow_area.specs.Cuts.{can_cut, lower_part, upper_part}
@@ -9,12 +10,15 @@ use Rattle.willow_area.specs.declared.cut.CutAt.{CutAt}
 use Rattle.willow_area.proofs.Cutting.{lower_part_has, upper_part_has}
 use Rattle.willow_entry.specs.Row.{RowValue}
 use Rattle.block_store.specs.InBox.{is_in, rows_in}
+use Rattle.range_split.specs.Parts.{can_cut_at, parts_at}
 use Rattle.exchange_rules.specs.Items as rules
 use Rattle.exchange_rules.specs.Answer.{opened}
+use Rattle.exchange_rules.specs.AnyPeer.{part_asks}
+use Rattle.exchange_rules.specs.Premises.{boxes_with}
 use Rattle.exchange_rules.proofs.Members.{all-append}
 use Rattle.exchange_rules.proofs.Worlds.{IsInside, opened_inside, opened_alike, turn_alike}
 use Rattle.sync_msg.specs.Items.{ItemValue, HasSpelling}
-use Rattle.sync_msg.specs.declared.item.Item.TheVariants.{First, Agree, Split, Entries, Rest, Row, EndTurn, Bye}
+use Rattle.sync_msg.specs.declared.item.Item.TheVariants.{First, Agree, Split, Parts, Entries, Rest, Row, EndTurn, Bye}
 use Rattle.sync_msg.specs.declared.role.Role.{Role}
 use Rattle.sync_msg.specs.declared.role.Role.TheVariants.{Caller, Answerer}
 use Rattle.sync_msg.specs.declared.refusal.CoreRefusal.{CoreRefusal}
@@ -40,33 +44,33 @@ in_as : (area : Option Ranges) (ask other : AskValue) → ((r : RowValue) → is
 in_as None ask other same h = absurd h
 in_as (Some x) ask other same h = λ r e. h r (same r e)
 
-as_inside : (x : Ranges) (asks : List AskValue) → AreIn (Some x) asks → AllByRecursion (IsInside sync_rules x) asks
-as_inside x [] h = tt
-as_inside x (rules.Print box print ∷ asks) h = (h.0, as_inside x asks h.1)
-as_inside x (rules.Sent box sent ∷ asks) h = (h.0, as_inside x asks h.1)
+as_inside : (version : ℕ) (x : Ranges) (asks : List AskValue) → AreIn (Some x) asks → AllByRecursion (IsInside (sync_rules version) x) asks
+as_inside version x [] h = tt
+as_inside version x (rules.Print box print ∷ asks) h = (h.0, as_inside version x asks h.1)
+as_inside version x (rules.Sent box sent ∷ asks) h = (h.0, as_inside version x asks h.1)
 
-inside_as : (x : Ranges) (asks : List AskValue) → AllByRecursion (IsInside sync_rules x) asks → AreIn (Some x) asks
-inside_as x [] h = tt
-inside_as x (rules.Print box print ∷ asks) h = (h.0, inside_as x asks h.1)
-inside_as x (rules.Sent box sent ∷ asks) h = (h.0, inside_as x asks h.1)
+inside_as : (version : ℕ) (x : Ranges) (asks : List AskValue) → AllByRecursion (IsInside (sync_rules version) x) asks → AreIn (Some x) asks
+inside_as version x [] h = tt
+inside_as version x (rules.Print box print ∷ asks) h = (h.0, inside_as version x asks h.1)
+inside_as version x (rules.Sent box sent ∷ asks) h = (h.0, inside_as version x asks h.1)
 
 abbrev AreSpelled : List ItemValue → Type 0
 AreSpelled items = AllByRecursion HasSpelling items
 
 -- ---- at the beginning
 
-spelled_first : (role : Role) (area : Option Ranges) (rows : List RowValue) → IsUnrefused (first_doing role area rows)
-spelled_first Caller None rows = (tt, tt)
-spelled_first Caller (Some x) rows = (tt, (tt, tt))
-spelled_first Answerer area rows = tt
+spelled_first : (version : ℕ) (role : Role) (area : Option Ranges) (rows : List RowValue) → IsUnrefused (first_doing version role area rows)
+spelled_first version Caller None rows = (tt, tt)
+spelled_first version Caller (Some x) rows = (tt, (tt, tt))
+spelled_first version Answerer area rows = tt
 
-in_first : (role : Role) (area : Option Ranges) (rows : List RowValue) → AsksIn area (first_doing role area rows)
-in_first Caller None rows = tt
-in_first Caller (Some x) rows = ((λ r e. e), tt)
-in_first Answerer area rows = tt
+in_first : (version : ℕ) (role : Role) (area : Option Ranges) (rows : List RowValue) → AsksIn area (first_doing version role area rows)
+in_first version Caller None rows = tt
+in_first version Caller (Some x) rows = ((λ r e. e), tt)
+in_first version Answerer area rows = tt
 
-pub sound_first : (role : Role) (area : Option Ranges) (rows : List RowValue) → AreSound rows → IsSound (first_place role rows area)
-sound_first role area rows sound = record { rows = sound; goes_on = spelled_first role area rows; asks = in_first role area rows }
+pub sound_first : (version : ℕ) (role : Role) (area : Option Ranges) (rows : List RowValue) → AreSound rows → IsSound (first_place version role rows area)
+sound_first version role area rows sound = record { rows = sound; goes_on = spelled_first version role area rows; asks = in_first version role area rows }
 
 -- ---- what is said
 
@@ -112,7 +116,13 @@ sound_said place next item sound e = sound_at place place.doing sound.rows sound
 
 -- ---- what is heard
 
-module _ (area : Option Ranges) (rows : List RowValue) (sound : AreSound rows) where
+-- a row is in no more of some boxes than in one: each of them has no row but those of that one
+in_one : (b c : Bool) (n : ℕ) → cond b 1 0 + n ≤ cond c 1 0 → b ≡ true → c ≡ true
+in_one b true n h e = refl
+in_one true false n h e = absurd (omega arith)
+in_one false false n h e = absurd cc
+
+module _ (version : ℕ) (area : Option Ranges) (rows : List RowValue) (sound : AreSound rows) where
   in_hearing : (ask : AskValue) (asks : List AskValue) (left : ℕ) (read : List RowValue) (opens : List AskValue) → IsIn area ask → AreIn area asks → AreIn area opens → AsksIn area (hearing_rows ask asks left read opens)
   in_hearing (rules.Print box print) asks zero read opens h mine others =
       (mine, all-append (IsIn area) opens (rules.Sent box read ∷ []) others (in_as area (rules.Print box print) (rules.Sent box read) (λ r e. e) h, tt))
@@ -128,6 +138,27 @@ module _ (area : Option Ranges) (rows : List RowValue) (sound : AreSound rows) w
       all-append (IsIn area) opens (rules.Print (lower_part box at) lower ∷ rules.Print (upper_part box at) upper ∷ []) others
       (in_as area (rules.Print box print) (rules.Print (lower_part box at) lower) low h, (in_as area (rules.Print box print) (rules.Print (upper_part box at) upper) up h, tt))
 
+  -- the parts of a box, each with its fingerprint
+  in_each : (box : Ranges) (print : List ℕ) (parts : List Ranges) (prints : List (List ℕ)) → ((r : RowValue) → boxes_with (sync_rules version) r parts ≤ cond (is_in box r) 1 0)
+      → IsIn area (rules.Print box print) → AreIn area (part_asks parts prints)
+  in_each box print [] prints few h = tt
+  in_each box print (part ∷ parts) [] few h = tt
+  in_each box print (part ∷ parts) (first ∷ prints) few h =
+      let n = λ (r : RowValue). sum_by-cons (λ z. cond (is_in z r) 1 0) part parts in (
+        in_as area (rules.Print box print) (rules.Print part first) (λ r e. in_one (is_in part r) (is_in box r) (boxes_with (sync_rules version) r parts) (omega (arith, few r, n r)) e) h,
+        in_each box print parts prints (λ r. omega (arith, few r, n r)) h,
+      )
+
+  -- where a cut in parts is inside its box
+  in_parted : (box : Ranges) (print : List ℕ) (points : List CutAt) (prints : List (List ℕ)) (asks opens : List AskValue) (d : Doing)
+      → unless (cause_if (not (can_cut_at box points)) BadCut) (Hearing asks (opens ++ part_asks (parts_at box points) prints)) ≡ Ok d
+      → IsIn area (rules.Print box print) → AreIn area asks → AreIn area opens → AsksIn area d × IsUnrefused d
+  in_parted box print points prints asks opens d e h mine others =
+      let same = unless_ok (cause_if (not (can_cut_at box points)) BadCut) (Hearing asks (opens ++ part_asks (parts_at box points) prints)) d e in (
+        subst (AsksIn area) same (mine, all-append (IsIn area) opens (part_asks (parts_at box points) prints) others (in_each box print (parts_at box points) prints (disjoint version box points) h)),
+        subst IsUnrefused same tt,
+      )
+
   -- where a cut is inside its box
   in_cut : (box : Ranges) (print lower upper : List ℕ) (at : CutAt) (asks opens : List AskValue) (d : Doing) (b : Bool) → can_cut box at ≡ b
       → unless (cause_if (not b) BadCut) (Hearing asks (opens ++ rules.Print (lower_part box at) lower ∷ rules.Print (upper_part box at) upper ∷ [])) ≡ Ok d
@@ -136,10 +167,10 @@ module _ (area : Option Ranges) (rows : List RowValue) (sound : AreSound rows) w
       subst (AsksIn area) (same_ok (Hearing asks (opens ++ rules.Print (lower_part box at) lower ∷ rules.Print (upper_part box at) upper ∷ [])) d e) (mine, in_parts box print lower upper at opens can h others)
   in_cut box print lower upper at asks opens d false can e h mine others = absurd (not_err d BadCut e)
 
-  in_opened : (o : Option Ranges) (asks : List AskValue) → AreIn o asks → AreIn o (opened sync_rules rows asks)
+  in_opened : (o : Option Ranges) (asks : List AskValue) → AreIn o asks → AreIn o (opened (sync_rules version) rows asks)
   in_opened None [] h = tt
   in_opened None (ask ∷ asks) h = absurd h.0
-  in_opened (Some x) asks h = inside_as x (opened sync_rules rows asks) (opened_inside sync_rules disjoint x rows asks (as_inside x asks h))
+  in_opened (Some x) asks h = inside_as version x (opened (sync_rules version) rows asks) (opened_inside (sync_rules version) (disjoint version) x rows asks (as_inside version x asks h))
 
   -- what a sound side does then
   abbrev SoundThen : Doing → ItemValue → Result Doing CoreRefusal → Type 0
@@ -166,13 +197,14 @@ module _ (area : Option Ranges) (rows : List RowValue) (sound : AreSound rows) w
   then_ok : (doing d : Doing) → AsksIn area doing → IsUnrefused doing → ◌≡◌ {A = Result Doing CoreRefusal} (Ok doing) (Ok d) → AsksIn area d × IsUnrefused d
   then_ok doing d h spelled e = let same = same_ok doing d e in (subst (AsksIn area) same h, subst IsUnrefused same spelled)
 
-  sound_cases : AreCases area rows SoundThen
+  sound_cases : AreCases version area rows SoundThen
   sound_cases = record {
     mismatch = λ doing item d e h. absurd (not_err d ItemMismatch e);
     first_bye = λ is d e h. then_ok Replying d tt tt e;
     first_print = λ box print is d e h. then_ok (Hearing [] (rules.Print box print ∷ [])) d (tt, (first_in box print area is, tt)) tt e;
     agree = λ box print asks opens d e h. then_ok (Hearing asks opens) d (h.0.1, h.1) tt e;
-    split = λ box print asks opens at lower upper d e h. (in_cut box print lower upper at asks opens d (can_cut box at) refl e h.0.0 h.0.1 h.1, spelled_cut box lower upper at asks opens d e);
+    split = λ box print asks opens at lower upper is d e h. (in_cut box print lower upper at asks opens d (can_cut box at) refl e h.0.0 h.0.1 h.1, spelled_cut box lower upper at asks opens d e);
+    parts = λ box print asks opens points prints is d e h. in_parted box print points prints asks opens d e h.0.0 h.0.1 h.1;
     entries = λ box print asks opens count d e h.
         then_ok (hearing_rows (rules.Print box print) asks count [] opens) d (in_hearing (rules.Print box print) asks count [] opens h.0.0 h.0.1 h.1) (spelled_hearing (rules.Print box print) asks count [] opens) e;
     rest = λ box sent asks opens count d e h.
@@ -182,14 +214,14 @@ module _ (area : Option Ranges) (rows : List RowValue) (sound : AreSound rows) w
         let same = unless_ok (row_cause (box_of ask) read row) next d e in
         (subst (AsksIn area) same (in_hearing ask asks (left - 1) (remembered ask read row) opens h.0.0 h.0.1 h.1), subst IsUnrefused same (spelled_hearing ask asks (left - 1) (remembered ask read row) opens));
     last_bye = λ d e h. then_ok Replying d tt tt e;
-    end_turn = λ ask asks d e h. then_ok (answering rows (ask ∷ asks)) d (in_opened area (ask ∷ asks) h.1) (spelled_turn rows sound.rise sound.few sound.framed (ask ∷ asks)) e;
+    end_turn = λ ask asks d e h. then_ok (answering version rows (ask ∷ asks)) d (in_opened area (ask ∷ asks) h.1) (spelled_turn version rows sound.rise sound.few sound.framed (ask ∷ asks)) e;
     farewell = λ d e h. then_ok Finished d tt tt e;
   }
 
 pub sound_heard : (place next : Place) (item : ItemValue) → IsSound place → heard place item ≡ Ok next → IsSound next
 sound_heard place next item sound e =
     let to = heard_as place item next e in
-    let then = by_cases place.area place.rows (SoundThen place.area place.rows sound.rows) (sound_cases place.area place.rows sound.rows) place.doing item to.doing to.comes sound.asks in
+    let then = by_cases place.version place.area place.rows (SoundThen place.version place.area place.rows sound.rows) (sound_cases place.version place.area place.rows sound.rows) place.doing item to.doing to.comes sound.asks in
     let made : IsSound (heard_to place item to.doing) = record { rows = sound.rows; goes_on = then.1; asks = then.0 } in
     subst IsSound (sym to.then) made
 
@@ -202,40 +234,44 @@ rows_again (Some x) rows = filter_twice (is_in x) rows
 most_again : (area : Option Ranges) (rows : List RowValue) → most_items area (rows_of_area area rows) ≡ most_items area rows
 most_again area rows = ap (λ l. 3 * (length l + SNAPSHOT_MAX)) (rows_again area rows)
 
-answering_again : (area : Option Ranges) (rows : List RowValue) (ask : AskValue) (asks : List AskValue) → AreIn area (ask ∷ asks) → answering (rows_of_area area rows) (ask ∷ asks) ≡ answering rows (ask ∷ asks)
-answering_again None rows ask asks h = absurd h.0
-answering_again (Some x) rows ask asks h =
+answering_again : (version : ℕ) (area : Option Ranges) (rows : List RowValue) (ask : AskValue) (asks : List AskValue) → AreIn area (ask ∷ asks) → answering version (rows_of_area area rows) (ask ∷ asks) ≡ answering version rows (ask ∷ asks)
+answering_again version None rows ask asks h = absurd h.0
+answering_again version (Some x) rows ask asks h =
     let same = filter_twice (is_in x) rows in
-    ap₂ (λ (t : TurnValue) opens. saying t opens) (turn_alike sync_rules disjoint x (rows_in x rows) rows same (ask ∷ asks) (as_inside x (ask ∷ asks) h)) (opened_alike sync_rules disjoint x (rows_in x rows) rows same (ask ∷ asks) (as_inside x (ask ∷ asks) h))
+    ap₂ (λ (t : TurnValue) opens. saying version t opens)
+    (turn_alike (sync_rules version) (disjoint version) x (rows_in x rows) rows same (ask ∷ asks) (as_inside version x (ask ∷ asks) h))
+    (opened_alike (sync_rules version) (disjoint version) x (rows_in x rows) rows same (ask ∷ asks) (as_inside version x (ask ∷ asks) h))
 
-end_again : (area : Option Ranges) (rows : List RowValue) (opens : List AskValue) (item : ItemValue) → AreIn area opens → end_heard (rows_of_area area rows) opens item ≡ end_heard rows opens item
-end_again area rows [] (First print) h = refl
-end_again area rows [] Agree h = refl
-end_again area rows [] (Split at lower upper) h = refl
-end_again area rows [] (Entries count) h = refl
-end_again area rows [] (Rest count) h = refl
-end_again area rows [] (Row row) h = refl
-end_again area rows [] EndTurn h = refl
-end_again area rows [] Bye h = refl
-end_again area rows (ask ∷ asks) (First print) h = refl
-end_again area rows (ask ∷ asks) Agree h = refl
-end_again area rows (ask ∷ asks) (Split at lower upper) h = refl
-end_again area rows (ask ∷ asks) (Entries count) h = refl
-end_again area rows (ask ∷ asks) (Rest count) h = refl
-end_again area rows (ask ∷ asks) (Row row) h = refl
-end_again area rows (ask ∷ asks) EndTurn h = ap Ok (answering_again area rows ask asks h)
-end_again area rows (ask ∷ asks) Bye h = refl
+end_again : (version : ℕ) (area : Option Ranges) (rows : List RowValue) (opens : List AskValue) (item : ItemValue) → AreIn area opens → end_heard version (rows_of_area area rows) opens item ≡ end_heard version rows opens item
+end_again version area rows [] (First print) h = refl
+end_again version area rows [] Agree h = refl
+end_again version area rows [] (Split at lower upper) h = refl
+end_again version area rows [] (Parts points prints) h = refl
+end_again version area rows [] (Entries count) h = refl
+end_again version area rows [] (Rest count) h = refl
+end_again version area rows [] (Row row) h = refl
+end_again version area rows [] EndTurn h = refl
+end_again version area rows [] Bye h = refl
+end_again version area rows (ask ∷ asks) (First print) h = refl
+end_again version area rows (ask ∷ asks) Agree h = refl
+end_again version area rows (ask ∷ asks) (Split at lower upper) h = refl
+end_again version area rows (ask ∷ asks) (Parts points prints) h = refl
+end_again version area rows (ask ∷ asks) (Entries count) h = refl
+end_again version area rows (ask ∷ asks) (Rest count) h = refl
+end_again version area rows (ask ∷ asks) (Row row) h = refl
+end_again version area rows (ask ∷ asks) EndTurn h = ap Ok (answering_again version area rows ask asks h)
+end_again version area rows (ask ∷ asks) Bye h = refl
 
-next_again : (area : Option Ranges) (rows : List RowValue) (doing : Doing) (item : ItemValue) → AsksIn area doing → next_heard area (rows_of_area area rows) doing item ≡ next_heard area rows doing item
-next_again area rows (Saying items asks) item h = refl
-next_again area rows Replying item h = refl
-next_again area rows Beginning item h = refl
-next_again area rows (Hearing [] opens) item h = end_again area rows opens item h.1
-next_again area rows (Hearing (ask ∷ asks) opens) item h = refl
-next_again area rows (HearingRows asks left read opens) item h = refl
-next_again area rows Parting item h = refl
-next_again area rows Finished item h = refl
-next_again area rows (Refused cause) item h = refl
+next_again : (version : ℕ) (area : Option Ranges) (rows : List RowValue) (doing : Doing) (item : ItemValue) → AsksIn area doing → next_heard version area (rows_of_area area rows) doing item ≡ next_heard version area rows doing item
+next_again version area rows (Saying items asks) item h = refl
+next_again version area rows Replying item h = refl
+next_again version area rows Beginning item h = refl
+next_again version area rows (Hearing [] opens) item h = end_again version area rows opens item h.1
+next_again version area rows (Hearing (ask ∷ asks) opens) item h = refl
+next_again version area rows (HearingRows asks left read opens) item h = refl
+next_again version area rows Parting item h = refl
+next_again version area rows Finished item h = refl
+next_again version area rows (Refused cause) item h = refl
 
 -- what becomes of one that has just the rows of the area
 abbrev pub all_within : Result Place CoreRefusal → Result Place CoreRefusal
@@ -274,7 +310,7 @@ module _ (place : Place) (item : ItemValue) where
   -- a side that has just the rows of the area hears as one that has others too
   pub heard_alike : IsSound place → heard (within place) item ≡ all_within (heard place item)
   unfolding heard
-  heard_alike sound = ap (heard_within (within place) item) (next_again place.area place.rows place.doing item sound.asks) ∙ outcome_within (next_heard place.area place.rows place.doing item)
+  heard_alike sound = ap (heard_within (within place) item) (next_again place.version place.area place.rows place.doing item sound.asks) ∙ outcome_within (next_heard place.version place.area place.rows place.doing item)
 
 -- ---- what is said
 

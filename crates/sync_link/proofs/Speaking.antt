@@ -45,3 +45,16 @@ to_the_end (suc n) place left = by_next (λ next is. to_the_end n next is) (said
 -- where a side has said what it says until it reads, it says nothing more
 pub all_spoken : (place : Place) → said (spoken places place).1 ≡ None
 all_spoken place = ap (λ run. said run.1) (spoken_as place) ∙ to_the_end (left_to_say place.doing) place refl
+
+-- it stays in its version
+says_on : (n : ℕ) (place : Place) → (says n place).1.version ≡ place.version
+unfolding says
+says_on zero place = refl
+says_on (suc n) place = by_next (says_on n) (said place) refl
+  where
+    by_next : ((next : Place) → (says n next).1.version ≡ next.version) → (o : Option (ItemValue × Place)) → said place ≡ o → (said_from (says n) place o).1.version ≡ place.version
+    by_next later None is = refl
+    by_next later (Some step) is = later step.1 ∙ (says_first place step.1 step.0 is).version
+
+pub version_spoken : (place : Place) → (says_all place).1.version ≡ place.version
+version_spoken place = says_on (left_to_say place.doing) place

@@ -21,7 +21,7 @@ use Rattle.cap_codec.proofs.CapReads.{capability-reads}
 use Rattle.cap_codec.proofs.FormReads.{signature-reads}
 use Rattle.cap_codec.proofs.RowReads.{raw-reads}
 use Rattle.sync_msg.specs.Items.{ItemValue, item_spelling, IsHead}
-use Rattle.sync_msg.specs.declared.item.Item.TheVariants.{First, Agree, Split, Entries, Rest, Row, EndTurn, Bye}
+use Rattle.sync_msg.specs.declared.item.Item.TheVariants.{First, Agree, Split, Parts, Entries, Rest, Row, EndTurn, Bye}
 use Rattle.sync_msg.proofs.HeadReads.{head-reads}
 use Rattle.sync_hello.specs.HelloForm.{Draft, IsDraft, draft_of, draft_spelling, hello_spelling, IsHello}
 use Rattle.sync_hello.specs.declared.hello.Hello.{Hello}
@@ -92,19 +92,20 @@ proof_back bytes signature are e = read_back signature-reads bytes signature are
 
 -- ---- items
 
-some_head : (item : ItemValue) → IsHead item → 0 < length (item_spelling item)
-some_head (First print) f = omega arith
-some_head Agree f = omega arith
-some_head (Split at lower upper) f = omega arith
-some_head (Entries count) f = omega arith
-some_head (Rest count) f = omega arith
-some_head (Row row) f = absurd f
-some_head EndTurn f = omega arith
-some_head Bye f = omega arith
+some_head : (version : ℕ) (item : ItemValue) → IsHead version item → 0 < length (item_spelling item)
+some_head version (First print) f = omega arith
+some_head version Agree f = omega arith
+some_head version (Split at lower upper) f = omega arith
+some_head version (Parts points prints) f = omega arith
+some_head version (Entries count) f = omega arith
+some_head version (Rest count) f = omega arith
+some_head version (Row row) f = absurd f
+some_head version EndTurn f = omega arith
+some_head version Bye f = omega arith
 
-pub head_as : (item : ItemValue) → IsHead item → IsReadAs head_seen (item_spelling item) item
+pub head_as : (version : ℕ) (item : ItemValue) → IsHead version item → IsReadAs (head_seen version) (item_spelling item) item
 unfolding head_seen
-head_as item f = read_as head-reads item f (some_head item f)
+head_as version item f = read_as (head-reads version) item f (some_head version item f)
 
 body_spelled : (row : RowValue) → IsRawRow row → row_spelled (row_body row) ≡ Some (Row row)
 unfolding row_body

@@ -12,7 +12,7 @@ use Rattle.sync_hello.specs.Checked.{hello_refusal}
 use Rattle.sync_hello.specs.declared.hello.Hello.{Hello}
 use Rattle.sync_core.specs.Flat.{row_in}
 use Rattle.sync_core.specs.Held.{to_count}
-use Rattle.sync_core.specs.Place.{Place, first_place, stage_of}
+use Rattle.sync_core.specs.Place.{Place, stage_of}
 use Rattle.sync_core.specs.declared.stage.Stage.TheVariants as stage
 use Rattle.sync_core.specs.Runs.{says_all, hears, heard_from}
 use Rattle.sync_core.specs.Steps.{count_one, heard}
@@ -28,7 +28,7 @@ use Rattle.session_rules.proofs.Growing.{read_part}
 use Rattle.session_rules.proofs.Runs.{run_append}
 use Rattle.session_rules.proofs.Spelled.{read_due}
 use Rattle.sync_link.specs.Greetings.{side_of, greeting}
-use Rattle.sync_link.specs.Places.{has_finished, places, awaits_row}
+use Rattle.sync_link.specs.Places.{offers_of, has_finished, places, awaits_row}
 use Rattle.sync_link.specs.Readers.{hello_seen, proof_seen, item_seen}
 use Rattle.sync_link.specs.Sessions.{Party, SessionStage, SessionMessage, SessionCause, own_part, session_of}
 use Rattle.sync_link.specs.Standing.{Feeds, Reads, party_of, within}
@@ -36,7 +36,7 @@ use Rattle.sync_link.specs.Found.{IsFound, is_due}
 use Rattle.sync_link.specs.Due.{stand_of}
 use Rattle.sync_link.specs.Fed.{Fed, GoesWell, CountsOn, counted, noted, noting}
 use Rattle.sync_link.specs.Held.{CountsStep, fed_with}
-use Rattle.sync_link.specs.Talking.{HearsHello, HearsProof, AcceptsProof, box_between, proof_cause}
+use Rattle.sync_link.specs.Talking.{HearsHello, HearsProof, AcceptsProof, first_with, proof_cause}
 use Rattle.sync_link.specs.Taking.{IsExchange, TakesItem, ComesHello, ComesProof, ComesItem, due_after, due_behind, taken_after, taken_behind}
 use Rattle.sync_link.specs.declared.take.Came.{Came}
 use Rattle.sync_link.specs.declared.take.Came.TheVariants as came
@@ -154,14 +154,14 @@ module _ {R S : Type 0} (rules : Rules) (value : R → RowValue) (old new : Talk
 
   module _ (other : Hello) where
     abbrev first : Place
-    first = first_place old.role own_rows (box_between old.role old.hello other)
+    first = first_with value old other
 
     proof_accepted : (proof : List ℕ) (next : Due R) (n : ℕ) (out_old out_new : List ℕ) → IsFound proof_seen bytes proof n → proof_cause rules old.role old.hello other proof ≡ None → AcceptsProof value old new other next out_old out_new → Then (dues.Proof other) next (Some n)
     proof_accepted proof next n out_old out_new found none h =
         subst (λ d. Then (dues.Proof other) d (Some n)) (sym h.due_is)
         (λ well signature may.
         let p = party signature in
-        let exchange = exchange_with (greeting rules old.namespace) places (own_part p) own_rows other in
+        let exchange = exchange_with (greeting rules old.namespace) places (own_part p) (offers_of own_rows) other in
         let begins = begun_spoken rules old.namespace old.role old.hello other own_rows signature in
         let step = ap (λ o. proof_read (own_part p) exchange o) (refused_by rules old.namespace old.role old.hello other signature proof ∙ none) in
         let t = found_tells p own_rows (Proving other) session.Proof proof_seen refl at bytes proof n (proof_read (own_part p) exchange None) found step in
@@ -197,10 +197,10 @@ module _ {R S : Type 0} (rules : Rules) (value : R → RowValue) (old new : Talk
     talks = Talking (within ex.core)
 
     abbrev sees : List ℕ → Seen ItemValue
-    sees = item_seen (awaits_row ex.core.doing)
+    sees = item_seen ex.core.version (awaits_row ex.core.doing)
 
-    same_sees : item_seen (is_due ex.reader.due) ≡ sees
-    same_sees = ap item_seen (awaits_due ex.reader.due ex.core.doing is.due)
+    same_sees : item_seen ex.reader.version (is_due ex.reader.due) ≡ sees
+    same_sees = ap₂ item_seen is.version (awaits_due ex.reader.due ex.core.doing is.due)
 
     stands : stand_of (dues.Items ex) at [] ≡ Waits talks at []
     stands = ap (λ b. cond b Over (Waits talks at [])) (reading_on ex.core.doing waits)
@@ -209,7 +209,7 @@ module _ {R S : Type 0} (rules : Rules) (value : R → RowValue) (old new : Talk
     From sent read signature read_bytes q =
         (counted (reading.read (session_of (party signature) own_rows) q read_bytes).says ≡ sent) × (counted (reading.read (noting (session_of (party signature) own_rows)) q read_bytes).rows ≡ read)
 
-    item_more : (next : Exchange R) → ArePart (item_seen (is_due ex.reader.due)) [] bytes → next ≡ ex → Then (dues.Items ex) (dues.Items next) None
+    item_more : (next : Exchange R) → ArePart (item_seen ex.reader.version (is_due ex.reader.due)) [] bytes → next ≡ ex → Then (dues.Items ex) (dues.Items next) None
     item_more next part same =
         subst (λ x. Then (dues.Items ex) (dues.Items x) None) (sym same)
         (λ well signature may.

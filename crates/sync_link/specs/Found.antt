@@ -4,7 +4,7 @@ use Rattle.spelling.specs.declared.ending.End.{End}
 use Rattle.spelling.specs.declared.ending.End.TheVariants as ends
 use Rattle.spelling.specs.declared.ending.NoMemory.{NoMemory}
 use Rattle.cap_codec.specs.Rows.{RawValue, row_of}
-use Rattle.sync_msg.specs.Items.{item_value}
+use Rattle.sync_msg.specs.Items.{HasPrints, item_value}
 use Rattle.sync_msg.specs.Reader.{ReaderState, moved_on}
 use Rattle.sync_msg.specs.declared.reader.BadItem.{BadItem}
 use Rattle.sync_msg.specs.declared.reader.Step.{Step}
@@ -47,9 +47,9 @@ abbrev pub is_due : ℕ → Bool
 is_due zero = false
 is_due (suc due) = true
 
--- the same of an item, whereupon the reader moves on
+-- the same of an item, whereupon the reader moves on; if the item is a cut in parts, there is one fingerprint more than points
 abbrev pub FindsItem : ReaderState → ReaderState → List ℕ → Result (Step RawValue) (End BadItem) → Type 0
-FindsItem old new bytes (Ok (Got item taken)) = IsFound (item_seen (is_due old.due)) bytes (item_value row_of item) taken × (new ≡ moved_on old (item_value row_of item) taken)
-FindsItem old new bytes (Ok More) = ArePart (item_seen (is_due old.due)) [] bytes × (new ≡ old)
-FindsItem old new bytes (Err (ends.Refused bad)) = GoWrong (item_seen (is_due old.due)) [] bytes × (new ≡ old)
+FindsItem old new bytes (Ok (Got item taken)) = IsFound (item_seen old.version (is_due old.due)) bytes (item_value row_of item) taken × ((new ≡ moved_on old (item_value row_of item) taken) × HasPrints (item_value row_of item))
+FindsItem old new bytes (Ok More) = ArePart (item_seen old.version (is_due old.due)) [] bytes × (new ≡ old)
+FindsItem old new bytes (Err (ends.Refused bad)) = GoWrong (item_seen old.version (is_due old.due)) [] bytes × (new ≡ old)
 FindsItem old new bytes (Err ends.NoMemory) = new ≡ old

@@ -1,5 +1,5 @@
 -- How two stores greet each other: by hellos and proofs.
-use Rattle.std.specs.Prelude.{ℕ, List, option_map}
+use Rattle.std.specs.Prelude.{ℕ, List, Option, option_map}
 use Rattle.scheme_core.specs.Rules.{Rules}
 use Rattle.willow_area.specs.AreaBox.{area_box}
 use Rattle.willow_area.specs.Boxes.{Ranges}
@@ -11,6 +11,7 @@ use Rattle.sync_hello.specs.HelloForm.{hello_spelling}
 use Rattle.sync_hello.specs.Checked.{hello_refusal}
 use Rattle.sync_hello.specs.Proof.{proof_refusal}
 use Rattle.sync_hello.specs.Common.{common_area}
+use Rattle.sync_hello.specs.Version.{session_version}
 use Rattle.sync_hello.specs.declared.hello.Hello.{Hello}
 use Rattle.session_rules.specs.Talk as talk
 use Rattle.session_rules.specs.Greeting.{Greeting}
@@ -25,9 +26,17 @@ abbrev pub role_of : talk.Role → Role
 role_of talk.Caller = roles.Caller
 role_of talk.Answerer = roles.Answerer
 
--- In a namespace, by the rules of a scheme: a hello is refused for the first of the conditions that fails, a proof where
--- its signature is not accepted, and the box is that of the area that both hellos ask for.
-abbrev pub greeting : Rules → List ℕ → Greeting Hello (List ℕ) Ranges HelloRefusal
+-- What two hellos agree on: the version of the session, and the box of the area that both ask for, if there is one.
+pub record Agreement : Type 0 where
+  pub version : ℕ
+  pub box : Option Ranges
+
+abbrev pub agreement : Hello → Hello → Agreement
+agreement caller answerer = record { version = session_version caller answerer; box = option_map area_box (common_area caller answerer) }
+
+-- In a namespace, by the rules of a scheme: a hello is refused for the first of the conditions that fails, and a proof where
+-- its signature is not accepted.
+abbrev pub greeting : Rules → List ℕ → Greeting Hello (List ℕ) Agreement HelloRefusal
 greeting rules namespace = record {
   sees_hello = hello_seen;
   hello_spelling = hello_spelling;
@@ -35,5 +44,5 @@ greeting rules namespace = record {
   sees_proof = proof_seen;
   proof_spelling = signature_spelling;
   proof_refusal = λ signer caller answerer signature. proof_refusal rules (role_of signer) caller answerer signature;
-  common = λ caller answerer. option_map area_box (common_area caller answerer);
+  agreed = agreement;
 }

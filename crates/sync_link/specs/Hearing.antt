@@ -3,7 +3,7 @@ use Rattle.std.specs.Prelude.{◌≡◌, ℕ, zero, suc, List, [], ◌∷◌, �
 use Rattle.willow_entry.specs.Row.{RowValue}
 use Rattle.sync_msg.specs.Items.{ItemValue}
 use Rattle.sync_msg.specs.declared.item.Item.{Item}
-use Rattle.sync_msg.specs.declared.item.Item.TheVariants.{First, Agree, Split, Entries, Rest, Row, EndTurn, Bye}
+use Rattle.sync_msg.specs.declared.item.Item.TheVariants.{First, Agree, Split, Parts, Entries, Rest, Row, EndTurn, Bye}
 use Rattle.sync_msg.specs.declared.refusal.CoreRefusal.{CoreRefusal}
 use Rattle.sync_core.specs.Flat.{row_in}
 use Rattle.sync_core.specs.Place.{Place}
@@ -34,6 +34,7 @@ abbrev pub rows_announced : {R : Type 0} → Item R → ℕ
 rows_announced (First print) = 0
 rows_announced Agree = 0
 rows_announced (Split at lower upper) = 0
+rows_announced (Parts points prints) = 0
 rows_announced (Entries count) = count
 rows_announced (Rest count) = count
 rows_announced (Row row) = 0

@@ -7,6 +7,7 @@ use Rattle.sync_link.specs.Sound.{AreSound}
 use Rattle.sync_link.specs.Fed.{Fed, State, CountsOn}
 use Rattle.sync_link.specs.Standing.{Side}
 use Rattle.sync_link.specs.Due.{stand_of}
+use Rattle.sync_link.specs.Talking.{SpeaksSome}
 use Rattle.sync_link.specs.Taking.{Fits, Holds, read_by, waiting_side}
 use Rattle.sync_link.specs.declared.due.Due.{Due}
 use Rattle.sync_link.specs.declared.due.Due.TheVariants as dues
@@ -54,10 +55,11 @@ abbrev pub CountsStep : (ℕ → List ℕ → Fed) → (ℕ → List ℕ → Fed
 CountsStep old new at bytes None = CountsOn (old at []) (new at bytes) bytes
 CountsStep old new at bytes (Some taken) = CountsOn (old at []) (new (at + taken) []) (take taken bytes)
 
--- Its rows and its hello can be said, what is due fits which side it is and its signature, and the bytes that are held are
--- a part of what is due. All bytes that were read can be counted.
+-- Its rows can be said, and so can its hello, which speaks some version; what is due fits which side it is and its signature;
+-- and the bytes that are held are a part of what is due. All bytes that were read can be counted.
 pub record IsHeld {R S : Type 0} (rules : Rules) (value : R → RowValue) (talker : Talker R S) (due : Due R) (at : ℕ) (held : List ℕ) : Type 0 where
   pub own : HasSpelling talker.hello
+  pub speaks : SpeaksSome talker.hello
   pub rows : AreSound (map value talker.snapshot)
   pub fits : Fits talker.role talker.signature due
   pub few : read_by due ≤ at

@@ -1,17 +1,16 @@
 -- A side of an exchange of stores, as the rules of sessions ask for it: it says and reads items by its place.
-use Rattle.std.specs.Prelude.{Bool, true, false}
-use Rattle.willow_area.specs.Boxes.{Ranges}
+use Rattle.std.specs.Prelude.{Bool, true, false, List}
 use Rattle.willow_entry.specs.Row.{RowValue}
-use Rattle.block_store.specs.InBox.{is_in}
 use Rattle.sync_msg.specs.Items.{ItemValue, item_spelling}
 use Rattle.sync_msg.specs.declared.refusal.CoreRefusal.{CoreRefusal}
 use Rattle.sync_core.specs.Flat.{row_in}
-use Rattle.sync_core.specs.Place.{Doing, Saying, Replying, Beginning, Hearing, HearingRows, Parting, Finished, Refused, Place, first_place}
+use Rattle.sync_core.specs.Place.{Doing, Saying, Replying, Beginning, Hearing, HearingRows, Parting, Finished, Refused, Place, first_place, rows_of_area}
 use Rattle.sync_core.specs.Steps.{said, heard}
 use Rattle.sync_core.specs.Runs.{left_to_say}
 use Rattle.session_rules.specs.Talk.{Talk}
+use Rattle.session_rules.specs.Session.{Offering}
 use Rattle.sync_link.specs.Readers.{item_seen}
-use Rattle.sync_link.specs.Greetings.{role_of}
+use Rattle.sync_link.specs.Greetings.{Agreement, role_of}
 
 -- rows are due
 abbrev pub awaits_row : Doing → Bool
@@ -35,16 +34,20 @@ has_finished Parting = false
 has_finished Finished = true
 has_finished (Refused cause) = false
 
--- it begins, says and hears as a side of an exchange does, and reads a row where rows are due, else any other item
-abbrev pub places : Talk RowValue Ranges Place ItemValue CoreRefusal
+-- in the version that was agreed on it begins, says and hears as a side of an exchange does, and reads a row where rows are
+-- due, else any other item
+abbrev pub places : Talk RowValue Agreement Place ItemValue CoreRefusal
 places = record {
-  has = is_in;
-  begin = λ role rows box. first_place (role_of role) rows box;
+  begin = λ role rows agreed. first_place agreed.version (role_of role) rows agreed.box;
   said = said;
   to_say = λ place. left_to_say place.doing;
   heard = heard;
   is_done = λ place. has_finished place.doing;
   row_in = row_in;
-  sees = λ place bytes. item_seen (awaits_row place.doing) bytes;
+  sees = λ place bytes. item_seen place.version (awaits_row place.doing) bytes;
   spelling = item_spelling;
 }
+
+-- of a side's rows those in the box that was agreed on are offered
+abbrev pub offers_of : List RowValue → Offering Agreement RowValue
+offers_of rows agreed = rows_of_area agreed.box rows

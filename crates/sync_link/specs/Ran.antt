@@ -164,10 +164,10 @@ pub record IsOther {p : List ℕ → Party} (ran : Ran p) (q : Party) (others : 
 abbrev pub AreAuthorised : {p : List ℕ → Party} → Ran p → List RowValue → Type 0
 AreAuthorised ran others = All (IsAuthorisedRow (side ran).rules (side ran).namespace) others
 
--- the fingerprints of the exchange of a caller's rows and an answerer's tell rows apart
-abbrev pub AreApartAs : Role → Option Ranges → List RowValue → List RowValue → Type 0
-AreApartAs Caller box rows others = AreApartIn box rows others
-AreApartAs Answerer box rows others = AreApartIn box others rows
+-- the fingerprints of the exchange of a caller's rows and an answerer's in a version tell rows apart
+abbrev pub AreApartAs : ℕ → Role → Option Ranges → List RowValue → List RowValue → Type 0
+AreApartAs version Caller box rows others = AreApartIn version box rows others
+AreApartAs version Answerer box rows others = AreApartIn version box others rows
 
 -- the own rows and the other side's in the area that both may read
 abbrev pub own_common : {p : List ℕ → Party} → Ran p → Party → List RowValue

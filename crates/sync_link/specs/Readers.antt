@@ -64,11 +64,11 @@ row_spelled body = option_map (λ raw. Row (row_of raw)) (all_read (raw_at body)
 unfoldable pub row_seen : List ℕ → Seen ItemValue
 row_seen bytes = judged_whole row_spelled (all_seen (body_at bytes))
 
--- an item that is no row
-unfoldable pub head_seen : List ℕ → Seen ItemValue
-head_seen bytes = all_seen (head_at bytes)
+-- an item of a version that is no row
+unfoldable pub head_seen : ℕ → List ℕ → Seen ItemValue
+head_seen version bytes = all_seen (head_at version bytes)
 
--- an item: a row where rows are due, else any other
-abbrev pub item_seen : Bool → List ℕ → Seen ItemValue
-item_seen true bytes = row_seen bytes
-item_seen false bytes = head_seen bytes
+-- an item of a version: a row where rows are due, else any other
+abbrev pub item_seen : ℕ → Bool → List ℕ → Seen ItemValue
+item_seen version true bytes = row_seen bytes
+item_seen version false bytes = head_seen version bytes

@@ -4,7 +4,7 @@ use Rattle.willow_outside.specs.Facts.{LinkFacts}
 use Rattle.willow_entry.specs.Row.{RowValue, join}
 use Rattle.auth_entry.specs.Authorised.{AuthorisedValue}
 use Rattle.ns_cell.specs.Passes.{PassValue}
-use Rattle.sync_link.specs.Sessions.{Party, AreSameInCommon, box_with}
+use Rattle.sync_link.specs.Sessions.{Party, AreSameInCommon, box_with, version_with}
 use Rattle.sync_link.specs.Run.{Answer, Runs}
 use Rattle.sync_link.specs.Ran.{Ran, side, opening_of, store_of, LiesAbove, BringSame, HasProved, AreAlike, TellsGranted, IsOther, AreAuthorised, AreApartAs, other_common}
 use Rattle.sync_link.specs.declared.plan.SessionReport.{SessionReport}
@@ -17,7 +17,7 @@ use Rattle.sync_link.specs.declared.plan.SessionReport.{SessionReport}
 pub record SessionPromises {p : List ℕ → Party} (ran : Ran p) : Type 0 where
   pub keeps : LiesAbove (store_of ran) (opening_of ran)
   pub above : (report : SessionReport) (q : Party) (others : List RowValue) → ran.answer ≡ Ok report → IsOther ran q others → AreAuthorised ran others
-      → AreApartAs (side ran).role (box_with (side ran) q.hello) (opening_of ran) others → LiesAbove (store_of ran) (join (opening_of ran) (other_common ran q others))
+      → AreApartAs (version_with (side ran) q.hello) (side ran).role (box_with (side ran) q.hello) (opening_of ran) others → LiesAbove (store_of ran) (join (opening_of ran) (other_common ran q others))
   pub alike : (q : List ℕ → Party) (other : Ran q) → BringSame (side ran) (side other) → (HasProved ran → HasProved other → (side other).signature ≡ (side ran).signature)
       → other.did.bytes ≡ ran.did.bytes → AreSameInCommon (side ran) ran.did.bytes (opening_of ran) (opening_of other) → AreAlike ran other
   pub granted : TellsGranted ran

@@ -11,10 +11,10 @@ use Rattle.sync_hello.specs.declared.hello.Hello.{Hello}
 use Rattle.sync_core.specs.Place.{Place}
 use Rattle.session_rules.specs.Machine.{Machine}
 use Rattle.session_rules.specs.Reading as reading
-use Rattle.session_rules.specs.Greeting.{Own, common_box}
-use Rattle.session_rules.specs.Session.{Message, Stage, Cause, common_rows, session, SameInCommon}
-use Rattle.sync_link.specs.Greetings.{side_of, greeting}
-use Rattle.sync_link.specs.Places.{places}
+use Rattle.session_rules.specs.Greeting.{Own, agreed_with}
+use Rattle.session_rules.specs.Session.{Message, Stage, Cause, rows_offered, session, OfferSame}
+use Rattle.sync_link.specs.Greetings.{Agreement, side_of, greeting}
+use Rattle.sync_link.specs.Places.{offers_of, places}
 
 -- what a side brings to a session, besides its rows
 pub record Party : Type 0 where
@@ -45,7 +45,7 @@ own_part p = record { role = side_of p.role; hello = p.hello; proof = p.signatur
 
 -- its session, message by message, with the rows that it has as it begins
 abbrev pub session_of : Party → List RowValue → Machine SessionStage SessionMessage SessionMessage RowValue SessionCause
-session_of p rows = session (greeting p.rules p.namespace) places (own_part p) rows
+session_of p rows = session (greeting p.rules p.namespace) places (own_part p) (offers_of rows)
 
 -- ---- the session as a function
 
@@ -66,16 +66,24 @@ got p rows bytes = reading.got (session_of p rows) bytes
 abbrev pub ending : Party → List RowValue → List ℕ → reading.Ending SessionCause
 ending p rows bytes = reading.ending (session_of p rows) bytes
 
--- ---- what both may read
+-- ---- what both agree on
 
--- the box of the area that it and one that said this hello have in common, if there is one
+-- what it and one that said this hello agree on
+abbrev pub agreement_with : Party → Hello → Agreement
+agreement_with p hello = agreed_with (greeting p.rules p.namespace) (own_part p) hello
+
+-- the version of their session
+abbrev pub version_with : Party → Hello → ℕ
+version_with p hello = (agreement_with p hello).version
+
+-- the box of the area that both may read, if there is one
 abbrev pub box_with : Party → Hello → Option Ranges
-box_with p hello = common_box (greeting p.rules p.namespace) (own_part p) hello
+box_with p hello = (agreement_with p hello).box
 
 -- the rows in it
 abbrev pub rows_with : Party → Hello → List RowValue → List RowValue
-rows_with p hello rows = common_rows (greeting p.rules p.namespace) places (own_part p) rows hello
+rows_with p hello rows = rows_offered (greeting p.rules p.namespace) (own_part p) (offers_of rows) hello
 
 -- by whatever hello passes in front of the bytes, two lists have the same rows in it
 abbrev pub AreSameInCommon : Party → List ℕ → List RowValue → List RowValue → Type 0
-AreSameInCommon p bytes rows others = SameInCommon (greeting p.rules p.namespace) places (own_part p) bytes rows others
+AreSameInCommon p bytes rows others = OfferSame (greeting p.rules p.namespace) (own_part p) bytes (offers_of rows) (offers_of others)

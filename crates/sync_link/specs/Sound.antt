@@ -5,6 +5,7 @@ use Rattle.std.specs.List.Sorted.{IsStrictlySortedBy}
 use Rattle.willow_area.specs.Boxes.{Ranges}
 use Rattle.willow_entry.specs.Frame.{HasFrame}
 use Rattle.willow_entry.specs.Row.{RowValue, inner_place_cmp}
+use Rattle.block_store.specs.BoxKinds.{IsOfOneNamespace}
 use Rattle.block_store.specs.InBox.{is_in}
 use Rattle.sync_msg.specs.Items.{HasSpelling}
 use Rattle.sync_core.specs.declared.stage.TheConstants.{SNAPSHOT_MAX}
@@ -42,8 +43,9 @@ IsUnrefused Parting = Unit {0}
 IsUnrefused Finished = Unit {0}
 IsUnrefused (Refused cause) = ⊥
 
--- rows that a side may have: they rise, are not too many, and frames carry them
+-- rows that a side may have: they are of one namespace, rise, are not too many, and frames carry them
 pub record AreSound (rows : List RowValue) : Type 0 where
+  pub one : IsOfOneNamespace rows
   pub rise : IsStrictlySortedBy inner_place_cmp rows
   pub few : length rows ≤ SNAPSHOT_MAX
   pub framed : AllByRecursion HasFrame rows

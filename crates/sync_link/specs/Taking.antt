@@ -21,7 +21,7 @@ use Rattle.sync_link.specs.Hearing.{HearsItem, RefusesItem}
 use Rattle.sync_link.specs.Standing.{Side, Feeds, party_of}
 use Rattle.sync_link.specs.Fed.{noting}
 use Rattle.sync_link.specs.Due.{stand_of}
-use Rattle.sync_link.specs.Talking.{HearsHello, HearsProof, UnsignedIf, proof_cause, side_with}
+use Rattle.sync_link.specs.Talking.{HearsHello, HearsProof, SpeaksSome, UnsignedIf, proof_cause, side_with}
 use Rattle.sync_link.specs.declared.due.Cause.TheVariants as causes
 use Rattle.sync_link.specs.declared.due.Due.{Due}
 use Rattle.sync_link.specs.declared.due.Due.TheVariants as dues
@@ -46,16 +46,17 @@ AreDueIn due Parting = due ≡ 0
 AreDueIn due Finished = due ≡ 0
 AreDueIn due (Refused cause) = due ≡ 0
 
--- An exchange that has said what it says until it reads, and whose reader knows how many rows are due.
+-- An exchange that has said what it says until it reads, and whose reader reads its version and knows how many rows are due.
 pub record IsExchange {R : Type 0} (exchange : Exchange R) : Type 0 where
   pub sound : IsSound exchange.core
   pub silent : stage_of exchange.core.doing ≡ Writing → ⊥
   pub due : AreDueIn exchange.reader.due exchange.core.doing
+  pub version : exchange.reader.version ≡ exchange.core.version
 
 -- what is due of a side that is this one and has this signature
 abbrev pub Fits : {R : Type 0} → Role → Option (List ℕ) → Due R → Type 0
 Fits role made dues.Hello = made ≡ None
-Fits role made (dues.Proof other) = HasSpelling other × UnsignedIf role made
+Fits role made (dues.Proof other) = HasSpelling other × (SpeaksSome other × UnsignedIf role made)
 Fits role made (dues.Items exchange) = IsExchange exchange
 Fits role made (dues.Nothing cause) = Unit {0}
 
@@ -96,18 +97,18 @@ ComesProof rules value old new other bytes out_old out_new (came.Next due taken)
 -- An item stands in front, and is heard.
 pub record TakesItem {R : Type 0} (old new : Exchange R) (bytes : List ℕ) (taken : ℕ) (out_old out_new : List ℕ) (rows_old rows_new : List RowValue) : Type 0 where
   pub item : ItemValue
-  pub found : IsFound (item_seen (is_due old.reader.due)) bytes item taken
+  pub found : IsFound (item_seen old.reader.version (is_due old.reader.due)) bytes item taken
   pub reader : new.reader ≡ moved_on old.reader item taken
   pub hears : HearsItem old.core new.core item out_old out_new rows_old rows_new
   pub silent : stage_of new.core.doing ≡ Writing → ⊥
 
 -- where an item is due
 abbrev pub ComesItem : {R : Type 0} → Exchange R → Exchange R → List ℕ → List ℕ → List ℕ → List RowValue → List RowValue → ItemCame → Type 0
-ComesItem old new bytes out_old out_new rows_old rows_new items.More = ArePart (item_seen (is_due old.reader.due)) [] bytes × ((new ≡ old) × ((out_new ≡ out_old) × (rows_new ≡ rows_old)))
-ComesItem old new bytes out_old out_new rows_old rows_new items.Bad = GoWrong (item_seen (is_due old.reader.due)) [] bytes × ((out_new ≡ out_old) × (rows_new ≡ rows_old))
+ComesItem old new bytes out_old out_new rows_old rows_new items.More = ArePart (item_seen old.reader.version (is_due old.reader.due)) [] bytes × ((new ≡ old) × ((out_new ≡ out_old) × (rows_new ≡ rows_old)))
+ComesItem old new bytes out_old out_new rows_old rows_new items.Bad = GoWrong (item_seen old.reader.version (is_due old.reader.due)) [] bytes × ((out_new ≡ out_old) × (rows_new ≡ rows_old))
 ComesItem old new bytes out_old out_new rows_old rows_new (items.Taken taken) = TakesItem old new bytes taken out_old out_new rows_old rows_new
 ComesItem old new bytes out_old out_new rows_old rows_new (items.Refused cause taken) =
-    (item : ItemValue) × (IsFound (item_seen (is_due old.reader.due)) bytes item taken × RefusesItem old.core item cause out_old out_new rows_old rows_new)
+    (item : ItemValue) × (IsFound (item_seen old.reader.version (is_due old.reader.due)) bytes item taken × RefusesItem old.core item cause out_old out_new rows_old rows_new)
 
 -- ---- the step of a side
 

@@ -1,5 +1,5 @@
 -- How a side in memory greets the other.
-use Rattle.std.specs.Prelude.{◌≡◌, ◌⊎◌, ℕ, Bool, true, List, [], ◌++◌, map, flat_map, Option, None, Some, option_map}
+use Rattle.std.specs.Prelude.{◌≡◌, ◌≢◌, ◌⊎◌, ℕ, Bool, true, List, [], ◌++◌, map, flat_map, Option, None, Some, option_map}
 use Rattle.willow_outside.specs.Counts.{Rose}
 use Rattle.scheme_core.specs.Rules.{Rules}
 use Rattle.willow_area.specs.AreaBox.{area_box}
@@ -14,6 +14,7 @@ use Rattle.session_end.specs.declared.refusal.HelloRefusal.{HelloRefusal}
 use Rattle.sync_hello.specs.Common.{common_area}
 use Rattle.sync_hello.specs.HelloForm.{hello_spelling}
 use Rattle.sync_hello.specs.Proof.{proof_message, proof_refusal}
+use Rattle.sync_hello.specs.Version.{session_version}
 use Rattle.sync_hello.specs.declared.hello.Hello.{Hello}
 use Rattle.sync_core.specs.Place.{Place, first_place, stage_of}
 use Rattle.sync_core.specs.Runs.{says_all}
@@ -40,10 +41,24 @@ abbrev pub proof_cause : Rules → Role → Hello → Hello → List ℕ → Opt
 proof_cause rules Caller own other proof = proof_refusal rules Answerer own other proof
 proof_cause rules Answerer own other proof = proof_refusal rules Caller other own proof
 
+-- the side that said the hello speaks some version
+abbrev pub SpeaksSome : Hello → Type 0
+SpeaksSome hello = hello.version ≢ 0
+
+-- the version of the session
+abbrev pub version_between : Role → Hello → Hello → ℕ
+version_between Caller own other = session_version own other
+version_between Answerer own other = session_version other own
+
 -- the box of the area that both may read
 abbrev pub box_between : Role → Hello → Hello → Option Ranges
 box_between Caller own other = option_map area_box (common_area own other)
 box_between Answerer own other = option_map area_box (common_area other own)
+
+-- the place of a side at the beginning of the exchange with one that said a hello
+abbrev pub first_with : {R S : Type 0} → (R → RowValue) → Talker R S → Hello → Place
+first_with value talker other =
+    first_place (version_between talker.role talker.hello other) talker.role (map value talker.snapshot) (box_between talker.role talker.hello other)
 
 -- ---- what is said
 
@@ -122,9 +137,9 @@ abbrev pub HearsHello : {R S : Type 0} → Talker R S → Talker R S → Hello �
 HearsHello old new other due out_old out_new (Some cause) = (due ≡ dues.Nothing (causes.Hello cause)) × (new ≡ old) × (out_new ≡ out_old)
 HearsHello old new other due out_old out_new None = (due ≡ dues.Proof other) × (Writes new.signature (said_to_hello old.role old.hello) out_old out_new × UnsignedIf old.role new.signature)
 
--- An exchange has begun over the rows of a side, and said what is due first.
+-- An exchange has begun over the rows of a side, and said what is due first; its items are read in its version.
 pub record BeginsExchange {R : Type 0} (place : Place) (exchange : Exchange R) (out_old out_new : List ℕ) : Type 0 where
-  pub reader : exchange.reader ≡ at_start
+  pub reader : exchange.reader ≡ at_start place.version
   pub core : exchange.core ≡ (says_all place).1
   pub said : out_new ≡ out_old ++ flat_map item_spelling (says_all place).0
   pub sound : IsSound exchange.core
@@ -136,7 +151,7 @@ pub record AcceptsProof {R S : Type 0} (value : R → RowValue) (old new : Talke
   pub proved : Writes new.signature (said_to_proof old.role) out_old between
   pub once : Once old.signature new.signature
   pub exchange : Exchange R
-  pub begins : BeginsExchange (first_place old.role (map value old.snapshot) (box_between old.role old.hello other)) exchange between out_new
+  pub begins : BeginsExchange (first_with value old other) exchange between out_new
   pub due_is : due ≡ dues.Items exchange
 
 abbrev pub HearsProof : {R S : Type 0} → (R → RowValue) → Talker R S → Talker R S → Hello → Due R → List ℕ → List ℕ → Option HelloRefusal → Type 0

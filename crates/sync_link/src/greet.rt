@@ -6,9 +6,8 @@ ghost use Rattle.willow_area.specs.AreaBox.{area_box};
 ghost use Rattle.mc_cap.specs.Signature.{signature_spelling};
 ghost use Rattle.sync_hello.specs.Checked.{hello_refusal};
 ghost use Rattle.sync_hello.specs.HelloForm.{HasSpelling};
-ghost use Rattle.sync_core.specs.Place.{first_place};
 ghost use Rattle.sync_link.specs.Sound.{AreSound};
-ghost use Rattle.sync_link.specs.Talking.{AsksOnce, BeginsExchange, CanFail, FailsSign, HearsHello, HearsProof, IsSigned, Keeps, Once, Proves, UnsignedIf, Writes, box_between, own_message, proof_cause, said_to_hello, said_to_proof};
+ghost use Rattle.sync_link.specs.Talking.{AsksOnce, BeginsExchange, CanFail, FailsSign, HearsHello, HearsProof, IsSigned, Keeps, Once, Proves, SpeaksSome, UnsignedIf, Writes, box_between, first_with, own_message, proof_cause, said_to_hello, said_to_proof, version_between};
 
 use crate::due::{Cause, Due, Exchange};
 use crate::speak::speak;
@@ -19,7 +18,9 @@ use scheme_core::{MAX_SIGNATURE, Signer, Verify};
 use spelling::{End, NoMemory, put_bytes, put_u16};
 use std::alloc::Global;
 use sync_core::{Role, SyncCore};
-use sync_hello::{Hello, HelloRefusal, check_hello, check_proof, common_area, proof_message};
+use sync_hello::{
+    Hello, HelloRefusal, check_hello, check_proof, common_area, proof_message, session_version,
+};
 use sync_msg::ItemReader;
 use willow_area::Area;
 use willow_entry::Row;
@@ -149,7 +150,9 @@ pub(crate) fn hear_proof<R: Row, S: Verify, K: Signer>(
     out: &mut Vec<u8>,
 ) -> Result<Due<R>, Stop>
     requires own { HasSpelling talker.old.hello }
+    requires speaks { SpeaksSome talker.old.hello }
     requires other { HasSpelling other.now }
+    requires other_speaks { SpeaksSome other.now }
     requires rows { AreSound (map R.value talker.old.snapshot) }
     requires unsigned { UnsignedIf talker.old.role talker.old.signature }
     ensures keeps { Keeps talker.old talker.new }
@@ -227,23 +230,38 @@ fn prove_back<R: Row, S: Verify, K: Signer>(
     }
 }
 
-// Begins the exchange in the area that both may read, and says what is due first.
+// Begins the exchange in the version that both speak, in the area that both may read, and says what is due first.
 fn begin_exchange<R: Row, S: Verify>(
     talker: &Talker<R, S>,
     other: &Hello,
     out: &mut Vec<u8>,
 ) -> Result<Exchange<R>, NoMemory>
-    requires { AreSound (map R.value talker.now.snapshot) }
-    ensures { IfOk result (λ exchange. BeginsExchange (first_place talker.now.role (map R.value talker.now.snapshot) (box_between talker.now.role talker.now.hello other.now)) exchange out.old.items out.new.items) }
+    requires rows { AreSound (map R.value talker.now.snapshot) }
+    requires speaks { SpeaksSome talker.now.hello }
+    requires other_speaks { SpeaksSome other.now }
+    ensures { IfOk result (λ exchange. BeginsExchange (first_with R.value talker.now other.now) exchange out.old.items out.new.items) }
 {
+    let version = version_between(talker.role, &talker.hello, other);
     let area = area_between(talker.role, &talker.hello, other)?;
     let rows = talker.snapshot.share()?;
-    let mut core = SyncCore::begin(talker.alloc, talker.role, rows, area)?;
+    let mut core = SyncCore::begin(talker.alloc, version, talker.role, rows, area)?;
     speak(&mut core, out)?;
     Ok(Exchange {
         core,
-        reader: ItemReader::new(talker.alloc),
+        reader: ItemReader::new(talker.alloc, version),
     })
+}
+
+// The version of the session.
+fn version_between(role: Role, own: &Hello, other: &Hello) -> u8
+    ensures between { result ≡ version_between role own.now other.now }
+    ensures some { SpeaksSome own.now → SpeaksSome other.now → 1 ≤ result }
+    ensures known { result ≤ 2 }
+{
+    match role {
+        Role::Caller => session_version(own, other),
+        Role::Answerer => session_version(other, own),
+    }
 }
 
 // The area that both may read.

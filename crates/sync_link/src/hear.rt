@@ -3,7 +3,7 @@
 ghost use Rattle.std.specs.Prelude.{◌≡◌, ◌++◌, map, None, IfOk, OnOk};
 ghost use Rattle.std.specs.Option.{option_to_list};
 ghost use Rattle.cap_codec.specs.Rows.{row_of};
-ghost use Rattle.sync_msg.specs.Items.{item_value};
+ghost use Rattle.sync_msg.specs.Items.{HasPrints, item_value};
 ghost use Rattle.sync_core.specs.Place.{stage_of};
 ghost use Rattle.sync_link.specs.Hearing.{TakesIn, counts_announced, rows_announced};
 ghost use Rattle.sync_link.specs.Sound.{IsSound};
@@ -25,6 +25,7 @@ pub(crate) fn hear<R: Row>(
 ) -> Result<Option<CoreRefusal>, NoMemory>
     requires reads { stage_of core.old.doing ≡ Stage.Reading }
     requires sound { IsSound core.old }
+    requires prints { HasPrints (item_value row_of item) }
     ensures takes { IfOk result (λ refusal. TakesIn core.old core.new (item_value row_of item) refusal out.old.items out.new.items (map row_of lists.old.rows.items) (map row_of lists.new.rows.items)) }
     ensures announces { IfOk result (λ refusal. lists.new.counts.items ≡ counts_announced lists.old.counts.items item refusal) }
     ensures silent { IfOk result (λ refusal. refusal ≡ None → stage_of core.new.doing ≡ Stage.Writing → ⊥) }
@@ -52,6 +53,7 @@ fn announced<R>(item: &Item<R>) -> u32
         Item::First { .. }
         | Item::Agree
         | Item::Split { .. }
+        | Item::Parts { .. }
         | Item::Row(_)
         | Item::EndTurn
         | Item::Bye => 0,

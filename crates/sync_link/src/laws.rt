@@ -14,16 +14,9 @@ ghost use Rattle.session_rules.specs.Rounds.{IsFront, IsOver, Meet};
 ghost use Rattle.session_rules.specs.Session.{Item};
 ghost use Rattle.session_rules.specs.Talk.{spoken};
 ghost use Rattle.sync_link.specs.Places.{places};
-ghost use Rattle.sync_link.specs.Sessions.{Party, AreSameInCommon, box_with, session_of, ending, got, out, said};
+ghost use Rattle.sync_link.specs.Sessions.{Party, AreSameInCommon, box_with, session_of, ending, got, out, said, version_with};
 ghost use Rattle.sync_link.specs.Granting.{IsGranted, GrantsRow};
 ghost use Rattle.sync_link.specs.Settling.{AreApartIn, AreDone, CanMeet, IsOpening};
-
-use crate::plan::VERSION;
-
-/// The version that a session speaks.
-pub fn version()
-    ensures { VERSION ≡ 1 }
-{}
 
 /// In whatever pieces bytes come, the same comes of them.
 #[tactic(auto, using(session_rules::proofs::Runs::run_append))]
@@ -70,8 +63,9 @@ pub fn speaks_to_the_end()
 
 /// A caller and an answerer by one scheme and in one namespace, each of which accepts the other's hello and proof and
 /// reads what the other writes: both come to the end, and each is sent the rows that the exchange of their rows in the
-/// area that both may read sends it. Where the fingerprints of that exchange tell rows apart, each covers, with the rows
-/// that it was sent, all that the other has there. And there is what they write to each other.
+/// area that both may read sends it, in the highest version that both speak. Where the fingerprints of that exchange tell
+/// rows apart, each covers, with the rows that it was sent, all that the other has there. And there is what they write to
+/// each other.
 pub fn settles()
     ensures they_meet { (p q : Party) (rows others : List RowValue)
         → CanMeet p q → IsOpening p.namespace rows → IsOpening p.namespace others
@@ -81,10 +75,10 @@ pub fn settles()
         → Meet (out p rows) (out q others) left right → AreDone p q rows others left right }
     ensures caller_covers { (p q : Party) (rows others : List RowValue) (left right : List ℕ)
         → CanMeet p q → IsOpening p.namespace rows → IsOpening p.namespace others
-        → Meet (out p rows) (out q others) left right → AreApartIn (box_with p q.hello) rows others
+        → Meet (out p rows) (out q others) left right → AreApartIn (version_with p q.hello) (box_with p q.hello) rows others
         → All (HasCovering (join rows (got p rows right))) (rows_of_area (box_with p q.hello) others) }
     ensures answerer_covers { (p q : Party) (rows others : List RowValue) (left right : List ℕ)
         → CanMeet p q → IsOpening p.namespace rows → IsOpening p.namespace others
-        → Meet (out p rows) (out q others) left right → AreApartIn (box_with p q.hello) rows others
+        → Meet (out p rows) (out q others) left right → AreApartIn (version_with p q.hello) (box_with p q.hello) rows others
         → All (HasCovering (join others (got q others left))) (rows_of_area (box_with p q.hello) rows) }
 {}

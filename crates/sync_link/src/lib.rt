@@ -29,6 +29,6 @@ mod talker;
 
 pub use mc_cap::RefusedRow;
 pub use opening::known_plan;
-pub use plan::{SessionPlan, SessionReport, VERSION};
+pub use plan::{SessionPlan, SessionReport};
 pub use run::run_session;
 pub use session_end::SessionEnd;

@@ -1,6 +1,6 @@
 //! How a session begins.
 
-ghost use Rattle.std.specs.Prelude.{◌≡◌, ◌++◌, ℕ, List, map, IfOk, OnOk, None};
+ghost use Rattle.std.specs.Prelude.{◌≡◌, ◌<◌, ◌^◌, ◌++◌, ℕ, List, map, IfOk, OnOk, None};
 ghost use Rattle.scheme_core.specs.Rules.{Rules};
 ghost use Rattle.spelling.specs.Spelling.{AreSoManyBytes};
 ghost use Rattle.sync_hello.specs.Checked.{hello_refusal};
@@ -73,9 +73,17 @@ fn known_hello(hello: &Hello)
 pub fn known_plan<S: Scheme>(plan: &SessionPlan<S>, nonce: [u8; 16])
     ensures { (rules : Rules) (namespace : List ℕ) → hello_refusal rules namespace (own_hello plan.now nonce) ≡ None → IsHello (own_hello plan.now nonce) }
 {
+    known_version(plan.version);
     known_nonce(&nonce);
     plan.ask.known();
     plan.capability.known();
+}
+
+// Does nothing: it is called for its clause, that a version is one byte.
+fn known_version(version: u8)
+    ensures { version < 2 ^ 8 }
+{
+    let _ = version;
 }
 
 // Does nothing: it is called for its clause, that a nonce has 16 bytes.

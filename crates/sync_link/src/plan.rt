@@ -9,14 +9,13 @@ use sync_hello::Hello;
 use sync_msg::Role;
 use willow_area::Area;
 
-/// The version that a session speaks.
-pub const VERSION: u8 = 1;
-
 /// What a side brings to a session.
 #[derive(Drop)]
 pub struct SessionPlan<S> {
     /// What signatures are verified by.
     pub scheme: S,
+    /// The highest version that it speaks, 1 or 2.
+    pub version: u8,
     /// Whether it calls or answers.
     pub role: Role,
     /// The capability that lets it read. Its receiver signs the proof.
@@ -40,7 +39,7 @@ pub struct SessionReport {
     pub refused: u64,
     /// The first of these: its number among the rows received, from 1, and why.
     pub first: Option<RefusedRow>,
-    /// How many counted items were sent: First, Agree, Split, Entries and Rest.
+    /// How many counted items were sent: First, Agree, Split, Parts, Entries and Rest.
     pub sent: u32,
     /// How many were read.
     pub read: u32,
@@ -51,7 +50,7 @@ pub(crate) fn own_hello<S>(plan: &SessionPlan<S>, nonce: [u8; 16]) -> Result<Hel
     ensures { IfOk result (λ hello. hello ≡ own_hello plan.now nonce) }
 {
     Ok(Hello {
-        version: VERSION,
+        version: plan.version,
         nonce,
         ask: plan.ask.copy()?,
         capability: plan.capability.copy()?,

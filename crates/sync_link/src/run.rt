@@ -7,6 +7,7 @@ ghost use Rattle.ns_cell.specs.Passes.{PassValue, IsPassOf};
 ghost use Rattle.session_rules.specs.Reading.{Done, More, ending_of};
 ghost use Rattle.session_rules.specs.Rounds.{IsOver};
 ghost use Rattle.sync_hello.specs.Checked.{hello_refusal};
+ghost use Rattle.sync_core.specs.SyncRules.{IsVersion};
 ghost use Rattle.auth_entry.specs.Rows.{entry_row};
 ghost use Rattle.sync_link.specs.Plans.{own_hello, planned};
 ghost use Rattle.sync_link.specs.SessionPromises.{KeepsSessionPromises};
@@ -35,9 +36,9 @@ use willow_path::NamespaceKey;
 const PIECE: usize = 65_536;
 
 /// Runs a session with the side at the other end of the link: the two greet each other, and then they exchange their rows in
-/// the area that both may read. The side takes a snapshot of the cell first and answers from it alone. Rows that it is sent
-/// are checked and offered to the cell as they come, those of each list by themselves, and stay there whatever the end is. No
-/// turn of the cell is held while the link is read or written.
+/// the area that both may read, in the highest version that both speak. The side takes a snapshot of the cell first and
+/// answers from it alone. Rows that it is sent are checked and offered to the cell as they come, those of each list by
+/// themselves, and stay there whatever the end is. No turn of the cell is held while the link is read or written.
 pub fn run_session<R: Wait + Threads + Sync, S: Scheme, C: Checker<S>, K: Signer, L: Link>(
     rt: &R,
     alloc: Global,
@@ -52,6 +53,7 @@ pub fn run_session<R: Wait + Threads + Sync, S: Scheme, C: Checker<S>, K: Signer
     requires pass { IsPassOf cell.now pass.old }
     requires namespace { C.judged_in checker.old ≡ cell.now.namespace }
     requires hello { hello_refusal S.rules cell.now.namespace (own_hello plan.now nonce) ≡ None }
+    requires version { IsVersion plan.now.version }
     requires signs { 1 ≤ K.left signer.old }
     ensures runs { Runs (planned S.rules cell.now.namespace plan.now nonce) (K.gives signer.old) pass.old pass.new (L.facts link.old) (L.facts link.new) (K.faults signer.old) (K.faults signer.new) result }
     ensures promises { KeepsSessionPromises (planned S.rules cell.now.namespace plan.now nonce) (K.gives signer.old) pass.old pass.new (L.facts link.old) (L.facts link.new) (K.faults signer.old) (K.faults signer.new) result }

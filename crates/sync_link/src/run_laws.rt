@@ -6,7 +6,7 @@ ghost use Rattle.willow_entry.specs.Row.{RowValue, AreLive, HasCovering, join};
 ghost use Rattle.ns_state.specs.declared.live_log.TheConstants.{LOG_LIMIT};
 ghost use Rattle.session_end.specs.declared.end.SessionEnd.TheVariants.{NoMemory};
 ghost use Rattle.session_rules.specs.Rounds.{IsFront};
-ghost use Rattle.sync_link.specs.Sessions.{Party, AreSameInCommon, box_with};
+ghost use Rattle.sync_link.specs.Sessions.{Party, AreSameInCommon, box_with, version_with};
 ghost use Rattle.sync_link.specs.Settling.{IsOpening};
 ghost use Rattle.sync_link.specs.Kept.{log_rows};
 ghost use Rattle.sync_link.specs.Run.{IsSilent};
@@ -59,7 +59,7 @@ pub fn runs_cover()
         → report.sent + report.read ≤ most_counted (box_with (side ran) q.hello) (length (own_common ran q)) (length (other_common ran q others)) }
     ensures covers { (p : List ℕ → Party) (ran : Ran p) (report : SessionReport) (q : Party) (others : List RowValue)
         → ran.answer ≡ Ok report → IsOther ran q others → AreAuthorised ran others
-        → AreApartAs (side ran).role (box_with (side ran) q.hello) (opening_of ran) others
+        → AreApartAs (version_with (side ran) q.hello) (side ran).role (box_with (side ran) q.hello) (opening_of ran) others
         → All (HasCovering (log_rows ran.after.seen)) (other_common ran q others) }
 {}
 
@@ -70,7 +70,7 @@ pub fn runs_join()
     ensures keeps { (p : List ℕ → Party) (ran : Ran p) → LiesAbove (store_of ran) (opening_of ran) }
     ensures above { (p : List ℕ → Party) (ran : Ran p) (report : SessionReport) (q : Party) (others : List RowValue)
         → ran.answer ≡ Ok report → IsOther ran q others → AreAuthorised ran others
-        → AreApartAs (side ran).role (box_with (side ran) q.hello) (opening_of ran) others
+        → AreApartAs (version_with (side ran) q.hello) (side ran).role (box_with (side ran) q.hello) (opening_of ran) others
         → LiesAbove (store_of ran) (join (opening_of ran) (other_common ran q others)) }
 {}
 

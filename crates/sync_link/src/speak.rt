@@ -43,6 +43,7 @@ fn write_item<R: Row>(core: &SyncCore<R>, item: OutItem, out: &mut Vec<u8>) -> R
         OutItem::First { print } => Item::First { print },
         OutItem::Agree => Item::Agree,
         OutItem::Split { at, lower, upper } => Item::Split { at, lower, upper },
+        OutItem::Parts { points, prints } => Item::Parts { points, prints },
         OutItem::Entries { count } => Item::Entries { count },
         OutItem::Rest { count } => Item::Rest { count },
         OutItem::Row(at) => {

@@ -9,7 +9,7 @@ ghost use Rattle.sync_link.specs.Signing.{SignsTo};
 ghost use Rattle.sync_link.specs.Sound.{AreSound};
 ghost use Rattle.sync_link.specs.Standing.{Feeds};
 ghost use Rattle.sync_link.specs.Held.{IsHeld, heard_fed, heard_side};
-ghost use Rattle.sync_link.specs.Talking.{AsksOnce, FailsSign, Keeps, SignsBy};
+ghost use Rattle.sync_link.specs.Talking.{AsksOnce, FailsSign, Keeps, SignsBy, SpeaksSome};
 ghost use Rattle.sync_link.specs.Taking.{listed};
 
 use crate::due::{Cause, Due};
@@ -59,6 +59,7 @@ impl<R: Row, S: Verify> Speaker<R, S> {
         out: &mut Vec<u8>,
     ) -> Result<Speaker<R, S>, NoMemory>
         requires own { HasSpelling hello }
+        requires speaks { SpeaksSome hello }
         requires rows { AreSound (map R.value snapshot) }
         ensures begun { IfOk result (λ speaker. speaker ≡ begun namespace role hello (map R.value snapshot)) }
         ensures says { OnOk result (out.new.items ≡ out.old.items ++ first_bytes role hello) }
@@ -147,8 +148,8 @@ impl<R: Row, S: Verify> Speaker<R, S> {
         }
     }
 
-    // How many counted items it said, and how many it read: First, Agree, Split, Entries and Rest. Of a session that
-    // was refused none are told.
+    // How many counted items it said, and how many it read: First, Agree, Split, Parts, Entries and Rest. Of a
+    // session that was refused none are told.
     pub(crate) fn items(&self) -> (u32, u32)
         ensures sent { result.0 ≡ self.now.sent }
         ensures read { result.1 ≡ self.now.read }

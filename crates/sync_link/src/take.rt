@@ -7,7 +7,7 @@ ghost use Rattle.sync_core.specs.Place.{stage_of};
 ghost use Rattle.sync_link.specs.Held.{CountsStep, fed_with};
 ghost use Rattle.sync_link.specs.Sound.{AreSound, IsSound};
 ghost use Rattle.sync_link.specs.Signing.{SignsNext, SignsStep};
-ghost use Rattle.sync_link.specs.Talking.{AsksOnce, FailsSign, IsSigned, Keeps, SignsBy, UnsignedIf};
+ghost use Rattle.sync_link.specs.Talking.{AsksOnce, FailsSign, IsSigned, Keeps, SignsBy, SpeaksSome, UnsignedIf};
 ghost use Rattle.sync_link.specs.Taking.{ComesHello, ComesItem, ComesProof, Fits, Holds, IsOpen, TakesOne, due_after, due_behind, read_by, taken_after, taken_behind, taken_of, waiting_side};
 ghost use Rattle.sync_link.specs.declared.due.Due.TheVariants as dues;
 
@@ -87,7 +87,9 @@ fn take_proof<R: Row, S: Verify, K: Signer>(
     out: &mut Vec<u8>,
 ) -> Result<Came<R>, Stop>
     requires own { HasSpelling talker.old.hello }
+    requires speaks { SpeaksSome talker.old.hello }
     requires other { HasSpelling other.now }
+    requires other_speaks { SpeaksSome other.now }
     requires rows { AreSound (map R.value talker.old.snapshot) }
     requires unsigned { UnsignedIf talker.old.role talker.old.signature }
     ensures keeps { Keeps talker.old talker.new }
@@ -145,6 +147,7 @@ pub(crate) fn take<R: Row, S: Verify, K: Signer>(
     lists: &mut Lists,
 ) -> Result<Option<usize>, Stop>
     requires own { HasSpelling talker.old.hello }
+    requires speaks { SpeaksSome talker.old.hello }
     requires rows { AreSound (map R.value talker.old.snapshot) }
     requires fits { Fits talker.old.role talker.old.signature due.old }
     requires open { IsOpen due.old }

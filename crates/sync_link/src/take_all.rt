@@ -5,7 +5,7 @@ ghost use Rattle.cap_codec.specs.Rows.{row_of};
 ghost use Rattle.sync_hello.specs.HelloForm.{HasSpelling};
 ghost use Rattle.sync_link.specs.Sound.{AreSound};
 ghost use Rattle.sync_link.specs.Signing.{SignsTo};
-ghost use Rattle.sync_link.specs.Talking.{AsksOnce, FailsSign, Keeps, SignsBy};
+ghost use Rattle.sync_link.specs.Talking.{AsksOnce, FailsSign, Keeps, SignsBy, SpeaksSome};
 ghost use Rattle.sync_link.specs.Taking.{Fits, IsOpen, read_by, waiting_side};
 ghost use Rattle.sync_link.specs.TakingAll.{TakesAll};
 
@@ -29,6 +29,7 @@ pub(crate) fn take_all<R: Row, S: Verify, K: Signer>(
     lists: &mut Lists,
 ) -> Result<usize, Stop>
     requires own { HasSpelling talker.old.hello }
+    requires speaks { SpeaksSome talker.old.hello }
     requires rows { AreSound (map R.value talker.old.snapshot) }
     requires fits { Fits talker.old.role talker.old.signature due.old }
     requires few { read_by due.old + length bytes.now < 2 ^ 64 }

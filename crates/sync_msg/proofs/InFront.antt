@@ -15,7 +15,7 @@ use Rattle.willow_entry.specs.Row.{RowValue}
 use Rattle.willow_entry.specs.RowBody.{row_body}
 use Rattle.willow_entry.specs.Frame.{row_frame, FrameAsks, HasFrame}
 use Rattle.sync_msg.specs.declared.item.Item.{Item}
-use Rattle.sync_msg.specs.declared.item.Item.TheVariants.{First, Agree, Split, Entries, Rest, Row, EndTurn, Bye}
+use Rattle.sync_msg.specs.declared.item.Item.TheVariants.{First, Agree, Split, Parts, Entries, Rest, Row, EndTurn, Bye}
 use Rattle.sync_msg.specs.Items.{ItemValue, item_spelling, IsHead, IsRowItem}
 use Rattle.sync_msg.specs.ItemReading.{head_at, body_at, GivesRow}
 use Rattle.sync_msg.specs.Memory.{HeadAsks, ItemAsks}
@@ -34,25 +34,25 @@ part_not_wrong r e f = cc
 
 -- ---- items that are no rows
 
-pub head_taken : (bytes input : List ℕ) (item : ItemValue) (left : List ℕ) (taken : ℕ) → AreBytes bytes → input ≡ bytes → head_at input ≡ Whole item left → taken ≡ length bytes - length left
-    → TakesItem IsHead bytes item taken
-head_taken bytes input item left taken are is e n =
-    let t = head-reads.takes bytes item left are (ap head_at (sym is) ∙ e) in
+pub head_taken : (version : ℕ) (bytes input : List ℕ) (item : ItemValue) (left : List ℕ) (taken : ℕ) → AreBytes bytes → input ≡ bytes → head_at version input ≡ Whole item left → taken ≡ length bytes - length left
+    → TakesItem (IsHead version) bytes item taken
+head_taken version bytes input item left taken are is e n =
+    let t = (head-reads version).takes bytes item left are (ap (head_at version) (sym is) ∙ e) in
     record { comes = t.fits; within = omega (arith, n); spelled = ap (λ (k : ℕ). take k bytes) n ∙ take_front bytes (item_spelling item) left t.parts }
 
-no_head : (bytes : List ℕ) → AreBytes bytes → head_at bytes ≡ Wrong → HasNoItem IsHead (Begins item_spelling IsHead) bytes
-no_head bytes are e = record {
-  none_begun = λ b. part_not_wrong (head_at bytes) ((head_reader.part bytes are).1 b) e;
-  none_whole = λ item rest fits spelled. whole_not_wrong item rest (head_at bytes) (ap head_at spelled ∙ head-reads.again item rest fits) e;
+no_head : (version : ℕ) (bytes : List ℕ) → AreBytes bytes → head_at version bytes ≡ Wrong → HasNoItem (IsHead version) (Begins item_spelling (IsHead version)) bytes
+no_head version bytes are e = record {
+  none_begun = λ b. part_not_wrong (head_at version bytes) (((head_reader version).part bytes are).1 b) e;
+  none_whole = λ item rest fits spelled. whole_not_wrong item rest (head_at version bytes) (ap (head_at version) spelled ∙ (head-reads version).again item rest fits) e;
 }
 
-head_fails : {R : Type 0} (value : R → RowValue) (bytes : List ℕ) (u : Unread) → AreBytes bytes → Fails u (head_at bytes) → IsInFront IsHead (Begins item_spelling IsHead) value bytes (Err u)
-head_fails value bytes unread.Part are h = (head_reader.part bytes are).0 h
-head_fails value bytes unread.Wrong are h = no_head bytes are h
-head_fails value bytes unread.NoMemory are h = tt
+head_fails : {R : Type 0} (version : ℕ) (value : R → RowValue) (bytes : List ℕ) (u : Unread) → AreBytes bytes → Fails u (head_at version bytes) → IsInFront (IsHead version) (Begins item_spelling (IsHead version)) value bytes (Err u)
+head_fails version value bytes unread.Part are h = ((head_reader version).part bytes are).0 h
+head_fails version value bytes unread.Wrong are h = no_head version bytes are h
+head_fails version value bytes unread.NoMemory are h = tt
 
-pub head_end : {R : Type 0} (value : R → RowValue) (bytes input : List ℕ) (u : Unread) → AreBytes bytes → input ≡ bytes → Fails u (head_at input) → IsInFront IsHead (Begins item_spelling IsHead) value bytes (Err u)
-head_end value bytes input u are is h = head_fails value bytes u are (subst (λ (l : List ℕ). Fails u (head_at l)) is h)
+pub head_end : {R : Type 0} (version : ℕ) (value : R → RowValue) (bytes input : List ℕ) (u : Unread) → AreBytes bytes → input ≡ bytes → Fails u (head_at version input) → IsInFront (IsHead version) (Begins item_spelling (IsHead version)) value bytes (Err u)
+head_end version value bytes input u are is h = head_fails version value bytes u are (subst (λ (l : List ℕ). Fails u (head_at version l)) is h)
 
 -- ---- rows
 
@@ -67,6 +67,7 @@ pub row_of : (IsRow : RowValue → Type 0) (item : ItemValue) → IsRowItem IsRo
 row_of IsRow (First print) f = absurd f
 row_of IsRow Agree f = absurd f
 row_of IsRow (Split at lower upper) f = absurd f
+row_of IsRow (Parts points prints) f = absurd f
 row_of IsRow (Entries count) f = absurd f
 row_of IsRow (Rest count) f = absurd f
 row_of IsRow (Row row) f = record { row = row; same = refl; fits = f.0; framed = f.1 }
@@ -108,20 +109,20 @@ row_end IsRow value bytes input left u are is h = row_fails IsRow value bytes le
 
 -- ---- by the rows that are due
 
-pub none_due : {R : Type 0} (IsRow : RowValue → Type 0) (value : R → RowValue) (due : ℕ) (bytes : List ℕ) (result : Result (Item R × ℕ) Unread) → due ≤ 0
-    → IsInFront IsHead (Begins item_spelling IsHead) value bytes result → IsInFront (MayCome IsRow due) (BeginsItem due) value bytes result
-none_due IsRow value zero bytes result e h = h
-none_due IsRow value (suc due) bytes result e h = absurd (omega (arith, e))
+pub none_due : {R : Type 0} (IsRow : RowValue → Type 0) (version : ℕ) (value : R → RowValue) (due : ℕ) (bytes : List ℕ) (result : Result (Item R × ℕ) Unread) → due ≤ 0
+    → IsInFront (IsHead version) (Begins item_spelling (IsHead version)) value bytes result → IsInFront (MayCome IsRow version due) (BeginsItem version due) value bytes result
+none_due IsRow version value zero bytes result e h = h
+none_due IsRow version value (suc due) bytes result e h = absurd (omega (arith, e))
 
-pub some_due : {R : Type 0} (IsRow : RowValue → Type 0) (value : R → RowValue) (due : ℕ) (bytes : List ℕ) (result : Result (Item R × ℕ) Unread) → 0 < due
-    → IsInFront (IsRowItem IsRow) BeginsFrame value bytes result → IsInFront (MayCome IsRow due) (BeginsItem due) value bytes result
-some_due IsRow value zero bytes result e h = absurd (omega (arith, e))
-some_due IsRow value (suc due) bytes result e h = h
+pub some_due : {R : Type 0} (IsRow : RowValue → Type 0) (version : ℕ) (value : R → RowValue) (due : ℕ) (bytes : List ℕ) (result : Result (Item R × ℕ) Unread) → 0 < due
+    → IsInFront (IsRowItem IsRow) BeginsFrame value bytes result → IsInFront (MayCome IsRow version due) (BeginsItem version due) value bytes result
+some_due IsRow version value zero bytes result e h = absurd (omega (arith, e))
+some_due IsRow version value (suc due) bytes result e h = h
 
-pub head_asks : (due : ℕ) (bytes : List ℕ) → due ≤ 0 → HeadAsks bytes → ItemAsks due bytes
-head_asks zero bytes e asks = asks
-head_asks (suc due) bytes e asks = absurd (omega (arith, e))
+pub head_asks : (version due : ℕ) (bytes : List ℕ) → due ≤ 0 → HeadAsks version bytes → ItemAsks version due bytes
+head_asks version zero bytes e asks = asks
+head_asks version (suc due) bytes e asks = absurd (omega (arith, e))
 
-pub row_asks : (due : ℕ) (bytes : List ℕ) → 0 < due → FrameAsks bytes → ItemAsks due bytes
-row_asks zero bytes e asks = absurd (omega (arith, e))
-row_asks (suc due) bytes e asks = asks
+pub row_asks : (version due : ℕ) (bytes : List ℕ) → 0 < due → FrameAsks bytes → ItemAsks version due bytes
+row_asks version zero bytes e asks = absurd (omega (arith, e))
+row_asks version (suc due) bytes e asks = asks

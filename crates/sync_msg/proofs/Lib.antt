@@ -1,3 +1,5 @@
 pub mod HeadReads
 pub mod InFront
 pub mod OneAnswer
+pub mod OneDimension
+pub mod Writing

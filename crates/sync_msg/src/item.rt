@@ -3,6 +3,8 @@
 ghost use Rattle.std.specs.Prelude.{◌≡◌};
 ghost use Rattle.sync_msg.specs.Items.{is_counted};
 
+use crate::points::Points;
+use crate::prints::Prints;
 use willow_area::CutAt;
 
 /// The greatest number of rows of an `Entries`.
@@ -21,7 +23,7 @@ pub enum Item<R> {
     },
     /// The fingerprints of a box agree.
     Agree,
-    /// The box is cut in two.
+    /// The box is cut in two: in sessions of version 1.
     Split {
         /// Where it is cut.
         at: CutAt,
@@ -29,6 +31,13 @@ pub enum Item<R> {
         lower: [u8; 32],
         /// The fingerprint of the part from the point on.
         upper: [u8; 32],
+    },
+    /// The box is cut in parts: one more than points.
+    Parts {
+        /// Where it is cut: at one to three rising points.
+        points: Points,
+        /// The fingerprints of the parts, from the lowest up: one more than points.
+        prints: Prints,
     },
     /// The rows of a box, to which the other side answers with those that are not among them.
     Entries {
@@ -57,6 +66,7 @@ impl<R> Item<R> {
             Item::First { .. }
             | Item::Agree
             | Item::Split { .. }
+            | Item::Parts { .. }
             | Item::Entries { .. }
             | Item::Rest { .. } => true,
             Item::Row(_) | Item::EndTurn | Item::Bye => false,

@@ -1,32 +1,40 @@
 //! Items, read from the front of an input.
 
-ghost use Rattle.std.specs.Prelude.{◌≡◌, IsErrOf};
-ghost use Rattle.spelling.specs.Reading.{Gives, NeedsNoMemory};
+ghost use Rattle.std.specs.Prelude.{◌≡◌, ◌<◌, ◌≤◌, IfOk, IsErrOf};
+ghost use Rattle.spelling.specs.Memory.{IsWhole};
+ghost use Rattle.spelling.specs.Reading.{Gives, NeedsNoMemory, bytes_at, many_at};
 ghost use Rattle.spelling.specs.declared.input.Unread.TheVariants as unread;
 ghost use Rattle.willow_entry.specs.Frame.{FrameAsks};
 ghost use Rattle.sync_msg.specs.Items.{item_value};
-ghost use Rattle.sync_msg.specs.ItemReading.{cut_at, split_at, head_at, body_at, GivesRow};
-ghost use Rattle.sync_msg.specs.Memory.{CutAsks, HeadAsks};
+ghost use Rattle.sync_msg.specs.CutPoints as points;
+ghost use Rattle.sync_msg.specs.ItemReading.{cut_at, split_at, part_point_at, counted_at, cut_in_parts_at, head_at, body_at, GivesRow};
+ghost use Rattle.sync_msg.specs.Memory.{CutAsks, CountedAsk, PartsAsk, HeadAsks};
 
 use crate::item::{Item, MAX_ENTRIES, MAX_REST};
+use crate::points::{MAX_POINTS, Points};
+use crate::prints::Prints;
 use spelling::{Input, Unread};
 use std::alloc::Global;
 use willow_area::CutAt;
 use willow_entry::{MAX_FRAME, Row, RowForm};
 use willow_path::{read_path, read_user_key};
 
-// Reads an item that is no row. It is wrong as soon as no such item begins with the bytes read.
+// Reads an item of the version that is no row. It is wrong as soon as no such item begins with the bytes read.
 #[tactic(auto, unfolding(crate::specs::ItemReading::head_at, crate::specs::ItemReading::behind_kind))]
-pub(crate) fn read_head<R: Row>(alloc: Global, input: &mut Input) -> Result<Item<R>, Unread>
-    ensures gives { Gives (item_value R.value) result input.new (head_at input.old) }
-    ensures asked { IsErrOf result unread.NoMemory → HeadAsks input.old }
+pub(crate) fn read_head<R: Row>(
+    alloc: Global,
+    version: u8,
+    input: &mut Input,
+) -> Result<Item<R>, Unread>
+    ensures gives { Gives (item_value R.value) result input.new (head_at version input.old) }
+    ensures asked { IsErrOf result unread.NoMemory → HeadAsks version input.old }
 {
     match input.byte()? {
         1 => Ok(Item::First {
             print: input.array()?,
         }),
         2 => Ok(Item::Agree),
-        3 => read_split(alloc, input),
+        3 if version == 1 => read_split(alloc, input),
         4 => Ok(Item::Entries {
             count: input.byte_up_to(MAX_ENTRIES)?,
         }),
@@ -35,6 +43,7 @@ pub(crate) fn read_head<R: Row>(alloc: Global, input: &mut Input) -> Result<Item
         }),
         6 => Ok(Item::EndTurn),
         7 => Ok(Item::Bye),
+        8 if version == 2 => read_parts(alloc, input),
         _ => Err(Unread::Wrong),
     }
 }
@@ -62,6 +71,77 @@ fn read_cut(alloc: Global, input: &mut Input) -> Result<CutAt, Unread>
         1 => Ok(CutAt::Path(read_path(alloc, input)?)),
         _ => Err(Unread::Wrong),
     }
+}
+
+// Reads a cut in parts, with the fingerprints of these.
+#[tactic(auto, unfolding(crate::specs::ItemReading::cut_in_parts_at, crate::specs::ItemReading::behind_dimension))]
+fn read_parts<R: Row>(alloc: Global, input: &mut Input) -> Result<Item<R>, Unread>
+    ensures gives { Gives (item_value R.value) result input.new (cut_in_parts_at input.old) }
+    ensures asked { IsErrOf result unread.NoMemory → PartsAsk input.old }
+{
+    match input.byte()? {
+        0 => read_counted(alloc, input, 0),
+        1 => read_counted(alloc, input, 1),
+        2 => read_counted(alloc, input, 2),
+        _ => Err(Unread::Wrong),
+    }
+}
+
+// Reads the number of the points of a dimension, the points and the fingerprints.
+#[tactic(auto, unfolding(crate::specs::ItemReading::counted_at, crate::specs::ItemReading::points_at))]
+fn read_counted<R: Row>(alloc: Global, input: &mut Input, dimension: u8) -> Result<Item<R>, Unread>
+    ensures gives { Gives (item_value R.value) result input.new (counted_at dimension input.old) }
+    ensures asked { IsErrOf result unread.NoMemory → CountedAsk dimension input.old }
+{
+    let count = input.byte_up_to(MAX_POINTS)?;
+    if count == 0 {
+        return Err(Unread::Wrong);
+    }
+    let points = read_points(alloc, input, dimension, count)?;
+    let prints = read_prints(alloc, input, usize::from(count) + 1)?;
+    Ok(Item::Parts { points, prints })
+}
+
+// Reads so many points of a dimension.
+fn read_points(alloc: Global, input: &mut Input, dimension: u8, count: u8) -> Result<Points, Unread>
+    requires some { 0 < count }
+    requires few { count ≤ MAX_POINTS }
+    ensures gives { Gives (λ points. points) result input.new (many_at (part_point_at dimension) count input.old) }
+    ensures asked { IsErrOf result unread.NoMemory → IsWhole (part_point_at dimension input.old) }
+{
+    let mut points = Points::new(alloc);
+    for _ in 0..count {
+        let point = read_point(alloc, input, dimension)?;
+        points.push(point)?;
+    }
+    Ok(points)
+}
+
+// Reads a point of a dimension.
+#[tactic(auto, unfolding(crate::specs::ItemReading::part_point_at))]
+fn read_point(alloc: Global, input: &mut Input, dimension: u8) -> Result<CutAt, Unread>
+    ensures gives { Gives (λ point. point) result input.new (part_point_at dimension input.old) }
+    ensures of { IfOk result (λ point. points.dimension point ≡ dimension) }
+    ensures asked { IsErrOf result unread.NoMemory → IsWhole (part_point_at dimension input.old) }
+{
+    match dimension {
+        0 => Ok(CutAt::Subspace(read_user_key(input)?)),
+        1 => Ok(CutAt::Path(read_path(alloc, input)?)),
+        2 => Ok(CutAt::Time(input.number_u64()?)),
+        _ => Err(Unread::Wrong),
+    }
+}
+
+// Reads so many fingerprints.
+fn read_prints(alloc: Global, input: &mut Input, count: usize) -> Result<Prints, Unread>
+    ensures gives { Gives (λ prints. prints) result input.new (many_at (bytes_at 32) count input.old) }
+{
+    let mut prints = Prints::new(alloc);
+    for _ in 0..count {
+        let print: [u8; 32] = input.array()?;
+        prints.push(print)?;
+    }
+    Ok(prints)
 }
 
 // Reads the row in a frame.

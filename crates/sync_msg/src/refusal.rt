@@ -3,7 +3,7 @@
 /// Why the items of the other side are refused, though each is in the grammar.
 #[derive(Clone, Copy, Debug, PartialEq, Eq)]
 pub enum CoreRefusal {
-    /// A split at a point where its box cannot be cut.
+    /// A cut at a point where its box cannot be cut, or at points that do not rise.
     BadCut,
     /// An item that may not come where it came.
     ItemMismatch,

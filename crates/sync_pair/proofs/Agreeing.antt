@@ -20,30 +20,30 @@ use Rattle.sync_pair.proofs.SelfContained.{live_inside}
 
 -- ---- what is sent
 
-module _ (a b : List RowValue) (x : Ranges) where
-  pub only_left : All (Contains (rows_in x b)) (to_left (exchange sync_rules a b (Some x)))
-  only_left = all_from_contains (Contains (rows_in x b)) (to_left (exchange sync_rules a b (Some x))) (left_only sync_rules deciding disjoint a b x)
+module _ (version : ℕ) (a b : List RowValue) (x : Ranges) where
+  pub only_left : All (Contains (rows_in x b)) (to_left (exchange (sync_rules version) a b (Some x)))
+  only_left = all_from_contains (Contains (rows_in x b)) (to_left (exchange (sync_rules version) a b (Some x))) (left_only (sync_rules version) (deciding version) (disjoint version) a b x)
 
-  pub only_right : All (Contains (rows_in x a)) (to_right (exchange sync_rules a b (Some x)))
-  only_right = all_from_contains (Contains (rows_in x a)) (to_right (exchange sync_rules a b (Some x))) (right_only sync_rules deciding disjoint a b x)
+  pub only_right : All (Contains (rows_in x a)) (to_right (exchange (sync_rules version) a b (Some x)))
+  only_right = all_from_contains (Contains (rows_in x a)) (to_right (exchange (sync_rules version) a b (Some x))) (right_only (sync_rules version) (deciding version) (disjoint version) a b x)
 
-module _ (namespace : List ℕ) (a b : List RowValue) (x : Ranges) (stores : AreStores namespace a b) where
-  pub once_left : IsDistinct same_row (to_left (exchange sync_rules a b (Some x)))
-  once_left = left_once sync_rules deciding disjoint a b x (store_distinct namespace b stores.right)
+module _ (version : ℕ) (namespace : List ℕ) (a b : List RowValue) (x : Ranges) (stores : AreStores namespace a b) where
+  pub once_left : IsDistinct same_row (to_left (exchange (sync_rules version) a b (Some x)))
+  once_left = left_once (sync_rules version) (deciding version) (disjoint version) a b x (store_distinct namespace b stores.right)
 
-  pub once_right : IsDistinct same_row (to_right (exchange sync_rules a b (Some x)))
-  once_right = right_once sync_rules deciding disjoint a b x (store_distinct namespace a stores.left)
+  pub once_right : IsDistinct same_row (to_right (exchange (sync_rules version) a b (Some x)))
+  once_right = right_once (sync_rules version) (deciding version) (disjoint version) a b x (store_distinct namespace a stores.left)
 
-  pub few_counted : counted (exchange sync_rules a b (Some x)) ≤ max 3 (3 * (length (rows_in x a) + length (rows_in x b)))
-  few_counted = counted_exchange sync_rules a b x disjoint (store_cuts namespace a stores.left) (store_cuts namespace b stores.right)
+  pub few_counted : counted (exchange (sync_rules version) a b (Some x)) ≤ max 3 (3 * (length (rows_in x a) + length (rows_in x b)))
+  few_counted = counted_exchange (sync_rules version) a b x (disjoint version) (store_cuts namespace a stores.left version) (store_cuts namespace b stores.right version)
 
 -- ---- what each side holds then
 
-pub keeps_left : (a b : List RowValue) (x : Option Ranges) → All (HasCovering (left_after a b x)) a
-keeps_left a b x = all_from_contains (HasCovering (left_after a b x)) a (join_covers_left a (to_left (exchange sync_rules a b x)))
+pub keeps_left : (version : ℕ) (a b : List RowValue) (x : Option Ranges) → All (HasCovering (left_after version a b x)) a
+keeps_left version a b x = all_from_contains (HasCovering (left_after version a b x)) a (join_covers_left a (to_left (exchange (sync_rules version) a b x)))
 
-pub keeps_right : (a b : List RowValue) (x : Option Ranges) → All (HasCovering (right_after a b x)) b
-keeps_right a b x = all_from_contains (HasCovering (right_after a b x)) b (join_covers_left b (to_right (exchange sync_rules a b x)))
+pub keeps_right : (version : ℕ) (a b : List RowValue) (x : Option Ranges) → All (HasCovering (right_after version a b x)) b
+keeps_right version a b x = all_from_contains (HasCovering (right_after version a b x)) b (join_covers_left b (to_right (exchange (sync_rules version) a b x)))
 
 -- a row in the box that is held there or was sent is held or was sent
 held_already : (x : Ranges) (rows sent : List RowValue) (r : RowValue) → Contains (rows_in x rows) r ⊎ Contains sent r → Contains rows r ⊎ Contains sent r
@@ -73,30 +73,30 @@ part_of_join x rows other whole =
           | inr more ↦ Contains-append_right rows (rows_in x other) r (kept (is_in x) other r more k.1)
         ]) k.1
 
-module _ (namespace : List ℕ) (a b : List RowValue) (x : Ranges) (stores : AreStores namespace a b) (apart : Apart sync_rules a b x) where
-  pub converges_left : left_after a b (Some x) ≡ join a (rows_in x b)
+module _ (version : ℕ) (namespace : List ℕ) (a b : List RowValue) (x : Ranges) (stores : AreStores namespace a b) (apart : Apart (sync_rules version) a b x) where
+  pub converges_left : left_after version a b (Some x) ≡ join a (rows_in x b)
   converges_left =
-      let sent = to_left (exchange sync_rules a b (Some x)) in
+      let sent = to_left (exchange (sync_rules version) a b (Some x)) in
       join_same a sent (rows_in x b)
-      (λ r c. inr (left_only sync_rules deciding disjoint a b x r c))
-      (λ r c. held_already x a sent r (left_gets sync_rules deciding disjoint a b x (store_cuts namespace a stores.left) (store_cuts namespace b stores.right) apart r c))
+      (λ r c. inr (left_only (sync_rules version) (deciding version) (disjoint version) a b x r c))
+      (λ r c. held_already x a sent r (left_gets (sync_rules version) (deciding version) (disjoint version) a b x (store_cuts namespace a stores.left version) (store_cuts namespace b stores.right version) apart r c))
 
-  pub converges_right : right_after a b (Some x) ≡ join b (rows_in x a)
+  pub converges_right : right_after version a b (Some x) ≡ join b (rows_in x a)
   converges_right =
-      let sent = to_right (exchange sync_rules a b (Some x)) in
+      let sent = to_right (exchange (sync_rules version) a b (Some x)) in
       join_same b sent (rows_in x a)
-      (λ r c. inr (right_only sync_rules deciding disjoint a b x r c))
-      (λ r c. held_already x b sent r (right_gets sync_rules deciding disjoint a b x (store_cuts namespace a stores.left) (store_cuts namespace b stores.right) apart r c))
+      (λ r c. inr (right_only (sync_rules version) (deciding version) (disjoint version) a b x r c))
+      (λ r c. held_already x b sent r (right_gets (sync_rules version) (deciding version) (disjoint version) a b x (store_cuts namespace a stores.left version) (store_cuts namespace b stores.right version) apart r c))
 
-  pub gets_left : All (HasCovering (left_after a b (Some x))) (rows_in x b)
-  gets_left = all_from_contains (HasCovering (left_after a b (Some x))) (rows_in x b) (λ r c. subst (λ rows. HasCovering rows r) (sym converges_left) (join_covers_right a (rows_in x b) r c))
+  pub gets_left : All (HasCovering (left_after version a b (Some x))) (rows_in x b)
+  gets_left = all_from_contains (HasCovering (left_after version a b (Some x))) (rows_in x b) (λ r c. subst (λ rows. HasCovering rows r) (sym converges_left) (join_covers_right a (rows_in x b) r c))
 
-  pub gets_right : All (HasCovering (right_after a b (Some x))) (rows_in x a)
-  gets_right = all_from_contains (HasCovering (right_after a b (Some x))) (rows_in x a) (λ r c. subst (λ rows. HasCovering rows r) (sym converges_right) (join_covers_right b (rows_in x a) r c))
+  pub gets_right : All (HasCovering (right_after version a b (Some x))) (rows_in x a)
+  gets_right = all_from_contains (HasCovering (right_after version a b (Some x))) (rows_in x a) (λ r c. subst (λ rows. HasCovering rows r) (sym converges_right) (join_covers_right b (rows_in x a) r c))
 
   module _ (whole : IsSelfContained x) where
-    pub agrees_left : rows_in x (left_after a b (Some x)) ≡ rows_in x (join a b)
+    pub agrees_left : rows_in x (left_after version a b (Some x)) ≡ rows_in x (join a b)
     agrees_left = ap (rows_in x) converges_left ∙ part_of_join x a b whole
 
-    pub agrees_right : rows_in x (right_after a b (Some x)) ≡ rows_in x (join a b)
+    pub agrees_right : rows_in x (right_after version a b (Some x)) ≡ rows_in x (join a b)
     agrees_right = ap (rows_in x) converges_right ∙ part_of_join x b a whole ∙ ap (rows_in x) (join_comm b a)

@@ -3,4 +3,5 @@ pub mod SelfContained
 pub mod Agreeing
 pub mod TurnEnds
 pub mod Plain
+pub mod Speaking
 pub mod Exchanging

@@ -9,9 +9,9 @@ use Rattle.willow_entry.proofs.Ranks.{place_total}
 use Rattle.willow_entry.proofs.Rising.{not_below_itself}
 use Rattle.willow_entry.proofs.RowLaws.{same_row_decides}
 use Rattle.exchange_rules.specs.Premises.{CanCut}
+use Rattle.range_split.proofs.Rising.{live_rows_rise}
 use Rattle.sync_core.specs.SyncRules.{sync_rules}
 use Rattle.sync_core.proofs.Lawful.{can_cut_rows}
-use Rattle.sync_core.proofs.Rising.{live_rows_rise}
 use Rattle.sync_pair.specs.Stores.{IsStoreOf}
 
 all_others : (r : RowValue) (rows : List RowValue) → AllByRecursion (λ s. place_cmp r s ≡ Less) rows → AllByRecursion (λ s. same_row r s ≡ false) rows
@@ -30,5 +30,5 @@ module _ (namespace : List ℕ) (rows : List RowValue) (store : IsStoreOf namesp
   pub store_distinct : IsDistinct same_row rows
   store_distinct = rising_distinct rows (rising_live rows store.live)
 
-  pub store_cuts : CanCut sync_rules rows
-  store_cuts = can_cut_rows rows (live_rows_rise rows store.live (namespace, store.own))
+  pub store_cuts : (version : ℕ) → CanCut (sync_rules version) rows
+  store_cuts version = can_cut_rows version rows (live_rows_rise rows store.live (namespace, store.own))

@@ -6,16 +6,16 @@ use Rattle.std.specs.List.{AllByRecursion, cons_option}
 use Rattle.std.proofs.lemmas.List.{append-nil, append_assoc}
 use Rattle.std.proofs.lemmas.Option.{same_Some}
 use Rattle.willow_entry.specs.Row.{RowValue}
-use Rattle.sync_msg.specs.Items.{ItemValue, item_value, HasSpelling, item_spelling}
+use Rattle.sync_msg.specs.Items.{ItemValue, item_value, HasPrints, HasSpelling, item_spelling}
 use Rattle.sync_msg.specs.declared.item.Item.{Item}
-use Rattle.sync_msg.specs.declared.item.Item.TheVariants.{First, Agree, Split, Entries, Rest, Row, EndTurn, Bye}
+use Rattle.sync_msg.specs.declared.item.Item.TheVariants.{First, Agree, Split, Parts, Entries, Rest, Row, EndTurn, Bye}
 use Rattle.sync_msg.specs.declared.refusal.CoreRefusal.{CoreRefusal}
 use Rattle.sync_core.specs.declared.stage.Stage.TheVariants as stage
 use Rattle.sync_core.specs.Flat.{row_in}
 use Rattle.sync_core.specs.Place.{Place, stage_of}
 use Rattle.sync_core.specs.Steps.{heard, said}
-use Rattle.sync_core.specs.Runs.{with_item, says_all, hears, heard_from}
-use Rattle.sync_core.proofs.OneByOne.{SaysFirst, says_first, says_nothing, hears_first_item}
+use Rattle.sync_core.specs.Runs.{says_all, hears, heard_from}
+use Rattle.sync_core.proofs.OneByOne.{says_first, says_nothing, hears_first_item}
 use Rattle.sync_pair.specs.Passing.{TurnEnd, turn_end, CanPass}
 
 -- ---- outcomes
@@ -63,6 +63,7 @@ pub row_kept : {R : Type 0} (value : R → RowValue) (item : Item R) → map val
 row_kept value (First print) = refl
 row_kept value Agree = refl
 row_kept value (Split at lower upper) = refl
+row_kept value (Parts points prints) = refl
 row_kept value (Entries count) = refl
 row_kept value (Rest count) = refl
 row_kept value (Row row) = refl
@@ -97,9 +98,22 @@ passes_on from next to then item bytes got says hears_it =
     ∙ ap₂ (make (hears then items)) (sym (append_assoc bytes (item_spelling item) (flat_map item_spelling items))) (rows_behind got (filter_map row_in items) (row_in item)) in
     sym (one ∙ two)
 
+-- an item that has a spelling has as many fingerprints as it is to have
+prints_of_spelled : (item : ItemValue) → HasSpelling item → HasPrints item
+prints_of_spelled (First print) h = tt
+prints_of_spelled Agree h = tt
+prints_of_spelled (Split at lower upper) h = tt
+prints_of_spelled (Parts points prints) h = h
+prints_of_spelled (Entries count) h = tt
+prints_of_spelled (Rest count) h = tt
+prints_of_spelled (Row row) h = tt
+prints_of_spelled EndTurn h = tt
+prints_of_spelled Bye h = tt
+
 -- what is passed on can be: the next item, and what is behind it
 pub record PassesFirst (from next to : Place) (item : ItemValue) : Type 0 where
   pub spelled : HasSpelling item
+  pub prints : HasPrints item
   pub may_come : IsOk (heard to item)
   pub rest : (then : Place) → heard to item ≡ Ok then → CanPass next then
 
@@ -112,6 +126,7 @@ passes_first from next to item says can =
     let first = hears_first_item to item items ok in
     record {
       spelled = spelled.0;
+      prints = prints_of_spelled item spelled.0;
       may_come = ap is_ok first.first;
       rest = λ then e. record { spelled = spelled.1; heard = subst (λ o. IsOk o) (hears_on to then item items e) ok };
     }

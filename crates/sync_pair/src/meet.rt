@@ -5,6 +5,7 @@ ghost use Rattle.std.specs.Option.{option_copied};
 ghost use Rattle.willow_area.specs.AreaBox.{area_box};
 ghost use Rattle.willow_entry.specs.Frame.{HasFrame};
 ghost use Rattle.block_store.specs.BoxKinds.{IsOfOneNamespace};
+ghost use Rattle.sync_core.specs.SyncRules.{IsVersion};
 ghost use Rattle.sync_pair.specs.Meeting.{IsMeeting};
 
 use crate::pass::next_turn;
@@ -29,25 +30,27 @@ pub struct PairRun<R> {
     pub items: u32,
 }
 
-/// The exchange of the rows of two snapshots in an area, with the left side as the caller; without an area each side
-/// only says farewell. Neither snapshot is changed. Each has at most `SNAPSHOT_MAX` rows, all of one namespace, and the
-/// body of each row has at most `MAX_FRAME` bytes.
+/// The exchange of the rows of two snapshots in an area, in a session of version 1 or 2, with the left side as the
+/// caller; without an area each side only says farewell. Neither snapshot is changed. Each has at most `SNAPSHOT_MAX`
+/// rows, all of one namespace, and the body of each row has at most `MAX_FRAME` bytes.
 pub fn meet_rows<R: Row>(
     alloc: Global,
+    version: u8,
     left: &Snapshot<R>,
     right: &Snapshot<R>,
     area: Option<&Area>,
 ) -> Result<PairRun<R>, NoMemory>
+    requires version { IsVersion version }
     requires left_few { length left.now ≤ SNAPSHOT_MAX }
     requires left_one { IsOfOneNamespace (map R.value left.now) }
     requires left_framed { All HasFrame (map R.value left.now) }
     requires right_few { length right.now ≤ SNAPSHOT_MAX }
     requires right_one { IsOfOneNamespace (map R.value right.now) }
     requires right_framed { All HasFrame (map R.value right.now) }
-    ensures meeting { IfOk result (IsMeeting R.value (map R.value left.now) (map R.value right.now) (option_map area_box (option_copied area.entry))) }
+    ensures meeting { IfOk result (IsMeeting version R.value (map R.value left.now) (map R.value right.now) (option_map area_box (option_copied area.entry))) }
 {
-    let mut caller = Peer::begin(alloc, Role::Caller, left, area)?;
-    let mut answerer = Peer::begin(alloc, Role::Answerer, right, area)?;
+    let mut caller = Peer::begin(alloc, version, Role::Caller, left, area)?;
+    let mut answerer = Peer::begin(alloc, version, Role::Answerer, right, area)?;
     let mut turns = Vec::new(alloc);
     'turns: while !caller.is_done() {
         turns.push(next_turn(alloc, &mut caller, &mut answerer)?)?;

@@ -4,11 +4,13 @@ ghost use Rattle.std.specs.Prelude.{◌≡◌, ◌≤◌, ◌↔◌, ◌++◌, [
 ghost use Rattle.std.specs.Option.{option_copied, option_to_list};
 ghost use Rattle.willow_area.specs.AreaBox.{area_box};
 ghost use Rattle.willow_entry.specs.Row.{AreLive};
-ghost use Rattle.sync_msg.specs.Items.{item_value};
+ghost use Rattle.block_store.specs.BoxKinds.{IsOfOneNamespace};
+ghost use Rattle.sync_msg.specs.Items.{HasPrints, item_value};
 ghost use Rattle.sync_core.specs.Flat.{row_in};
 ghost use Rattle.sync_core.specs.Held.{item_at};
 ghost use Rattle.sync_core.specs.Place.{first_place, stage_of};
 ghost use Rattle.sync_core.specs.Steps.{heard, said};
+ghost use Rattle.sync_core.specs.SyncRules.{IsVersion};
 
 use block_store::Snapshot;
 use std::alloc::Global;
@@ -25,15 +27,18 @@ pub(crate) struct Peer<R: Row> {
 }
 
 impl<R: Row> Peer<R> {
-    // A side at the beginning, over the box of the area if there is one.
+    // A side at the beginning of a session of the version, over the box of the area if there is one.
     pub(crate) fn begin(
         alloc: Global,
+        version: u8,
         role: Role,
         rows: &Snapshot<R>,
         area: Option<&Area>,
     ) -> Result<Peer<R>, NoMemory>
-        requires { length rows.now ≤ SNAPSHOT_MAX }
-        ensures side { IfOk result (λ peer. peer.side ≡ first_place role (map R.value rows.now) (option_map area_box (option_copied area.entry))) }
+        requires version { IsVersion version }
+        requires few { length rows.now ≤ SNAPSHOT_MAX }
+        requires one { IsOfOneNamespace (map R.value rows.now) }
+        ensures side { IfOk result (λ peer. peer.side ≡ first_place version role (map R.value rows.now) (option_map area_box (option_copied area.entry))) }
         ensures got { IfOk result (λ peer. peer.got.items ≡ []) }
         ensures live { OnOk result (AreLive (map R.value rows.now)) }
     {
@@ -43,7 +48,7 @@ impl<R: Row> Peer<R> {
         };
         let rows = rows.share()?;
         Ok(Peer {
-            side: SyncCore::begin(alloc, role, rows, area)?,
+            side: SyncCore::begin(alloc, version, role, rows, area)?,
             got: Vec::new(alloc),
         })
     }
@@ -74,7 +79,8 @@ impl<R: Row> Peer<R> {
 
     // Hears an item that may come, and keeps its row, if it is one.
     pub(crate) fn hear(&mut self, item: Item<R>) -> Result<(), NoMemory>
-        requires { IsOk (heard self.old.side (item_value R.value item)) }
+        requires comes { IsOk (heard self.old.side (item_value R.value item)) }
+        requires prints { HasPrints (item_value R.value item) }
         ensures heard { OnOk result (heard self.old.side (item_value R.value item) ≡ Ok self.new.side) }
         ensures got { OnOk result (self.new.got.items ≡ self.old.got.items ++ option_to_list (row_in item)) }
     {
@@ -99,6 +105,7 @@ fn item_of<R: Row>(side: &SyncCore<R>, item: OutItem) -> Result<Item<R>, NoMemor
         OutItem::First { print } => Item::First { print },
         OutItem::Agree => Item::Agree,
         OutItem::Split { at, lower, upper } => Item::Split { at, lower, upper },
+        OutItem::Parts { points, prints } => Item::Parts { points, prints },
         OutItem::Entries { count } => Item::Entries { count },
         OutItem::Rest { count } => Item::Rest { count },
         OutItem::Row(at) => match side.row_of(at) {

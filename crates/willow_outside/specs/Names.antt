@@ -24,6 +24,17 @@ abbrev pub GetsName : Option Names → List ℕ → Option (List ℕ) → Type 0
 GetsName None name found = Unit {0}
 GetsName (Some names) name found = names name ≡ found
 
+-- the names are told, and no bytes are under this one
+abbrev pub IsToldMissing : Option Names → List ℕ → Type 0
+IsToldMissing None name = ⊥
+IsToldMissing (Some names) name = names name ≡ None
+
+-- a name that is told to be missing takes no memory to get
+abbrev pub NeedsMemoryIfHeld : {A : Type 0} → Option Names → List ℕ → Result A Fault → Type 0
+NeedsMemoryIfHeld told name (Ok found) = Unit {0}
+NeedsMemoryIfHeld told name (Err Failed) = Unit {0}
+NeedsMemoryIfHeld told name (Err NoMemory) = IsToldMissing told name → ⊥
+
 -- a put replaced what the name held; at Failed it did so or left it, and without memory left it
 abbrev pub PutsName : Option Names → Option Names → List ℕ → List ℕ → Result (Unit {0}) Fault → Type 0
 PutsName old new name bytes (Ok u) = new ≡ option_map (name_put name bytes) old

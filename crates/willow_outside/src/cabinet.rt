@@ -1,6 +1,6 @@
 //! Bytes under names in memory.
 
-ghost use Rattle.std.specs.Prelude.{◌≡◌, IfOk, is_ok, if◌then◌else◌};
+ghost use Rattle.std.specs.Prelude.{◌≡◌, None, IfOk, OnErr, is_ok, if◌then◌else◌};
 ghost use Rattle.std.specs.Option.{option_map};
 ghost use Rattle.willow_outside.specs.Names.{names_in, name_put};
 
@@ -20,9 +20,10 @@ impl Cabinet {
         Cabinet { contents }
     }
 
-    /// A copy of the bytes under `name`.
+    /// A copy of the bytes under `name`. Only a name that is there takes memory.
     pub(crate) fn copy_of(&self, alloc: Global, name: &str) -> Result<Option<Vec<u8>>, AllocError>
-        ensures { IfOk result (λ found. names_in self.now.contents name.now ≡ option_map (λ v. v.items) found) }
+        ensures found { IfOk result (λ found. names_in self.now.contents name.now ≡ option_map (λ v. v.items) found) }
+        ensures held { OnErr result (names_in self.now.contents name.now ≡ None → ⊥) }
     {
         match self.contents.get(name) {
             Some(bytes) => Ok(Some(Vec::from_slice(alloc, bytes)?)),

@@ -3,7 +3,7 @@
 ghost use Rattle.std.specs.Prelude.{◌≡◌, Some, IfOk};
 ghost use Rattle.std.specs.Option.{option_map};
 ghost use Rattle.willow_outside.specs.Counts.{CountsFault};
-ghost use Rattle.willow_outside.specs.Names.{names_in, PutsName};
+ghost use Rattle.willow_outside.specs.Names.{names_in, NeedsMemoryIfHeld, PutsName};
 ghost use Rattle.willow_outside.specs.Plan.{plan_of, called, IsPlanned, PutsPlanned};
 
 use crate::cabinet::Cabinet;
@@ -58,6 +58,7 @@ impl Shelf for MemShelf {
         ensures planned { IsPlanned self.old.plan result }
         ensures plan { self.new.plan ≡ called self.old.plan }
         ensures found { IfOk result (λ found. names_in self.old.contents name.now ≡ option_map (λ v. v.items) found) }
+        ensures memory { NeedsMemoryIfHeld (Some (names_in self.old.contents)) name.now result }
         ensures names { self.new.contents ≡ self.old.contents }
         ensures cause { CountsFault self.old.read_faults self.new.read_faults result }
         ensures write_faults { self.new.write_faults ≡ self.old.write_faults }

@@ -4,7 +4,7 @@ ghost use Rattle.std.specs.Prelude.{◌≡◌, IfOk};
 ghost use Rattle.std.specs.Option.{option_map};
 ghost use Rattle.willow_outside.specs.Counts.{CountsFault};
 ghost use Rattle.willow_outside.specs.Facts.{ShelfFacts};
-ghost use Rattle.willow_outside.specs.Names.{GetsName, PutsName};
+ghost use Rattle.willow_outside.specs.Names.{GetsName, NeedsMemoryIfHeld, PutsName};
 
 use crate::Fault;
 
@@ -13,9 +13,10 @@ pub trait Shelf {
     ghost facts: { Self → ShelfFacts };
 
     /// The bytes under `name`, or None where there is no such name.
-    /// `Failed` comes only where `read_faults` rose.
+    /// `Failed` comes only where `read_faults` rose. A shelf that tells its names answers a missing one without memory.
     fn get(&mut self, name: &str) -> Result<Option<Vec<u8>>, Fault>
         ensures found { IfOk result (λ found. GetsName (facts self.old).names name.now (option_map (λ v. v.items) found)) }
+        ensures memory { NeedsMemoryIfHeld (facts self.old).names name.now result }
         ensures names { (facts self.new).names ≡ (facts self.old).names }
         ensures cause { CountsFault (facts self.old).read_faults (facts self.new).read_faults result }
         ensures write_faults { (facts self.new).write_faults ≡ (facts self.old).write_faults };

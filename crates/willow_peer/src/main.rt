@@ -6,6 +6,8 @@ ghost use Rattle.std.specs.Prelude.{◌≡◌, drop};
 ghost use Rattle.std.specs.Process.{exit_status};
 ghost use Rattle.peer_run.specs.Promises.{KeepsPromises};
 ghost use Rattle.peer_words.specs.Words.{texts};
+ghost use Rattle.sub_hub.specs.Hubs.{HubValue};
+ghost use Rattle.willow_outside.specs.Facts.{BayFacts};
 
 use peer_real::{FileShelf, RandomNoise, StdReport, StdSink, StdSource, TcpDoor};
 use peer_run::peer_run;
@@ -50,7 +52,7 @@ fn run<R: Wait + Threads + Sync, H: Shelf, D: Door, N: Noise>(
     door: &mut D,
     noise: &mut N,
 ) -> ExitCode
-    ensures promises { KeepsPromises (record {
+    ensures promises { (hub : HubValue) (bay : BayFacts) → KeepsPromises (record {
       words = texts (drop 1 all.now);
       old = record {
         shelf = H.facts shelf.old;
@@ -59,6 +61,8 @@ fn run<R: Wait + Threads + Sync, H: Shelf, D: Door, N: Noise>(
         report = ⟦<StdSink<Stderr> as Sink>⟧.facts report.old;
         door = D.facts door.old;
         noise = N.facts noise.old;
+        hub = hub;
+        bay = bay;
       };
       new = record {
         shelf = H.facts shelf.new;
@@ -67,6 +71,8 @@ fn run<R: Wait + Threads + Sync, H: Shelf, D: Door, N: Noise>(
         report = ⟦<StdSink<Stderr> as Sink>⟧.facts report.new;
         door = D.facts door.new;
         noise = N.facts noise.new;
+        hub = hub;
+        bay = bay;
       };
       status = exit_status result;
     }) }

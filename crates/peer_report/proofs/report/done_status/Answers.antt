@@ -1,5 +1,5 @@
 use Rattle.peer_stage.specs.declared.outcome.Done.TheVariants as done
-use Rattle.peer_report.proofs.Statuses.{joined_status, shown_status, met_status, watched_status, same_status, made_status}
+use Rattle.peer_report.proofs.Statuses.{joined_status, shown_status, met_status, watched_status, same_status, stopped_status, made_status}
 use Rattle.peer_report.proofs.report.done_status.Goals as goal
 
 pub returns-in-Joined : goal.returns-in-Joined
@@ -22,3 +22,6 @@ returns-in-Served c = same_status c.args.done.now (done.Served c.in-Served.serve
 
 pub returns-in-Watched : goal.returns-in-Watched
 returns-in-Watched c = watched_status c.args.done.now c.in-Watched.counts c.first_status-in-Watched.result c.in-Watched.is c.first_status-in-Watched.ensures
+
+pub returns-in-Stopped : goal.returns-in-Stopped
+returns-in-Stopped c = stopped_status c.args.done.now c.in-Stopped.stopped c.stop_status.result c.in-Stopped.is c.stop_status.ensures

@@ -1,106 +1,30 @@
-use Rattle.std.proofs.Common.{◌≡◌, ℕ, List, ◌-◌, ◌≤◌, ◌<◌, ◌++◌, length, take, drop, refl, sym, ap, ◌∙◌, subst, arith, inl}
+use Rattle.std.proofs.Common.{ℕ, List, sym, ap, ◌∙◌, subst}
 use Rattle.std.specs.Prelude.{Err}
-use Rattle.std.specs.Io.KnownBytes.{Consumes}
 use Rattle.std.proofs.lemmas.Result.{err_from_is_err_and}
-use Rattle.willow_outside.specs.Counts.{CountsCause}
-use Rattle.willow_outside.specs.declared.fault.Fault.{Fault}
-use Rattle.peer_rows.specs.Stored.{TakesPiece}
-use Rattle.peer_rows.proofs.Pieces.{nothing_seen, few_seen}
-use Rattle.peer_rows.proofs.ReadLog.{buffer_given, nothing_read, has_read_on, read_failed, read_too_far, piece_stops, log_read, end_stops, judging_stops}
+use Rattle.auth_entry.specs.Authorised.{AuthorisedValue}
+use Rattle.ns_state.specs.Log.{StateValue}
+use Rattle.peer_rows.specs.Join.{JoinsInput}
+use Rattle.peer_rows.specs.Stored.{IsLogRead}
+use Rattle.peer_rows.proofs.Pieces.{nothing_seen}
 use Rattle.peer_rows.proofs.Waiting.{none_may_wait}
 use Rattle.peer_rows.proofs.joining.read_log.Goals as goal
 
-pub pieces-init : goal.pieces-init
-pieces-init g c =
-    let seen = nothing_seen c.args.namespace.now c.new-stream.result c.new-intake.result c.new-stream.ensures c.new-intake.ensures.kept c.new-intake.ensures.counts c.new-intake.ensures.none_wait in
-    record {
-      read = nothing_read c.args.namespace.now (g.I.Source.facts c.args.input.now) c.new-stream.result c.new-intake.result seen (none_may_wait c.new-intake.result c.new-intake.ensures.counts c.new-intake.ensures.none_wait);
-      checks = c.in_ok-checker.ensures;
-      room = omega (arith, c.in_ok-piece.ensures);
-    }
+pub take_input-requires-clause-namespace : goal.take_input-requires-clause-namespace
+take_input-requires-clause-namespace g c κs within = c.in_ok-checker.ensures ∙ sym (ap (λ (kept : StateValue AuthorisedValue). kept.namespace) c.new-intake.ensures.kept)
 
-pub returns-in_err-end_stream-in-Ok-eq0-clause-logs :
-    goal.returns-in_err-end_stream-in-Ok-eq0-clause-logs
-returns-in_err-end_stream-in-Ok-eq0-clause-logs g c =
-    let i = g.I.Source.facts c.pieces.input in
-    let i' = g.I.Source.facts c.read.new.self in
-    let none : c.in-Ok-eq0.field-0 ≡ 0 = c.in-Ok-eq0.field-0-test in
-    let some : 0 < length c.read.new.buf = omega (arith, c.read.auto.buf, c.deref_mut.ensures.len, c.truncate.ensures.len, c.max.ensures, c.pieces.piece.ok.0, c.pieces.invariant.room) in
-    let p = err_from_is_err_and c.from_residual-in_err-end_stream-in-Ok-eq0.result c.from_residual-in_err-end_stream-in-Ok-eq0.ensures.1 in
-    rw (p.1, p.2) (end_stops c.args.namespace.now (g.I.Source.facts c.args.input.now) i i' c.pieces.left c.pieces.stream c.pieces.intake c.pieces.invariant.read
-    (subst (λ (n : ℕ). Consumes i.left i'.left (take n c.read.new.buf)) none c.in-Ok-eq0.ensures.bytes.0) (c.in-Ok-eq0.ensures.bytes.1 none some) (c.in-Ok-eq0.ensures.end.at_end none some)
-    c.in_err-end_stream-in-Ok-eq0.field-0.0 c.in_err-end_stream-in-Ok-eq0.ensures)
+pub take_input-requires-clause-seen : goal.take_input-requires-clause-seen
+take_input-requires-clause-seen g c κs within = nothing_seen c.args.namespace.now c.new-stream.result c.new-intake.result c.new-stream.ensures c.new-intake.ensures.kept c.new-intake.ensures.counts c.new-intake.ensures.none_wait
 
-pub returns-in-Ok-eq0-clause-logs : goal.returns-in-Ok-eq0-clause-logs
-returns-in-Ok-eq0-clause-logs g c =
-    let i = g.I.Source.facts c.pieces.input in
-    let i' = g.I.Source.facts c.read.new.self in
-    let none : c.in-Ok-eq0.field-0 ≡ 0 = c.in-Ok-eq0.field-0-test in
-    let some : 0 < length c.read.new.buf = omega (arith, c.read.auto.buf, c.deref_mut.ensures.len, c.truncate.ensures.len, c.max.ensures, c.pieces.piece.ok.0, c.pieces.invariant.room) in
-    log_read c.args.namespace.now (g.I.Source.facts c.args.input.now) i i' c.pieces.left c.pieces.stream c.pieces.intake c.pieces.invariant.read
-    (subst (λ (n : ℕ). Consumes i.left i'.left (take n c.read.new.buf)) none c.in-Ok-eq0.ensures.bytes.0) (c.in-Ok-eq0.ensures.bytes.1 none some) (c.in-Ok-eq0.ensures.end.at_end none some)
-    c.judge.new.self c.in_ok-end_stream-in-Ok-eq0.ensures (c.in_ok-judge-in-Ok-eq0.ensures.judges c.args.namespace.now c.pieces.invariant.read.seen.seen c.pieces.invariant.read.seen.taken_in)
+pub take_input-requires-clause-waits : goal.take_input-requires-clause-waits
+take_input-requires-clause-waits g c κs within = none_may_wait c.new-intake.result c.new-intake.ensures.counts c.new-intake.ensures.none_wait
 
-pub judge-requires-clause-few : goal.judge-requires-clause-few
-judge-requires-clause-few g c κs within =
-    let read = c.pieces.invariant.read in
-    (c.args.namespace.now, read.seen.seen, read.seen.taken_in, omega (arith, read.count, few_seen c.args.namespace.now read.bytes c.pieces.stream c.pieces.intake read.seen))
+pub returns-in_err-take_input-clause-logs : goal.returns-in_err-take_input-clause-logs
+returns-in_err-take_input-clause-logs g c =
+    let p = err_from_is_err_and c.from_residual-in_err-take_input.result c.from_residual-in_err-take_input.ensures.1 in
+    let here = ap (λ (kept : StateValue AuthorisedValue). kept.namespace) c.new-intake.ensures.kept in
+    rw (p.1, p.2) (subst (λ (n : List ℕ). JoinsInput n (g.I.Source.facts c.args.input.now) (g.I.Source.facts c.take_input.new.input) (Err c.in_err-take_input.field-0.0)) here c.in_err-take_input.ensures.takes)
 
-pub returns-in_err-judge-in-Ok-eq0-clause-logs : goal.returns-in_err-judge-in-Ok-eq0-clause-logs
-returns-in_err-judge-in-Ok-eq0-clause-logs g c =
-    let i = g.I.Source.facts c.pieces.input in
-    let i' = g.I.Source.facts c.read.new.self in
-    let read = c.pieces.invariant.read in
-    let none : c.in-Ok-eq0.field-0 ≡ 0 = c.in-Ok-eq0.field-0-test in
-    let some : 0 < length c.read.new.buf = omega (arith, c.read.auto.buf, c.deref_mut.ensures.len, c.truncate.ensures.len, c.max.ensures, c.pieces.piece.ok.0, c.pieces.invariant.room) in
-    let p = err_from_is_err_and c.from_residual-in_err-judge-in-Ok-eq0.result c.from_residual-in_err-judge-in-Ok-eq0.ensures.1 in
-    rw (p.1, p.2) (judging_stops c.args.namespace.now (g.I.Source.facts c.args.input.now) i i' c.pieces.left c.pieces.stream c.pieces.intake read
-    (subst (λ (n : ℕ). Consumes i.left i'.left (take n c.read.new.buf)) none c.in-Ok-eq0.ensures.bytes.0) (c.in-Ok-eq0.ensures.bytes.1 none some) (c.in-Ok-eq0.ensures.end.at_end none some)
-    c.pieces.intake.log c.judge.new.self c.in_err-judge-in-Ok-eq0.field-0.0 (c.in_err-judge-in-Ok-eq0.ensures.judges c.args.namespace.now read.seen.seen read.seen.taken_in))
-
-pub returns-then-left-eq0-clause-logs : goal.returns-then-left-eq0-clause-logs
-returns-then-left-eq0-clause-logs g c =
-    let piece = take c.in-Ok.n c.read.new.buf in
-    let some : 0 < length piece = omega (arith, c.in-Ok.ensures.bound, c.in-Ok.n-test) in
-    let long = read_too_far c.args.namespace.now (g.I.Source.facts c.args.input.now) (g.I.Source.facts c.pieces.input) (g.I.Source.facts c.read.new.self) c.pieces.left c.pieces.stream c.pieces.intake c.pieces.invariant.read piece c.in-Ok.ensures.bytes.0
-    c.if-left-eq0.true some in
-    rw c.bad_input.ensures (inl (long, refl), tt)
-
-pub take_piece-requires-clause-namespace : goal.take_piece-requires-clause-namespace
-take_piece-requires-clause-namespace g c κs within = c.pieces.invariant.checks ∙ sym c.pieces.invariant.read.seen.taken_in.is_log.of_namespace
-
-pub returns-in-Err-Failed-clause-logs : goal.returns-in-Err-Failed-clause-logs
-returns-in-Err-Failed-clause-logs g c =
-    let i = g.I.Source.facts c.pieces.input in
-    let i' = g.I.Source.facts c.read.new.self in
-    read_failed c.args.namespace.now (g.I.Source.facts c.args.input.now) i i' c.pieces.left c.pieces.stream c.pieces.intake c.pieces.invariant.read c.in-Err-Failed.ensures.bytes c.in-Err-Failed.ensures.end
-    (subst (λ (x : Fault). CountsCause i.faults i'.faults x) c.in-Err-Failed.field-0-is c.in-Err-Failed.ensures.cause).rose
-
-pub pieces-preserved : goal.pieces-preserved
-pieces-preserved g c =
-    let n = c.in-Ok.n in
-    let buf = c.read.new.buf in
-    let some : 0 < n = omega (arith, c.in-Ok.n-test) in
-    let few : length (take n buf) ≤ c.pieces.left = omega (arith, c.in-Ok.ensures.bound, c.read.auto.buf, c.deref_mut.ensures.len, c.truncate.ensures.len, c.max.ensures, c.if-left-eq0.false) in
-    let given : c.deref.result.now ≡ buf =
-    buffer_given c.truncate.new.self.len buf (drop (length buf) c.truncate.new.self.items) c.deref.result.now c.deref.ensures.value (omega (arith, c.read.auto.buf, c.deref_mut.ensures.len, c.truncate.new.self.ok.0)) in
-    record {
-      read =
-          has_read_on c.args.namespace.now (g.I.Source.facts c.args.input.now) (g.I.Source.facts c.pieces.input) (g.I.Source.facts c.read.new.self) c.pieces.left c.pieces.stream c.pieces.intake c.pieces.invariant.read (take n buf) c.in-Ok.ensures.bytes.0 few (c.in-Ok.ensures.end.gave_some some)
-          (c.pieces.left - n) c.take_piece.new.stream c.take_piece.new.intake (ap (λ (k : ℕ). c.pieces.left - k) c.in-Ok.ensures.bound.1) (rw given at (c.in_ok-take_piece-in-Ok.ensures.takes c.args.namespace.now c.pieces.invariant.read.bytes c.pieces.invariant.read.seen)) c.in-Ok.ensures.cause;
-      checks = c.in_ok-take_piece-in-Ok.ensures.namespace ∙ c.pieces.invariant.checks;
-      room = subst (λ (l : List ℕ). 0 < length l) c.deref.ensures.value (omega (arith, ap length given, some, c.in-Ok.ensures.bound));
-    }
-
-pub returns-in_err-take_piece-in-Ok-clause-logs : goal.returns-in_err-take_piece-in-Ok-clause-logs
-returns-in_err-take_piece-in-Ok-clause-logs g c =
-    let n = c.in-Ok.n in
-    let buf = c.read.new.buf in
-    let some : 0 < n = omega (arith, c.in-Ok.n-test) in
-    let few : length (take n buf) ≤ c.pieces.left = omega (arith, c.in-Ok.ensures.bound, c.read.auto.buf, c.deref_mut.ensures.len, c.truncate.ensures.len, c.max.ensures, c.if-left-eq0.false) in
-    let given : c.deref.result.now ≡ buf =
-    buffer_given c.truncate.new.self.len buf (drop (length buf) c.truncate.new.self.items) c.deref.result.now c.deref.ensures.value (omega (arith, c.read.auto.buf, c.deref_mut.ensures.len, c.truncate.new.self.ok.0)) in
-    let e = c.in_err-take_piece-in-Ok.field-0.0 in
-    let p = err_from_is_err_and c.from_residual-in_err-take_piece-in-Ok.result c.from_residual-in_err-take_piece-in-Ok.ensures.1 in
-    rw (p.1, p.2) (piece_stops c.args.namespace.now (g.I.Source.facts c.args.input.now) (g.I.Source.facts c.pieces.input) (g.I.Source.facts c.read.new.self) c.pieces.left c.pieces.stream c.pieces.intake c.pieces.invariant.read (take n buf) c.in-Ok.ensures.bytes.0 few (c.in-Ok.ensures.end.gave_some some)
-    e c.take_piece.new.stream c.take_piece.new.intake (subst (λ (l : List ℕ). TakesPiece c.args.namespace.now (c.pieces.invariant.read.bytes ++ take n l) c.take_piece.new.stream c.take_piece.new.intake (Err e)) given (c.in_err-take_piece-in-Ok.ensures.takes c.args.namespace.now c.pieces.invariant.read.bytes c.pieces.invariant.read.seen)))
+pub returns-clause-logs : goal.returns-clause-logs
+returns-clause-logs g c =
+    let here = ap (λ (kept : StateValue AuthorisedValue). kept.namespace) c.new-intake.ensures.kept in
+    subst (λ (n : List ℕ). IsLogRead n (g.I.Source.facts c.args.input.now) (g.I.Source.facts c.take_input.new.input) c.take_input.new.intake.log) here c.in_ok-take_input.ensures.takes

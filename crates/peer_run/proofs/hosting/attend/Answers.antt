@@ -14,7 +14,7 @@ host_links-requires-after_bounds g c κs within =
     let same = c.in_ok-cell.ensures.cell.1 in
     let made = c.in_ok-own.ensures in
     all_may hall (c.namespace-namespace.ensures ∙ sym same)
-    (λ draw. subst (λ (n : List ℕ). hello_refusal peer_rules n (own_hello c.args.plan (nonce_of draw)) ≡ None) (sym same) (c.requires.hello draw))
+    (λ draw. subst (λ (n : List ℕ). hello_refusal peer_rules n (own_hello c.args.plan (nonce_of draw)) ≡ None) (sym same) (c.requires.hello draw)) c.requires.version
     c.in_ok-own.own c.in_ok-cell.passes.items c.in_ok-own.guests.items c.args.signers.items c.args.draws.now made.passes made.signers made.nonces c.in_ok-cell.ensures.of_cell c.requires.sign
 
 pub leave-requires-clause-partings : goal.leave-requires-clause-partings

@@ -19,8 +19,8 @@ returns-then-eq g c =
     let area = c.in-Print.area in
     let print = c.in-Print.print in
     let same : same_bytes print (fingerprint_of (rows_in area rows)) ≡ true = ap (same_bytes print) (sym c.print_of.ensures) ∙ sym c.eq.ensures ∙ c.if-eq.true in
-    let e = ap (λ (a : Ask). reply sync_rules rows (ask_value a)) c.in-Print.is ∙ reply_same rows area print same in
-    subst (λ r. OnOk c.agree.result (Adds rows c.args.turn.now c.agree.new.turn r)) (sym e) (on_ok_weaker c.agree.result (λ h. h rows) c.agree.ensures)
+    let e = ap (λ (a : Ask). reply (sync_rules c.args.version) rows (ask_value a)) c.in-Print.is ∙ reply_same c.args.version rows area print same in
+    subst (λ r. OnOk c.agree.result (Adds c.args.version rows c.args.turn.now c.agree.new.turn r)) (sym e) (on_ok_weaker c.agree.result (λ h. h c.args.version rows) c.agree.ensures)
 
 pub returns-else-eq : goal.returns-else-eq
 returns-else-eq g c =
@@ -28,13 +28,13 @@ returns-else-eq g c =
     let area = c.in-Print.area in
     let print = c.in-Print.print in
     let other : same_bytes print (fingerprint_of (rows_in area rows)) ≡ false = ap (same_bytes print) (sym c.print_of.ensures) ∙ sym c.eq.ensures ∙ c.if-eq.false in
-    let e = ap (λ (a : Ask). reply sync_rules rows (ask_value a)) c.in-Print.is ∙ reply_differs rows area print other in
-    subst (λ r. OnOk c.differ.result (Adds rows c.args.turn.now c.differ.new.turn r)) (sym e) c.differ.ensures
+    let e = ap (λ (a : Ask). reply (sync_rules c.args.version) rows (ask_value a)) c.in-Print.is ∙ reply_differs c.args.version rows area print other in
+    subst (λ r. OnOk c.differ.result (Adds c.args.version rows c.args.turn.now c.differ.new.turn r)) (sym e) c.differ.ensures
 
 pub returns-in-Sent : goal.returns-in-Sent
 returns-in-Sent g c =
     let rows = map g.R.Row.value c.args.snapshot.now in
     let area = c.in-Sent.area in
-    let e = ap (λ (a : Ask). reply sync_rules rows (ask_value a)) c.in-Sent.is ∙ reply_sent rows area c.in-Sent.rows.items
-    ∙ ap (λ s. record { item = rules.Rest (lacking sync_rules rows area s); opens = [] }) (sym c.deref.ensures.value) in
-    subst (λ r. OnOk c.rest.result (Adds rows c.args.turn.now c.rest.new.turn r)) (sym e) c.rest.ensures
+    let e = ap (λ (a : Ask). reply (sync_rules c.args.version) rows (ask_value a)) c.in-Sent.is ∙ reply_sent c.args.version rows area c.in-Sent.rows.items
+    ∙ ap (λ s. record { item = rules.Rest (lacking (sync_rules c.args.version) rows area s); opens = [] }) (sym c.deref.ensures.value) in
+    subst (λ r. OnOk c.rest.result (Adds c.args.version rows c.args.turn.now c.rest.new.turn r)) (sym e) (on_ok_weaker c.rest.result (λ h. h c.args.version) c.rest.ensures)

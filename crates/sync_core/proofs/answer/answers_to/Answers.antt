@@ -11,7 +11,7 @@ loop-ask-preserved g c =
     let i = c.loop-ask.ask-index in
     let asks = c.args.asks.now in
     let ask = c.ask-item.result in
-    let P : List AskValue → Type 0 = λ l. HasAnswers rows c.answer.new.turn l in
+    let P : List AskValue → Type 0 = λ l. HasAnswers c.args.version rows c.answer.new.turn l in
     record {
-      answers = subst P (sym (asks_more asks i ask c.loop-ask-test.true (sym c.ask-item.is))) (answers_more rows c.loop-ask.turn c.answer.new.turn (map ask_value (take i asks)) (ask_value ask) c.loop-ask.invariant.answers c.in_ok-answer.ensures);
+      answers = subst P (sym (asks_more asks i ask c.loop-ask-test.true (sym c.ask-item.is))) (answers_more c.args.version rows c.loop-ask.turn c.answer.new.turn (map ask_value (take i asks)) (ask_value ask) c.loop-ask.invariant.answers c.in_ok-answer.ensures);
     }

@@ -13,12 +13,12 @@ pub returns : goal.returns
 returns g c =
     let rows = map g.R.Row.value c.args.snapshot.now in
     let positions = c.in_ok-positions.positions in
-    let found = lacking sync_rules rows c.args.area.now c.args.sent.now in
-    let there = c.in_ok-positions.ensures.rows in
+    let found = lacking (sync_rules 1) rows c.args.area.now c.args.sent.now in
+    let there = c.in_ok-positions.ensures.rows 1 in
     let number : c.len.result ≡ length found = omega (arith, found_length rows positions.items found there, c.len.ensures, positions.ok) in
     let behind = λ (l : List ℕ). map (λ (at : ℕ). out.Row at) l in
     on_ok_weaker c.push_rows.result
-    (λ h. record {
+    (λ h version. record {
       items = adds_rows rows c.args.turn.now.items.items c.push_rows.new.items.items (out.Rest c.len.result) (items.Rest (length found)) positions.items found
           (h ∙ ap₂ (λ l r. l ++ behind r) c.in_ok-push.ensures.items c.deref.ensures.value) (ap (λ n. Some (items.Rest n)) number) there;
       opens = sym (append-nil (map (owed_value rows) c.args.turn.now.opens.items));

@@ -20,9 +20,9 @@ some_from : (n : ℕ) → false ≡ nat_eq n 0 → 0 < n
 some_from zero e = absurd cc
 some_from (suc n) e = omega arith
 
-ends_turn : (rows : List RowValue) (asked : List Ask) → 0 < length asked → end_heard rows (map ask_value asked) items.EndTurn ≡ Ok (answering rows (map ask_value asked))
-ends_turn rows [] some = absurd (omega arith)
-ends_turn rows (ask ∷ asked) some = refl
+ends_turn : (version : ℕ) (rows : List RowValue) (asked : List Ask) → 0 < length asked → end_heard version rows (map ask_value asked) items.EndTurn ≡ Ok (answering version rows (map ask_value asked))
+ends_turn version rows [] some = absurd (omega arith)
+ends_turn version rows (ask ∷ asked) some = refl
 
 tells_some : (rows : List RowValue) (outs : List OutItem) (said : List ItemValue) (last : ItemValue) → Tell rows outs (said ++ last ∷ []) → 0 < length outs
 tells_some rows outs said last t =
@@ -35,21 +35,21 @@ returns-in_ok-turn-in-EndTurn-clause-does g c =
     let asked = c.args.work.now.ear.opens in
     let asks = map ask_value asked.items in
     let outs = c.from_vec.result.items in
-    let said = turn_items (turn sync_rules rows asks) in
+    let said = turn_items c.args.version (turn (sync_rules c.args.version) rows asks) in
     let some : 0 < length asked.items = omega (arith, some_from asked.len c.if-not-is_empty.ensures, asked.ok) in
-    let told : Tell rows outs said = ap (map (item_at rows)) c.from_vec.ensures.items ∙ c.in_ok-turn-in-EndTurn.ensures.items ∙ ap (λ (l : List Ask). map (λ (i : ItemValue). Some i) (turn_items (turn sync_rules rows (map ask_value l)))) c.deref.ensures.value in
-    let opens : map (owed_value rows) c.from_vec-in-EndTurn.result.items ≡ opened sync_rules rows asks = ap (map (owed_value rows)) c.from_vec-in-EndTurn.ensures.items ∙ c.in_ok-turn-in-EndTurn.ensures.opens ∙ ap (λ (l : List Ask). opened sync_rules rows (map ask_value l)) c.deref.ensures.value in
-    ap (λ (i : Item g.row.Q.Denot). end_heard rows asks (item_value g.Q.Row.value i)) c.in-EndTurn.is
-    ∙ ends_turn rows asked.items some
+    let told : Tell rows outs said = ap (map (item_at rows)) c.from_vec.ensures.items ∙ c.in_ok-turn-in-EndTurn.ensures.items ∙ ap (λ (l : List Ask). map (λ (i : ItemValue). Some i) (turn_items c.args.version (turn (sync_rules c.args.version) rows (map ask_value l)))) c.deref.ensures.value in
+    let opens : map (owed_value rows) c.from_vec-in-EndTurn.result.items ≡ opened (sync_rules c.args.version) rows asks = ap (map (owed_value rows)) c.from_vec-in-EndTurn.ensures.items ∙ c.in_ok-turn-in-EndTurn.ensures.opens ∙ ap (λ (l : List Ask). opened (sync_rules c.args.version) rows (map ask_value l)) c.deref.ensures.value in
+    ap (λ (i : Item g.row.Q.Denot). end_heard c.args.version rows asks (item_value g.Q.Row.value i)) c.in-EndTurn.is
+    ∙ ends_turn c.args.version rows asked.items some
     ∙ ap Ok (ap₂ Saying (sym (told_items (item_at rows) outs said told)) (sym opens))
 
 pub returns-in_ok-turn-in-EndTurn-clause-ready : goal.returns-in_ok-turn-in-EndTurn-clause-ready
 returns-in_ok-turn-in-EndTurn-clause-ready g c =
     let rows = map g.R.Row.value c.args.snapshot.now in
     let outs = c.from_vec.result.items in
-    let t = turn sync_rules rows (map ask_value c.deref.result.now) in
-    let told : Tell rows outs (turn_items t) = ap (map (item_at rows)) c.from_vec.ensures.items ∙ c.in_ok-turn-in-EndTurn.ensures.items in
+    let t = turn (sync_rules c.args.version) rows (map ask_value c.deref.result.now) in
+    let told : Tell rows outs (turn_items c.args.version t) = ap (map (item_at rows)) c.from_vec.ensures.items ∙ c.in_ok-turn-in-EndTurn.ensures.items in
     record {
-      named = named rows outs (turn_items t) told;
-      next = tells_some rows outs (flat_map items_of t.items) _ told;
+      named = named rows outs (turn_items c.args.version t) told;
+      next = tells_some rows outs (flat_map (items_of c.args.version) t.items) _ told;
     }

@@ -1,4 +1,4 @@
-use Rattle.sync_core.proofs.Rising.{live_rows_rise}
+use Rattle.range_split.proofs.Rising.{live_rows_rise}
 use Rattle.sync_core.proofs.laws.live_rows_rise.Goals as goal
 
 pub returns : goal.returns

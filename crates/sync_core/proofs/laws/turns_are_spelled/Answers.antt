@@ -9,11 +9,11 @@ use Rattle.sync_core.proofs.SpelledTurns.{told_turn, spelled_turn}
 use Rattle.sync_core.proofs.laws.turns_are_spelled.Goals as goal
 
 pub returns-clause-told : goal.returns-clause-told
-returns-clause-told c = λ rows asks rise. told_turn rows rise asks
+returns-clause-told c = λ version rows asks rise. told_turn version rows rise asks
 
 pub returns-clause-spelled : goal.returns-clause-spelled
-returns-clause-spelled c = λ rows asks rise few framed.
-    All-from_recursion HasSpelling (turn_items (turn sync_rules rows asks)) (spelled_turn rows rise few (recursion_from_All HasFrame rows framed) asks)
+returns-clause-spelled c = λ version rows asks rise few framed.
+    All-from_recursion HasSpelling (turn_items version (turn (sync_rules version) rows asks)) (spelled_turn version rows rise few (recursion_from_All HasFrame rows framed) asks)
 
 pub returns-clause-first : goal.returns-clause-first
-returns-clause-first c = λ rows area. All-from_recursion HasSpelling (turn_items (first_turn sync_rules rows area)) (tt, (tt, tt))
+returns-clause-first c = λ version rows area. All-from_recursion HasSpelling (turn_items version (first_turn (sync_rules version) rows area)) (tt, (tt, tt))

@@ -7,7 +7,7 @@ use Rattle.sync_link.specs.Signing.{SignsStep}
 use Rattle.sync_link.specs.Taking.{Fits, Holds, IsExchange, due_after, due_behind, taken_after, taken_behind, waiting_side}
 use Rattle.sync_link.specs.declared.due.Due.TheVariants as dues
 use Rattle.sync_link.proofs.Exchanged.{item_fits, item_holds}
-use Rattle.sync_link.proofs.Greeting.{hello_holds, hello_steps, proof_holds}
+use Rattle.sync_link.proofs.Greeting.{hello_fits, hello_holds, hello_steps, proof_holds}
 use Rattle.sync_link.proofs.Signed.{hello_greets, item_greets, proof_greets}
 use Rattle.sync_link.proofs.Tally.{hello_counts, item_counts, proof_counts}
 use Rattle.sync_link.proofs.take.take.Goals as goal
@@ -28,6 +28,16 @@ returns-in_ok-came-in-Hello-clause-counts g c = λ at.
     (subst (λ d. CountsStep (fed_with accepts value old dues.Hello) (fed_with accepts value new d) at bytes c.put.result) (sym next)
     (subst (λ n. CountsStep (fed_with accepts value old dues.Hello) (fed_with accepts value new (due_after dues.Hello came)) at bytes n) (sym taken)
     (hello_counts accepts value old new at bytes c.args.out.now.items c.take_hello.new.out.items came c.in_ok-came-in-Hello.ensures.comes)))
+
+pub returns-in_ok-came-in-Hello-clause-fits : goal.returns-in_ok-came-in-Hello-clause-fits
+returns-in_ok-came-in-Hello-clause-fits g c =
+    let old = c.args.talker.now in
+    let new = c.take_hello.new.talker in
+    let came = c.in_ok-came-in-Hello.came in
+    let unsigned : old.signature ≡ None = search rules in
+    let next : c.put.new.due ≡ due_after dues.Hello came = search rules in
+    subst (λ d. Fits old.role new.signature d) (sym next)
+    (hello_fits g.S.Verify.rules g.R.Row.value old new c.take_hello.ensures.keeps c.args.bytes.now c.args.out.now.items c.take_hello.new.out.items [] unsigned came c.in_ok-came-in-Hello.ensures.comes)
 
 pub returns-in_ok-came-in-Hello-clause-holds : goal.returns-in_ok-came-in-Hello-clause-holds
 returns-in_ok-came-in-Hello-clause-holds g c = λ none.

@@ -1,4 +1,4 @@
-use Rattle.std.proofs.Common.{◌-◌, List, length, map, vec_len}
+use Rattle.std.proofs.Common.{◌-◌, length, map, vec_len}
 use Rattle.std.specs.Prelude.{option_map}
 use Rattle.std.specs.Option.{option_copied}
 use Rattle.willow_area.specs.AreaBox.{area_box}
@@ -8,8 +8,8 @@ use Rattle.sync_pair.proofs.meet.meet_rows.Given as goal
 
 abbrev pub invariant-turns : goal.invariant-turns
 invariant-turns g l =
-    SoFar (meeting (map g.R.Row.value l.left) (map g.R.Row.value l.right) (option_map area_box (option_copied l.fn.area))) (map (λ turn. turn.items) l.turns.items)
+    SoFar l.fn.version (meeting l.fn.version (map g.R.Row.value l.left) (map g.R.Row.value l.right) (option_map area_box (option_copied l.fn.area))) (map (λ turn. turn.items) l.turns.items)
     l.caller.side l.answerer.side (map g.R.Row.value l.caller.got.items) (map g.R.Row.value l.answerer.got.items)
 
 abbrev pub decreases-turns : goal.decreases-turns
-decreases-turns g l = length (meeting (map g.R.Row.value l.left) (map g.R.Row.value l.right) (option_map area_box (option_copied l.fn.area))) - vec_len l.turns
+decreases-turns g l = length (meeting l.fn.version (map g.R.Row.value l.left) (map g.R.Row.value l.right) (option_map area_box (option_copied l.fn.area))) - vec_len l.turns

@@ -13,9 +13,13 @@ pub encode_item-requires : goal.encode_item-requires
 encode_item-requires g c =
     (passes_first c.args.from.now.side c.say.new.self.side c.args.to.now.side (item_value g.R.Row.value c.in_ok-item.item) c.in_ok-item.ensures.said c.requires.passes).spelled
 
-pub hear-requires : goal.hear-requires
-hear-requires g c =
+pub hear-requires-clause-comes : goal.hear-requires-clause-comes
+hear-requires-clause-comes g c =
     (passes_first c.args.from.now.side c.say.new.self.side c.args.to.now.side (item_value g.R.Row.value c.in_ok-item.item) c.in_ok-item.ensures.said c.requires.passes).may_come
+
+pub hear-requires-clause-prints : goal.hear-requires-clause-prints
+hear-requires-clause-prints g c =
+    (passes_first c.args.from.now.side c.say.new.self.side c.args.to.now.side (item_value g.R.Row.value c.in_ok-item.item) c.in_ok-item.ensures.said c.requires.passes).prints
 
 pub returns-clause-rest : goal.returns-clause-rest
 returns-clause-rest g c =

@@ -18,7 +18,7 @@ pub invariant_of-self : goal.invariant_of-self
 invariant_of-self g c =
     let value = item_value g.Q.Row.value c.args.item in
     let count : c.from-counted.result ≡ count_one value = byte_counts g.Q.Row.value c.args.item c.is_counted.result c.from-counted.result c.from-counted.ensures c.is_counted.ensures in
-    steady_heard _ _ _ c.self.invariant value c.hear-outcome.new.work c.hear-outcome.result c.hear-outcome.ensures.does c.from-counted.result count c.hear-outcome.ensures.ready (sym c.within.ensures ∙ c.in-Ok.is)
+    steady_heard _ _ _ c.self.invariant value c.hear-outcome.new.work c.hear-outcome.result c.hear-outcome.ensures.does c.from-counted.result count c.requires.prints c.hear-outcome.ensures.ready (sym c.within.ensures ∙ c.in-Ok.is)
 
 pub returns-in-Ok-clause-hears : goal.returns-in-Ok-clause-hears
 returns-in-Ok-clause-hears g c =

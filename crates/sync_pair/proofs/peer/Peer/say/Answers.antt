@@ -1,8 +1,8 @@
 use Rattle.std.proofs.Common.{◌≡◌, Some, refl, sym, subst}
 use Rattle.std.specs.Prelude.{IfOk, IsSome}
-use Rattle.sync_msg.specs.Items.{ItemValue, item_value}
+use Rattle.sync_msg.specs.Items.{item_value}
 use Rattle.sync_core.specs.Held.{item_at}
-use Rattle.sync_pair.proofs.TurnEnds.{IsSaid, is_said, says_made}
+use Rattle.sync_pair.proofs.TurnEnds.{is_said, says_made}
 use Rattle.sync_pair.proofs.peer.Peer.say.Goals as goal
 
 pub item_of-requires : goal.item_of-requires

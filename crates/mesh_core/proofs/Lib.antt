@@ -1,0 +1,9 @@
+pub mod Triples
+pub mod Rooms
+pub mod Come
+pub mod Stores
+pub mod Open
+pub mod Exact
+pub mod Meets
+pub mod Runs
+pub mod Alike

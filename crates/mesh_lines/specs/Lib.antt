@@ -1,0 +1,5 @@
+pub mod Cuts
+pub mod Lines
+pub mod Text
+pub mod Named
+pub mod Laws
