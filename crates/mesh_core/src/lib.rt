@@ -6,8 +6,10 @@ mod event;
 mod meeting;
 mod nodes;
 mod run;
+mod shared;
 mod taking;
 
 pub use event::MeshEvent;
 pub use nodes::MeshNodes;
 pub use run::run_events;
+pub use shared::MeshRow;

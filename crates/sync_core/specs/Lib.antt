@@ -6,3 +6,4 @@ pub mod Held
 pub mod Answers
 pub mod Hears
 pub mod Runs
+pub mod Talks
