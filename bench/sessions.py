@@ -15,8 +15,6 @@ import sys
 import tempfile
 import time
 
-from session_runs import wait_for_listener
-
 OWNER = "4f" * 32
 USER = "55" * 32
 
@@ -54,7 +52,7 @@ def reading(program: str, folder: str) -> float:
 def session(program: str, folder: str) -> tuple:
     server = subprocess.Popen([program, "serve", *COMMON, "--at", "127.0.0.1:47817", "--links", "1"],
                               cwd=f"{folder}/server", stderr=subprocess.PIPE)
-    wait_for_listener(47817)
+    time.sleep(1)  # until it listens
     before = resource.getrusage(resource.RUSAGE_CHILDREN)
     start = time.monotonic()
     caller = subprocess.run([program, "sync", *COMMON, "--to", "127.0.0.1:47817"], cwd=f"{folder}/caller",

@@ -10,8 +10,7 @@ MOST_ROWS = 65_536
 MOST_LINKS = 64
 HEX = "[0-9a-fA-F]"
 
-# The options of each command that is built; the ones in brackets may be absent. Of `meet`, `sync` and `serve` only the
-# further cases have `newest` and `bytes`, which are not built yet.
+# The options of each command that is built; the ones in brackets may be absent.
 OPTIONS = {
     "join": "namespace",
     "show": "[newest]",
@@ -21,9 +20,9 @@ OPTIONS = {
     "write": "key path time length digest [subspace]",
     "gen": "rows",
     "drill": "rows",
-    "meet": "left right left-cap right-cap left-out right-out [newest] [bytes] [subspace] [under] [from] [until]",
-    "sync": "image cap key to [newest] [bytes] [subspace] [under] [from] [until]",
-    "serve": "image cap key at links [newest] [bytes] [subspace] [under] [from] [until]",
+    "meet": "left right left-cap right-cap left-out right-out [subspace] [under] [from] [until]",
+    "sync": "image cap key to [subspace] [under] [from] [until]",
+    "serve": "image cap key at links [subspace] [under] [from] [until]",
 }
 
 
@@ -116,7 +115,7 @@ def until(word: str):
 
 VALUES = {
     "namespace": key, "user": key, "name": name, "height": height, "mode": mode, "key": signer,
-    "path": path, "time": number, "length": number, "digest": digest, "rows": count, "newest": count, "bytes": number,
+    "path": path, "time": number, "length": number, "digest": digest, "rows": count, "newest": count,
     "at": place, "links": links, "under": path, "from": number, "until": until, **{option: name for option in NAMES},
 }
 

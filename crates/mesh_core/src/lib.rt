@@ -6,10 +6,8 @@ mod event;
 mod meeting;
 mod nodes;
 mod run;
-mod shared;
 mod taking;
 
 pub use event::MeshEvent;
 pub use nodes::MeshNodes;
 pub use run::run_events;
-pub use shared::MeshRow;

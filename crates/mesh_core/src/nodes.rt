@@ -15,9 +15,9 @@ ghost use Rattle.mesh_core.specs.Generated.{HoldGenerated};
 
 use crate::event::MeshEvent;
 use crate::meeting::{area_from, meet};
-use crate::shared::MeshRow;
 use crate::taking::take_at;
 use block_store::{BlockStore, Rows, Snapshot};
+use cap_codec::RawRow;
 use peer_listing::generated_row;
 use std::alloc::Global;
 use std::marker::Model;
@@ -28,7 +28,7 @@ use willow_path::NoMemory;
 /// the order of their numbers.
 #[derive(Drop)]
 pub struct MeshNodes {
-    stores: Vec<BlockStore<MeshRow>>,
+    stores: Vec<BlockStore<RawRow>>,
 }
 
 impl Model for MeshNodes {
@@ -90,7 +90,7 @@ impl MeshNodes {
     }
 
     /// The rows of each node as they are.
-    pub fn snapshots(&self, alloc: Global) -> Result<Vec<Snapshot<MeshRow>>, NoMemory>
+    pub fn snapshots(&self, alloc: Global) -> Result<Vec<Snapshot<RawRow>>, NoMemory>
         ensures { IfOk result (λ snapshots. snapshots.items ≡ self.now) }
     {
         snapshots(alloc, &self.stores)
@@ -98,7 +98,7 @@ impl MeshNodes {
 }
 
 // So many stores without rows.
-fn empty_stores(alloc: Global, nodes: u32) -> Result<Vec<BlockStore<MeshRow>>, NoMemory>
+fn empty_stores(alloc: Global, nodes: u32) -> Result<Vec<BlockStore<RawRow>>, NoMemory>
     ensures as_many { IfOk result (λ stores. length stores.items ≡ nodes) }
     ensures empty { IfOk result (λ stores. nodes_of stores.items ≡ empty_nodes) }
 {
@@ -112,7 +112,7 @@ fn empty_stores(alloc: Global, nodes: u32) -> Result<Vec<BlockStore<MeshRow>>, N
 // A node is offered a row of the generator.
 fn offer(
     alloc: Global,
-    stores: &mut Vec<BlockStore<MeshRow>>,
+    stores: &mut Vec<BlockStore<RawRow>>,
     node: usize,
     row: u32,
 ) -> Result<(), NoMemory>
@@ -123,7 +123,7 @@ fn offer(
     ensures as_many { length stores.new.items ≡ length stores.old.items }
 {
     let mut rows = Vec::new(alloc);
-    rows.push(MeshRow::new(alloc, generated_row(alloc, row)?)?)?;
+    rows.push(generated_row(alloc, row)?)?;
     take_at(stores, node, rows)
 }
 
@@ -131,7 +131,7 @@ fn offer(
 fn happen_to(
     alloc: Global,
     version: u8,
-    stores: &mut Vec<BlockStore<MeshRow>>,
+    stores: &mut Vec<BlockStore<RawRow>>,
     event: &MeshEvent,
 ) -> Result<(), NoMemory>
     requires version { IsVersion version }
@@ -155,7 +155,7 @@ fn happen_to(
 }
 
 // Whether there is another row, and it is this one.
-fn is_row(row: &MeshRow, other: Option<&MeshRow>) -> bool
+fn is_row(row: &RawRow, other: Option<&RawRow>) -> bool
     ensures some { IfSome other.entry (λ s. result ≡ same_row (row_of row.now) (row_of s.now)) }
     ensures none { IfNone other.entry (result ≡ false) }
 {
@@ -166,7 +166,7 @@ fn is_row(row: &MeshRow, other: Option<&MeshRow>) -> bool
 }
 
 // Whether the rows that are left are the same.
-fn are_same(left: Rows<'_, MeshRow>, right: Rows<'_, MeshRow>) -> bool
+fn are_same(left: Rows<'_, RawRow>, right: Rows<'_, RawRow>) -> bool
     ensures { result ≡ pointwise same_row (map row_of left.entry) (map row_of right.entry) }
 {
     let (mut left, mut right) = (left, right);
@@ -179,7 +179,7 @@ fn are_same(left: Rows<'_, MeshRow>, right: Rows<'_, MeshRow>) -> bool
 }
 
 // The rows of a node, one after the other.
-fn rows_of(stores: &[BlockStore<MeshRow>], node: usize) -> Rows<'_, MeshRow>
+fn rows_of(stores: &[BlockStore<RawRow>], node: usize) -> Rows<'_, RawRow>
     requires { node < length stores.now }
     ensures { map row_of result ≡ nodes_of stores.now node }
 {
@@ -187,7 +187,7 @@ fn rows_of(stores: &[BlockStore<MeshRow>], node: usize) -> Rows<'_, MeshRow>
 }
 
 // Whether two nodes hold the same rows.
-fn are_same_at(stores: &[BlockStore<MeshRow>], left: usize, right: usize) -> bool
+fn are_same_at(stores: &[BlockStore<RawRow>], left: usize, right: usize) -> bool
     requires left { left < length stores.now }
     requires right { right < length stores.now }
     ensures { IsTrue result ↔ (nodes_of stores.now left ≡ nodes_of stores.now right) }
@@ -198,8 +198,8 @@ fn are_same_at(stores: &[BlockStore<MeshRow>], left: usize, right: usize) -> boo
 // The rows of each store as they are.
 fn snapshots(
     alloc: Global,
-    stores: &[BlockStore<MeshRow>],
-) -> Result<Vec<Snapshot<MeshRow>>, NoMemory>
+    stores: &[BlockStore<RawRow>],
+) -> Result<Vec<Snapshot<RawRow>>, NoMemory>
     ensures { IfOk result (λ snapshots. snapshots.items ≡ stores.now) }
 {
     let mut snapshots = Vec::new(alloc);

@@ -14,8 +14,8 @@ ghost use Rattle.mesh_core.specs.Promises.{CoversReached, HoldsAllOffered, HoldS
 use crate::event::MeshEvent;
 use crate::meeting::area_from;
 use crate::nodes::MeshNodes;
-use crate::shared::MeshRow;
 use block_store::Snapshot;
+use cap_codec::RawRow;
 use std::alloc::Global;
 use willow_path::NoMemory;
 
@@ -38,7 +38,7 @@ pub fn run_events(
     version: u8,
     nodes: u32,
     events: &[MeshEvent],
-) -> Result<Vec<Snapshot<MeshRow>>, NoMemory>
+) -> Result<Vec<Snapshot<RawRow>>, NoMemory>
     requires version { IsVersion version }
     requires among { All (IsAmong nodes) events.now }
     ensures as_many { IfOk result (λ stores. length stores.items ≡ nodes) }

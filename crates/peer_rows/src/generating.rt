@@ -7,28 +7,25 @@ ghost use Rattle.peer_stage.specs.World.{World};
 ghost use Rattle.peer_rows.specs.Generate.{generated_frames, Generates};
 
 use crate::imaging::PIECE;
-use peer_listing::{GENERATED_ROWS, Generator};
+use peer_listing::{GENERATED_ROWS, GeneratedFrames};
 use peer_stage::{Done, Stop, write_output};
 use std::alloc::Global;
 use willow_outside::Sink;
-
-// So many rows are made together: enough for all lanes, few enough that what is made of them stays near.
-const TOGETHER: u32 = 64;
 
 /// Writes the frames of the first `rows` rows of the generator, from row 0 on. There are at most `GENERATED_ROWS`.
 pub fn generate<O: Sink>(alloc: Global, rows: u32, output: &mut O) -> Result<Done, Stop>
     requires { rows ≤ GENERATED_ROWS }
     ensures { (others : World) → Generates rows (record others { output = O.facts output.old }) (record others { output = O.facts output.new }) result }
 {
-    let generator = Generator::new(alloc)?;
-    write_frames(alloc, &generator, rows, output)?;
+    let frames = GeneratedFrames::new(alloc)?;
+    write_frames(alloc, &frames, rows, output)?;
     Ok(Done::Made)
 }
 
-// Writes the frames of the first rows: no more of them than a piece and those made together stand in memory.
+// Writes the frames of the first rows: no more of them than a piece and a frame stands in memory.
 fn write_frames<O: Sink>(
     alloc: Global,
-    generator: &Generator,
+    frames: &GeneratedFrames,
     rows: u32,
     output: &mut O,
 ) -> Result<(), Stop>
@@ -37,15 +34,12 @@ fn write_frames<O: Sink>(
     ensures faults { CountsStep (O.facts output.old).faults (O.facts output.new).faults result }
 {
     let mut piece = Vec::new(alloc);
-    let mut made = 0;
-    'rows: while made < rows {
+    'rows: for i in 0..rows {
         if piece.len() >= PIECE {
             write_output(output, &piece)?;
             piece.clear();
         }
-        let to = rows.min(made + TOGETHER);
-        generator.put_frames(alloc, made, to, &mut piece)?;
-        made = to;
+        frames.put(alloc, i, &mut piece)?;
     }
     write_output(output, &piece)
 }

@@ -4,8 +4,8 @@ use Rattle.peer_stage.specs.Deed.{Deed, not_built}
 use Rattle.peer_rows.specs.Deeds.{join_deed, show_deed, gen_deed}
 use Rattle.peer_make.specs.Deeds.{key_deed, grant_deed, delegate_deed, write_deed}
 use Rattle.peer_run.specs.PairDeeds.{drill_deed, meet_deed}
-use Rattle.peer_run.specs.HostDeed.{host_deed}
-use Rattle.peer_run.specs.Hosting.{calling, serving}
+use Rattle.peer_run.specs.SyncDeed.{sync_deed}
+use Rattle.peer_run.specs.ServeDeed.{serve_deed}
 use Rattle.peer_words.specs.declared.command.Command.{Command}
 use Rattle.peer_words.specs.declared.command.Command.TheVariants as cmd
 
@@ -21,6 +21,6 @@ deed_of (cmd.Gen rows) = gen_deed rows
 deed_of (cmd.Drill rows) = drill_deed rows
 deed_of (cmd.Meet left right left_cap right_cap left_out right_out area None None) =
     meet_deed (record { left = left; right = right; left_cap = left_cap; right_cap = right_cap; left_out = left_out; right_out = right_out; area = area })
-deed_of (cmd.Sync image cap key to area None None false) = host_deed (calling image cap key to area)
-deed_of (cmd.Serve image cap key at links area None None false None) = host_deed (serving image cap key at links area)
+deed_of (cmd.Sync image cap key to area None None false) = sync_deed (record { image = image; cap = cap; key = key; to = to; area = area })
+deed_of (cmd.Serve image cap key at links area None None false None) = serve_deed (record { image = image; cap = cap; key = key; at = at; links = links; area = area })
 deed_of command = not_built

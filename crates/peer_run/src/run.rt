@@ -8,19 +8,19 @@ ghost use Rattle.peer_stage.specs.World.{World};
 ghost use Rattle.peer_words.specs.Words.{texts};
 ghost use Rattle.peer_words.specs.Commands.{IsWords};
 ghost use Rattle.peer_run.specs.Deeds.{deed_of};
-ghost use Rattle.peer_run.specs.Hosting.{calling, serving};
 ghost use Rattle.peer_run.specs.Run.{RunsWords};
 ghost use Rattle.peer_run.specs.Promises.{KeepsPromises};
 
 use crate::drilling::drill;
 use crate::judging::RowChecker;
 use crate::meeting::{MeetWords, meet};
-use crate::sessions::{HostWords, host};
+use crate::serving::{ServeWords, serve};
+use crate::syncing::{SyncWords, sync};
 use peer_make::{delegate, grant, make_key, write};
 use peer_report::end_run;
 use peer_rows::{generate, join, show};
 use peer_stage::{Done, Stop};
-use peer_words::{AreaWords, Command, SignerWord, Usage, read_words};
+use peer_words::{Command, Usage, read_words};
 use spelling::End;
 use std::alloc::Global;
 use std::sync::Wait;
@@ -157,43 +157,6 @@ fn is_more_than_service(
     is_limited(newest, bytes) || (follow || log.is_some())
 }
 
-/// A link to the place is called for.
-fn calling(image: String, cap: String, key: SignerWord, to: String, area: AreaWords) -> HostWords
-    ensures { result ≡ calling image cap key to area }
-{
-    HostWords {
-        awaited: false,
-        image,
-        cap,
-        key,
-        place: to,
-        links: 1,
-        area,
-    }
-}
-
-/// So many links are waited for at the place.
-fn serving(
-    image: String,
-    cap: String,
-    key: SignerWord,
-    at: String,
-    links: u32,
-    area: AreaWords,
-) -> HostWords
-    ensures { result ≡ serving image cap key at links area }
-{
-    HostWords {
-        awaited: true,
-        image,
-        cap,
-        key,
-        place: at,
-        links,
-        area,
-    }
-}
-
 /// Runs a command that talks to others over links.
 fn run_afar<R: Wait + Threads + Sync, H: Shelf, D: Door, N: Noise>(
     rt: &R,
@@ -223,8 +186,14 @@ fn run_afar<R: Wait + Threads + Sync, H: Shelf, D: Door, N: Noise>(
             if is_more_than_session(newest, bytes, follow) {
                 return Err(Stop::Usage);
             }
-            let words = calling(image, cap, key, to, area);
-            host(rt, alloc, words, shelf, door, noise)
+            let words = SyncWords {
+                image,
+                cap,
+                key,
+                to,
+                area,
+            };
+            sync(rt, alloc, words, shelf, door, noise)
         }
         server => run_server(rt, alloc, server, shelf, door, noise),
     }
@@ -261,8 +230,15 @@ fn run_server<R: Wait + Threads + Sync, H: Shelf, D: Door, N: Noise>(
             if is_more_than_service(newest, bytes, follow, &log) {
                 return Err(Stop::Usage);
             }
-            let words = serving(image, cap, key, at, links, area);
-            host(rt, alloc, words, shelf, door, noise)
+            let words = ServeWords {
+                image,
+                cap,
+                key,
+                at,
+                links,
+                area,
+            };
+            serve(rt, alloc, words, shelf, door, noise)
         }
         _ => unreachable!(),
     }

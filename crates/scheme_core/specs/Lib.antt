@@ -1,5 +1,4 @@
 pub mod Rules
-pub mod Signing
 pub mod Open
 pub mod OpenLaws
 pub mod Claims

@@ -18,4 +18,3 @@ pub mod Settled
 pub mod TurnByTurn
 pub mod Holding
 pub mod Tellers
-pub mod Weighing

@@ -19,6 +19,3 @@ pub mod TwoSides
 pub mod OneByOne
 pub mod Walking
 pub mod Parts
-pub mod Cases
-pub mod Distinct
-pub mod Weighing

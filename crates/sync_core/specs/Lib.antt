@@ -6,4 +6,3 @@ pub mod Held
 pub mod Answers
 pub mod Hears
 pub mod Runs
-pub mod Talks

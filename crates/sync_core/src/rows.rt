@@ -6,7 +6,7 @@ ghost use Rattle.willow_entry.specs.Row.{RowValue, same_row};
 ghost use Rattle.block_store.specs.InBox.{is_in, rows_in};
 ghost use Rattle.exchange_rules.specs.Answer.{lacking};
 ghost use Rattle.sync_core.specs.SyncRules.{sync_rules};
-ghost use Rattle.sync_msg.specs.declared.item.Item.TheVariants as out;
+ghost use Rattle.sync_core.specs.declared.out_item.OutItem.TheVariants as out;
 
 use crate::out_item::OutItem;
 use block_store::Snapshot;

@@ -153,7 +153,7 @@ module _ {R S : Type 0} (rules : Rules) (value : R → RowValue) where
 
   module _ (talker : Talker R S) (role : Role) (made : Option (List ℕ)) (due : Due R) (fits : Fits role made due) (closed : IsOpen due → ⊥) where
     abbrev party : List ℕ → Party
-    party signature = record { rules = rules; namespace = talker.namespace; role = talker.role; hello = talker.hello; interest = talker.interest; signature = signature }
+    party signature = record { rules = rules; namespace = talker.namespace; role = talker.role; hello = talker.hello; signature = signature }
 
     pub idle_silent : (at : ℕ) (held bytes : List ℕ) (signature : List ℕ) → IsSilent (party signature) (map value talker.snapshot) (stand_of due at held) bytes (stand_of due at held)
     idle_silent at held bytes signature = (idle role made due fits closed at held).1 (party signature) (map value talker.snapshot) bytes

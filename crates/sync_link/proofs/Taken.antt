@@ -7,7 +7,7 @@ use Rattle.scheme_core.specs.Rules.{Rules}
 use Rattle.willow_entry.specs.Row.{RowValue}
 use Rattle.sync_msg.specs.declared.role.Role.{Role}
 use Rattle.sync_hello.specs.declared.hello.Hello.{Hello}
-use Rattle.session_rules.specs.Reading.{Over, move, run}
+use Rattle.session_rules.specs.Reading.{Stand, Over, move, run, stay}
 use Rattle.session_rules.specs.Reading as reading
 use Rattle.session_rules.proofs.Runs.{run_idle}
 use Rattle.sync_link.specs.Sessions.{session_of}
@@ -22,7 +22,6 @@ use Rattle.sync_link.specs.declared.due.Cause.TheVariants as causes
 use Rattle.sync_link.specs.declared.due.Due.{Due}
 use Rattle.sync_link.specs.declared.due.Due.TheVariants as dues
 use Rattle.sync_link.specs.declared.talker.Talker.{Talker}
-use Rattle.sync_link.proofs.Agreeing.{talks_still}
 use Rattle.sync_link.proofs.Feeding.{closed_feeds, closed_holds, over_by, taken_on, taken_last, unsigned_before}
 use Rattle.sync_link.proofs.Tally.{counts_append}
 
@@ -47,7 +46,7 @@ module _ {R S : Type 0} (rules : Rules) (value : R → RowValue) where
         });
     counts = λ at.
         subst (λ n. CountsOn (fed_with rules value talker due at []) (fed_with rules value talker due n []) []) (same at)
-        (λ well signature may. record { sent = omega arith; read = omega arith; agreed = λ talks. inl (talks, refl) });
+        (λ well signature may. record { sent = omega arith; read = omega arith });
     fits = fits;
     read = omega arith;
   }
@@ -144,7 +143,6 @@ module _ {R S : Type 0} (rules : Rules) (value : R → RowValue) where
       record {
         sent = sym (ap (λ q. sent_of due + counted (reading.read here q rest).says) over ∙ ap (λ m. sent_of due + counted m.says) (run_idle (move here) Over (λ b. refl) rest) ∙ omega arith);
         read = sym (ap (λ q. read_of due + counted (reading.read (noting here) q rest).rows) over ∙ ap (λ m. read_of due + counted m.rows) (run_idle (move (noting here)) Over (λ b. refl) rest) ∙ omega arith);
-        agreed = λ talks. inl (talks_still due at at rest [] talks, refl);
       }
 
   closed_counts : (talker : Talker R S) (role : Role) (made : Option (List ℕ)) (due : Due R) (at : ℕ) (rest : List ℕ) → Fits role made due → (IsOpen due → ⊥) → CountsOn (fed_with rules value talker due at []) (fed_with rules value talker due at rest) rest

@@ -7,14 +7,12 @@ ghost use Rattle.mc_cap.specs.Signature.{signature_spelling};
 ghost use Rattle.sync_hello.specs.Checked.{hello_refusal};
 ghost use Rattle.sync_hello.specs.HelloForm.{HasSpelling};
 ghost use Rattle.sync_link.specs.Sound.{AreSound};
-ghost use Rattle.sync_link.specs.Talking.{AreOffered, AsksOnce, BeginsExchange, BeginsOffered, CanFail, FailsSign, HearsHello, HearsProof, IsSigned, Keeps, Once, Proves, SpeaksSome, UnsignedIf, Writes, area_between, box_between, first_with, own_message, proof_cause, said_to_hello, said_to_proof, version_between};
+ghost use Rattle.sync_link.specs.Talking.{AsksOnce, BeginsExchange, CanFail, FailsSign, HearsHello, HearsProof, IsSigned, Keeps, Once, Proves, SpeaksSome, UnsignedIf, Writes, box_between, first_with, own_message, proof_cause, said_to_hello, said_to_proof, version_between};
 
 use crate::due::{Cause, Due, Exchange};
 use crate::speak::speak;
 use crate::standing::Stop;
 use crate::talker::Talker;
-use area_interest::{Interest, offered};
-use block_store::Snapshot;
 use mc_cap::Signature;
 use scheme_core::{MAX_SIGNATURE, Signer, Verify};
 use spelling::{End, NoMemory, put_bytes, put_u16};
@@ -232,8 +230,7 @@ fn prove_back<R: Row, S: Verify, K: Signer>(
     }
 }
 
-// Begins the exchange of the rows that are offered in the area that both may read, in the version that both speak, and says what
-// is due first.
+// Begins the exchange in the version that both speak, in the area that both may read, and says what is due first.
 fn begin_exchange<R: Row, S: Verify>(
     talker: &Talker<R, S>,
     other: &Hello,
@@ -242,63 +239,17 @@ fn begin_exchange<R: Row, S: Verify>(
     requires rows { AreSound (map R.value talker.now.snapshot) }
     requires speaks { SpeaksSome talker.now.hello }
     requires other_speaks { SpeaksSome other.now }
-    ensures { IfOk result (λ exchange. BeginsOffered R.value talker.now other.now exchange out.old.items out.new.items) }
-{
-    let area = area_between(talker.role, &talker.hello, other)?;
-    let rows = offered_in(talker.alloc, &talker.snapshot, &area, &talker.interest)?;
-    begin_over(talker, other, area, rows, out)
-}
-
-// The rows that are offered where this is the area that both may read, if there is one. None is copied.
-fn offered_in<R: Row>(
-    alloc: Global,
-    snapshot: &Snapshot<R>,
-    area: &Option<Area>,
-    limits: &Interest,
-) -> Result<Snapshot<R>, NoMemory>
-    requires rows { AreSound (map R.value snapshot.now) }
-    ensures { IfOk result (λ rows. AreOffered limits.now (option_map area_box area.now) (map R.value snapshot.now) (map R.value rows)) }
-{
-    match area {
-        None => snapshot.share(),
-        Some(area) => offered(alloc, snapshot, area, limits),
-    }
-}
-
-// Begins it over these rows.
-fn begin_over<R: Row, S: Verify>(
-    talker: &Talker<R, S>,
-    other: &Hello,
-    area: Option<Area>,
-    rows: Snapshot<R>,
-    out: &mut Vec<u8>,
-) -> Result<Exchange<R>, NoMemory>
-    requires rows { AreSound (map R.value rows) }
-    requires area { option_map area_box area ≡ box_between talker.now.role talker.now.hello other.now }
-    requires speaks { SpeaksSome talker.now.hello }
-    requires other_speaks { SpeaksSome other.now }
-    ensures begins { IfOk result (λ exchange. BeginsExchange (first_with talker.now other.now (map R.value rows)) exchange out.old.items out.new.items) }
-    ensures area { IfOk result (λ exchange. exchange.area ≡ area) }
+    ensures { IfOk result (λ exchange. BeginsExchange (first_with R.value talker.now other.now) exchange out.old.items out.new.items) }
 {
     let version = version_between(talker.role, &talker.hello, other);
-    let both = copy_of(&area)?;
+    let area = area_between(talker.role, &talker.hello, other)?;
+    let rows = talker.snapshot.share()?;
     let mut core = SyncCore::begin(talker.alloc, version, talker.role, rows, area)?;
     speak(&mut core, out)?;
     Ok(Exchange {
         core,
         reader: ItemReader::new(talker.alloc, version),
-        area: both,
     })
-}
-
-// A copy of the area, if there is one.
-fn copy_of(area: &Option<Area>) -> Result<Option<Area>, NoMemory>
-    ensures { IfOk result (λ copy. copy ≡ area.now) }
-{
-    match area {
-        None => Ok(None),
-        Some(area) => Ok(Some(area.copy()?)),
-    }
 }
 
 // The version of the session.
@@ -315,8 +266,7 @@ fn version_between(role: Role, own: &Hello, other: &Hello) -> u8
 
 // The area that both may read.
 fn area_between(role: Role, own: &Hello, other: &Hello) -> Result<Option<Area>, NoMemory>
-    ensures area { IfOk result (λ area. area ≡ area_between role own.now other.now) }
-    ensures boxed { IfOk result (λ area. option_map area_box area ≡ box_between role own.now other.now) }
+    ensures { IfOk result (λ area. option_map area_box area ≡ box_between role own.now other.now) }
 {
     match role {
         Role::Caller => common_area(own, other),

@@ -12,13 +12,12 @@ ghost use Rattle.sync_link.specs.Held.{IsHeld, heard_fed, heard_side};
 ghost use Rattle.sync_link.specs.Talking.{AsksOnce, FailsSign, Keeps, SignsBy, SpeaksSome};
 ghost use Rattle.sync_link.specs.Taking.{listed};
 
-use crate::due::{Cause, Due, Exchange};
+use crate::due::{Cause, Due};
 use crate::ear::{Ear, hear_on, shut};
 use crate::lists::Lists;
 use crate::standing::{Standing, Stop};
 use crate::take_all::is_open;
 use crate::talker::Talker;
-use area_interest::Interest;
 use block_store::Snapshot;
 use scheme_core::{Signer, Verify};
 use spelling::NoMemory;
@@ -27,12 +26,10 @@ use std::marker::Model;
 use sync_core::Stage;
 use sync_hello::Hello;
 use sync_msg::Role;
-use willow_area::Area;
 use willow_entry::Row;
 use willow_path::NamespaceKey;
 
-// A side of a session. A contract sees what it brings, how it stands, how many counted items it said and read, and the area that
-// both may read, once an exchange has begun.
+// A side of a session. A contract sees what it brings, how it stands, and how many counted items it said and read.
 #[derive(Drop)]
 pub(crate) struct Speaker<R: Row, S: Verify> {
     talker: Talker<R, S>,
@@ -58,14 +55,13 @@ impl<R: Row, S: Verify> Speaker<R, S> {
         namespace: NamespaceKey,
         role: Role,
         hello: Hello,
-        interest: Interest,
         snapshot: Snapshot<R>,
         out: &mut Vec<u8>,
     ) -> Result<Speaker<R, S>, NoMemory>
         requires own { HasSpelling hello }
         requires speaks { SpeaksSome hello }
         requires rows { AreSound (map R.value snapshot) }
-        ensures begun { IfOk result (λ speaker. speaker ≡ begun namespace role hello interest (map R.value snapshot)) }
+        ensures begun { IfOk result (λ speaker. speaker ≡ begun namespace role hello (map R.value snapshot)) }
         ensures says { OnOk result (out.new.items ≡ out.old.items ++ first_bytes role hello) }
         ensures err { OnErr result (out.new.items ≡ out.old.items) }
     {
@@ -77,7 +73,6 @@ impl<R: Row, S: Verify> Speaker<R, S> {
                 namespace,
                 role,
                 hello,
-                interest,
                 signature: None,
                 snapshot,
             },
@@ -150,29 +145,6 @@ impl<R: Row, S: Verify> Speaker<R, S> {
             Some(signature) => {
                 let _bytes = signature.as_slice();
             }
-        }
-    }
-
-    // The area that both sides may read, if there is one and the exchange has begun.
-    pub(crate) fn into_area(self) -> Option<Area>
-        ensures { result ≡ self.area }
-    {
-        let Speaker { talker: _, ear } = self;
-        let Ear {
-            due,
-            at: _,
-            held: _,
-        } = ear;
-        match due {
-            Due::Items(exchange) => {
-                let Exchange {
-                    core: _,
-                    reader: _,
-                    area,
-                } = exchange;
-                area
-            }
-            Due::Hello | Due::Proof(_) | Due::Nothing(_) => None,
         }
     }
 

@@ -41,6 +41,6 @@ pub returns : goal.returns
 returns g c =
     let hall : Hall = record { namespace = c.namespace-namespace.result; cell = c.in_ok-cell.cell; plan = c.args.plan } in
     let made = c.in_ok-own.ensures in
-    attends c.args.place.now c.args.plan c.args.signers.items c.args.draws.now c.args.state hall c.in_ok-own.own c.in_ok-own.guests.items c.requires.opening _
+    attends c.args.place.now c.args.plan c.args.signers.items c.args.draws.now c.args.state hall c.in_ok-own.own c.in_ok-own.guests.items _
     (g.D.Door.facts c.args.door.now) (g.D.Door.facts c.listen.new.door) (g.D.Door.facts c.host_links.new.door) c.in_ok-hosted.hosted c.leave.result refl c.in_ok-cell.ensures.cell.1
     (made.passes ∙ c.in_ok-cell.ensures.passes) made.signers made.nonces c.in_ok-listen.ensures c.in_ok-hosted.ensures.hosts c.leave.ensures

@@ -1,6 +1,4 @@
-use Rattle.std.proofs.Common.{sym, subst, ◌∙◌}
-use Rattle.peer_run.specs.Hosting.{Hosts}
-use Rattle.peer_run.specs.declared.sessions.HostWords.{HostWords}
+use Rattle.std.proofs.Common.{sym, ◌∙◌}
 use Rattle.peer_run.proofs.Unbuilt.{limited_sync, whole_sync}
 use Rattle.peer_run.proofs.run.run_afar.Goals as goal
 
@@ -10,5 +8,4 @@ returns-then-is_more_than_session g c =
 
 pub returns-else-is_more_than_session : goal.returns-else-is_more_than_session
 returns-else-is_more_than_session g c =
-    rw c.in-Sync.is (λ others. whole_sync c.in-Sync.image c.in-Sync.cap c.in-Sync.key c.in-Sync.to c.in-Sync.area c.in-Sync.newest c.in-Sync.bytes c.in-Sync.follow (sym c.if-is_more_than_session.false ∙ c.is_more_than_session.ensures) _ _ _
-    (subst (λ (words : HostWords). Hosts words _ _ _) c.calling-words.ensures (c.host.ensures others)))
+    rw c.in-Sync.is (λ others. whole_sync c.in-Sync.image c.in-Sync.cap c.in-Sync.key c.in-Sync.to c.in-Sync.area c.in-Sync.newest c.in-Sync.bytes c.in-Sync.follow (sym c.if-is_more_than_session.false ∙ c.is_more_than_session.ensures) _ _ _ (c.sync.ensures others))

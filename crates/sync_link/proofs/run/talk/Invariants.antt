@@ -10,9 +10,8 @@ invariant-talking g l = record {
   namespace : g.C.Checker.judged_in l.checker ≡ g.C.Checker.judged_in l.fn.checker;
   counted : IsCounted l.session;
   gives : g.K.Signer.gives l.signer ≡ g.K.Signer.gives l.fn.signer;
-  most : g.L.Link.most l.link ≡ g.L.Link.most l.fn.link;
   room : 1 ≤ length l.room.items;
-  keeps : Keeps g.S.Verify.rules l.cell.namespace (g.K.Signer.gives l.fn.signer) (g.L.Link.most l.fn.link)
+  keeps : Keeps g.S.Verify.rules l.cell.namespace (g.K.Signer.gives l.fn.signer)
       (now_of g.S.Verify.rules l.fn.session l.fn.pass (g.L.Link.facts l.fn.link) (g.K.Signer.left l.fn.signer) (g.K.Signer.faults l.fn.signer))
       (now_of g.S.Verify.rules l.session l.pass (g.L.Link.facts l.link) (g.K.Signer.left l.signer) (g.K.Signer.faults l.signer));
 }
