@@ -15,6 +15,8 @@ import sys
 import tempfile
 import time
 
+from session_runs import wait_for_listener
+
 OWNER = "4f" * 32
 USER = "55" * 32
 
@@ -52,7 +54,7 @@ def reading(program: str, folder: str) -> float:
 def session(program: str, folder: str) -> tuple:
     server = subprocess.Popen([program, "serve", *COMMON, "--at", "127.0.0.1:47817", "--links", "1"],
                               cwd=f"{folder}/server", stderr=subprocess.PIPE)
-    time.sleep(1)  # until it listens
+    wait_for_listener(47817)
     before = resource.getrusage(resource.RUSAGE_CHILDREN)
     start = time.monotonic()
     caller = subprocess.run([program, "sync", *COMMON, "--to", "127.0.0.1:47817"], cwd=f"{folder}/caller",

@@ -32,21 +32,25 @@ def read() -> dict:
 
 
 def told_by_usage() -> dict:
-    """Those of the table of commands; `and an area` stands for the options that the sentence on areas has."""
+    """Those of the table of commands; `an area` and `limits` stand for the options that the sentences on these have."""
     text = (TOP / "docs/USAGE.md").read_text()
     area = set(re.findall(OPTION, re.search(r"^An \*\*area\*\* is (.*?)\. ", text, re.MULTILINE).group(1)))
+    limits = set(re.findall(OPTION, re.search(r"^\*\*Limits\*\* are (.*?)\. ", text, re.MULTILINE).group(1)))
     rows = re.findall(r"^\| (`\w+`(?:, `\w+`)*) \| ([^|]*) \| [^|]* \|$", text, re.MULTILINE)
-    return {command: set(re.findall(OPTION, options)) | (area if "an area" in options else set())
+    return {command: set(re.findall(OPTION, options)) | (area if "an area" in options else set()) | (limits if "limits" in options else set())
             for commands, options in rows if "--" in options for command in re.findall(r"`(\w+)`", commands)}
 
 
 def told_by_manual() -> dict:
-    """Those of the lines that head the commands; `area options` stands for the options of that section."""
+    """Those of the lines that head the commands; `area options` and `limits` stand for the options of these sections."""
     text = (TOP / "docs/willow_peer.1").read_text().replace("\\-", "-")
     commands, area = text[text.index(".SH COMMANDS"):].split(".SH AREA OPTIONS")
-    area = set(re.findall(OPTION, "".join(re.findall(r'^\.BI "?(--.*)$', area[:area.index(".SH ")], re.MULTILINE))))
+    area, limits = area.split(".SH LIMITS")
+    area, limits = (set(re.findall(OPTION, "".join(re.findall(r'^\.BI "?(--.*)$', part, re.MULTILINE))))
+                    for part in (area, limits[:limits.index(".SH ")]))
     heads = re.findall(r'^\.BI "(\w+)(.*)$', commands, re.MULTILINE)
-    return {command: set(re.findall(OPTION, words)) | (area if "area options" in words else set()) for command, words in heads}
+    return {command: set(re.findall(OPTION, words)) | (area if "area options" in words else set()) | (limits if "limits" in words else set())
+            for command, words in heads}
 
 
 def told_by_completions() -> dict:

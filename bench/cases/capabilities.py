@@ -145,7 +145,7 @@ class Capability:
         return b"H" + self.spelled() + area.spelled() + user
 
     def hello_refusal(self, namespace: bytes, ask: Area) -> Optional[str]:
-        """Why a hello of version 1 that shows this capability and asks for the area is refused: what fails first."""
+        """Why a hello that shows this capability and asks for the area is refused: what fails first."""
         if self.namespace != namespace:
             return "WrongNamespace"
         if self.mode != READ:

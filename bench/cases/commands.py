@@ -7,6 +7,7 @@ from capabilities import (FULL, Area, Capability, Delegation, entry_message, ini
 from entries import Entry, Store, by_recency, live
 from exchange import HIGHEST, Run, exchange
 from images import NotRising, Pruned, image, read_image
+from interest import UNLIMITED, Interest, interest_in
 from octets import NotSpelled, whole
 from outside import Fault, Objects
 from report import (BAD_INPUT, KEY_SPENT, LOG_FULL, MISSING, NOT_RISING, PRUNED, READ_FAULT, REFUSED, TAKEN, USAGE,
@@ -232,9 +233,9 @@ class Side:
         return f"rows {self.rows} stored {self.stored} kept {self.kept}"
 
 
-def met(left: Side, right: Side, area) -> Run:
-    """Both sides exchange what they have in the area, and take what comes."""
-    run = exchange(left.before, right.before, area)
+def met(left: Side, right: Side, area, interest: Interest = UNLIMITED) -> Run:
+    """Both sides exchange what they offer in the area, and take what comes."""
+    run = exchange(interest.offered(left.before, area), interest.offered(right.before, area), area)
     left.take_in(run.came[0])
     right.take_in(run.came[1])
     return run
@@ -271,7 +272,7 @@ def meet(objects: Objects, left: str, right: str, left_cap: str, right_cap: str,
     authorised = [judged(rows, namespace)[0] for _, rows in images]
     refusals = judged(images[0][1] + images[1][1], namespace)[1]
     sides = [Side(rows) for rows in authorised]
-    run = met(*sides, asks[0].common(asks[1]))
+    run = met(*sides, asks[0].common(asks[1]), interest_in(words))
     for name, side in zip((left_out, right_out), sides):
         given(lambda: objects.shelf.put(name, image(namespace, side.store.live())))
     given(lambda: objects.output.write_whole(run.transcript()))
@@ -311,11 +312,11 @@ class Opened:
         self.rows, self.store = len(rows), Store()
         take(self.store, authorised)
         self.capability = capability_in(named(objects, cap), cap)
-        self.ask = asked_by(self.capability, self.namespace, words)
+        self.ask, self.interest = asked_by(self.capability, self.namespace, words), interest_in(words)
 
     def session(self, role, link, sign, nonce: bytes) -> "Session":
         hello = Hello(HIGHEST, nonce, self.ask, self.capability)
-        return Session(self, role(self.namespace, hello, sign, self.store.live()), link)
+        return Session(self, role(self.namespace, hello, sign, self.store.live(), self.interest), link)
 
     def put(self, objects: Objects, name: str) -> bool:
         """Whether the image of what is live now was put."""

@@ -20,9 +20,9 @@ OPTIONS = {
     "write": "key path time length digest [subspace]",
     "gen": "rows",
     "drill": "rows",
-    "meet": "left right left-cap right-cap left-out right-out [subspace] [under] [from] [until]",
-    "sync": "image cap key to [subspace] [under] [from] [until]",
-    "serve": "image cap key at links [subspace] [under] [from] [until]",
+    "meet": "left right left-cap right-cap left-out right-out [newest] [bytes] [subspace] [under] [from] [until]",
+    "sync": "image cap key to [newest] [bytes] [subspace] [under] [from] [until]",
+    "serve": "image cap key at links [newest] [bytes] [subspace] [under] [from] [until]",
 }
 
 
@@ -115,7 +115,7 @@ def until(word: str):
 
 VALUES = {
     "namespace": key, "user": key, "name": name, "height": height, "mode": mode, "key": signer,
-    "path": path, "time": number, "length": number, "digest": digest, "rows": count, "newest": count,
+    "path": path, "time": number, "length": number, "digest": digest, "rows": count, "newest": count, "bytes": number,
     "at": place, "links": links, "under": path, "from": number, "until": until, **{option: name for option in NAMES},
 }
 

@@ -17,12 +17,20 @@ WORDS = {"left": "l", "right": "r", "left-cap": "l.cap", "right-cap": "r.cap", *
 
 
 def meet(name: str, left, right, left_cap=R, right_cap=R, space: bytes = N, given=b"", fails="", gone=(), also=None,
-         options=None, **area) -> Case:
+         options=None, by_hand=None, **area) -> Case:
     """Two images, be they rows or bytes, under two capabilities. Names that are gone are not there."""
     images = [each if isinstance(each, bytes) else old_image_of(*each, space=space) for each in (left, right)]
     names = {"l": images[0], "r": images[1], "l.cap": bytes_of(left_cap), "r.cap": bytes_of(right_cap), **(also or {})}
     kept = {name: data for name, data in names.items() if name not in gone}
-    return Case(f"meet-{name}", words_of("meet", **{**WORDS, **(options or {})}, **area), given, kept, fails=fails)
+    return Case(f"meet-{name}", words_of("meet", **{**WORDS, **(options or {})}, **area), given, kept, fails=fails,
+                by_hand=by_hand)
+
+
+def told_of(left: tuple, right: tuple, items: int, *turns: int) -> ByHand:
+    """A meeting in which each side has so many rows and stores and keeps so many, and so many items and turns are said."""
+    lines = "".join(f"{side} rows {rows} stored {stored} kept {kept}\n"
+                    for side, (rows, stored, kept) in (("left", left), ("right", right)))
+    return ByHand(0, f"{lines}items {items} turns {len(turns)}\n", turns=turns)
 
 
 def of_space(space: bytes, *rows: Row) -> bytes:
@@ -60,11 +68,14 @@ THREE_TIMES = [*timed((100,) * 10 + (200,) * 10 + (300,) * 10), *timed((300,), V
 LAST_TIMES = [*timed((GREATEST - 2,) * 5 + (GREATEST - 1,) * 5 + (GREATEST,) * 6), *timed((0,), V)]
 
 MEETINGS = [
-    meet("of-forty-rows-a-side-of-which-one-is-later", FORTY, ONE_LATER),
-    meet("of-nothing-and-seventeen-rows", [], numbered(range(17))),
+    # First; four parts; agreement on three, and ten rows of the third; the one that differs; farewell.
+    meet("of-forty-rows-a-side-of-which-one-is-later", FORTY, ONE_LATER,
+         by_hand=told_of((40, 1, 0), (40, 0, 10), 7, 34, 141, 2_236, 229, 1)),
+    meet("of-nothing-and-seventeen-rows", [], numbered(range(17)),
+         by_hand=told_of((0, 17, 0), (17, 0, 0), 10, 34, 141, 9, 3_812, 1)),
     meet("of-seventeen-rows-and-nothing", numbered(range(17)), []),
     meet("of-sixteen-rows-and-nothing", numbered(range(16)), []),
-    meet("of-nothing-and-nothing", [], []),
+    meet("of-nothing-and-nothing", [], [], by_hand=told_of((0, 0, 0), (0, 0, 0), 2, 34, 2, 1)),
     meet("of-equal-rows", FORTY, FORTY),
     meet("of-rows-that-differ-throughout", numbered(range(0, 40, 2)), numbered(range(1, 40, 2))),
     meet("sends-what-prunes-and-what-is-pruned", [row(A, 6)], [row(AB, 5), row(B, 5)]),
@@ -112,7 +123,8 @@ CUT_BY_TIME = [
 ]
 
 AREAS = [
-    meet("of-two-subspaces-says-farewell", FORTY, numbered(range(3), author=V), R, communal(V, mode=READ)),
+    meet("of-two-subspaces-says-farewell", FORTY, numbered(range(3), author=V), R, communal(V, mode=READ),
+         by_hand=told_of((40, 0, 0), (3, 0, 0), 0, 1, 1)),
     meet("of-one-subspace-of-an-owned-namespace", IN_O[:2], IN_O[1:], ALL, handed(ALL, V, subspace=V), O),
     meet("below-a-path", [row(A, 5), row(B, 5)], [row(AB, 7), row(B, 7)], under="/61"),
     meet("below-two-paths-of-which-one-extends-the-other", IN_O[:2], IN_O[1:], handed(ALL, U, under=A),

@@ -5,6 +5,7 @@ are new or has numbers that another one changes. `Case` asserts that of some ord
 """
 from exchange import BYE, END_TURN, ENTRIES, HIGHEST, exchange, frames
 from grammar import MOST_LINKS
+from interest import UNLIMITED, Interest
 from meet_cases import FEW_BESIDE, FORTY, IN_O, LONG, MANY, ONE_LATER, lacking, numbered
 from sessions import CALLER, Answerer, Caller, Hello, proof_message, spoken
 from sync_cases import ALL, NO_PATH, OF_K_READ, OTHER_NONCE, R, SPOILT, at_path, at_time, live_of, parts, split
@@ -15,9 +16,10 @@ WORDS = {"image": "i", "cap": "c", "key": BY_U, "at": "host:1"}
 
 
 def calls(own: list, others: list, link: int = 1, cap=R, other_cap=R, ask=None, other_ask=None,
-          version: int = HIGHEST, by=None, server=None, said=None) -> bytes:
+          version: int = HIGHEST, by=None, server=None, said=None, interest: Interest = UNLIMITED,
+          other_interest: Interest = UNLIMITED) -> bytes:
     """All that one who calls with other rows, and speaks up to this version, says over a link, counted from 1, to a
-    server with the own ones."""
+    server with the own ones. Each side offers what its interest leaves."""
     caller = Hello(version, OTHER_NONCE, other_ask or other_cap.grant(), other_cap)
     answerer = Hello(HIGHEST, DRAWS[link - 1][:16], ask or cap.grant(), cap)
     signer = by or other_cap.receiver()
@@ -25,10 +27,12 @@ def calls(own: list, others: list, link: int = 1, cap=R, other_cap=R, ask=None, 
     if said is not None:
         return greeting + said
     area = caller.ask.common(answerer.ask)
-    turns = exchange(live_of(others), live_of(own), area, spoken(caller, answerer)).turns
+    offers = other_interest.offered(live_of(others), area), interest.offered(live_of(own), area)
+    turns = exchange(*offers, area, spoken(caller, answerer)).turns
     told = greeting + b"".join(turns[::2])
-    meet_as(told, b"".join(turns[1::2]), Caller(cap.namespace, caller, by_signer(signer), live_of(others)),
-            Answerer(cap.namespace, answerer, by_signer(server or cap.receiver()), live_of(own)))
+    meet_as(told, b"".join(turns[1::2]),
+            Caller(cap.namespace, caller, by_signer(signer), live_of(others), other_interest),
+            Answerer(cap.namespace, answerer, by_signer(server or cap.receiver()), live_of(own), interest))
     return told
 
 
@@ -125,7 +129,9 @@ OF_VERSION_1 = [
     serve("for-one-of-version-1-of-forty-rows-a-side", FORTY, OLD_WHOLE, by_hand=ByHand(
         0, "link 1: opened 40 closed 41 stored 1 kept 0 refused 0 sent 3 read 4\n", (170 + 70 + 2_234 + 1,))),
     meets("for-one-of-version-1-of-nothing-and-seventeen-rows", [], numbered(range(17)), 1),
-    meets("for-one-of-version-1-of-seventeen-rows-and-nothing", numbered(range(17)), [], 1),
+    # Read are First and twice Entries of none; sent are turns of Split and of Rest of eight and of nine.
+    meets("for-one-of-version-1-of-seventeen-rows-and-nothing", numbered(range(17)), [], 1, by_hand=ByHand(
+        0, "link 1: opened 17 closed 17 stored 0 kept 0 refused 0 sent 3 read 3\n", (170 + 70 + 3_802,))),
     meets("for-one-of-version-1-of-nothing-and-nothing", [], [], 1),
     meets("for-one-of-version-1-of-equal-rows", FORTY, FORTY, 1),
     meets("for-one-of-version-1-is-brought-what-prunes", [row(A, 3), row(AB, 4)], [row(A, 6)], 1),

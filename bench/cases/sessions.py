@@ -8,8 +8,9 @@ from capabilities import Area, Capability, accepts, read_area, read_capability, 
 from entries import read_key, read_path
 from exchange import (BYE, END_TURN, FIRST, HIGHEST, MOST_POINTS, PATH, SUBSPACE, TIME, Box, Cut, Print, Sent,
                       fingerprint)
+from interest import UNLIMITED, Interest
 from octets import NotSpelled, Reader, Short, number, whole
-from rows import Row, WrongFrame, read_frame
+from rows import LONGEST_BODY, Row, WrongFrame, read_frame
 
 CALLER, ANSWERER = 0, 1
 PRINT = 32
@@ -91,11 +92,19 @@ def read_hello(reader: Reader) -> Hello:
         raise NotSpelled
     version, nonce = reader.number(1), reader.take(16)
     ask = read_area(reader)
-    return Hello(version, nonce, ask, inner(read_capability, reader.take(reader.number(4))))
+    return Hello(version, nonce, ask, inner(read_capability, reader.take(read_length(reader))))
+
+
+def read_length(reader: Reader) -> int:
+    """It is judged before what stands behind it is there."""
+    length = reader.number(4)
+    if length > LONGEST_BODY:
+        raise NotSpelled
+    return length
 
 
 def read_framed(reader: Reader) -> Row:
-    length = reader.number(4)
+    length = read_length(reader)
     return framed(number(4, length) + reader.take(length))
 
 
@@ -151,11 +160,12 @@ class Stand:
 
 @dataclass(frozen=True)
 class Side:
-    """One side of a session, with the rows that it has as the session begins."""
+    """One side of a session, with the rows that it has as the session begins, and how many of them it offers."""
     namespace: bytes
     hello: Hello
     sign: object
     rows: list
+    interest: Interest = UNLIMITED
 
     def after(self, data: bytes) -> Stand:
         """How it stands behind these bytes."""
@@ -185,10 +195,10 @@ class Side:
         if not accepts(other.capability.receiver(), message, messages.next(read_signature)):
             raise Refused("BadProof")
 
-    def take_turns(self, messages: Messages, stand: Stand, asks: list) -> None:
-        """From an own turn on, which answers what the other side asked."""
+    def take_turns(self, messages: Messages, stand: Stand, own: list, asks: list) -> None:
+        """From an own turn on, which answers by the own rows what the other side asked."""
         while asks:
-            answers = [ask.answer(messages.version, self.rows) for ask in asks]
+            answers = [ask.answer(messages.version, own) for ask in asks]
             asks = [ask for _, _, opened in answers for ask in opened]
             stand.sent += len(answers)
             stand.out += b"".join(item for item, _, _ in answers) + (END_TURN if asks else BYE)
@@ -241,11 +251,11 @@ class Caller(Side):
         if area is None:
             stand.out += BYE
             return self.farewell(messages)
-        box = Box(area)
-        told = fingerprint(box.rows(self.rows))
+        own, box = self.interest.offered(self.rows, area), Box(area)
+        told = fingerprint(box.rows(own))
         stand.out += FIRST + told + END_TURN
         stand.sent = 1
-        return self.take_turns(messages, stand, self.hear(messages, stand, [Print(box, told)]))
+        return self.take_turns(messages, stand, own, self.hear(messages, stand, [Print(box, told)]))
 
 
 class Answerer(Side):
@@ -273,7 +283,7 @@ class Answerer(Side):
         stand.read = 1
         if messages.item()[0] != 6:
             raise Refused("ItemMismatch")
-        return self.take_turns(messages, stand, [Print(Box(area), told)])
+        return self.take_turns(messages, stand, self.interest.offered(self.rows, area), [Print(Box(area), told)])
 
 
 def heard_cut(box: Box, cut: Cut, prints: list) -> list:

@@ -9,7 +9,7 @@ from capabilities import (READ, WRITE, Area, Capability, Delegation, entry_messa
 from commands import run
 from entries import Entry, Store, path_bytes
 from images import image, old_image
-from octets import number
+from octets import Reader, number
 from outside import PIECE, Objects, one_by_one
 from rows import Row, generated
 
@@ -163,10 +163,21 @@ def hexadecimal(data: bytes) -> str:
 
 @dataclass(frozen=True)
 class ByHand:
-    """What was reckoned by hand: the status, the report, and how many bytes each link holds that came back."""
+    """What was reckoned by hand: the status, the report, how many bytes each link holds that came back, and how long the turns
+    of a meeting are."""
     status: int
     report: str
-    held: tuple
+    held: tuple = ()
+    turns: tuple = ()
+
+
+def turn_lengths(transcript: bytes) -> tuple:
+    reader, lengths = Reader(transcript), []
+    while reader.left() > 0:
+        reader.take(1)
+        lengths.append(reader.number(4))
+        reader.take(lengths[-1])
+    return tuple(lengths)
 
 
 @dataclass(frozen=True)
@@ -221,8 +232,10 @@ class Case:
     def outcome(self, order) -> str:
         objects = self.objects(order)
         status = run(list(self.words), objects)
-        came = ByHand(status, objects.report.held.decode(), tuple(len(link.held) for link in objects.door.back))
-        assert self.by_hand in (None, came), f"{self.name}: {came}"
+        if self.by_hand is not None:
+            turns = turn_lengths(bytes(objects.output.held)) if self.words[0] == "meet" else ()
+            came = ByHand(status, objects.report.held.decode(), tuple(len(link.held) for link in objects.door.back), turns)
+            assert self.by_hand == came, f"{self.name}: {came}"
         names = sorted(objects.shelf.names.items())
         return " ".join((
             self.told_output(objects.output.held), hexadecimal(objects.report.held), str(status),

@@ -2,6 +2,7 @@
 from meet_cases import FEW_BESIDE, FORTY, IN_O, LONG, MANY, ONE_LATER, lacking, numbered
 from sessions import ANSWERER, Hello, proof_message, spoken
 from exchange import END_TURN, HIGHEST, exchange
+from interest import UNLIMITED, Interest
 from situations import *
 
 R = communal(mode=READ)
@@ -11,13 +12,15 @@ WORDS = {"image": "i", "cap": "c", "key": BY_U, "to": "host:1"}
 
 
 def answer_to(own: list, others: list, cap=R, other_cap=R, ask=None, version: int = HIGHEST, by=None,
-              answers=None) -> bytes:
-    """All that one who answers, and speaks up to this version, says to a caller with these rows."""
+              answers=None, interest: Interest = UNLIMITED, other_interest: Interest = UNLIMITED) -> bytes:
+    """All that one who answers, and speaks up to this version, says to a caller with these rows. Each side offers what its
+    interest leaves."""
     caller = Hello(HIGHEST, DRAW[:16], ask or cap.grant(), cap)
     answerer = Hello(version, OTHER_NONCE, other_cap.grant(), other_cap)
     proof = signed(by or other_cap.receiver(), proof_message(ANSWERER, caller, answerer))
     area = caller.ask.common(answerer.ask)
-    turns = exchange(live_of(own), live_of(others), area, spoken(caller, answerer)).turns[1::2]
+    offers = interest.offered(live_of(own), area), other_interest.offered(live_of(others), area)
+    turns = exchange(*offers, area, spoken(caller, answerer)).turns[1::2]
     return answerer.spelled() + signature_field(proof) + (b"".join(turns) if answers is None else answers)
 
 
@@ -106,7 +109,9 @@ OF_VERSION_1 = [
     # Read are Split, Entries of ten and Agree; sent are First, Agree, Split and Rest of one, and a farewell.
     sync("with-one-of-version-1-of-forty-rows-a-side", FORTY, OLD_WHOLE, by_hand=ByHand(
         0, "opened 40 closed 41 stored 1 kept 9 refused 0 sent 4 read 3\n", (170 + 34 + 71 + 229,))),
-    meets("with-one-of-version-1-of-nothing-and-seventeen-rows", [], numbered(range(17)), 1),
+    # Read are Split and Rest of eight and of nine; sent are First and twice Entries of none, and a farewell.
+    meets("with-one-of-version-1-of-nothing-and-seventeen-rows", [], numbered(range(17)), 1, by_hand=ByHand(
+        0, "opened 0 closed 17 stored 17 kept 0 refused 0 sent 3 read 3\n", (170 + 34 + 5 + 1,))),
     meets("with-one-of-version-1-of-seventeen-rows-and-nothing", numbered(range(17)), [], 1),
     meets("with-one-of-version-1-of-nothing-and-nothing", [], [], 1),
     meets("with-one-of-version-1-of-equal-rows", FORTY, FORTY, 1),

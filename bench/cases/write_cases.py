@@ -3,9 +3,9 @@ from situations import *
 
 
 def write(name: str, capability, signer: str = BY_U, at_path: str = "/61", time: int = 5, length: int = 1,
-          digest: str = D_WORD, names=None, fails="", **subspace) -> Case:
+          digest: str = D_WORD, names=None, fails="", by_hand=None, **subspace) -> Case:
     words = words_of("write", key=signer, path=at_path, time=time, length=length, digest=digest, **subspace)
-    return Case(f"write-{name}", words, bytes_of(capability), names or {}, fails=fails)
+    return Case(f"write-{name}", words, bytes_of(capability), names or {}, fails=fails, by_hand=by_hand)
 
 
 GRANTED_TO_V = handed(communal(), V, under=A, start=5, end=10)

@@ -11,7 +11,7 @@ use Rattle.benches.specs.Served.{IsServed}
 
 module _ {R : Type 0} where
   pub served_itself : (pass : PassValue R) → IsServed pass pass
-  served_itself pass = record { later = record { cell = refl; number = refl; seen = prefix_self pass.seen }; own = prefix_self pass.own }
+  served_itself pass = record { later = record { cell = refl; number = refl; seen = prefix_self pass.seen; turns = prefix_self pass.turns }; own = prefix_self pass.own }
 
   pub served_more : (value : R → RowValue) (first before after : PassValue R) (row : R) (answer : Result Told (End LogFull)) → IsServed first before → IsLater before after → IsOffered value before row after answer → IsServed first after
   served_more value first before after row answer served later offer =
@@ -20,6 +20,7 @@ module _ {R : Type 0} where
           cell = later.cell ∙ served.later.cell;
           number = later.number ∙ served.later.number;
           seen = prefix_trans first.seen before.seen after.seen served.later.seen later.seen;
+          turns = prefix_trans first.turns before.turns after.turns served.later.turns later.turns;
         };
         own = prefix_trans first.own before.own after.own served.own (stored (offered before row) answer, sym offer.own);
       }

@@ -1,13 +1,13 @@
 //! Lines and generated rows against texts and bytes made elsewhere.
 
-ghost use Rattle.std.specs.Prelude.{◌<◌};
+ghost use Rattle.std.specs.Prelude.{◌<◌, ◌≤◌};
 
 use crate::keys::user;
 use crate::tables::spells;
 use cap_codec::encode_frame;
 use peer_listing::{
-    DrillCounts, GENERATED_ROWS, GeneratedFrames, drill_summary, generated_row, key_line,
-    listing_head, listing_line,
+    DrillCounts, GENERATED_ROWS, Generator, drill_summary, generated_row, key_line, listing_head,
+    listing_line,
 };
 use std::alloc::Global;
 use willow_entry::Entry;
@@ -94,23 +94,11 @@ fn frame_of_row(alloc: Global, i: u32) -> Option<Vec<u8>>
     Some(frame)
 }
 
-// The frame of the generated row, made without it.
-fn frame_alone(alloc: Global, i: u32) -> Option<Vec<u8>>
-    requires { i < GENERATED_ROWS }
-{
-    let frames = GeneratedFrames::new(alloc).ok()?;
-    let mut frame = Vec::new(alloc);
-    frames.put(alloc, i, &mut frame).ok()?;
-    Some(frame)
-}
-
-// Whether the words spell the frame of the generated row, made of the row and made without it.
+// Whether the words spell the frame of the generated row.
 fn generates(alloc: Global, i: u32, words: &str) -> Option<bool>
     requires { i < GENERATED_ROWS }
 {
-    let of_row = spells(alloc, words, &frame_of_row(alloc, i)?)?;
-    let alone = spells(alloc, words, &frame_alone(alloc, i)?)?;
-    Some(of_row && alone)
+    spells(alloc, words, &frame_of_row(alloc, i)?)
 }
 
 #[test]
@@ -118,6 +106,67 @@ fn generated_rows(rt: HostRuntime) {
     assert_eq!(rt; generates(rt.alloc(), 0, "ROW_0"), Some(true));
     assert_eq!(rt; generates(rt.alloc(), 49, "ROW_49"), Some(true));
     assert_eq!(rt; generates(rt.alloc(), 12345, "ROW_12345"), Some(true));
+}
+
+// The frames of the generated rows from one to before another, each row made alone.
+fn frames_alone(alloc: Global, from: u32, to: u32) -> Option<Vec<u8>>
+    requires { to ≤ GENERATED_ROWS }
+{
+    let mut frames = Vec::new(alloc);
+    for i in from..to {
+        let row = generated_row(alloc, i).ok()?;
+        encode_frame(&row, &mut frames).ok()?;
+    }
+    Some(frames)
+}
+
+// The same, the rows made together.
+fn frames_of_rows(alloc: Global, from: u32, to: u32) -> Option<Vec<u8>>
+    requires order { from ≤ to }
+    requires within { to ≤ GENERATED_ROWS }
+{
+    let generator = Generator::new(alloc).ok()?;
+    let rows = generator.rows(alloc, from, to).ok()?;
+    let mut frames = Vec::new(alloc);
+    for row in &rows {
+        encode_frame(row, &mut frames).ok()?;
+    }
+    Some(frames)
+}
+
+// The same, made together without the rows.
+fn frames_together(alloc: Global, from: u32, to: u32) -> Option<Vec<u8>>
+    requires order { from ≤ to }
+    requires within { to ≤ GENERATED_ROWS }
+{
+    let generator = Generator::new(alloc).ok()?;
+    let mut frames = Vec::new(alloc);
+    generator.put_frames(alloc, from, to, &mut frames).ok()?;
+    Some(frames)
+}
+
+// Whether rows made together are those made alone, and their frames too.
+fn are_alike(alloc: Global, from: u32, to: u32) -> Option<bool>
+    requires order { from ≤ to }
+    requires within { to ≤ GENERATED_ROWS }
+{
+    let alone = frames_alone(alloc, from, to)?;
+    let of_rows = frames_of_rows(alloc, from, to)?;
+    let together = frames_together(alloc, from, to)?;
+    Some(of_rows == alone && together == alone)
+}
+
+#[test]
+fn generated_together(rt: HostRuntime) {
+    let alloc = rt.alloc();
+    assert_eq!(rt; are_alike(alloc, 0, 0), Some(true));
+    assert_eq!(rt; are_alike(alloc, 49, 50), Some(true));
+    assert_eq!(rt; are_alike(alloc, 0, 63), Some(true));
+    assert_eq!(rt; are_alike(alloc, 64, 128), Some(true));
+    assert_eq!(rt; are_alike(alloc, 0, 65), Some(true));
+    assert_eq!(rt; are_alike(alloc, 12_300, 12_430), Some(true));
+    assert_eq!(rt; are_alike(alloc, 65_533, 65_536), Some(true));
+    assert_eq!(rt; are_alike(alloc, 65_536, 65_536), Some(true));
 }
 
 // Whether the numbers have this summary.

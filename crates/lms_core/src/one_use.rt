@@ -1,8 +1,7 @@
 //! Signers of one index each.
 
-ghost use Rattle.std.specs.Prelude.{◌≡◌, ◌≤◌, ◌<◌, ◌↔◌, true, length, IfOk, OnOk, OnErr, IsErrOf};
+ghost use Rattle.std.specs.Prelude.{◌≡◌, ◌≤◌, ◌<◌, ◌↔◌, ◌⊎◌, true, length, IfOk, OnOk, OnErr, IsErrOf};
 ghost use Rattle.spelling.specs.declared.ending.End.TheVariants as ends;
-ghost use Rattle.willow_outside.specs.Counts.{Rose};
 ghost use Rattle.scheme_core.specs.declared.signer.TheConstants.{MAX_SIGNATURE};
 ghost use Rattle.lms_core.specs.Accepts.{leaves};
 ghost use Rattle.lms_core.specs.Use.{user_key_of, use_gives, use_signature};
@@ -65,6 +64,8 @@ impl Signer for OneUse {
 
     ghost faults = { λ _. 0 };
 
+    ghost asks = { λ old new. (new ≡ old) ⊎ (new ≡ record old { left = 0 }) };
+
     /// Signs a message, once. It hashes the whole tree, as `LmsKey::public` does, or one leaf and the nodes above
     /// the leaves where the signer is of `reserve_keys_on`. After want of memory the signer is as it was.
     fn sign(&mut self, alloc: Global, message: &[u8]) -> Result<Vec<u8>, End<SignRefusal>>
@@ -72,7 +73,7 @@ impl Signer for OneUse {
         ensures short { IfOk result (λ signature. length signature.items ≤ MAX_SIGNATURE) }
         ensures same { use_gives self.new ≡ use_gives self.old }
         ensures spent { IsErrOf result (ends.Refused SignRefusal.Spent) ↔ (self.old.left ≡ 0) }
-        ensures failed { IsErrOf result (ends.Refused SignRefusal.Failed) → Rose 0 0 }
+        ensures failed { IsErrOf result (ends.Refused SignRefusal.Failed) → ⊥ }
         ensures signature { IfOk result (λ signature. signature.items ≡ use_signature self.old message.now) }
         ensures used { OnOk result (self.new ≡ record self.old { left = 0 }) }
         ensures kept { OnErr result (self.new ≡ self.old) }

@@ -1,5 +1,5 @@
 -- Why a call of a keeper is refused.
-use Rattle.std.specs.Prelude.{◌≡◌, ℕ, ◌≤◌, Result, Ok, Err}
+use Rattle.std.specs.Prelude.{◌≡◌, ℕ, Result, Ok, Err}
 use Rattle.spelling.specs.declared.ending.End.{End}
 use Rattle.spelling.specs.declared.ending.End.TheVariants.{Refused, NoMemory}
 use Rattle.willow_outside.specs.Counts.{HasRisen}
@@ -13,12 +13,12 @@ pub record CountsNoFault (old new : DiskFacts) : Type 0 where
   pub writes : new.write_faults ≡ old.write_faults
 
 -- A refusal has a cause: of a failed read or write that the count named with it rose, and of a bad log that it is bad at
--- that place. At want of memory a disk may count a fault of its own.
+-- that place. Want of memory hides no fault.
 abbrev pub HasCause : (ℕ → Type 0) → DiskFacts → DiskFacts → End KeepRefusal → Type 0
 HasCause bad old new (Refused ReadFailed) = HasRisen old.read_faults new.read_faults × (new.write_faults ≡ old.write_faults)
 HasCause bad old new (Refused WriteFailed) = (new.read_faults ≡ old.read_faults) × HasRisen old.write_faults new.write_faults
 HasCause bad old new (Refused (BadLog at)) = bad at × CountsNoFault old new
-HasCause bad old new NoMemory = (old.read_faults ≤ new.read_faults) × (old.write_faults ≤ new.write_faults)
+HasCause bad old new NoMemory = CountsNoFault old new
 
 -- this holds where the refusal is no failed write
 abbrev pub IfUnwritten : End KeepRefusal → Type 0 → Type 0

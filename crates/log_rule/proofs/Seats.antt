@@ -1,5 +1,5 @@
 -- The steps of two seats keep the rule, split seat and join seat, and a new table meets it.
-use Rattle.std.proofs.Common.{◌≡◌, ◌≢◌, ℕ, zero, suc, ◌+◌, ◌<◌, ◌≤◌, eqb, List, [], ◌∷◌, ◌++◌, set, sym, refl, ap, ◌∙◌, subst, ⊎_elim, arith, Option, Some}
+use Rattle.std.proofs.Common.{◌≡◌, ◌≢◌, ℕ, zero, suc, ◌+◌, ◌<◌, ◌≤◌, eqb, List, [], ◌∷◌, ◌++◌, length, set, sym, refl, ap, ◌∙◌, subst, ⊎_elim, arith, Option, Some}
 use Rattle.std.specs.List.{AllByRecursion}
 use Rattle.std.proofs.lemmas.List.Sums.{sum_by-append}
 use Rattle.std.proofs.lemmas.Bool.{false≢true}
@@ -39,7 +39,7 @@ module _ {S R : Type 0} (content : Content S R) (IsLawful : List ℕ → List (L
       let b : one_if (p right.role) ≡ 0 = ap (λ r. one_if (p r)) idle ∙ ap one_if none in omega arith
 
   cut : (s : Table) (r : Rule s) (id made : ℕ) (view left right : View R) → get_elem? s.views id ≡ some view → left.role ≡ view.role → right.role ≡ Idle → left.seen ≡ view.seen
-      → left.parts + right.parts ≡ view.parts → left.turns + right.turns ≤ view.turns → 0 < left.parts → AreBooks made r.log (set s.views id left ++ right ∷ [])
+      → left.parts + right.parts ≡ view.parts → length left.turns + length right.turns ≤ length view.turns → 0 < left.parts → AreBooks made r.log (set s.views id left ++ right ∷ [])
       → Knows cell r.served made r.log id left → ((seat : ℕ) → Knows cell r.served made r.log seat right)
       → ((seat : ℕ) (v : View R) → seat ≢ id → get_elem? s.views seat ≡ some v → Knows cell r.served made r.log seat v)
       → Rule record { words = s.words; homes = s.homes; views = set s.views id left ++ right ∷ [] }
@@ -60,7 +60,7 @@ module _ {S R : Type 0} (content : Content S R) (IsLawful : List ℕ → List (L
             (λ (h : right ≡ v). subst (Knows cell r.served made r.log seat) h (new seat)) (at_snoc (set s.views id left) right v seat there);
         seen = (whole.0, whole.1, at_longer (set s.views id left) (right ∷ []) whole.0 whole.1 whole.2, whole.3, whole.4);
         parts = sum_stays s.views (view ∷ []) (left ∷ right ∷ []) (set s.views id left ++ right ∷ []) swaps (λ (v : View R). v.parts) (omega arith) ∙ r.parts;
-        turns = sum_under s.views (view ∷ []) (left ∷ right ∷ []) (set s.views id left ++ right ∷ []) swaps (λ (v : View R). v.turns) r.served (omega arith) r.turns;
+        turns = sum_under s.views (view ∷ []) (left ∷ right ∷ []) (set s.views id left ++ right ∷ []) swaps (λ (v : View R). length v.turns) r.served (omega arith) r.turns;
         queue = queue_stays r.next r.served s.views (view ∷ []) (left ∷ right ∷ []) (set s.views id left ++ right ∷ []) swaps same r.queue;
         books = books;
       }
@@ -147,7 +147,7 @@ module _ {S R : Type 0} (content : Content S R) (IsLawful : List ℕ → List (L
             }) (λ i u _ b. r.each i u b) seat v there);
         seen = seen_joined s.views r.log id other view taken both spent at at_other apart (omega arith) fronts.0 fronts.1 fronts.2 r.seen;
         parts = sum_stays s.views (view ∷ taken ∷ []) (both ∷ spent ∷ []) (set changed other spent) swaps (λ (v : View R). v.parts) (omega arith) ∙ r.parts;
-        turns = sum_under s.views (view ∷ taken ∷ []) (both ∷ spent ∷ []) (set changed other spent) swaps (λ (v : View R). v.turns) r.served (omega arith) r.turns;
+        turns = sum_under s.views (view ∷ taken ∷ []) (both ∷ spent ∷ []) (set changed other spent) swaps (λ (v : View R). length v.turns) r.served (omega arith) r.turns;
         queue = queue_stays r.next r.served s.views (view ∷ taken ∷ []) (both ∷ spent ∷ []) (set changed other spent) swaps same r.queue;
         books = books_stay r.made r.log s.views (view ∷ taken ∷ []) (both ∷ spent ∷ []) (set changed other spent) swaps numbers r.books;
       }

@@ -1,5 +1,5 @@
 -- The steps of one seat keep the rule: draw, look, hand on.
-use Rattle.std.proofs.Common.{◌≡◌, ◌≢◌, ℕ, ◌+◌, ◌%◌, ◌^◌, ◌<◌, ◌≤◌, List, [], ◌∷◌, ◌++◌, length, drop, get_or, set, sum_by, sym, refl, ap, ap₂, ◌∙◌, subst, arith, Option, Some, None, length-set}
+use Rattle.std.proofs.Common.{◌≡◌, ◌≢◌, ℕ, ◌+◌, ◌%◌, ◌^◌, ◌<◌, ◌≤◌, List, [], ◌∷◌, ◌++◌, length, drop, get_or, set, sum_by, sym, refl, ap, ap₂, ◌∙◌, subst, arith, Option, Some, None, length-set, length-append}
 use Rattle.std.specs.List.{AllByRecursion}
 use mathlib.Core.List.{IsPrefix}
 use mathlib.Core.Logic.{dite}
@@ -60,7 +60,7 @@ module _ {S R : Type 0} (content : Content S R) (IsLawful : List ℕ → List (L
 
   -- a step of one seat, which keeps its parts and its numbers
   moved : (s : Table) (r : Rule s) (id : ℕ) (view new : View R) → get_elem? s.views id ≡ some view → new.parts ≡ view.parts → ((n : ℕ) → numbered n new.books ≡ numbered n view.books)
-      → (words : List ℕ) (homes : List (maybe.Option (Option S))) (log : List (LogRow R)) (next served : ℕ) → new.turns + r.served ≤ view.turns + served
+      → (words : List ℕ) (homes : List (maybe.Option (Option S))) (log : List (LogRow R)) (next served : ℕ) → length new.turns + r.served ≤ length view.turns + served
       → IsLawful cell.namespace log → words ≡ next % 2 ^ 64 ∷ served % 2 ^ 64 ∷ [] → length homes ≡ 1 → (sum_by turn (set s.views id new) ≡ 0 → IsAtHome content IsLawful cell log homes)
       → IsQueue next served (set s.views id new)
       → Knows cell served r.made log id new → ((seat : ℕ) (v : View R) → seat ≢ id → get_elem? s.views seat ≡ some v → Knows cell served r.made log seat v)
@@ -82,7 +82,7 @@ module _ {S R : Type 0} (content : Content S R) (IsLawful : List ℕ → List (L
         each = each_set (Knows cell served r.made log) s.views id new own others;
         seen = seen;
         parts = sum_stays s.views (view ∷ []) (new ∷ []) (set s.views id new) swaps (λ (v : View R). v.parts) (omega arith) ∙ r.parts;
-        turns = (let h = sum_by-set_at (λ (v : View R). v.turns) s.views id view new at in let t = r.turns in omega arith);
+        turns = (let h = sum_by-set_at (λ (v : View R). length v.turns) s.views id view new at in let t = r.turns in omega arith);
         queue = queue;
         books = stays;
       }
@@ -231,7 +231,7 @@ module _ {S R : Type 0} (content : Content S R) (IsLawful : List ℕ → List (L
         new,
         gives,
         tt,
-        moved s r id view new at refl (λ n. numbered-with_rows n (drop (length view.seen) log) view.books) (set s.words 1 ((get_or s.words 1 0 + 1) % 2 ^ 64)) (put_back s.homes me.1) log r.next (r.served + 1) (omega arith)
+        moved s r id view new at refl (λ n. numbered-with_rows n (drop (length view.seen) log) view.books) (set s.words 1 ((get_or s.words 1 0 + 1) % 2 ^ 64)) (put_back s.homes me.1) log r.next (r.served + 1) (omega (arith, length-append view.turns (log ∷ [])))
             (subst (λ (c : CellFacts). IsLawful c.namespace log) (k.cell_is some_part) lawful) (ap₂ (λ l n. set l 1 n) r.words up) (ap length (back ∙ homes')) (λ _. (state, back ∙ homes', refl, space ∙ ap (λ (c : CellFacts). c.namespace) (k.cell_is some_part)))
             (queue_served r.next r.served own s.views id view new at holds mine refl r.queue)
             (record {

@@ -1,6 +1,6 @@
 -- What the laws of the rule say: each kind of step keeps it, at whatever state `S` lies in the slot, whatever rows `R` its
 -- log has, and whatever rules that log keeps (`IsLawful`).
-use Rattle.std.specs.Prelude.{◌≡◌, ℕ, ◌+◌, ◌%◌, ◌^◌, ◌<◌, ◌≤◌, List, [], ◌∷◌, ◌++◌, sum_by, Option, Some}
+use Rattle.std.specs.Prelude.{◌≡◌, ℕ, ◌+◌, ◌%◌, ◌^◌, ◌<◌, ◌≤◌, List, [], ◌∷◌, ◌++◌, length, sum_by, Option, Some}
 use mathlib.Core.Option.{none}
 use Rattle.atomic_table.specs.Table.{State, Me, step, Allows, Splits, Joins, opening}
 use Rattle.willow_entry.specs.declared.row.LogRow.{LogRow}
@@ -64,4 +64,4 @@ module _ (S R : Type 0) (IsLawful : List ℕ → List (LogRow R) → Type 0) whe
   abbrev pub TurnsAreServed : Type 0
   TurnsAreServed = (content : Content S R) (cell : CellFacts) (table : State (Option S) (View R))
       → (rule : Ruled content IsLawful cell table)
-      → (sum_by (λ (view : View R). view.turns) table.views ≤ rule.served) × (rule.served ≤ rule.next)
+      → (sum_by (λ (view : View R). length view.turns) table.views ≤ rule.served) × (rule.served ≤ rule.next)

@@ -97,6 +97,6 @@ module _ {S R : Type 0} (content : Content S R) (IsLawful : List ℕ → List (L
     pub each : (seat : ℕ) (view : View R) → get_elem? table.views seat ≡ some view → Knows cell served made log seat view
     pub seen : IsSeen log table.views
     pub parts : sum_by (λ (view : View R). view.parts) table.views ≡ cell.passes
-    pub turns : sum_by (λ (view : View R). view.turns) table.views ≤ served
+    pub turns : sum_by (λ (view : View R). length view.turns) table.views ≤ served
     pub queue : IsQueue next served table.views
     pub books : AreBooks made log table.views

@@ -7,7 +7,7 @@
 -- |            | its own, it takes the slot with the state           | else nothing                                           |
 -- | take       | exchanges the slot's state for nothing              | nothing: no view changes                               |
 -- | put back   | exchanges nothing for the state                     | nothing: no view changes                               |
--- | hand on    | adds 1 to the word of the ticket served, and gives  | it is idle, has seen the whole log and had a turn more, |
+-- | hand on    | adds 1 to the word of the ticket served, and gives  | it is idle, has seen the whole log, which it notes,     |
 -- |            | the slot with the state back                        | and the rows that came to the log stand in its book    |
 -- | split seat | makes a seat beside it: a pass, or one that only    | a pass is one part and the next number less; a loan    |
 -- |            | knows what it has seen                              | changes nothing                                        |
@@ -34,18 +34,18 @@ use Rattle.log_rule.specs.Rule.{Content}
 module _ {R : Type 0} where
   -- the one pass at the start, which has all parts, has seen the log, and has its rows for its own
   abbrev pub first_view : CellFacts → List (LogRow R) → View R
-  first_view cell log = record { cell = cell; parts = cell.passes; made = 1; role = Idle; turns = 0; seen = log; older = []; books = record { number = 0; rows = log } ∷ [] }
+  first_view cell log = record { cell = cell; parts = cell.passes; made = 1; role = Idle; turns = []; seen = log; older = []; books = record { number = 0; rows = log } ∷ [] }
 
   -- split seat, to make a pass: what is left to the maker, and what the new pass has
   abbrev pub after_making : View R → View R
   after_making view = record view { parts = view.parts - 1; made = view.made + 1 }
 
   abbrev pub made_view : View R → View R
-  made_view view = record { cell = view.cell; parts = 1; made = 0; role = Idle; turns = 0; seen = view.seen; older = []; books = record { number = view.made; rows = [] } ∷ [] }
+  made_view view = record { cell = view.cell; parts = 1; made = 0; role = Idle; turns = []; seen = view.seen; older = []; books = record { number = view.made; rows = [] } ∷ [] }
 
   -- split seat, to lend what was seen: the seat has no part, no number and no list of its own
   abbrev pub lent_view : View R → View R
-  lent_view view = record { cell = view.cell; parts = 0; made = 0; role = Idle; turns = 0; seen = view.seen; older = []; books = [] }
+  lent_view view = record { cell = view.cell; parts = 0; made = 0; role = Idle; turns = []; seen = view.seen; older = []; books = [] }
 
   -- the longer of two lists, the first where they are as long
   abbrev pub longer : List (LogRow R) → List (LogRow R) → List (LogRow R)
@@ -56,16 +56,16 @@ module _ {R : Type 0} where
   joined_view view other = record view { parts = view.parts + other.parts; seen = longer view.seen other.seen; older = view.seen ∷ other.seen ∷ view.older; books = view.books ++ other.books }
 
   abbrev pub spent_view : View R
-  spent_view = record { cell = record { passes = 0; namespace = [] }; parts = 0; made = 0; role = Idle; turns = 0; seen = []; older = []; books = [] }
+  spent_view = record { cell = record { passes = 0; namespace = [] }; parts = 0; made = 0; role = Idle; turns = []; seen = []; older = []; books = [] }
 
   -- the first book with further rows
   abbrev pub with_rows : List (LogRow R) → List (Book R) → List (Book R)
   with_rows rows [] = []
   with_rows rows (book ∷ books) = record book { rows = book.rows ++ rows } ∷ books
 
-  -- hand on: the whole log is seen, what came to it stands in the book, and there was one turn more
+  -- hand on: the whole log is seen, what came to it stands in the book, and it is noted for the turn
   abbrev pub after_turn : List (LogRow R) → View R → View R
-  after_turn log view = record view { role = Idle; turns = view.turns + 1; seen = log; books = with_rows (drop (length view.seen) log) view.books }
+  after_turn log view = record view { role = Idle; turns = view.turns ++ log ∷ []; seen = log; books = with_rows (drop (length view.seen) log) view.books }
 
 -- the ticket of a pass that has one
 abbrev pub ticket_of : Role → ℕ

@@ -36,8 +36,8 @@ pub struct View<R> {
     /// At the seat from which the passes are made, how many are made. At the others 0.
     pub made: u64,
     pub role: Role,
-    /// How many turns it has had. At the end of each it had seen the whole log of that moment.
-    pub turns: u64,
+    /// The whole log as it stood at the end of each turn that it has had, one after the other.
+    pub turns: LinkedList<LinkedList<LogRow<R>>>,
     /// The prefix of the log that it has seen.
     pub seen: LinkedList<LogRow<R>>,
     /// Prefixes that it, or a seat that it took in, had seen before.

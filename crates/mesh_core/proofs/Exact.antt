@@ -1,6 +1,6 @@
 -- The meetings of a mesh whose nodes exchange rows: they make up no row, leave live rows, and are exact where fingerprints
 -- tell rows apart.
-use Rattle.std.proofs.Common.{◌≡◌, ℕ, ◌==◌, inl, inr, List, [], ◌∷◌, Some, cond, Contains, refl, sym, ap, subst, ◌∙◌}
+use Rattle.std.proofs.Common.{ℕ, ◌==◌, inl, inr, List, [], ◌∷◌, Some, cond, Contains, refl, sym, ap, subst, ◌∙◌}
 use Rattle.std.specs.List.{AllByRecursion}
 use Rattle.std.proofs.lemmas.Bool.{cond_both}
 use Rattle.willow_area.specs.Area.{IsArea}

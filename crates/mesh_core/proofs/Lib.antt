@@ -1,9 +1,10 @@
-pub mod Triples
-pub mod Rooms
+pub mod Alike
 pub mod Come
-pub mod Stores
-pub mod Open
 pub mod Exact
 pub mod Meets
+pub mod Open
+pub mod Putting
+pub mod Rooms
 pub mod Runs
-pub mod Alike
+pub mod Stores
+pub mod Triples

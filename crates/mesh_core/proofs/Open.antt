@@ -1,9 +1,8 @@
 -- An area with all paths and no end of times includes what dominates its rows.
-use Rattle.std.proofs.Common.{◌≡◌, ℕ, ◌≤◌, true, List, [], Option, Some, None, inl, inr, refl, sym, ap, subst, arith}
+use Rattle.std.proofs.Common.{◌≡◌, ◌≤◌, true, [], inl, inr, refl, sym, ap, subst, arith}
 use Rattle.willow_path.specs.Path.{is_prefix}
 use Rattle.willow_path.proofs.PathOrder.{is_prefix_decides}
-use Rattle.willow_area.specs.Area.{fits_subspace, in_area}
-use Rattle.willow_area.specs.Times.{in_times}
+use Rattle.willow_area.specs.Area.{fits_subspace}
 use Rattle.willow_area.specs.declared.area.Area.{Area}
 use Rattle.willow_area.proofs.Membership.{IsBefore, passes_area, area_passes, time_in, in_time}
 use Rattle.willow_entry.specs.Row.{RowValue, Dominates}

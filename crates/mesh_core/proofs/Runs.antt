@@ -1,11 +1,11 @@
 -- The run of a mesh, event by event, and what its nodes promise.
-use Rattle.std.proofs.Common.{◌≡◌, ℕ, ◌+◌, ◌<◌, ◌≤◌, List, [], ◌∷◌, ◌++◌, map, take, length, get_or, All, refl, sym, ap, subst, ◌∙◌, arith, add-one, take_all}
+use Rattle.std.proofs.Common.{◌≡◌, ℕ, ◌+◌, ◌<◌, ◌≤◌, List, [], ◌∷◌, ◌++◌, map, take, length, get_or, All, refl, sym, ap, subst, ◌∙◌, add-one, take_all}
 use Rattle.std.specs.List.{AllByRecursion}
 use Rattle.std.proofs.Math.Seq.{take-suc}
 use Rattle.std.proofs.lemmas.List.{map-append}
 use Rattle.spelling.proofs.Lists.{All-append}
 use Rattle.willow_entry.specs.Row.{RowValue, AreLive}
-use Rattle.cap_codec.specs.Rows.{RawValue}
+use Rattle.cap_codec.specs.Rows.{RawValue, row_of}
 use Rattle.mesh_rules.specs.Events.{node_rows, after_event, empty_nodes}
 use Rattle.mesh_rules.specs.Laws.{HoldsOnlyReached, IsExactRun}
 use Rattle.mesh_rules.proofs.Runs.{reaches_only, stay_live, holds_reached, holds_area}
@@ -18,6 +18,7 @@ use Rattle.mesh_core.specs.Held.{nodes_of, EachNode, EachTwo}
 use Rattle.mesh_core.specs.Promises.{CoversReached, HoldsAllOffered, HoldSame}
 use Rattle.mesh_core.proofs.Exact.{OffersGenerated, IsGiven, none_hold, live_all, made_up_none_all, exact_all, open_all}
 use Rattle.mesh_core.proofs.Open.{includes_dominating}
+use Rattle.mesh_core.proofs.Putting.{as_many, same_nodes}
 use Rattle.mesh_core.proofs.Stores.{one_more_event, each_from}
 
 pub given_event : (n : ℕ) (e : MeshEvent) → IsAmong n e → MeetsWithinLimits e → IsGiven (event_of e)
@@ -65,6 +66,14 @@ module _ (version nodes : ℕ) (events : List MeshEvent) where
     as_many = run.as_many;
     run = run.run ∙ ap (λ es. node_rows (exchanging version) (events_of es)) whole;
     given = subst (λ es. AllByRecursion IsGiven (events_of es)) whole run.given;
+  }
+
+  -- lists with the same rows are done alike
+  pub done_alike : (mesh others : List (List RawValue)) → IsDone version nodes events mesh → map (map row_of) others ≡ map (map row_of) mesh → IsDone version nodes events others
+  done_alike mesh others is same = record {
+    as_many = as_many others mesh same ∙ is.as_many;
+    run = same_nodes others mesh same ∙ is.run;
+    given = is.given;
   }
 
   -- ---- the promises

@@ -1,6 +1,5 @@
 -- What a write into a list of stores makes of the nodes.
 use Rattle.std.proofs.Common.{◌≡◌, ◌≢◌, ℕ, zero, suc, ◌==◌, ◌<◌, false, List, [], ◌∷◌, ◌++◌, Some, cond, map, length, get_or, set, refl, sym, ap, subst, ◌∙◌, get_or-set_other, get_or-set_same}
-use Rattle.std.specs.Prelude.{slice_get}
 use Rattle.std.proofs.lemmas.Bool.{false≢true, eqb-true, eq-eqb, cond_both}
 use Rattle.std.proofs.lemmas.List.{get_or_default}
 use Rattle.std.proofs.lemmas.Option.{get_or_from_slice_get}

@@ -1,5 +1,5 @@
 -- Rows of the generator are triples, so an area includes them where its box does.
-use Rattle.std.proofs.Common.{◌≡◌, ℕ, zero, suc, ◌<◌, ◌^◌, ◌/◌, ◌%◌, ◌==◌, Bool, true, false, if◌then◌else◌, List, [], ◌∷◌, ◌++◌, ◌∙◌, cond, inr, filter, Contains, replicate, refl, ap, subst, arith}
+use Rattle.std.proofs.Common.{◌≡◌, ℕ, zero, suc, ◌<◌, ◌^◌, ◌/◌, ◌%◌, ◌==◌, Bool, true, false, if◌then◌else◌, List, [], ◌∷◌, ◌∙◌, cond, inr, filter, Contains, replicate, refl, ap, subst, arith}
 use Rattle.std.specs.Cmp.{both_ways}
 use Rattle.spelling.specs.Form.{AreBytes}
 use Rattle.spelling.proofs.Lists.{All-append}

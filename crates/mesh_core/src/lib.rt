@@ -5,7 +5,9 @@
 mod event;
 mod meeting;
 mod nodes;
+mod plain;
 mod run;
+mod shared;
 mod taking;
 
 pub use event::MeshEvent;

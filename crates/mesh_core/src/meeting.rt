@@ -13,9 +13,9 @@ ghost use Rattle.mesh_core.specs.Exchanging.{exchanging};
 ghost use Rattle.mesh_core.specs.Held.{nodes_of};
 ghost use Rattle.mesh_core.specs.Generated.{HoldGenerated};
 
+use crate::shared::MeshRow;
 use crate::taking::take_at;
 use block_store::{BlockStore, Snapshot};
-use cap_codec::RawRow;
 use std::alloc::Global;
 use sync_pair::{PairRun, meet_rows};
 use willow_area::{Area, TimeRange};
@@ -36,7 +36,7 @@ pub(crate) fn area_from(alloc: Global, subspace: Option<UserKey>, from: u64) -> 
 }
 
 // The rows of a node as they are.
-fn rows_at(stores: &[BlockStore<RawRow>], node: usize) -> Result<Snapshot<RawRow>, NoMemory>
+fn rows_at(stores: &[BlockStore<MeshRow>], node: usize) -> Result<Snapshot<MeshRow>, NoMemory>
     requires { node < length stores.now }
     ensures { IfOk result (λ rows. map row_of rows ≡ nodes_of stores.now node) }
 {
@@ -47,11 +47,11 @@ fn rows_at(stores: &[BlockStore<RawRow>], node: usize) -> Result<Snapshot<RawRow
 fn exchange(
     alloc: Global,
     version: u8,
-    stores: &[BlockStore<RawRow>],
+    stores: &[BlockStore<MeshRow>],
     left: usize,
     right: usize,
     area: &Area,
-) -> Result<PairRun<RawRow>, NoMemory>
+) -> Result<PairRun<MeshRow>, NoMemory>
     requires version { IsVersion version }
     requires left { left < length stores.now }
     requires right { right < length stores.now }
@@ -68,7 +68,7 @@ fn exchange(
 pub(crate) fn meet(
     alloc: Global,
     version: u8,
-    stores: &mut Vec<BlockStore<RawRow>>,
+    stores: &mut Vec<BlockStore<MeshRow>>,
     left: usize,
     right: usize,
     area: &Area,

@@ -15,6 +15,8 @@ ghost use Rattle.mesh_core.specs.Generated.{HoldGenerated};
 
 use crate::event::MeshEvent;
 use crate::meeting::{area_from, meet};
+use crate::plain::snapshots;
+use crate::shared::MeshRow;
 use crate::taking::take_at;
 use block_store::{BlockStore, Rows, Snapshot};
 use cap_codec::RawRow;
@@ -28,7 +30,7 @@ use willow_path::NoMemory;
 /// the order of their numbers.
 #[derive(Drop)]
 pub struct MeshNodes {
-    stores: Vec<BlockStore<RawRow>>,
+    stores: Vec<BlockStore<MeshRow>>,
 }
 
 impl Model for MeshNodes {
@@ -91,14 +93,14 @@ impl MeshNodes {
 
     /// The rows of each node as they are.
     pub fn snapshots(&self, alloc: Global) -> Result<Vec<Snapshot<RawRow>>, NoMemory>
-        ensures { IfOk result (λ snapshots. snapshots.items ≡ self.now) }
+        ensures { IfOk result (λ snapshots. map (map row_of) snapshots.items ≡ map (map row_of) self.now) }
     {
         snapshots(alloc, &self.stores)
     }
 }
 
 // So many stores without rows.
-fn empty_stores(alloc: Global, nodes: u32) -> Result<Vec<BlockStore<RawRow>>, NoMemory>
+fn empty_stores(alloc: Global, nodes: u32) -> Result<Vec<BlockStore<MeshRow>>, NoMemory>
     ensures as_many { IfOk result (λ stores. length stores.items ≡ nodes) }
     ensures empty { IfOk result (λ stores. nodes_of stores.items ≡ empty_nodes) }
 {
@@ -112,7 +114,7 @@ fn empty_stores(alloc: Global, nodes: u32) -> Result<Vec<BlockStore<RawRow>>, No
 // A node is offered a row of the generator.
 fn offer(
     alloc: Global,
-    stores: &mut Vec<BlockStore<RawRow>>,
+    stores: &mut Vec<BlockStore<MeshRow>>,
     node: usize,
     row: u32,
 ) -> Result<(), NoMemory>
@@ -123,7 +125,7 @@ fn offer(
     ensures as_many { length stores.new.items ≡ length stores.old.items }
 {
     let mut rows = Vec::new(alloc);
-    rows.push(generated_row(alloc, row)?)?;
+    rows.push(MeshRow::new(alloc, generated_row(alloc, row)?)?)?;
     take_at(stores, node, rows)
 }
 
@@ -131,7 +133,7 @@ fn offer(
 fn happen_to(
     alloc: Global,
     version: u8,
-    stores: &mut Vec<BlockStore<RawRow>>,
+    stores: &mut Vec<BlockStore<MeshRow>>,
     event: &MeshEvent,
 ) -> Result<(), NoMemory>
     requires version { IsVersion version }
@@ -155,7 +157,7 @@ fn happen_to(
 }
 
 // Whether there is another row, and it is this one.
-fn is_row(row: &RawRow, other: Option<&RawRow>) -> bool
+fn is_row(row: &MeshRow, other: Option<&MeshRow>) -> bool
     ensures some { IfSome other.entry (λ s. result ≡ same_row (row_of row.now) (row_of s.now)) }
     ensures none { IfNone other.entry (result ≡ false) }
 {
@@ -166,7 +168,7 @@ fn is_row(row: &RawRow, other: Option<&RawRow>) -> bool
 }
 
 // Whether the rows that are left are the same.
-fn are_same(left: Rows<'_, RawRow>, right: Rows<'_, RawRow>) -> bool
+fn are_same(left: Rows<'_, MeshRow>, right: Rows<'_, MeshRow>) -> bool
     ensures { result ≡ pointwise same_row (map row_of left.entry) (map row_of right.entry) }
 {
     let (mut left, mut right) = (left, right);
@@ -179,7 +181,7 @@ fn are_same(left: Rows<'_, RawRow>, right: Rows<'_, RawRow>) -> bool
 }
 
 // The rows of a node, one after the other.
-fn rows_of(stores: &[BlockStore<RawRow>], node: usize) -> Rows<'_, RawRow>
+fn rows_of(stores: &[BlockStore<MeshRow>], node: usize) -> Rows<'_, MeshRow>
     requires { node < length stores.now }
     ensures { map row_of result ≡ nodes_of stores.now node }
 {
@@ -187,24 +189,10 @@ fn rows_of(stores: &[BlockStore<RawRow>], node: usize) -> Rows<'_, RawRow>
 }
 
 // Whether two nodes hold the same rows.
-fn are_same_at(stores: &[BlockStore<RawRow>], left: usize, right: usize) -> bool
+fn are_same_at(stores: &[BlockStore<MeshRow>], left: usize, right: usize) -> bool
     requires left { left < length stores.now }
     requires right { right < length stores.now }
     ensures { IsTrue result ↔ (nodes_of stores.now left ≡ nodes_of stores.now right) }
 {
     are_same(rows_of(stores, left), rows_of(stores, right))
-}
-
-// The rows of each store as they are.
-fn snapshots(
-    alloc: Global,
-    stores: &[BlockStore<RawRow>],
-) -> Result<Vec<Snapshot<RawRow>>, NoMemory>
-    ensures { IfOk result (λ snapshots. snapshots.items ≡ stores.now) }
-{
-    let mut snapshots = Vec::new(alloc);
-    for store in stores {
-        snapshots.push(store.snapshot()?)?;
-    }
-    Ok(snapshots)
 }

@@ -5,8 +5,8 @@ ghost use Rattle.willow_entry.specs.Row.{AreLive, join};
 ghost use Rattle.cap_codec.specs.Rows.{row_of};
 ghost use Rattle.mesh_core.specs.Held.{nodes_of, IsNodeSet};
 
+use crate::shared::MeshRow;
 use block_store::BlockStore;
-use cap_codec::RawRow;
 use willow_entry::Row;
 use willow_path::NoMemory;
 
@@ -35,9 +35,9 @@ fn take_rows<R: Row>(store: &mut BlockStore<R>, rows: Vec<R>) -> Result<(), NoMe
 
 // The store of a node takes the rows.
 pub(crate) fn take_at(
-    stores: &mut Vec<BlockStore<RawRow>>,
+    stores: &mut Vec<BlockStore<MeshRow>>,
     node: usize,
-    rows: Vec<RawRow>,
+    rows: Vec<MeshRow>,
 ) -> Result<(), NoMemory>
     requires within { node < length stores.old.items }
     requires few { length (nodes_of stores.old.items node) + length rows.items < 2 ^ 32 }

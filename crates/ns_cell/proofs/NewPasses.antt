@@ -40,7 +40,7 @@ module _ {R : Type 0} (value : R → RowValue) (cell : CellFacts) (log : List (L
   made_is table t zero view me later front same is at = absurd (omega arith)
   made_is table t (suc number) view me later front same is at =
       ap₂ (λ (k : TableId) (m : Place R). pass_of k (suc number) m) at is
-      ∙ ap₂ (λ (l : List (LogRow R)) (c : CellFacts). let p : PassValue R = record { cell = cell_at table c.passes c.namespace; number = suc number; turns = 0; seen = l; own = [] } in p) front same
+      ∙ ap₂ (λ (l : List (LogRow R)) (c : CellFacts). let p : PassValue R = record { cell = cell_at table c.passes c.namespace; number = suc number; turns = []; seen = l; own = [] } in p) front same
 
   -- pass 0
   pub first_rests : (parts made : ℕ) (me : Place R) → AreOf 0 log → IsLog value cell.namespace log → me ≡ maker parts made → parts ≡ 1 → IsAtRest value 0 me

@@ -23,6 +23,10 @@ use Rattle.ns_cell.specs.Passes.{CellValue, IsLater}
 use Rattle.ns_cell.specs.Answers.{stored}
 use Rattle.ns_cell.specs.Seats.{Place, content, own_of, pass_of, IsAtRest, IsTurned}
 
+-- a list begins with itself, by whatever name
+pub prefix_same : {A : Type 0} (xs ys : List A) → ys ≡ xs → IsPrefix xs ys
+prefix_same xs ys e = ([], append-nil xs ∙ sym e)
+
 module _ {R : Type 0} where
   -- ---- what the calls of a turn ask
 
@@ -72,7 +76,7 @@ module _ {R : Type 0} where
           log = subst (λ (space : List ℕ). IsLog value space after.0.seen) (took.namespace ∙ sym (ap (λ (c : CellFacts). c.namespace) cell')) (subst (IsLog value state.namespace) (sym seen') is_log);
         };
         cell = cell';
-        turns = ap (λ (m : Place R). m.0.turns) is ∙ ap (λ (v : View R). v.turns + 1) took.is;
+        turns = ap (λ (m : Place R). m.0.turns) is ∙ ap₂ (λ (v : View R) (l : List (LogRow R)). v.turns ++ l ∷ []) took.is (sym seen');
         seen = subst (IsPrefix me.0.seen) (sym (seen' ∙ longer)) (prefix_more me.0.seen state.log rows took.seen);
         own = own';
       }
@@ -91,6 +95,7 @@ module _ {R : Type 0} where
     cell = ap₂ (λ (t : TableId) (c : CellFacts). let k : CellValue = record { table = t; passes = c.passes; namespace = c.namespace } in k) same turn.cell;
     number = refl;
     seen = turn.seen;
+    turns = (after.0.seen ∷ [], sym turn.turns);
   }
 
   -- ---- what the state answered to an offer

@@ -59,7 +59,7 @@ module _ {R : Type 0} where
   pub record IsTurned (value : R → RowValue) (number : ℕ) (rows : List (LogRow R)) (before after : Place R) : Type 0 where
     pub rest : IsAtRest value number after
     pub cell : after.0.cell ≡ before.0.cell
-    pub turns : after.0.turns ≡ before.0.turns + 1
+    pub turns : after.0.turns ≡ before.0.turns ++ after.0.seen ∷ []
     pub seen : IsPrefix before.0.seen after.0.seen
     pub own : own_of after.0.books ≡ own_of before.0.books ++ rows
 

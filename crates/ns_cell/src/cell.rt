@@ -1,12 +1,12 @@
 //! The cell.
 
-ghost use Rattle.std.specs.Prelude.{◌≡◌, ◌⊎◌, ◌+◌, ◌<◌, ◌≤◌, length, map, take, drop, All, IfOk, vec_len};
+ghost use Rattle.std.specs.Prelude.{◌≡◌, ◌⊎◌, ◌<◌, ◌≤◌, map, take, drop, All, IfOk, vec_len};
 ghost use mathlib.Core.List.{IsPrefix};
 ghost use Rattle.willow_entry.specs.Row.{live};
 ghost use Rattle.ns_state.specs.Log.{IsLog, values, plain_row};
 ghost use Rattle.log_rule.specs.Views.{AreOf};
 ghost use Rattle.ns_cell.specs.declared.limits.TheConstants.{PASS_LIMIT};
-ghost use Rattle.ns_cell.specs.Passes.{IsPassOf, IsPass, IsLater, new_passes};
+ghost use Rattle.ns_cell.specs.Passes.{HadTurn, IsPassOf, IsPass, IsLater, new_passes};
 ghost use Rattle.ns_cell.specs.Answers.{IsOffered};
 ghost use Rattle.ns_cell.specs.Closed.{IsClosed};
 
@@ -81,7 +81,7 @@ impl<R: Row> NsCell<R> {
         requires namespace { (R.value row).entry.namespace ≡ self.now.namespace }
         ensures later { IsLater pass.old pass.new }
         ensures offered { IsOffered R.value pass.old row pass.new result }
-        ensures turn { pass.new.turns ≡ pass.old.turns + 1 }
+        ensures turn { HadTurn pass.old pass.new }
         ensures pass { IsPass R.value pass.new }
     {
         let (answer, front) = work::offer(rt, &self.table.shared, &mut pass.seat, pass.number, row);
@@ -94,7 +94,7 @@ impl<R: Row> NsCell<R> {
         requires { IsPassOf self.now pass.old }
         ensures later { IsLater pass.old pass.new }
         ensures own { pass.new.own ≡ pass.old.own }
-        ensures turn { pass.new.turns ≡ pass.old.turns + 1 }
+        ensures turn { HadTurn pass.old pass.new }
         ensures live { IfOk result (λ snapshot. map R.value snapshot ≡ live (values R.value pass.new.seen)) }
         ensures pass { IsPass R.value pass.new }
     {
@@ -114,7 +114,7 @@ impl<R: Row> NsCell<R> {
         requires { IsPassOf self.now pass.old }
         ensures later { IsLater pass.old pass.new }
         ensures own { pass.new.own ≡ pass.old.own }
-        ensures turn { pass.new.turns ≡ pass.old.turns + 1 }
+        ensures turn { HadTurn pass.old pass.new }
         ensures rows { IfOk result (λ rows. map plain_row rows.items ≡ take most (drop from pass.new.seen)) }
         ensures pass { IsPass R.value pass.new }
     {

@@ -10,6 +10,7 @@ use crate::pass::Pass;
 use willow_entry::Row;
 
 // The one pass sees what the other has seen, where that is more.
+#[tactic(auto, using(crate::proofs::Turned::prefix_same))]
 pub(crate) fn learn_from<R: Row>(top: &Top<R>, one: &mut Pass<R>, other: &mut Pass<R>)
     requires table { (one.old.cell.table ≡ top.now.table_id) × (other.old.cell.table ≡ top.now.table_id) × (top.now.table_id.words ≡ 2) }
     requires few { top.now.key.passes < 2 ^ 64 }

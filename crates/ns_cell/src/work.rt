@@ -1,9 +1,9 @@
 //! What a pass does in its turn: it offers a row, takes a snapshot, or reads the log.
 
-ghost use Rattle.std.specs.Prelude.{◌≡◌, ◌+◌, ◌<◌, ◌^◌, length, map, take, drop, IfOk};
+ghost use Rattle.std.specs.Prelude.{◌≡◌, ◌<◌, ◌^◌, length, map, take, drop, IfOk};
 ghost use Rattle.willow_entry.specs.Row.{live};
 ghost use Rattle.ns_state.specs.Log.{values, plain_row};
-ghost use Rattle.ns_cell.specs.Passes.{IsLater};
+ghost use Rattle.ns_cell.specs.Passes.{HadTurn, IsLater};
 ghost use Rattle.ns_cell.specs.Answers.{IsOffered};
 ghost use Rattle.ns_cell.specs.Seats.{IsAtRest, pass_of};
 
@@ -31,7 +31,7 @@ pub(crate) fn offer<R: Row, W: Wait>(
     ensures rest { IsAtRest R.value number seat.new.me }
     ensures later { IsLater (pass_of seat.old.table_id number seat.old.me) (pass_of seat.new.table_id number seat.new.me) }
     ensures offered { IsOffered R.value (pass_of seat.old.table_id number seat.old.me) row (pass_of seat.new.table_id number seat.new.me) result.0 }
-    ensures turn { seat.new.me.0.turns ≡ seat.old.me.0.turns + 1 }
+    ensures turn { HadTurn (pass_of seat.old.table_id number seat.old.me) (pass_of seat.new.table_id number seat.new.me) }
     ensures front { result.1 ≡ length seat.new.me.0.seen }
 {
     let mut state = begin(rt, top, seat);
@@ -56,7 +56,7 @@ pub(crate) fn snapshot<R: Row, W: Wait>(
     ensures later { IsLater (pass_of seat.old.table_id number seat.old.me) (pass_of seat.new.table_id number seat.new.me) }
     ensures own { (pass_of seat.new.table_id number seat.new.me).own ≡ (pass_of seat.old.table_id number seat.old.me).own }
     ensures live { IfOk result.0 (λ snapshot. map R.value snapshot ≡ live (values R.value seat.new.me.0.seen)) }
-    ensures turn { seat.new.me.0.turns ≡ seat.old.me.0.turns + 1 }
+    ensures turn { HadTurn (pass_of seat.old.table_id number seat.old.me) (pass_of seat.new.table_id number seat.new.me) }
     ensures front { result.1 ≡ length seat.new.me.0.seen }
 {
     let state = begin(rt, top, seat);
@@ -83,7 +83,7 @@ pub(crate) fn read<R: Row, W: Wait>(
     ensures later { IsLater (pass_of seat.old.table_id number seat.old.me) (pass_of seat.new.table_id number seat.new.me) }
     ensures own { (pass_of seat.new.table_id number seat.new.me).own ≡ (pass_of seat.old.table_id number seat.old.me).own }
     ensures rows { IfOk result.0 (λ rows. map plain_row rows.items ≡ take most (drop from seat.new.me.0.seen)) }
-    ensures turn { seat.new.me.0.turns ≡ seat.old.me.0.turns + 1 }
+    ensures turn { HadTurn (pass_of seat.old.table_id number seat.old.me) (pass_of seat.new.table_id number seat.new.me) }
     ensures front { result.1 ≡ length seat.new.me.0.seen }
 {
     let state = begin(rt, top, seat);

@@ -1,3 +1,5 @@
 pub mod Listing
 pub mod Generator
+pub mod Signing
+pub mod Ranges
 pub mod Summary

@@ -1,84 +1,80 @@
 //! The frames of the generator's rows, without the rows.
 
-ghost use Rattle.std.specs.Prelude.{◌≡◌, ◌+◌, ◌<◌, ◌≤◌, ◌++◌, length, drop, map, IfOk, OnOk};
-ghost use Rattle.std.specs.List.{range_with_len};
+ghost use Rattle.std.specs.Prelude.{◌≡◌, ◌≤◌, ◌++◌, length, drop, map, OnOk};
 ghost use Rattle.std.specs.Int.{w32, to_be_bytes};
 ghost use Rattle.spelling.specs.Spelling.{text_spelling};
 ghost use Rattle.mc_cap.specs.Signature.{signature_spelling};
-ghost use Rattle.cap_codec.specs.Rows.{frame};
-ghost use Rattle.peer_listing.specs.Generator.{generated, writer_capability};
+ghost use Rattle.peer_listing.specs.Ranges.{entries_between, frames_between};
+ghost use Rattle.peer_listing.specs.Signing.{own_signature, signed_bytes};
 
-use crate::generator::{
-    GENERATED_ROWS, generated_entry, generator_capability, generator_writer, open_signature,
-};
-use mc_cap::Signature;
+use crate::generator::GENERATED_ROWS;
+use crate::signing::{digests, entries_between, messages, signed_bytes};
+use crate::writers::Generator;
+use sha_lanes::Message;
 use spelling::{NoMemory, put_bytes, put_u16, put_u32};
 use std::alloc::Global;
-use willow_entry::{MAX_FRAME, entry_message};
+use willow_entry::MAX_FRAME;
 
-// How many writers the generator has.
-const WRITERS: u8 = 8;
+// So many bytes stand in front of an entry where it is signed: a key, and the letter of an entry's message.
+const BEFORE_ENTRY: usize = 34;
 
-/// What makes frames of the generator's rows: the capability of each writer, which is signed and spelled once.
-#[derive(Drop)]
-pub struct GeneratedFrames {
-    capabilities: Vec<Vec<u8>>,
-    ghost spelled: { map (λ bytes. bytes.items) capabilities.items ≡ map writer_capability (range_with_len 0 8) },
-}
+impl Generator {
+    /// Appends the frames of the generator's rows from one to before another to `out`, in order: of each the length of its
+    /// body in four bytes, the highest first, and the body, as `generated_row` has it. The last is at most
+    /// `GENERATED_ROWS`. The rows are signed together, four at a time, so several dozen by one call serve best. Without
+    /// memory some of it may stand there.
+    pub fn put_frames(
+        &self,
+        alloc: Global,
+        from: u32,
+        to: u32,
+        out: &mut Vec<u8>,
+    ) -> Result<(), NoMemory>
+        requires order { from ≤ to }
+        requires within { to ≤ GENERATED_ROWS }
+        ensures { OnOk result (out.new.items ≡ out.old.items ++ frames_between from to) }
+    {
+        let entries = entries_between(alloc, from, to)?;
+        let bytes = signed_bytes(alloc, &entries)?;
+        let messages = messages(alloc, &entries, &bytes)?;
+        let signatures = digests(alloc, &messages)?;
+        self.put_each(from, to, &messages, &signatures, out)
+    }
 
-impl GeneratedFrames {
-    /// Signs the capabilities of the generator's writers.
-    pub fn new(alloc: Global) -> Result<GeneratedFrames, NoMemory> {
-        let mut capabilities = Vec::new(alloc);
-        for s in 0..WRITERS {
-            capabilities.push(writer_capability(alloc, s)?)?;
+    // Appends the frames of the rows from one to before another, of which this was signed, and these are the signatures.
+    fn put_each(
+        &self,
+        from: u32,
+        to: u32,
+        messages: &[Message<'_>],
+        signatures: &[[u8; 32]],
+        out: &mut Vec<u8>,
+    ) -> Result<(), NoMemory>
+        requires order { from ≤ to }
+        requires messages { map (λ m. m.rest.now) messages.now ≡ map signed_bytes (entries_between from to) }
+        requires signatures { signatures.now ≡ map own_signature (entries_between from to) }
+        ensures { OnOk result (out.new.items ≡ out.old.items ++ frames_between from to) }
+    {
+        'rows: for i in from..to {
+            let at = (i - from) as usize;
+            let capability = self.capability_bytes((i % 8) as u8);
+            put_frame(
+                out,
+                entry_in(messages[at].rest),
+                capability,
+                &signatures[at],
+            )?;
         }
-        Ok(GeneratedFrames { capabilities })
-    }
-
-    /// Appends the frame of row i of the generator to `out`, i below `GENERATED_ROWS`: the length of the row's body in
-    /// four bytes, the highest first, and the body, as `generated_row` has it. Without memory a part of it may stand there.
-    pub fn put(&self, alloc: Global, i: u32, out: &mut Vec<u8>) -> Result<(), NoMemory>
-        requires { i < GENERATED_ROWS }
-        ensures { OnOk result (out.new.items ≡ out.old.items ++ frame (generated i)) }
-    {
-        let entry = generated_entry(alloc, i)?;
-        let message = entry_message(alloc, &entry)?;
-        let s = (i % 8) as u8;
-        let signature = open_signature(alloc, generator_writer(s), &message)?;
-        put_frame(
-            out,
-            behind_letter(&message),
-            self.capability_of(s),
-            &signature,
-        )
-    }
-
-    // The bytes of the capability of writer s.
-    fn capability_of(&self, s: u8) -> &[u8]
-        requires { s < 8 }
-        ensures { result.now ≡ writer_capability s }
-    {
-        &self.capabilities[usize::from(s)]
+        Ok(())
     }
 }
 
-// The spelling of an entry, which stands behind a letter in what is signed of it.
-fn behind_letter(message: &[u8]) -> &[u8]
-    requires { 0 < length message.now }
-    ensures { result.now ≡ drop 1 message.now }
+// The spelling of an entry, which stands behind a key and a letter in what is signed of it.
+fn entry_in(signed: &[u8]) -> &[u8]
+    requires { 34 ≤ length signed.now }
+    ensures { result.now ≡ drop 34 signed.now }
 {
-    &message[1..]
-}
-
-// The spelling of a writer's capability.
-fn writer_capability(alloc: Global, s: u8) -> Result<Vec<u8>, NoMemory>
-    ensures { IfOk result (λ bytes. bytes.items ≡ writer_capability s) }
-{
-    let capability = generator_capability(alloc, generator_writer(s))?;
-    let mut bytes = Vec::new(alloc);
-    capability.encode(&mut bytes)?;
-    Ok(bytes)
+    &signed[BEFORE_ENTRY..]
 }
 
 // Appends the frame of a body of these parts, or without memory a part of it.
@@ -86,13 +82,12 @@ fn put_frame(
     out: &mut Vec<u8>,
     entry: &[u8],
     capability: &[u8],
-    signature: &Signature,
+    signature: &[u8; 32],
 ) -> Result<(), NoMemory>
     requires { length (entry.now ++ (capability.now ++ signature_spelling signature.now)) ≤ MAX_FRAME }
     ensures { OnOk result (out.new.items ≡ out.old.items
         ++ text_spelling (to_be_bytes w32) (entry.now ++ (capability.now ++ signature_spelling signature.now))) }
 {
-    let signature = signature.as_slice();
     let body = entry.len() + capability.len() + 2 + signature.len();
     put_u32(out, body as u32)?;
     put_bytes(out, entry)?;

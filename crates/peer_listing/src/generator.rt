@@ -129,11 +129,7 @@ pub(crate) fn generator_capability(alloc: Global, writer: UserKey) -> Result<Cap
 
 // The signature of a message by an open key.
 #[tactic(auto, using(crate::proofs::Signed::only_signed))]
-pub(crate) fn open_signature(
-    alloc: Global,
-    key: UserKey,
-    message: &[u8],
-) -> Result<Signature, NoMemory>
+fn open_signature(alloc: Global, key: UserKey, message: &[u8]) -> Result<Signature, NoMemory>
     requires { slice_index key 0 ≡ 0 }
     ensures { IfOk result (λ signature. signature ≡ open_signature key message.now) }
 {

@@ -6,9 +6,12 @@ mod frames;
 mod generator;
 pub mod laws;
 mod listing;
+mod rows;
+mod signing;
 mod summary;
+mod writers;
 
-pub use frames::GeneratedFrames;
 pub use generator::{GENERATED_ROWS, generated_row, generator_namespace};
 pub use listing::{key_line, listing_head, listing_line};
 pub use summary::{DrillCounts, drill_summary};
+pub use writers::Generator;

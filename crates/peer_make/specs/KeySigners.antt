@@ -1,5 +1,5 @@
 -- The signers that a word names: an open key, or one index of a key file each.
-use Rattle.std.specs.Prelude.{◌≡◌, ℕ, Bool, List, map, replicate, Result, Ok, Err}
+use Rattle.std.specs.Prelude.{◌≡◌, ◌⊎◌, ℕ, Bool, List, map, replicate, Result, Ok, Err}
 use Rattle.std.specs.Global.{Vec}
 use Rattle.std.specs.String.{string_bytes}
 use Rattle.scheme_core.specs.Open.{open_accepts}
@@ -21,6 +21,13 @@ gives_of (Once signer) = use_gives signer
 abbrev pub left_of : KeySigner → ℕ
 left_of (Open key) = 1
 left_of (Once signer) = signer.left
+
+-- how it may stand behind one call: an open key as it did, an index of a key file as it did or used up
+abbrev pub asks_of : KeySigner → KeySigner → Type 0
+asks_of (Open key) (Open now) = now ≡ key
+asks_of (Open key) (Once now) = ⊥
+asks_of (Once signer) (Open now) = ⊥
+asks_of (Once signer) (Once now) = (now ≡ signer) ⊎ (now ≡ record signer { left = 0 })
 
 -- the key for which its signatures are accepted
 abbrev pub signer_key : KeySigner → List ℕ

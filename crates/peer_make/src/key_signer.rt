@@ -2,11 +2,10 @@
 
 ghost use Rattle.std.specs.Prelude.{◌≡◌, ◌<◌, ◌≤◌, ◌↔◌, true, length, map, replicate, slice_index, All, IfOk, OnErr, IsErrOf};
 ghost use Rattle.spelling.specs.declared.ending.End.TheVariants as ends;
-ghost use Rattle.willow_outside.specs.Counts.{Rose};
 ghost use Rattle.scheme_core.specs.declared.signer.TheConstants.{MAX_SIGNATURE};
 ghost use Rattle.peer_words.specs.Signers.{IsSigner};
 ghost use Rattle.peer_stage.specs.Faults.{CountsStep};
-ghost use Rattle.peer_make.specs.KeySigners.{HandsSigner, HandsSigners, gives_of, left_of};
+ghost use Rattle.peer_make.specs.KeySigners.{HandsSigner, HandsSigners, gives_of, left_of, asks_of};
 ghost use Rattle.peer_make.specs.declared.key_signer.KeySigner.TheVariants.{Open, Once};
 ghost use Rattle.peer_make.specs.KeySignerLaws.{gives_short};
 
@@ -37,14 +36,17 @@ impl Signer for KeySigner {
 
     ghost faults = { λ _. 0 };
 
+    ghost asks = { asks_of };
+
     /// Signs a message, as the key of its kind does. It never fails.
     fn sign(&mut self, alloc: Global, message: &[u8]) -> Result<Vec<u8>, End<SignRefusal>>
         ensures given { IfOk result (λ signature. gives_of self.old message.now signature.items ≡ true) }
         ensures short { IfOk result (λ signature. length signature.items ≤ MAX_SIGNATURE) }
         ensures same { gives_of self.new ≡ gives_of self.old }
         ensures spent { IsErrOf result (ends.Refused SignRefusal.Spent) ↔ (left_of self.old ≡ 0) }
-        ensures failed { IsErrOf result (ends.Refused SignRefusal.Failed) → Rose 0 0 }
+        ensures failed { IsErrOf result (ends.Refused SignRefusal.Failed) → ⊥ }
         ensures kept { OnErr result (left_of self.new ≡ left_of self.old) }
+        ensures asked { asks_of self.old self.new }
     {
         match self {
             KeySigner::Open(signer) => signer.sign(alloc, message),

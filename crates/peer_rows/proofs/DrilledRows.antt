@@ -1,8 +1,8 @@
 -- How the generated rows of a drill go on by some rows.
-use Rattle.std.proofs.Common.{◌≡◌, ◌≤◌, ℕ, zero, suc, ◌+◌, ◌-◌, cond, not, List, [], ◌∷◌, ◌++◌, map, filter, Option, Some, None, is_some, Result, Ok, Err, refl, sym, ap, ◌∙◌, append_assoc, arith}
+use Rattle.std.proofs.Common.{◌≡◌, ◌≤◌, ℕ, ◌+◌, ◌-◌, cond, not, List, [], ◌∷◌, ◌++◌, map, filter, Option, Some, None, is_some, Result, Ok, Err, refl, sym, ap, ◌∙◌, append_assoc, arith}
 use Rattle.std.specs.List.{range_with_len}
 use Rattle.std.proofs.lemmas.List.{append-nil, map-append}
-use Rattle.std.proofs.lemmas.List.FromFn.{length-map-range_with_len, map-range_with_len_more}
+use Rattle.std.proofs.lemmas.List.FromFn.{length-map-range_with_len}
 use Rattle.lms_core.specs.Use.{peer_rules}
 use Rattle.willow_entry.specs.Pruning.{new_after}
 use Rattle.willow_entry.specs.Row.{is_covering}
@@ -11,11 +11,13 @@ use Rattle.auth_entry.specs.Authorised.{AuthorisedValue, is_authorised, row_refu
 use Rattle.mc_cap.specs.declared.refusal.RowRefusal.{RowRefusal}
 use Rattle.peer_listing.specs.Generator.{generated, generator_namespace}
 use Rattle.peer_listing.specs.declared.generator.TheConstants.{GENERATED_ROWS}
+use Rattle.peer_listing.proofs.Ranges.{ranges_join}
 use Rattle.ns_state.specs.Log.{StateValue, values}
 use Rattle.peer_rows.specs.RowLogs.{HasTaken, ArePastLog}
 use Rattle.auth_entry.specs.Rows.{entry_row}
 use Rattle.peer_rows.specs.Logged.{authorised_rows, stored_rows}
-use Rattle.peer_rows.specs.Drilled.{generated_between, generated_rows}
+use Rattle.peer_listing.specs.Ranges.{generated_between}
+use Rattle.peer_rows.specs.Drilled.{generated_rows}
 use Rattle.peer_rows.proofs.AuthorisedRows.{authorised_few, authorised_parts}
 use Rattle.peer_rows.proofs.NewRows.{new_after-fewer}
 
@@ -63,24 +65,6 @@ all_kept n rows all verdicts kept so_far none is =
     ap stored_rows (whole ∙ ap entries_of is) ∙ entries_authorised n rows
 
 -- ---- the generated rows
-
-ranges_join : (a m n : ℕ) → range_with_len a (m + n) ≡ range_with_len a m ++ range_with_len (a + m) n
-ranges_join a zero n =
-    let count : zero + n ≡ n = omega arith in
-    let at : a ≡ a + zero = omega arith in
-    ap (range_with_len a) count ∙ ap (λ (k : ℕ). range_with_len k n) at
-ranges_join a (suc m) n =
-    let count : suc m + n ≡ suc (m + n) = omega arith in
-    let at : (a + 1) + m ≡ a + suc m = omega arith in
-    ap (range_with_len a) count
-    ∙ ap (λ (l : List ℕ). a ∷ l) (ranges_join (a + 1) m n)
-    ∙ ap (λ (k : ℕ). a ∷ (range_with_len (a + 1) m ++ range_with_len k n)) at
-
--- those between go on by the next one
-pub between_more : (from i : ℕ) → from ≤ i → generated_between from (i + 1) ≡ generated_between from i ++ generated i ∷ []
-between_more from i up =
-    let count : (i + 1) - from ≡ (i - from) + 1 = omega arith in
-    ap (λ n. map generated (range_with_len from n)) count ∙ map-range_with_len_more generated from (i - from) i (omega arith)
 
 generated_join : (from to : ℕ) → from ≤ to → map generated (range_with_len 0 to) ≡ map generated (range_with_len 0 from) ++ generated_between from to
 generated_join from to up =

@@ -1,14 +1,9 @@
 -- The generated rows that a drill stores.
-use Rattle.std.specs.Prelude.{ℕ, ◌-◌, List, map}
+use Rattle.std.specs.Prelude.{ℕ, List, map}
 use Rattle.std.specs.List.{range_with_len}
 use Rattle.willow_entry.specs.Row.{RowValue}
-use Rattle.cap_codec.specs.Rows.{RawValue}
 use Rattle.peer_listing.specs.Generator.{generated, generator_namespace}
 use Rattle.peer_rows.specs.Logged.{authorised_rows}
-
--- the generated rows from one to before another, in order
-abbrev pub generated_between : ℕ → ℕ → List RawValue
-generated_between from to = map generated (range_with_len from (to - from))
 
 -- the authorised ones among the generated rows 0 to n - 1, in order
 unfoldable pub generated_rows : ℕ → List RowValue

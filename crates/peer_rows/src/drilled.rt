@@ -2,18 +2,18 @@
 
 ghost use Rattle.std.specs.Prelude.{◌≡◌, ◌/◌, ◌≤◌, IfOk, OnOk};
 ghost use Rattle.peer_listing.specs.Generator.{generator_namespace};
+ghost use Rattle.peer_listing.specs.Ranges.{generated_between};
 ghost use Rattle.peer_rows.specs.RowLogs.{HasTaken};
 ghost use Rattle.auth_entry.specs.Rows.{entry_row};
 ghost use Rattle.peer_rows.specs.Logged.{authorised_rows, stored_rows};
-ghost use Rattle.peer_rows.specs.Drilled.{generated_between, generated_rows};
+ghost use Rattle.peer_rows.specs.Drilled.{generated_rows};
 
 use crate::images::EntryLog;
 use crate::row_log::offer_rows;
 use auth_entry::{AuthorisedEntry, Checker, NewChecker};
-use cap_codec::RawRow;
 use lms_core::PeerScheme;
 use ns_state::{LiveLog, LogFull};
-use peer_listing::{GENERATED_ROWS, generated_row, generator_namespace};
+use peer_listing::{GENERATED_ROWS, Generator, generator_namespace};
 use spelling::{End, NoMemory};
 use std::alloc::Global;
 use std::thread::Threads;
@@ -34,6 +34,7 @@ pub fn generated_logs<C: NewChecker<PeerScheme>, R: Threads + Sync>(
     ensures half { IfOk result (λ logs. HasTaken entry_row (generated_rows (rows / 2)) logs.1) }
     ensures one_namespace { IfOk result (λ logs. logs.1.namespace ≡ logs.0.namespace) }
 {
+    let generator = Generator::new(alloc)?;
     let mut checker = C::begin(alloc, PeerScheme, generator_namespace())?;
     let mut whole = LiveLog::new(alloc, generator_namespace());
     let mut half = LiveLog::new(alloc, generator_namespace());
@@ -41,72 +42,24 @@ pub fn generated_logs<C: NewChecker<PeerScheme>, R: Threads + Sync>(
     let mut made = 0;
     'both: while made < middle {
         let to = middle.min(made + PIECE);
-        keep_twice(rt, alloc, &mut checker, made, to, &mut half, &mut whole)?;
+        let entries = authorised_between(rt, alloc, &generator, &mut checker, made, to)?;
+        keep_twice(alloc, made, to, entries, &mut half, &mut whole)?;
         made = to;
     }
     'others: while made < rows {
         let to = rows.min(made + PIECE);
-        keep_once(rt, alloc, &mut checker, made, to, &mut whole)?;
+        let entries = authorised_between(rt, alloc, &generator, &mut checker, made, to)?;
+        keep(&mut whole, made, to, entries)?;
         made = to;
     }
     Ok((whole, half))
-}
-
-// Makes and judges the generator's rows from one to before another once, and offers the authorised ones to two logs of those
-// before them, which have room for all.
-fn keep_twice<C: Checker<PeerScheme>, R: Threads + Sync>(
-    rt: &R,
-    alloc: Global,
-    checker: &mut C,
-    from: u32,
-    to: u32,
-    half: &mut EntryLog,
-    whole: &mut EntryLog,
-) -> Result<(), NoMemory>
-    requires checks { C.judged_in checker.old ≡ generator_namespace }
-    requires from { from ≤ to }
-    requires to { to ≤ GENERATED_ROWS }
-    requires half { HasTaken entry_row (generated_rows from) half.old }
-    requires half_namespace { half.old.namespace ≡ generator_namespace }
-    requires whole { HasTaken entry_row (generated_rows from) whole.old }
-    requires whole_namespace { whole.old.namespace ≡ generator_namespace }
-    ensures checks { C.judged_in checker.new ≡ C.judged_in checker.old }
-    ensures half { OnOk result (HasTaken entry_row (generated_rows to) half.new) }
-    ensures half_namespace { half.new.namespace ≡ half.old.namespace }
-    ensures whole { OnOk result (HasTaken entry_row (generated_rows to) whole.new) }
-    ensures whole_namespace { whole.new.namespace ≡ whole.old.namespace }
-{
-    let entries = authorised_between(rt, alloc, checker, from, to)?;
-    keep(half, from, to, copies_of(alloc, &entries)?)?;
-    keep(whole, from, to, entries)
-}
-
-// The same for one log.
-fn keep_once<C: Checker<PeerScheme>, R: Threads + Sync>(
-    rt: &R,
-    alloc: Global,
-    checker: &mut C,
-    from: u32,
-    to: u32,
-    log: &mut EntryLog,
-) -> Result<(), NoMemory>
-    requires checks { C.judged_in checker.old ≡ generator_namespace }
-    requires from { from ≤ to }
-    requires to { to ≤ GENERATED_ROWS }
-    requires taken { HasTaken entry_row (generated_rows from) log.old }
-    requires namespace { log.old.namespace ≡ generator_namespace }
-    ensures checks { C.judged_in checker.new ≡ C.judged_in checker.old }
-    ensures taken { OnOk result (HasTaken entry_row (generated_rows to) log.new) }
-    ensures namespace { log.new.namespace ≡ log.old.namespace }
-{
-    let entries = authorised_between(rt, alloc, checker, from, to)?;
-    keep(log, from, to, entries)
 }
 
 // The authorised ones among the generator's rows from one to before another.
 fn authorised_between<C: Checker<PeerScheme>, R: Threads + Sync>(
     rt: &R,
     alloc: Global,
+    generator: &Generator,
     checker: &mut C,
     from: u32,
     to: u32,
@@ -117,7 +70,7 @@ fn authorised_between<C: Checker<PeerScheme>, R: Threads + Sync>(
     ensures namespace { C.judged_in checker.new ≡ C.judged_in checker.old }
     ensures entries { IfOk result (λ entries. stored_rows entries.items ≡ authorised_rows generator_namespace (generated_between from to)) }
 {
-    let rows = generated_between(alloc, from, to)?;
+    let rows = generator.rows(alloc, from, to)?;
     let verdicts = checker.check_all(rt, alloc, rows)?;
     let mut entries = Vec::with_capacity(alloc, verdicts.len())?;
     for judged in verdicts {
@@ -127,19 +80,6 @@ fn authorised_between<C: Checker<PeerScheme>, R: Threads + Sync>(
         }
     }
     Ok(entries)
-}
-
-// The generator's rows from one to before another.
-fn generated_between(alloc: Global, from: u32, to: u32) -> Result<Vec<RawRow>, NoMemory>
-    requires from { from ≤ to }
-    requires to { to ≤ GENERATED_ROWS }
-    ensures { IfOk result (λ rows. rows.items ≡ generated_between from to) }
-{
-    let mut rows = Vec::with_capacity(alloc, (to - from) as usize)?;
-    for i in from..to {
-        rows.push(generated_row(alloc, i)?)?;
-    }
-    Ok(rows)
 }
 
 // Equal entries.
@@ -154,6 +94,32 @@ fn copies_of(
         copies.push(entry.copy()?)?;
     }
     Ok(copies)
+}
+
+// Offers the authorised ones among the generator's rows from one to before another to two logs of those before them, which
+// have room for all.
+fn keep_twice(
+    alloc: Global,
+    from: u32,
+    to: u32,
+    entries: Vec<AuthorisedEntry<PeerScheme>>,
+    half: &mut EntryLog,
+    whole: &mut EntryLog,
+) -> Result<(), NoMemory>
+    requires from { from ≤ to }
+    requires to { to ≤ GENERATED_ROWS }
+    requires entries { stored_rows entries.items ≡ authorised_rows generator_namespace (generated_between from to) }
+    requires half { HasTaken entry_row (generated_rows from) half.old }
+    requires half_namespace { half.old.namespace ≡ generator_namespace }
+    requires whole { HasTaken entry_row (generated_rows from) whole.old }
+    requires whole_namespace { whole.old.namespace ≡ generator_namespace }
+    ensures half { OnOk result (HasTaken entry_row (generated_rows to) half.new) }
+    ensures half_namespace { half.new.namespace ≡ half.old.namespace }
+    ensures whole { OnOk result (HasTaken entry_row (generated_rows to) whole.new) }
+    ensures whole_namespace { whole.new.namespace ≡ whole.old.namespace }
+{
+    keep(half, from, to, copies_of(alloc, &entries)?)?;
+    keep(whole, from, to, entries)
 }
 
 // Offers the authorised ones among the generator's rows from one to before another to the log of those before them, which

@@ -4,6 +4,7 @@ use Rattle.std.specs.Prelude.{Ok, Err}
 use Rattle.std.specs.declared.string.String.{String}
 use Rattle.std.specs.declared.alloc.Global.{Global}
 use Rattle.willow_outside.specs.Facts.{ShelfFacts}
+use Rattle.area_interest.specs.declared.interest.Interest.{Interest}
 use Rattle.lms_core.specs.Reserve.{KeepsNames}
 use Rattle.sync_msg.specs.declared.role.Role.TheVariants.{Caller}
 use Rattle.sync_hello.specs.declared.hello.Hello.{Hello}
@@ -27,21 +28,21 @@ use Rattle.peer_run.proofs.SideBegun.{HasPrepared, has_prepared, preparing_keeps
 
 -- ---- all that a call begins with
 
-module _ (image cap : String Global) (key : SignerWord) (area : AreaWords) where
+module _ (image cap : String Global) (key : SignerWord) (area : AreaWords) (limits : Interest) where
   -- It has what a side brings, the plan says the same of it, and the signer is the one that the words name.
   pub record HasBegun (old new : World) (c : caller.Caller) : Type 0 where
     pub hello : Hello
     pub front : HasPrepared image cap area old old (record { opening = c.opening; hello = hello })
-    pub plan_is : c.plan ≡ plan_of Caller hello
+    pub plan_is : c.plan ≡ plan_of Caller hello limits
     pub reserved : IsSignerOf key old.shelf new.shelf c.signer
     pub counted : new.shelf.write_faults ≡ old.shelf.write_faults
     pub others : new ≡ record old { shelf = new.shelf }
 
   -- the plan says what the words ask
-  pub plan_asks : (old new : World) (c : caller.Caller) (begun : HasBegun old new c) → c.plan ≡ plan_of Caller (own_hello area begun.front.capability no_nonce)
-  plan_asks old new c begun = begun.plan_is ∙ ap (plan_of Caller) begun.front.hello_is
+  pub plan_asks : (old new : World) (c : caller.Caller) (begun : HasBegun old new c) → c.plan ≡ plan_of Caller (own_hello area begun.front.capability no_nonce) limits
+  plan_asks old new c begun = begun.plan_is ∙ ap (λ (h : Hello). plan_of Caller h limits) begun.front.hello_is
 
-  pub has_begun : (old new : World) (c : caller.Caller) → Begins image cap key area old new (Ok c) → HasBegun old new c
+  pub has_begun : (old new : World) (c : caller.Caller) → Begins image cap key area limits old new (Ok c) → HasBegun old new c
   has_begun old new c p =
       let r = has_prepared image cap area old p.between p.value p.given in
       let q = p.rest in
@@ -87,9 +88,9 @@ reserving_keeps (OpenKey key) h h' stop.NoMemory s = ap (λ (x : ShelfFacts). x.
 reserving_keeps (OpenKey key) h h' e s = absurd s
 reserving_keeps (LmsFile name) h h' e s = next_keeps name h h' e s
 
-pub beginning_keeps : (image cap : String Global) (key : SignerWord) (area : AreaWords) (old new : World) (e : Stop) → Begins image cap key area old new (Err e) → KeepsButKey key old.shelf new.shelf
-beginning_keeps image cap key area old new e (inl s) = keeps_all key old.shelf new.shelf (preparing_keeps image cap area old new e s)
-beginning_keeps image cap key area old new e (inr p) =
+pub beginning_keeps : (image cap : String Global) (key : SignerWord) (area : AreaWords) (limits : Interest) (old new : World) (e : Stop) → Begins image cap key area limits old new (Err e) → KeepsButKey key old.shelf new.shelf
+beginning_keeps image cap key area limits old new e (inl s) = keeps_all key old.shelf new.shelf (preparing_keeps image cap area old new e s)
+beginning_keeps image cap key area limits old new e (inr p) =
     let same = (has_prepared image cap area old p.between p.value p.given).same in
     elim p.rest [
       | inl s ↦ subst (λ (w : World). KeepsButKey key w.shelf new.shelf) same (reserving_keeps key p.between.shelf new.shelf e s.does)

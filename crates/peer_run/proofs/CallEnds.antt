@@ -53,7 +53,7 @@ use Rattle.peer_run.proofs.SyncSteps.{synced_as}
 -- ---- nothing keeps a call from what it gets and reserves
 
 module _ (words : SyncWords) (old new : World) (can : CanSync words old new) where
-  begins_free : (w : World) (e : Stop) → IsCondition e → Begins words.image words.cap words.key words.area old w (Err e) → ⊥
+  begins_free : (w : World) (e : Stop) → IsCondition e → Begins words.image words.cap words.key words.area words.limits old w (Err e) → ⊥
   begins_free w e condition (inl s) = prepares_free old can.names can.given words.image words.cap words.area can.are_told can.are_given can.room w e condition s
   begins_free w e condition (inr p) =
       let same = (has_prepared words.image words.cap words.area old p.between p.value p.given).same in
@@ -125,10 +125,10 @@ module _ (words : SyncWords) (old new : World) (can : CanSync words old new) whe
     small_done d p memory =
         let q = p.rest in
         let r = q.rest in
-        ended d p.value p.between (has_begun words.image words.cap words.key words.area old p.between p.value p.given) q.value q.between q.given r.value r.between r.given r.rest
+        ended d p.value p.between (has_begun words.image words.cap words.key words.area words.limits old p.between p.value p.given) q.value q.between q.given r.value r.between r.given r.rest
         (λ four. no_write ((sync_closes words).write_fault old new (Ok d) p four))
       where
-        ended : (d : Done) (c : caller.Caller) (began : World) (begun : HasBegun words.image words.cap words.key words.area old began c) (draw : List ℕ) (drawn : World) → OnNoise DrawsOne began drawn (Ok draw)
+        ended : (d : Done) (c : caller.Caller) (began : World) (begun : HasBegun words.image words.cap words.key words.area words.limits old began c) (draw : List ℕ) (drawn : World) → OnNoise DrawsOne began drawn (Ok draw)
             → (x : Called) (called : World) → OnDoor (Calls (string_bytes words.to) (planned peer_rules c.opening.state.namespace c.plan (nonce_of draw)) c.signer c.opening.state) drawn called (Ok x)
             → Finishes (string_bytes words.image) c.opening.rows c.opening.first x called new (Ok d) → status_of (Ok d) ≢ 4 → status_of (Ok d) ≤ 1
         ended (done.Synced s) c began begun draw drawn draws x called did f four =

@@ -31,7 +31,7 @@ use Rattle.peer_run.proofs.AllNew.{authorised_new}
 use Rattle.peer_run.proofs.CallBegun.{HasBegun, plan_asks}
 
 module _ (words : SyncWords) (old new : World) (c : caller.Caller) (began : World) (draw : List ℕ) (drawn : World) (x : Called) (called : World)
-    (begun : HasBegun words.image words.cap words.key words.area old began c) (draws : OnNoise DrawsOne began drawn (Ok draw))
+    (begun : HasBegun words.image words.cap words.key words.area words.limits old began c) (draws : OnNoise DrawsOne began drawn (Ok draw))
     (did : OnDoor (Calls (string_bytes words.to) (planned peer_rules c.opening.state.namespace c.plan (nonce_of draw)) c.signer c.opening.state) drawn called (Ok x))
     (puts : OnShelf (PutsBytes (string_bytes words.image) (image_behind x)) called new (Ok tt)) where
   abbrev n : List ℕ
@@ -41,12 +41,12 @@ module _ (words : SyncWords) (old new : World) (c : caller.Caller) (began : Worl
   given = record { namespace = n; rows = begun.front.given.rows.items; cap = begun.front.capability }
 
   abbrev brings : List ℕ → Party
-  brings = calling_party words.area given draw
+  brings = calling_party words.area words.limits given draw
 
   party_is : planned peer_rules c.opening.state.namespace c.plan (nonce_of draw) ≡ brings
   party_is =
       ap (λ (m : List ℕ). planned peer_rules m c.plan (nonce_of draw)) begun.front.opened.of_namespace
-      ∙ ap (λ (plan : SessionPlan PeerScheme). planned peer_rules n plan (nonce_of draw)) (plan_asks words.image words.cap words.key words.area old began c begun)
+      ∙ ap (λ (plan : SessionPlan PeerScheme). planned peer_rules n plan (nonce_of draw)) (plan_asks words.image words.cap words.key words.area words.limits old began c begun)
 
   session : IsCalled (string_bytes words.to) brings c.signer c.opening.state drawn.door called.door x
   session = subst (λ (p : List ℕ → Party). IsCalled (string_bytes words.to) p c.signer c.opening.state drawn.door called.door x) party_is did.does
@@ -95,5 +95,5 @@ module _ (words : SyncWords) (old new : World) (c : caller.Caller) (began : Worl
         opens = begun.front.opened.held ∙ authorised_new n begun.front.given.rows.items begun.front.has_image.is_image.in_order;
         is_log = subst (λ (m : List ℕ). IsLog {R = AuthorisedValue} entry_row m x.state.log) begun.front.opened.of_namespace session.is_log;
         is_put = is_put;
-        run = record { handed_out = session.handed_out; fresh = session.fresh; before = session.before; after = session.after; begun = session.begun; ran = session.ran; closed = session.closed };
+        run = record { handed_out = session.handed_out; fresh = session.fresh; before = session.before; after = session.after; begun = session.begun; unturned = session.unturned; ran = session.ran; closed = session.closed };
       }

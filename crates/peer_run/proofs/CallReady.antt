@@ -2,6 +2,7 @@
 use Rattle.std.proofs.Common.{◌≡◌, ◌≤◌, ℕ, Bool, true, false, cond, List, [], ◌∷◌, Option, Some, None, refl, sym, ap, subst, arith}
 use Rattle.spelling.specs.Answers.{or_else}
 use Rattle.willow_outside.specs.Facts.{ShelfFacts}
+use Rattle.area_interest.specs.declared.interest.Interest.{Interest}
 use Rattle.lms_core.specs.Use.{Use, peer_rules, uses_from}
 use Rattle.lms_core.specs.declared.scheme.PeerScheme.{PeerScheme}
 use Rattle.mc_cap.specs.declared.capability.Capability.{Capability}
@@ -44,15 +45,15 @@ any_nonce : (n : List ℕ) (area : AreaWords) (c : Capability) (nonce : List ℕ
 unfolding hello_refusal claim_refusal
 any_nonce n area c nonce = refl
 
-pub plan_passes : (role : Role) (n : List ℕ) (area : AreaWords) (c : Capability) (nonce : List ℕ) (plan : SessionPlan PeerScheme) → plan ≡ plan_of role (own_hello area c no_nonce) → own_refusal n (own_hello area c no_nonce) ≡ None
+pub plan_passes : (role : Role) (n : List ℕ) (area : AreaWords) (limits : Interest) (c : Capability) (nonce : List ℕ) (plan : SessionPlan PeerScheme) → plan ≡ plan_of role (own_hello area c no_nonce) limits → own_refusal n (own_hello area c no_nonce) ≡ None
     → hello_refusal peer_rules n (plans.own_hello plan nonce) ≡ None
-plan_passes role n area c nonce plan is none =
+plan_passes role n area limits c nonce plan is none =
     let passes = subst (λ (o : Option HelloRefusal). o ≡ None) (any_nonce n area c nonce) (own_passes n (own_hello area c no_nonce) none) in
     subst (λ (p : SessionPlan PeerScheme). hello_refusal peer_rules n (plans.own_hello p nonce) ≡ None) (sym is) passes
 
 -- and its version is one that is spoken
-pub plan_speaks : (role : Role) (area : AreaWords) (c : Capability) (plan : SessionPlan PeerScheme) → plan ≡ plan_of role (own_hello area c no_nonce) → IsVersion plan.version
-plan_speaks role area c plan is = subst (λ (p : SessionPlan PeerScheme). IsVersion p.version) (sym is) (omega arith, omega arith)
+pub plan_speaks : (role : Role) (area : AreaWords) (limits : Interest) (c : Capability) (plan : SessionPlan PeerScheme) → plan ≡ plan_of role (own_hello area c no_nonce) limits → IsVersion plan.version
+plan_speaks role area limits c plan is = subst (λ (p : SessionPlan PeerScheme). IsVersion p.version) (sym is) (omega arith, omega arith)
 
 -- ---- the signer
 

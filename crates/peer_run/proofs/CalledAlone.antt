@@ -60,6 +60,7 @@ module _ (place : List ℕ) (plan : SessionPlan PeerScheme) (nonce : List ℕ) (
         before = before;
         after = after;
         begun = (ap (λ (p : PassValue AuthorisedValue). p.seen) first, ap (λ (p : PassValue AuthorisedValue). p.own) first);
+        unturned = ap (λ (p : PassValue AuthorisedValue). p.turns) first;
         ran = subst (λ (n : List ℕ). Runs (planned peer_rules n plan nonce) (gives_of signer) before after handed_out link 0 0 answer) of_namespace ran;
         closed = (alone_seen after state.log closed, alone_own after state.log closed);
         is_log = subst (λ (n : List ℕ). IsLog entry_row n state.log) of_namespace is_log;

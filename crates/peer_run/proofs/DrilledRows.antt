@@ -22,6 +22,7 @@ use Rattle.peer_rows.specs.RowLogs.{ArePastLog}
 use Rattle.peer_rows.specs.Logged.{authorised_rows}
 use Rattle.peer_rows.specs.Drilled.{generated_rows}
 use Rattle.peer_run.specs.Exchanged.{met, IsPastOne}
+use Rattle.peer_run.specs.Offered.{no_limits}
 use Rattle.peer_rows.proofs.AuthorisedRows.{authorised_all, authorised_parts, authorised_few, of_namespace}
 use Rattle.willow_entry.proofs.Fitting.{few_new}
 use Rattle.peer_run.proofs.Members.{all_held, all_left, all_right}
@@ -60,19 +61,19 @@ front_held k n below =
 -- both sides have room for what comes
 module _ (n : ℕ) (area : Option Ranges) where
   abbrev turns : List TurnValue
-  turns = met (generated_rows n) (generated_rows (n / 2)) area
+  turns = met (generated_rows n) (generated_rows (n / 2)) area no_limits
 
   half : AllByRecursion (Member (generated_rows n)) (generated_rows (n / 2))
   half = front_held (n / 2) n (omega arith)
 
   held_left : AllByRecursion (Member (generated_rows n)) (generated_rows n ++ to_left turns)
-  held_left = all_left (Member (generated_rows n)) (generated_rows n) (generated_rows (n / 2)) area (all_held (generated_rows n)) half
+  held_left = all_left (Member (generated_rows n)) (generated_rows n) (generated_rows (n / 2)) area no_limits (all_held (generated_rows n)) half
 
   held_right : AllByRecursion (Member (generated_rows n)) (generated_rows (n / 2) ++ to_right turns)
-  held_right = all_right (Member (generated_rows n)) (generated_rows n) (generated_rows (n / 2)) area (all_held (generated_rows n)) half
+  held_right = all_right (Member (generated_rows n)) (generated_rows n) (generated_rows (n / 2)) area no_limits (all_held (generated_rows n)) half
 
   never : (rows : List RowValue) → n ≤ GENERATED_ROWS → AllByRecursion (Member (generated_rows n)) rows → ArePastLog rows → ⊥
   never rows few all past = absurd (omega (arith, few_new (generated_rows n) rows all, generated_few n, few, past))
 
-  pub drill_fits : n ≤ GENERATED_ROWS → IsPastOne (generated_rows n) (generated_rows (n / 2)) area → ⊥
+  pub drill_fits : n ≤ GENERATED_ROWS → IsPastOne (generated_rows n) (generated_rows (n / 2)) area no_limits → ⊥
   drill_fits few past = elim past [ inl left ↦ never (generated_rows n ++ to_left turns) few held_left left | inr right ↦ never (generated_rows (n / 2) ++ to_right turns) few held_right right ]

@@ -18,6 +18,7 @@ use Rattle.peer_rows.specs.RowLogs.{HasTaken}
 use Rattle.peer_rows.proofs.Taken.{taken_live}
 use Rattle.peer_run.specs.Drill.{drilled, drill_counts, drill_text, full_area}
 use Rattle.peer_run.specs.Exchanged.{boxed, AreMet}
+use Rattle.peer_run.specs.Offered.{no_limits}
 use Rattle.peer_run.specs.declared.exchanging.Exchanged.{Exchanged}
 use Rattle.peer_run.proofs.DrilledRows.{generated_framed}
 use Rattle.peer_run.proofs.Members.{live_all}
@@ -46,7 +47,7 @@ unfolding counts_of
 same_counts a b rows left right left_after right_after items turns = same_numbers a b rows left right left_after right_after items turns
 
 module _ (n : ℕ) (left right left' right' : StateValue AuthorisedValue) (x : Exchanged) (takes : HasTaken entry_row (generated_rows n) left) (takes_too : HasTaken entry_row (generated_rows (n / 2)) right)
-    (is : AreMet (generated_rows n) (generated_rows (n / 2)) (boxed (Some full_area)) left' right' x) where
+    (is : AreMet (generated_rows n) (generated_rows (n / 2)) (boxed (Some full_area)) no_limits left' right' x) where
   pub is_drill_text : (counts : DrillCounts) (text : List ℕ) → counts.rows ≡ n → counts.left ≡ length (live_rows left) → counts.right ≡ length (live_rows right) → counts.left_after ≡ length (live_rows left') → counts.right_after ≡ length (live_rows right')
       → counts.items ≡ x.items → counts.turns ≡ length x.turns.items → text ≡ drill_summary counts → text ≡ drill_text n
   unfolding drill_text

@@ -97,6 +97,7 @@ module _ (hall : Hall) (opening log : Log) where
       record {
         fresh = one.fresh;
         begun = (ap (λ (p : PassValue AuthorisedValue). p.seen) is, ap (λ (p : PassValue AuthorisedValue). p.own) is ∙ later_own number opening later);
+        unturned = ap (λ (p : PassValue AuthorisedValue). p.turns) is;
         ran =
             subst (λ (n : List ℕ). Runs (planned peer_rules hall.cell.namespace hall.plan n) (gives_of v.job.signer) v.job.pass v.parting.pass v.handed_out v.link 0 0 v.parting.end) nonce
             one.did.ran;

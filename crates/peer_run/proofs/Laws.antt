@@ -23,10 +23,11 @@ laws_of (cmd.Delegate key to area) = delegate_is_lawful key to area
 laws_of (cmd.Write key path time payload_length digest subspace) = write_is_lawful key (record { path = path; time = time; payload_length = payload_length; digest = digest; subspace = subspace })
 laws_of (cmd.Gen rows) = gen_is_lawful rows
 laws_of (cmd.Drill rows) = drill_is_lawful rows
-laws_of (cmd.Meet left right left_cap right_cap left_out right_out area None None) =
-    meet_is_lawful (record { left = left; right = right; left_cap = left_cap; right_cap = right_cap; left_out = left_out; right_out = right_out; area = area })
-laws_of (cmd.Sync image cap key to area None None false) = sync_is_lawful (record { image = image; cap = cap; key = key; to = to; area = area })
-laws_of (cmd.Serve image cap key at links area None None false None) = serve_is_lawful (record { image = image; cap = cap; key = key; at = at; links = links; area = area })
+laws_of (cmd.Meet left right left_cap right_cap left_out right_out area newest bytes) =
+    meet_is_lawful (record { left = left; right = right; left_cap = left_cap; right_cap = right_cap; left_out = left_out; right_out = right_out; area = area; limits = record { newest = newest; bytes = bytes } })
+laws_of (cmd.Sync image cap key to area newest bytes false) = sync_is_lawful (record { image = image; cap = cap; key = key; to = to; area = area; limits = record { newest = newest; bytes = bytes } })
+laws_of (cmd.Serve image cap key at links area newest bytes false None) =
+    serve_is_lawful (record { image = image; cap = cap; key = key; at = at; links = links; area = area; limits = record { newest = newest; bytes = bytes } })
 laws_of command = not_built_is_lawful
 
 -- One line a command: any but those that call others stays without sessions.
@@ -39,7 +40,7 @@ stays_local (cmd.Delegate key to area) is = then_local _ _ (λ c. then_local _ _
 stays_local (cmd.Write key path time payload_length digest subspace) is = then_local _ _ (λ c. then_local _ _ (λ signature. then_local _ _ (λ fine. writes_local _ done.Made tt)))
 stays_local (cmd.Gen rows) is = writes_local _ done.Made tt
 stays_local (cmd.Drill rows) is = writes_local _ done.Made tt
-stays_local (cmd.Meet left right left_cap right_cap left_out right_out area None None) is =
+stays_local (cmd.Meet left right left_cap right_cap left_out right_out area newest bytes) is =
     then_local _ _ (λ s. then_local _ _ (λ agreed. then_local _ _ (λ met. then_local _ _ (λ one. then_local _ _ (λ other. writes_local met.transcript.items (done.Met met.counts) tt)))))
 stays_local (cmd.Sync image grant key to area newest bytes follow) is = absurd is
 stays_local (cmd.Serve image grant key at links area newest bytes follow log) is = absurd is

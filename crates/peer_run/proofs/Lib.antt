@@ -1,3 +1,4 @@
+pub mod Offers
 pub mod Members
 pub mod DrilledRows
 pub mod DrilledText
@@ -16,6 +17,7 @@ pub mod Ends
 pub mod Causes
 pub mod WholeJoin
 pub mod Meetings
+pub mod Alone
 pub mod Gathered
 pub mod WholeMeeting
 pub mod Complete

@@ -11,6 +11,7 @@ use Rattle.willow_entry.proofs.Rising.{all_member, all_from_members}
 use Rattle.willow_entry.proofs.RowLaws.{rows_prune}
 use Rattle.block_store.specs.BoxKinds.{IsOfOneNamespace}
 use Rattle.block_store.specs.InBox.{is_in, rows_in}
+use Rattle.area_interest.specs.declared.interest.Interest.{Interest}
 use Rattle.exchange_rules.specs.Items.{to_left, to_right}
 use Rattle.exchange_rules.specs.Exchange.{exchange}
 use Rattle.exchange_rules.proofs.Converging.{left_only, right_only}
@@ -18,6 +19,8 @@ use Rattle.sync_hello.specs.declared.version.TheConstants.{HIGHEST_VERSION}
 use Rattle.sync_core.specs.SyncRules.{sync_rules}
 use Rattle.sync_core.proofs.Lawful.{deciding, disjoint}
 use Rattle.peer_run.specs.Exchanged.{met}
+use Rattle.peer_run.specs.Offered.{offer}
+use Rattle.peer_run.proofs.Offers.{offer_all}
 
 -- a list holds each of its rows
 pub all_held : (rows : List RowValue) → AllByRecursion (Member rows) rows
@@ -41,11 +44,13 @@ module _ (P : RowValue → Type 0) where
   sent_right a b (Some area) all = in_box area a (to_right (exchange (sync_rules HIGHEST_VERSION) a b (Some area))) all (right_only (sync_rules HIGHEST_VERSION) (deciding HIGHEST_VERSION) (disjoint HIGHEST_VERSION) a b area)
 
   -- of the rows that two stores took, and those that came
-  pub all_left : (a b : List RowValue) (area : Option Ranges) → AllByRecursion P a → AllByRecursion P b → AllByRecursion P (a ++ to_left (met a b area))
-  all_left a b area one other = All-append P a (to_left (met a b area)) one (sent_left (live a) (live b) area (live_all b other))
+  pub all_left : (a b : List RowValue) (area : Option Ranges) (limits : Interest) → AllByRecursion P a → AllByRecursion P b → AllByRecursion P (a ++ to_left (met a b area limits))
+  all_left a b area limits one other =
+      All-append P a (to_left (met a b area limits)) one (sent_left (offer limits area (live a)) (offer limits area (live b)) area (offer_all limits area (live b) P (live_all b other)))
 
-  pub all_right : (a b : List RowValue) (area : Option Ranges) → AllByRecursion P a → AllByRecursion P b → AllByRecursion P (b ++ to_right (met a b area))
-  all_right a b area one other = All-append P b (to_right (met a b area)) other (sent_right (live a) (live b) area (live_all a one))
+  pub all_right : (a b : List RowValue) (area : Option Ranges) (limits : Interest) → AllByRecursion P a → AllByRecursion P b → AllByRecursion P (b ++ to_right (met a b area limits))
+  all_right a b area limits one other =
+      All-append P b (to_right (met a b area limits)) other (sent_right (offer limits area (live a)) (offer limits area (live b)) area (offer_all limits area (live a) P (live_all a one)))
 
 -- what is live of rows of a namespace is of it
 pub log_own : (n : List ℕ) (rows : List RowValue) → All (λ (r : RowValue). r.entry.namespace ≡ n) rows → AllByRecursion (λ r. r.entry.namespace ≡ n) (live rows)

@@ -10,6 +10,7 @@ use Rattle.spelling.specs.declared.ending.End.TheVariants.{Refused, NoMemory}
 use Rattle.willow_area.specs.declared.area.Area.{Area}
 use Rattle.willow_entry.specs.Frame.{HasFrame}
 use Rattle.willow_entry.specs.Row.{RowValue, live}
+use Rattle.area_interest.specs.declared.interest.Interest.{Interest}
 use Rattle.cap_codec.specs.Rows.{RawValue}
 use Rattle.auth_entry.specs.Authorised.{AuthorisedValue}
 use Rattle.exchange_rules.specs.Items.{to_left, to_right}
@@ -43,7 +44,7 @@ module _ (n : List ℕ) (rows : List RawValue) (log : StateValue AuthorisedValue
   pub logged_framed : IsImageOfRows rows → All HasFrame (live_rows log)
   logged_framed is = subst (All HasFrame) (sym (taken_live entry_row (authorised_rows n rows) log takes)) (All-from_recursion HasFrame (live (authorised_rows n rows)) (live_all HasFrame (authorised_rows n rows) (authorised_framed n rows is.fit)))
 
-module _ (n : List ℕ) (left right : List RawValue) (area : Option Area) where
+module _ (n : List ℕ) (left right : List RawValue) (area : Option Area) (limits : Interest) where
   abbrev a : List RowValue
   a = authorised_rows n left
 
@@ -51,21 +52,21 @@ module _ (n : List ℕ) (left right : List RawValue) (area : Option Area) where
   b = authorised_rows n right
 
   abbrev turns : List TurnValue
-  turns = image_turns n left right area
+  turns = image_turns n left right area limits
 
   -- ---- stops
 
-  pub left_too_many : (e : Stop) → LogsImage n left (Err e) → MeetsImages n left right area (Err e)
+  pub left_too_many : (e : Stop) → LogsImage n left (Err e) → MeetsImages n left right area limits (Err e)
   left_too_many stop.LogFull logs = inl logs
   left_too_many stop.NoMemory logs = tt
   left_too_many e logs = absurd logs
 
-  pub right_too_many : (e : Stop) → LogsImage n right (Err e) → MeetsImages n left right area (Err e)
+  pub right_too_many : (e : Stop) → LogsImage n right (Err e) → MeetsImages n left right area limits (Err e)
   right_too_many stop.LogFull logs = inr (inl logs)
   right_too_many stop.NoMemory logs = tt
   right_too_many e logs = absurd logs
 
-  pub too_much_comes : (one other : StateValue AuthorisedValue) (e : End LogFull) → Exchanges a b (boxed area) one other (Err e) → MeetsImages n left right area (Err (log_stop e))
+  pub too_much_comes : (one other : StateValue AuthorisedValue) (e : End LogFull) → Exchanges a b (boxed area) limits one other (Err e) → MeetsImages n left right area limits (Err (log_stop e))
   too_much_comes one other (Refused full) exchanges = inr (inr exchanges)
   too_much_comes one other NoMemory exchanges = tt
 
@@ -73,18 +74,18 @@ module _ (n : List ℕ) (left right : List RawValue) (area : Option Area) where
 
   pub left_framed : (log : StateValue AuthorisedValue) (came : Came) → IsImageOfRows left → IsImageOfRows right → HasTakenUp a (to_left turns) log came → AllByRecursion HasFrame (live_rows log)
   left_framed log came one other takes =
-      subst (AllByRecursion HasFrame) (sym (taken_live entry_row (a ++ to_left turns) log takes.taken)) (live_all HasFrame (a ++ to_left turns) (all_left HasFrame a b (boxed area) (authorised_framed n left one.fit) (authorised_framed n right other.fit)))
+      subst (AllByRecursion HasFrame) (sym (taken_live entry_row (a ++ to_left turns) log takes.taken)) (live_all HasFrame (a ++ to_left turns) (all_left HasFrame a b (boxed area) limits (authorised_framed n left one.fit) (authorised_framed n right other.fit)))
 
   pub right_framed : (log : StateValue AuthorisedValue) (came : Came) → IsImageOfRows left → IsImageOfRows right → HasTakenUp b (to_right turns) log came → AllByRecursion HasFrame (live_rows log)
   right_framed log came one other takes =
-      subst (AllByRecursion HasFrame) (sym (taken_live entry_row (b ++ to_right turns) log takes.taken)) (live_all HasFrame (b ++ to_right turns) (all_right HasFrame a b (boxed area) (authorised_framed n left one.fit) (authorised_framed n right other.fit)))
+      subst (AllByRecursion HasFrame) (sym (taken_live entry_row (b ++ to_right turns) log takes.taken)) (live_all HasFrame (b ++ to_right turns) (all_right HasFrame a b (boxed area) limits (authorised_framed n left one.fit) (authorised_framed n right other.fit)))
 
   -- ---- the numbers
 
   is_side : (rows : List RawValue) (sent : List RowValue) (counts : JoinCounts) (came : Came) → AreCounts n rows counts → HasCome (authorised_rows n rows) sent came → IsSide (authorised_rows n rows) sent (side_counts counts came)
   is_side rows sent counts came counted numbers = record { all = omega (arith, counted.all, counted.refused); came = numbers }
 
-  pub are_counts : (one other : StateValue AuthorisedValue) (x : Exchanged) (left_counts right_counts : JoinCounts) → AreCounts n left left_counts → AreCounts n right right_counts → AreMet a b (boxed area) one other x
+  pub are_counts : (one other : StateValue AuthorisedValue) (x : Exchanged) (left_counts right_counts : JoinCounts) → AreCounts n left left_counts → AreCounts n right right_counts → AreMet a b (boxed area) limits one other x
       → AreMetCounts n left right turns (meet_counts left_counts right_counts x)
   are_counts one other x left_counts right_counts counted counted_too is =
       record {
@@ -100,9 +101,9 @@ module _ (n : List ℕ) (left right : List RawValue) (area : Option Area) where
 
   -- ---- all of it
 
-  pub is_meeting : (one other : StateValue AuthorisedValue) (x : Exchanged) (left_counts right_counts : JoinCounts) (m : Met) → AreCounts n left left_counts → AreCounts n right right_counts → AreMet a b (boxed area) one other x
+  pub is_meeting : (one other : StateValue AuthorisedValue) (x : Exchanged) (left_counts right_counts : JoinCounts) (m : Met) → AreCounts n left left_counts → AreCounts n right right_counts → AreMet a b (boxed area) limits one other x
       → m.left.items ≡ image n (live_rows one) → m.right.items ≡ image n (live_rows other) → m.transcript.items ≡ transcript (map (λ t. t.items) x.turns.items) → m.counts ≡ meet_counts left_counts right_counts x
-      → IsMeeting n left right area m
+      → IsMeeting n left right area limits m
   is_meeting one other x left_counts right_counts m counted counted_too is left_is right_is text_is counts_are =
       record {
         has_room = λ past. elim past [ inl passes ↦ is.left.room passes | inr passes ↦ is.right.room passes ];

@@ -183,7 +183,7 @@ module _ (words : MeetWords) where
   -- nothing is against the meeting, and the logs have room
   pub record CanGoOn (s : Sides) : Type 0 where
     pub agreed : meeting_refusal words.area s.left.namespace s.right.namespace s.left_cap s.right_cap ≡ None
-    pub room : MeetFullLog s.left.namespace s.left.rows.items s.right.rows.items (agreed_area words.area s.left_cap s.right_cap) → ⊥
+    pub room : MeetFullLog s.left.namespace s.left.rows.items s.right.rows.items (agreed_area words.area s.left_cap s.right_cap) words.limits → ⊥
 
   got_left : Owes Reads Wrote (λ w. CanMeet words w.shelf.names) (λ a w. HasLeft a w.shelf.names) (GetsImage words.left)
   got_left =
@@ -255,7 +255,7 @@ module _ (words : MeetWords) where
   agree_stops s stop.NoMemory can condition h = condition
   agree_stops s e can condition h = h
 
-  agreeing_owes : (s : Sides) → Owes Reads Wrote (λ w. CanGoOn s) (λ area w. MeetFullLog s.left.namespace s.left.rows.items s.right.rows.items area → ⊥)
+  agreeing_owes : (s : Sides) → Owes Reads Wrote (λ w. CanGoOn s) (λ area w. MeetFullLog s.left.namespace s.left.rows.items s.right.rows.items area words.limits → ⊥)
       (Inside (Agrees words.area s.left.namespace s.right.namespace s.left_cap s.right_cap))
   agreeing_owes s =
       record {
@@ -265,19 +265,19 @@ module _ (words : MeetWords) where
         write_fault = λ old new h. absurd h.0;
         usage = λ old new h. h.0;
         stops = λ old new e can condition h. agree_stops s e can condition h.0;
-        goes_on = λ old new area can h. subst (λ (x : Option Area). MeetFullLog s.left.namespace s.left.rows.items s.right.rows.items x → ⊥) (sym h.0.1) can.room;
+        goes_on = λ old new area can h. subst (λ (x : Option Area). MeetFullLog s.left.namespace s.left.rows.items s.right.rows.items x words.limits → ⊥) (sym h.0.1) can.room;
       }
 
-  meet_stops : (n : List ℕ) (left right : List RawValue) (area : Option Area) (e : Stop) → (MeetFullLog n left right area → ⊥) → IsCondition e → MeetsImages n left right area (Err e) → ⊥
+  meet_stops : (n : List ℕ) (left right : List RawValue) (area : Option Area) (e : Stop) → (MeetFullLog n left right area words.limits → ⊥) → IsCondition e → MeetsImages n left right area words.limits (Err e) → ⊥
   meet_stops n left right area stop.LogFull room condition h = room h
   meet_stops n left right area stop.NoMemory room condition h = condition
   meet_stops n left right area e room condition h = h
 
-  meeting_owes : (n : List ℕ) (left right : List RawValue) (area : Option Area) → Owes Reads Wrote (λ w. MeetFullLog n left right area → ⊥) (λ met w. Unit {0}) (Inside (MeetsImages n left right area))
+  meeting_owes : (n : List ℕ) (left right : List RawValue) (area : Option Area) → Owes Reads Wrote (λ w. MeetFullLog n left right area words.limits → ⊥) (λ met w. Unit {0}) (Inside (MeetsImages n left right area words.limits))
   meeting_owes n left right area =
       record {
-        counts = inside_counts (MeetsImages n left right area);
-        unfailed = inside_unfailed (MeetsImages n left right area);
+        counts = inside_counts (MeetsImages n left right area words.limits);
+        unfailed = inside_unfailed (MeetsImages n left right area words.limits);
         read_fault = λ old new h. absurd h.0;
         write_fault = λ old new h. absurd h.0;
         usage = λ old new h. h.0;
@@ -313,6 +313,6 @@ module _ (words : MeetWords) where
       lawful (meet_deed words) (λ old. CanMeet words old.shelf.names) (λ d new. Unit {0}) (λ unbuilt. unbuilt) (λ old new ready. ready)
       (then_local _ _ (λ s. then_local _ _ (λ area. then_local _ _ (λ met. then_local _ _ (λ left. then_local _ _ (λ right. writes_local met.transcript.items (done.Met met.counts) tt))))))
       (then_owes Reads Wrote (λ w. CanMeet words w.shelf.names) (λ s w. CanGoOn s) (λ d w. Unit {0}) _ _ reads_last writes_last gathering_owes
-      (λ s. then_owes Reads Wrote (λ w. CanGoOn s) (λ area w. MeetFullLog s.left.namespace s.left.rows.items s.right.rows.items area → ⊥) (λ d w. Unit {0}) _ _ reads_last writes_last (agreeing_owes s)
-      (λ area. then_owes Reads Wrote (λ w. MeetFullLog s.left.namespace s.left.rows.items s.right.rows.items area → ⊥) (λ met w. Unit {0}) (λ d w. Unit {0}) _ _ reads_last writes_last
+      (λ s. then_owes Reads Wrote (λ w. CanGoOn s) (λ area w. MeetFullLog s.left.namespace s.left.rows.items s.right.rows.items area words.limits → ⊥) (λ d w. Unit {0}) _ _ reads_last writes_last (agreeing_owes s)
+      (λ area. then_owes Reads Wrote (λ w. MeetFullLog s.left.namespace s.left.rows.items s.right.rows.items area words.limits → ⊥) (λ met w. Unit {0}) (λ d w. Unit {0}) _ _ reads_last writes_last
       (meeting_owes s.left.namespace s.left.rows.items s.right.rows.items area) (λ met. puts_owe met))))

@@ -26,10 +26,12 @@ use Rattle.sync_link.specs.Sessions.{Party, AreSameInCommon, out, own_part, sess
 use Rattle.sync_link.specs.declared.plan.SessionReport.{SessionReport}
 use Rattle.sync_link.proofs.CoveredRows.{covering_more, rows_behind}
 use Rattle.sync_link.proofs.CoveringRuns.{runs_cover}
+use Rattle.sync_link.proofs.GrantedRuns.{runs_granted}
+use Rattle.sync_link.proofs.Promised.{fresh_of}
 use Rattle.peer_make.specs.declared.key_signer.KeySigner.{KeySigner}
 use Rattle.peer_run.specs.Hosting.{Visit, IsVisit, ran_of}
-use Rattle.peer_run.specs.ServeHeadline.{CoversCame, HasVisited}
-use Rattle.peer_run.specs.SyncHeadline.{WhereOk, LiesAbove}
+use Rattle.peer_run.specs.ServeHeadline.{HasVisited}
+use Rattle.peer_run.specs.SyncHeadline.{CoversCame, LiesAbove, WhereOk}
 
 -- ---- the longer log
 
@@ -53,10 +55,10 @@ module _ (seen log : List (LogRow AuthorisedValue)) (front : IsPrefix seen log) 
   either_on few rows (inr full) = inr (full_on few full)
 
   -- so it covers the rows that came
-  covers_came : length log ≤ LOG_LIMIT → (rows : List RowValue) (answer : Answer) → Covers (log_rows seen) rows answer → CoversCame (log_rows log) rows answer
+  pub covers_came : length log ≤ LOG_LIMIT → (rows : List RowValue) (answer : Answer) → Covers (log_rows seen) rows answer → CoversCame (log_rows log) rows answer
   covers_came few rows (Ok report) c = all_on rows c
   covers_came few rows (Err LinkRead) c = either_on few rows c
-  covers_came few rows (Err LinkWrite) c = tt
+  covers_came few rows (Err LinkWrite) c = either_on few rows c
   covers_came few rows (Err (ClosedEarly at)) c = either_on few rows c
   covers_came few rows (Err (BadMessage at)) c = either_on few rows c
   covers_came few rows (Err (Hello cause)) c = either_on few rows c
@@ -94,7 +96,7 @@ module _ {p : List ℕ → Party} (ran : Ran p) (log : List (LogRow AuthorisedVa
 pub alike_in_common : (p : Party) (held others : List RowValue) (bytes : List ℕ) → AreSameInCommon p bytes held others → out p others bytes ≡ out p held bytes
 alike_in_common p held others bytes same =
     let a = session_of p held in
-    sym (ap (λ m. flat_map a.spelling (a.opening ++ says_of m)) (same_read (greeting p.rules p.namespace) places (own_part p) (offers_of held) (offers_of others) bytes same))
+    sym (ap (λ m. flat_map a.spelling (a.opening ++ says_of m)) (same_read (greeting p.rules p.namespace) places (own_part p) (offers_of p.interest held) (offers_of p.interest others) bytes same))
 
 -- ---- all of it, for one visit of a server
 
@@ -108,6 +110,8 @@ module _ {opening log : List (LogRow AuthorisedValue)} {number : ℕ} {p : List 
       let party = p run.ran.signature in
       record {
         covers = covers_came visit.after.seen log run.front few (authorised_rows party.rules party.namespace run.ran.rows) visit.answer run.ran.covers;
+        fresh = fresh_of (ran_of run);
         above = above visit.answer refl;
         alike = λ others same. alike_in_common party (live (log_rows run.ran.log)) others run.ran.bytes same;
+        granted = runs_granted p (ran_of run);
       }

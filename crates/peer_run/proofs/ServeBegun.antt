@@ -5,6 +5,7 @@ use Rattle.std.specs.Global.{Vec}
 use Rattle.std.specs.declared.string.String.{String}
 use Rattle.std.specs.declared.alloc.Global.{Global}
 use Rattle.willow_outside.specs.Facts.{ShelfFacts}
+use Rattle.area_interest.specs.declared.interest.Interest.{Interest}
 use Rattle.lms_core.specs.Key.{raised}
 use Rattle.lms_core.specs.Reserve.{HoldsKey, KeepsNames, PutsKey}
 use Rattle.mc_cap.specs.declared.refusal.RowRefusal.{RowRefusal}
@@ -77,24 +78,24 @@ no_refusal (LmsFile name) count h h' refusal s = s
 
 -- ---- all that a server begins with
 
-module _ (image cap : String Global) (key : SignerWord) (links : ℕ) (area : AreaWords) where
+module _ (image cap : String Global) (key : SignerWord) (links : ℕ) (area : AreaWords) (limits : Interest) where
   -- It has what a side brings, the plan says the same of it, and the signers are as many as links are to come, of the one that
   -- the words name.
   pub record HasHouse (old new : World) (s : server.Server) : Type 0 where
     pub hello : Hello
     pub front : HasPrepared image cap area old old (record { opening = s.opening; hello = hello })
-    pub plan_is : s.plan ≡ plan_of Answerer hello
+    pub plan_is : s.plan ≡ plan_of Answerer hello limits
     pub reserved : AreSignersOf key links old.shelf new.shelf s.signers.items
     pub counted : new.shelf.write_faults ≡ old.shelf.write_faults
     pub others : new ≡ record old { shelf = new.shelf }
 
   -- the plan says what the words ask
-  pub plan_asks : (old new : World) (s : server.Server) (begun : HasHouse old new s) → s.plan ≡ plan_of Answerer (own_hello area begun.front.capability no_nonce)
-  plan_asks old new s begun = begun.plan_is ∙ ap (plan_of Answerer) begun.front.hello_is
+  pub plan_asks : (old new : World) (s : server.Server) (begun : HasHouse old new s) → s.plan ≡ plan_of Answerer (own_hello area begun.front.capability no_nonce) limits
+  plan_asks old new s begun = begun.plan_is ∙ ap (λ (h : Hello). plan_of Answerer h limits) begun.front.hello_is
 
   -- from what was prepared, and what was reserved behind it
   house_of : (old between reserved : World) (r : Prepared) (signers : Vec KeySigner) → HasPrepared image cap area old between r → OnShelf (HandsSigners key links) between reserved (Ok signers)
-      → HasHouse old reserved (record { opening = r.opening; plan = plan_of Answerer r.hello; signers = signers })
+      → HasHouse old reserved (record { opening = r.opening; plan = plan_of Answerer r.hello limits; signers = signers })
   house_of old between reserved r signers has s =
       record {
         hello = r.hello;
@@ -105,7 +106,7 @@ module _ (image cap : String Global) (key : SignerWord) (links : ℕ) (area : Ar
         others = s.others ∙ ap (λ (w : World). record w { shelf = reserved.shelf }) has.same;
       }
 
-  pub has_house : (old new : World) (s : server.Server) → OpensHouse image cap key links area old new (Ok s) → HasHouse old new s
+  pub has_house : (old new : World) (s : server.Server) → OpensHouse image cap key links area limits old new (Ok s) → HasHouse old new s
   has_house old new s p =
       let q = p.rest in
       let house = house_of old p.between q.between p.value q.value (has_prepared image cap area old p.between p.value p.given) q.given in
@@ -113,7 +114,7 @@ module _ (image cap : String Global) (key : SignerWord) (links : ℕ) (area : Ar
 
   -- ---- where it stopped
 
-  pub opening_keeps : (old new : World) (e : Stop) → OpensHouse image cap key links area old new (Err e) → KeepsButKeys key links old.shelf new.shelf
+  pub opening_keeps : (old new : World) (e : Stop) → OpensHouse image cap key links area limits old new (Err e) → KeepsButKeys key links old.shelf new.shelf
   opening_keeps old new e (inl s) = keeps_all key links old.shelf new.shelf (preparing_keeps image cap area old new e s)
   opening_keeps old new e (inr p) =
       let same = (has_prepared image cap area old p.between p.value p.given).same in
@@ -122,13 +123,13 @@ module _ (image cap : String Global) (key : SignerWord) (links : ℕ) (area : Ar
         | inr q ↦ absurd q.rest.0
       ]
 
-  pub opening_keeps_door : KeepsDoor (OpensHouse image cap key links area)
+  pub opening_keeps_door : KeepsDoor (OpensHouse image cap key links area limits)
   opening_keeps_door =
       then_keeps _ _ (preparing_keeps_door image cap area) (λ r.
-      then_keeps _ _ (shelf_keeps (HandsSigners key links)) (λ signers. inside_keeps (Yields (record { opening = r.opening; plan = plan_of Answerer r.hello; signers = signers }))))
+      then_keeps _ _ (shelf_keeps (HandsSigners key links)) (λ signers. inside_keeps (Yields (record { opening = r.opening; plan = plan_of Answerer r.hello limits; signers = signers }))))
 
   -- no server is refused as what was to be made
-  pub opening_never : (refusal : RowRefusal) → Never (OpensHouse image cap key links area) (stop.Refused refusal)
+  pub opening_never : (refusal : RowRefusal) → Never (OpensHouse image cap key links area limits) (stop.Refused refusal)
   opening_never refusal =
       then_never _ _ (stop.Refused refusal) (never_prepared refusal image cap area) (λ r.
       then_never _ _ (stop.Refused refusal) (record { never = λ old new s. no_refusal key links old.shelf new.shelf refusal s.does }) (λ signers. record { never = λ old new s. s.0 }))

@@ -5,6 +5,7 @@ use Rattle.std.proofs.lemmas.List.Elements.{All-contains}
 use Rattle.std.specs.String.{string_bytes}
 use Rattle.std.specs.declared.string.String.{String}
 use Rattle.std.specs.declared.alloc.Global.{Global}
+use Rattle.area_interest.specs.declared.interest.Interest.{Interest}
 use Rattle.lms_core.specs.Use.{peer_rules}
 use Rattle.mc_cap.specs.declared.refusal.RefusedRow.{RefusedRow}
 use Rattle.willow_outside.specs.Counts.{Rose}
@@ -130,17 +131,17 @@ drawing_owes count =
       goes_on = λ old new draws need s. need;
     }
 
-module _ (image cap : String Global) (key : SignerWord) (links : ℕ) (area : AreaWords) where
-  opening_owes : Owes GotReads GotWrites Nothing (λ s. Nothing) (OpensHouse image cap key links area)
+module _ (image cap : String Global) (key : SignerWord) (links : ℕ) (area : AreaWords) (limits : Interest) where
+  opening_owes : Owes GotReads GotWrites Nothing (λ s. Nothing) (OpensHouse image cap key links area limits)
   opening_owes =
       then_owes GotReads GotWrites Nothing (λ r. Nothing) (λ s. Nothing) _ _ got_reads_last got_writes_last (preparing_owes image cap area)
       (λ r. then_owes GotReads GotWrites Nothing (λ signers. Nothing) (λ s. Nothing) _ _ got_reads_last got_writes_last (reserving_owes key links)
-      (λ signers. inside_owes (Yields (record { opening = r.opening; plan = plan_of Answerer r.hello; signers = signers })) (λ h. h) (λ h. h) (λ h. h)))
+      (λ signers. inside_owes (Yields (record { opening = r.opening; plan = plan_of Answerer r.hello limits; signers = signers })) (λ h. h) (λ h. h) (λ h. h)))
 
-  pub opening_keeps : KeepsDoor (OpensHouse image cap key links area)
+  pub opening_keeps : KeepsDoor (OpensHouse image cap key links area limits)
   opening_keeps =
       then_keeps _ _ (preparing_keeps_door image cap area) (λ r.
-      then_keeps _ _ (shelf_keeps (HandsSigners key links)) (λ signers. inside_keeps (Yields (record { opening = r.opening; plan = plan_of Answerer r.hello; signers = signers }))))
+      then_keeps _ _ (shelf_keeps (HandsSigners key links)) (λ signers. inside_keeps (Yields (record { opening = r.opening; plan = plan_of Answerer r.hello limits; signers = signers }))))
 
 -- ---- a step at the door
 
@@ -396,10 +397,10 @@ module _ (place : List ℕ) (p : List ℕ → List ℕ → Party) (signers : Lis
 
 module _ (words : ServeWords) where
   abbrev Open : Step server.Server
-  Open = OpensHouse words.image words.cap words.key words.links words.area
+  Open = OpensHouse words.image words.cap words.key words.links words.area words.limits
 
   opened : Owes ServeReads ServeWrites Nothing (λ s. Nothing) Open
-  opened = owes_more GotReads GotWrites ServeReads ServeWrites Nothing (λ s. Nothing) Open (λ old new rose. inl rose) (λ old new rose. inl rose) (opening_owes words.image words.cap words.key words.links words.area)
+  opened = owes_more GotReads GotWrites ServeReads ServeWrites Nothing (λ s. Nothing) Open (λ old new rose. inl rose) (λ old new rose. inl rose) (opening_owes words.image words.cap words.key words.links words.area words.limits)
 
   -- those who come to the place, behind an opened house and its draws
   abbrev AttendAll : server.Server → List (List ℕ) → Step Attended
@@ -411,5 +412,5 @@ module _ (words : ServeWords) where
 
   pub serve_closes : Closes ServeReads ServeWrites (WantsLater (string_bytes words.at)) (Serves words)
   serve_closes =
-      then_closes ServeReads ServeWrites (WantsLater (string_bytes words.at)) Nothing (λ s. Nothing) Open _ reads_last writes_last (wants_last (string_bytes words.at)) opened (opening_keeps words.image words.cap words.key words.links words.area)
+      then_closes ServeReads ServeWrites (WantsLater (string_bytes words.at)) Nothing (λ s. Nothing) Open _ reads_last writes_last (wants_last (string_bytes words.at)) opened (opening_keeps words.image words.cap words.key words.links words.area words.limits)
       (λ s. then_closes ServeReads ServeWrites (WantsLater (string_bytes words.at)) Nothing (λ draws. Nothing) (OnNoise (DrawsAll words.links)) _ reads_last writes_last (wants_last (string_bytes words.at)) (drawing_owes words.links) (noise_keeps (DrawsAll words.links)) (λ draws. behind_draws s draws.items))

@@ -83,7 +83,7 @@ module _ (words : ServeWords) (old new : World) (can : CanServe words old new) w
   prepared : (w : World) (r : Prepared) → Prepares words.image words.cap words.area old w (Ok r) → HasPrepared words.image words.cap words.area old w r
   prepared w r p = has_prepared words.image words.cap words.area old w r p
 
-  opens_free : (w : World) (e : Stop) → IsCondition e → OpensHouse words.image words.cap words.key words.links words.area old w (Err e) → ⊥
+  opens_free : (w : World) (e : Stop) → IsCondition e → OpensHouse words.image words.cap words.key words.links words.area words.limits old w (Err e) → ⊥
   opens_free w e condition opens =
       elim opens [
         | inl s ↦ prepares_free old can.names can.given words.image words.cap words.area can.are_told can.are_given can.room w e condition s
@@ -134,7 +134,7 @@ module _ (words : ServeWords) (old new : World) (can : CanServe words old new) w
           let links = map (λ (visit : Visit). visit.link) had.visits in
           let signs = can.signs had.signers had.reserved had.are_signers in
           let answered = can.answered links had.back had.draws had.drawn had.many in
-          let one = answered_visit had.opening had.log (party_of Answerer words.area can.given) can.given.cap 1 had.signers had.draws had.visits had.are_visits signs answered visit at in
+          let one = answered_visit had.opening had.log (party_of Answerer words.area words.limits can.given) can.given.cap 1 had.signers had.draws had.visits had.are_visits signs answered visit at in
           let ran = ran_of one.is_visit in
           let among = contains_map (λ (visit : Visit). visit.link) had.visits visit at in
           let faultless : IsFaultless ran =
@@ -160,11 +160,11 @@ module _ (words : ServeWords) (old new : World) (can : CanServe words old new) w
 
     -- ---- so it comes to its end
 
-    ended : (d : Done) (s : server.Server) (opened : World) → OpensHouse words.image words.cap words.key words.links words.area old opened (Ok s) → (draws : Vec (List ℕ)) (drawn : World) → OnNoise (DrawsAll words.links) opened drawn (Ok draws)
+    ended : (d : Done) (s : server.Server) (opened : World) → OpensHouse words.image words.cap words.key words.links words.area words.limits old opened (Ok s) → (draws : Vec (List ℕ)) (drawn : World) → OnNoise (DrawsAll words.links) opened drawn (Ok draws)
         → (x : Attended) (behind : World) → AtDoor (Attends (string_bytes words.at) (λ draw. planned peer_rules s.opening.state.namespace s.plan (nonce_of draw)) s.signers.items draws.items s.opening.state) drawn behind (Ok x)
         → ClosesHouse (string_bytes words.image) s.opening.rows s.opening.first x behind new (Ok d) → status_of (Ok d) ≢ 3 → status_of (Ok d) ≢ 4 → status_of (Ok d) ≤ 1
     ended (done.Served served) s opened opens draws drawn draws_so x behind did f three four =
-        let begun = has_house words.image words.cap words.key words.links words.area old opened s opens in
+        let begun = has_house words.image words.cap words.key words.links words.area words.limits old opened s opens in
         let given = given_is old can.names can.given words.image words.cap words.area can.are_told can.are_given old (record { opening = s.opening; hello = begun.hello }) begun.front in
         let same_shelf : behind.shelf ≡ opened.shelf = ap (λ (w : World). w.shelf) did.others ∙ ap (λ (w : World). w.shelf) draws_so.others in
         let all_put = is_put (string_bytes words.image) (image_of x.state) served.put behind (ap (λ (h : ShelfFacts). h.write_faults) same_shelf ∙ begun.counted) f.2 in

@@ -40,7 +40,7 @@ pub record HadSo (words : ServeWords) (old new : World) (answers : List Answer) 
   pub ends : answers ≡ map (λ (visit : Visit). visit.answer) had.visits
 
 module _ (words : ServeWords) (old new : World) (s : server.Server) (began : World) (draws : Vec (List ℕ)) (drawn : World) (x : Attended) (attended : World)
-    (begun : HasHouse words.image words.cap words.key words.links words.area old began s) (drew : OnNoise (DrawsAll words.links) began drawn (Ok draws))
+    (begun : HasHouse words.image words.cap words.key words.links words.area words.limits old began s) (drew : OnNoise (DrawsAll words.links) began drawn (Ok draws))
     (did : AtDoor (Attends (string_bytes words.at) (λ draw. planned peer_rules s.opening.state.namespace s.plan (nonce_of draw)) s.signers.items draws.items s.opening.state) drawn attended (Ok x))
     (puts : OnShelf (PutsBytes (string_bytes words.image) (image_of x.state)) attended new (Ok tt)) where
   abbrev n : List ℕ
@@ -52,13 +52,13 @@ module _ (words : ServeWords) (old new : World) (s : server.Server) (began : Wor
   abbrev plans : List ℕ → List ℕ → Party
   plans draw = planned peer_rules s.opening.state.namespace s.plan (nonce_of draw)
 
-  party_is : plans ≡ party_of Answerer words.area given
+  party_is : plans ≡ party_of Answerer words.area words.limits given
   party_is =
       let by_namespace : List ℕ → List ℕ → List ℕ → Party = λ m draw. planned peer_rules m s.plan (nonce_of draw) in
       let by_plan : SessionPlan PeerScheme → List ℕ → List ℕ → Party = λ plan draw. planned peer_rules n plan (nonce_of draw) in
-      ap by_namespace begun.front.opened.of_namespace ∙ ap by_plan (plan_asks words.image words.cap words.key words.links words.area old began s begun)
+      ap by_namespace begun.front.opened.of_namespace ∙ ap by_plan (plan_asks words.image words.cap words.key words.links words.area words.limits old began s begun)
 
-  sessions : AreAttended (string_bytes words.at) (party_of Answerer words.area given) s.signers.items draws.items s.opening.state drawn.door attended.door x
+  sessions : AreAttended (string_bytes words.at) (party_of Answerer words.area words.limits given) s.signers.items draws.items s.opening.state drawn.door attended.door x
   sessions = subst (λ (p : List ℕ → List ℕ → Party). AreAttended (string_bytes words.at) p s.signers.items draws.items s.opening.state drawn.door attended.door x) party_is did.does
 
   abbrev links : List LinkFacts

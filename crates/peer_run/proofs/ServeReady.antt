@@ -7,11 +7,13 @@ use Rattle.std.specs.String.{string_bytes}
 use Rattle.std.specs.declared.string.String.{String}
 use Rattle.std.specs.declared.alloc.Global.{Global}
 use Rattle.log_rule.specs.Views.{AreOf}
+use Rattle.area_interest.specs.declared.interest.Interest.{Interest}
 use Rattle.lms_core.specs.Use.{peer_rules}
 use Rattle.sync_hello.specs.Checked.{hello_refusal}
 use Rattle.sync_core.specs.SyncRules.{IsVersion}
 use Rattle.sync_link.specs.Plans as plans
 use Rattle.sync_msg.specs.declared.role.Role.TheVariants.{Answerer}
+use Rattle.sync_hello.specs.declared.hello.Hello.{Hello}
 use Rattle.peer_make.specs.KeySigners.{AreSignersOf, left_of}
 use Rattle.peer_make.proofs.Many.{as_many, none_signed}
 use Rattle.peer_stage.specs.World.{World}
@@ -27,15 +29,15 @@ use Rattle.peer_run.proofs.CallReady.{plan_passes, plan_speaks}
 use Rattle.peer_run.proofs.GotImages.{held_few}
 use Rattle.peer_run.proofs.SideBegun.{HasPrepared, has_prepared}
 
-module _ (image cap : String Global) (key : SignerWord) (links : ℕ) (area : AreaWords) (old new : World) (s : server.Server) (opens : OpensHouse image cap key links area old new (Ok s)) where
+module _ (image cap : String Global) (key : SignerWord) (links : ℕ) (area : AreaWords) (limits : Interest) (old new : World) (s : server.Server) (opens : OpensHouse image cap key links area limits old new (Ok s)) where
   has : HasPrepared image cap area old opens.between opens.value
   has = has_prepared image cap area old opens.between opens.value opens.given
 
   opened : IsOpened has.given.namespace has.given.rows.items s.opening
   opened = subst (λ (x : Opening). IsOpened has.given.namespace has.given.rows.items x) (sym (ap (λ (t : server.Server). t.opening) opens.rest.rest.0)) has.opened
 
-  plan_is : s.plan ≡ plan_of Answerer (own_hello area has.capability no_nonce)
-  plan_is = ap (λ (t : server.Server). t.plan) opens.rest.rest.0 ∙ ap (plan_of Answerer) has.hello_is
+  plan_is : s.plan ≡ plan_of Answerer (own_hello area has.capability no_nonce) limits
+  plan_is = ap (λ (t : server.Server). t.plan) opens.rest.rest.0 ∙ ap (λ (h : Hello). plan_of Answerer h limits) has.hello_is
 
   -- all rows are of the first pass
   pub house_own : AreOf 0 s.opening.state.log
@@ -49,11 +51,11 @@ module _ (image cap : String Global) (key : SignerWord) (links : ℕ) (area : Ar
   pub house_hello : (draw : List ℕ) → hello_refusal peer_rules s.opening.state.namespace (plans.own_hello s.plan (nonce_of draw)) ≡ None
   house_hello draw =
       subst (λ (n : List ℕ). hello_refusal peer_rules n (plans.own_hello s.plan (nonce_of draw)) ≡ None) (sym opened.of_namespace)
-      (plan_passes Answerer has.given.namespace area has.capability (nonce_of draw) s.plan plan_is has.passes)
+      (plan_passes Answerer has.given.namespace area limits has.capability (nonce_of draw) s.plan plan_is has.passes)
 
   -- in a version that is spoken
   pub house_version : IsVersion s.plan.version
-  house_version = plan_speaks Answerer area has.capability s.plan plan_is
+  house_version = plan_speaks Answerer area limits has.capability s.plan plan_is
 
   are_signers : AreSignersOf key links opens.between.shelf opens.rest.between.shelf s.signers.items
   are_signers =

@@ -55,7 +55,7 @@ module _ (words : ServeWords) (others : World) (h h1 : ShelfFacts) (n n1 : Noise
   attended d1 = record others { shelf = h1; door = d1; noise = n1 }
 
   abbrev Opens : Step server.Server
-  Opens = OpensHouse words.image words.cap words.key words.links words.area
+  Opens = OpensHouse words.image words.cap words.key words.links words.area words.limits
 
   -- how those who come are attended with draws
   abbrev AttendsWith : server.Server → List (List ℕ) → DoorFacts → DoorFacts → Result Attended Stop → Type 0

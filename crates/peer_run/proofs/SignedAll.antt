@@ -114,15 +114,13 @@ serve_signs words old new d p =
 -- ---- all commands
 
 done_signs : (c : Command) (old new : World) (d : Done) → (deed_of c).meets old new (Ok d) → SignsAll d
-done_signs (cmd.Sync image grant key to area None None false) old new d m = sync_signs (record { image = image; cap = grant; key = key; to = to; area = area }) old new d m
-done_signs (cmd.Serve image grant key at links area None None false None) old new d m = serve_signs (record { image = image; cap = grant; key = key; at = at; links = links; area = area }) old new d m
-done_signs (cmd.Sync image grant key to area (Some newest) bytes follow) old new d m = absurd m
-done_signs (cmd.Sync image grant key to area None (Some bytes) follow) old new d m = absurd m
-done_signs (cmd.Sync image grant key to area None None true) old new d m = absurd m
-done_signs (cmd.Serve image grant key at links area (Some newest) bytes follow log) old new d m = absurd m
-done_signs (cmd.Serve image grant key at links area None (Some bytes) follow log) old new d m = absurd m
-done_signs (cmd.Serve image grant key at links area None None true log) old new d m = absurd m
-done_signs (cmd.Serve image grant key at links area None None false (Some log)) old new d m = absurd m
+done_signs (cmd.Sync image grant key to area newest bytes false) old new d m =
+    sync_signs (record { image = image; cap = grant; key = key; to = to; area = area; limits = record { newest = newest; bytes = bytes } }) old new d m
+done_signs (cmd.Serve image grant key at links area newest bytes false None) old new d m =
+    serve_signs (record { image = image; cap = grant; key = key; at = at; links = links; area = area; limits = record { newest = newest; bytes = bytes } }) old new d m
+done_signs (cmd.Sync image grant key to area newest bytes true) old new d m = absurd m
+done_signs (cmd.Serve image grant key at links area newest bytes true log) old new d m = absurd m
+done_signs (cmd.Serve image grant key at links area newest bytes false (Some log)) old new d m = absurd m
 done_signs c old new d m = from_local d (stays_local c tt old new d m)
 
 pub signs_end : (c : Command) (old new : World) (end : Result Done Stop) → (deed_of c).meets old new end → SignsEnd end

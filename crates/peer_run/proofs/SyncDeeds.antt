@@ -4,6 +4,7 @@ use Rattle.std.specs.Prelude.{Result, Ok, Err}
 use Rattle.std.specs.String.{string_bytes}
 use Rattle.std.specs.declared.string.String.{String}
 use Rattle.std.specs.declared.alloc.Global.{Global}
+use Rattle.area_interest.specs.declared.interest.Interest.{Interest}
 use Rattle.lms_core.specs.Use.{peer_rules}
 use Rattle.mc_cap.specs.declared.refusal.RefusedRow.{RefusedRow}
 use Rattle.willow_outside.specs.Facts.{DoorFacts}
@@ -89,17 +90,17 @@ drawing_owes =
       goes_on = λ old new draw need s. need;
     }
 
-module _ (image cap : String Global) (key : SignerWord) (area : AreaWords) where
-  beginning_owes : Owes GotReads GotWrites Nothing (λ c. Nothing) (Begins image cap key area)
+module _ (image cap : String Global) (key : SignerWord) (area : AreaWords) (limits : Interest) where
+  beginning_owes : Owes GotReads GotWrites Nothing (λ c. Nothing) (Begins image cap key area limits)
   beginning_owes =
       then_owes GotReads GotWrites Nothing (λ r. Nothing) (λ c. Nothing) _ _ got_reads_last got_writes_last (preparing_owes image cap area)
       (λ r. then_owes GotReads GotWrites Nothing (λ signer. Nothing) (λ c. Nothing) _ _ got_reads_last got_writes_last (reserving_owes key)
-      (λ signer. inside_owes (Yields (record { opening = r.opening; plan = plan_of Caller r.hello; signer = signer })) (λ h. h) (λ h. h) (λ h. h)))
+      (λ signer. inside_owes (Yields (record { opening = r.opening; plan = plan_of Caller r.hello limits; signer = signer })) (λ h. h) (λ h. h) (λ h. h)))
 
-  pub beginning_keeps : KeepsDoor (Begins image cap key area)
+  pub beginning_keeps : KeepsDoor (Begins image cap key area limits)
   beginning_keeps =
       then_keeps _ _ (preparing_keeps_door image cap area) (λ r.
-      then_keeps _ _ (shelf_keeps (HandsSigner key)) (λ signer. inside_keeps (Yields (record { opening = r.opening; plan = plan_of Caller r.hello; signer = signer }))))
+      then_keeps _ _ (shelf_keeps (HandsSigner key)) (λ signer. inside_keeps (Yields (record { opening = r.opening; plan = plan_of Caller r.hello limits; signer = signer }))))
 
 -- no fault is gone on from
 abbrev NoneLater : World → World → Type 0
@@ -289,8 +290,8 @@ module _ (place : List ℕ) (p : List ℕ → Party) (signer : KeySigner) (openi
 -- ---- the command
 
 module _ (words : SyncWords) where
-  began : Owes SyncReads SyncWrites Nothing (λ c. Nothing) (Begins words.image words.cap words.key words.area)
-  began = owes_more GotReads GotWrites SyncReads SyncWrites Nothing (λ c. Nothing) (Begins words.image words.cap words.key words.area) (λ old new rose. inl rose) (λ old new rose. inl rose) (beginning_owes words.image words.cap words.key words.area)
+  began : Owes SyncReads SyncWrites Nothing (λ c. Nothing) (Begins words.image words.cap words.key words.area words.limits)
+  began = owes_more GotReads GotWrites SyncReads SyncWrites Nothing (λ c. Nothing) (Begins words.image words.cap words.key words.area words.limits) (λ old new rose. inl rose) (λ old new rose. inl rose) (beginning_owes words.image words.cap words.key words.area words.limits)
 
   behind_draw : (c : caller.Caller) (draw : List ℕ) → Closes SyncReads SyncWrites NoneLater (Then (OnDoor (Calls (string_bytes words.to) (planned peer_rules c.opening.state.namespace c.plan (nonce_of draw)) c.signer c.opening.state)) (λ x. Finishes (string_bytes words.image) c.opening.rows c.opening.first x))
   behind_draw c draw =
@@ -298,5 +299,5 @@ module _ (words : SyncWords) where
 
   pub sync_closes : Closes SyncReads SyncWrites NoneLater (Syncs words)
   sync_closes =
-      then_closes SyncReads SyncWrites NoneLater Nothing (λ c. Nothing) (Begins words.image words.cap words.key words.area) _ reads_last writes_last none_later began (beginning_keeps words.image words.cap words.key words.area)
+      then_closes SyncReads SyncWrites NoneLater Nothing (λ c. Nothing) (Begins words.image words.cap words.key words.area words.limits) _ reads_last writes_last none_later began (beginning_keeps words.image words.cap words.key words.area words.limits)
       (λ c. then_closes SyncReads SyncWrites NoneLater Nothing (λ draw. Nothing) (OnNoise DrawsOne) _ reads_last writes_last none_later drawing_owes (noise_keeps DrawsOne) (λ draw. behind_draw c draw))

@@ -83,19 +83,19 @@ module _ (words : SyncWords) (others : World) (h h1 : ShelfFacts) (n n1 : NoiseF
   abbrev CallsWith : caller.Caller → List ℕ → DoorFacts → DoorFacts → Result Called Stop → Type 0
   CallsWith c draw = Calls (string_bytes words.to) (planned peer_rules c.opening.state.namespace c.plan (nonce_of draw)) c.signer c.opening.state
 
-  module _ (c : caller.Caller) (begins : Begins words.image words.cap words.key words.area before begun (Ok c)) where
+  module _ (c : caller.Caller) (begins : Begins words.image words.cap words.key words.area words.limits before begun (Ok c)) where
     pub draw_stops : (e : Stop) → DrawsOne n n1 (Err e) → CountsStep {A = List ℕ} n.faults n1.faults (Err e) → Syncs words before drawn (Err e)
-    draw_stops e does faults = passes (Begins words.image words.cap words.key words.area) _ before begun drawn c (Err e) begins (inl (record { does = does; faults = faults; others = refl }))
+    draw_stops e does faults = passes (Begins words.image words.cap words.key words.area words.limits) _ before begun drawn c (Err e) begins (inl (record { does = does; faults = faults; others = refl }))
 
     module _ (draw : List ℕ) (draws : DrawsOne n n1 (Ok draw)) (stood : n1.faults ≡ n.faults) where
       pub call_stops : (d1 : DoorFacts) (e : Stop) → CallsWith c draw d d1 (Err e) → CountsStep {A = Called} d.faults d1.faults (Err e) → Syncs words before (called d1) (Err e)
       call_stops d1 e does faults =
-          passes (Begins words.image words.cap words.key words.area) _ before begun (called d1) c (Err e) begins
+          passes (Begins words.image words.cap words.key words.area words.limits) _ before begun (called d1) c (Err e) begins
           (noise_on DrawsOne _ begun n n1 (called d1) draw (Err e) draws stood (inl (record { does = does; faults = faults; others = refl })))
 
       pub all_steps : (d1 : DoorFacts) (x : Called) (new : World) (end : Result Done Stop) → CallsWith c draw d d1 (Ok x) → d1.faults ≡ d.faults
           → Finishes (string_bytes words.image) c.opening.rows c.opening.first x (called d1) new end → Syncs words before new end
       all_steps d1 x new end does faults rest =
-          passes (Begins words.image words.cap words.key words.area) _ before begun new c end begins
+          passes (Begins words.image words.cap words.key words.area words.limits) _ before begun new c end begins
           (noise_on DrawsOne _ begun n n1 new draw end draws stood
           (door_on (CallsWith c draw) _ drawn d d1 new x end does faults rest))

@@ -6,6 +6,7 @@ use Rattle.willow_outside.specs.Draws.{IsDraw}
 use Rattle.willow_outside.specs.Facts.{ShelfFacts, DoorFacts, NoiseFacts}
 use Rattle.willow_entry.specs.Row.{RowValue, live}
 use Rattle.willow_entry.specs.declared.row.LogRow.{LogRow}
+use Rattle.area_interest.specs.declared.interest.Interest.{Interest}
 use Rattle.cap_codec.specs.Rows.{RawValue}
 use Rattle.auth_entry.specs.Authorised.{AuthorisedValue}
 use Rattle.ns_state.specs.Log.{StateValue}
@@ -26,6 +27,8 @@ use Rattle.sync_link.specs.Plans.{planned}
 use Rattle.sync_link.specs.Sessions.{Party, AreSameInCommon, out, own_part, session_of}
 use Rattle.sync_link.specs.declared.plan.SessionPlan.{SessionPlan}
 use Rattle.sync_link.specs.declared.plan.SessionReport.{SessionReport}
+use Rattle.sync_link.proofs.GrantedRuns.{runs_granted}
+use Rattle.sync_link.proofs.Promised.{fresh_of}
 use Rattle.peer_image.specs.Image.{image}
 use Rattle.peer_make.specs.KeySigners.{gives_of, HandsSigner, IsSignerOf}
 use Rattle.peer_make.specs.Making.{DrawsOne, TakesDraws}
@@ -68,26 +71,27 @@ use Rattle.peer_run.specs.declared.calling.Called.{Called}
 use Rattle.peer_run.specs.declared.syncing.Caller as caller
 use Rattle.peer_run.specs.declared.syncing.SyncWords.{SyncWords}
 use Rattle.peer_run.proofs.AllNew.{authorised_new}
-use Rattle.peer_run.proofs.CallAbove.{lies_above}
+use Rattle.peer_run.proofs.CallAbove.{covers_came, lies_above}
 use Rattle.peer_run.proofs.CallBegun.{HasBegun, has_begun, plan_asks, beginning_keeps, signer_keeps}
 use Rattle.peer_run.proofs.Ends.{memory_end, own_seven, own_status}
 use Rattle.peer_run.proofs.NeverStops.{Never, then_never, never_prepared}
 use Rattle.peer_run.proofs.SyncDeeds as deeds
-use Rattle.peer_run.proofs.WholeMeeting.{none_first, some_first}
+use Rattle.peer_run.proofs.WholeMeeting.{none_first, same_limits, some_first}
 use Rattle.peer_run.proofs.SyncSteps.{synced_as}
 
 -- ---- one call
 
 abbrev command : SyncWords → Command
-command words = cmd.Sync words.image words.cap words.key words.to words.area None None false
+command words = cmd.Sync words.image words.cap words.key words.to words.area words.limits.newest words.limits.bytes false
 
--- the same texts, the same signer, and the same area
+-- the same texts, the same signer, the same area, and the same limits
 pub record AreSameWords (words other : SyncWords) : Type 0 where
   pub image : string_bytes words.image ≡ string_bytes other.image
   pub cap : string_bytes words.cap ≡ string_bytes other.cap
   pub key : AreSameSigner words.key other.key
   pub to : string_bytes words.to ≡ string_bytes other.to
   pub area : words.area ≡ other.area
+  pub limits : words.limits ≡ other.limits
 
 -- words that are a call are no other command, and no call with other words
 pub record IsSameCall (words : SyncWords) (c : Command) : Type 0 where
@@ -98,9 +102,9 @@ pub record IsSameCall (words : SyncWords) (c : Command) : Type 0 where
 alike_is : (words : SyncWords) (c : Command) → AreAlike (command words) c → IsSameCall words c
 alike_is words (cmd.Sync a b c d e n o s) same =
     record {
-      other = record { image = a; cap = b; key = c; to = d; area = e };
-      is = cc (same.5, same.6, same.7);
-      same = record { image = same.0; cap = same.1; key = same.2; to = same.3; area = same.4 };
+      other = record { image = a; cap = b; key = c; to = d; area = e; limits = record { newest = n; bytes = o } };
+      is = cc same.7;
+      same = record { image = same.0; cap = same.1; key = same.2; to = same.3; area = same.4; limits = same_limits words.limits (record { newest = n; bytes = o }) same.5 same.6 };
     }
 alike_is words c same = absurd same
 
@@ -125,7 +129,7 @@ puts_as name true n rows h h' puts = puts
 puts_as name false n rows h h' puts = puts
 
 module _ (words : SyncWords) (run : Run) (c : caller.Caller) (began : World) (draw : List ℕ) (drawn : World) (x : Called) (called : World) (s : Synced)
-    (begun : HasBegun words.image words.cap words.key words.area run.old began c)
+    (begun : HasBegun words.image words.cap words.key words.area words.limits run.old began c)
     (is_draw : IsDraw draw) (taken : TakesDraws began.noise drawn.noise (draw ∷ [])) (only_noise : drawn ≡ record began { noise = drawn.noise })
     (did : IsCalled (string_bytes words.to) (planned peer_rules c.opening.state.namespace c.plan (nonce_of draw)) c.signer c.opening.state drawn.door called.door x) (only_door : called ≡ record drawn { door = called.door })
     (is_told : s ≡ synced_of c.opening.rows c.opening.first x.end s.put)
@@ -140,20 +144,20 @@ module _ (words : SyncWords) (run : Run) (c : caller.Caller) (began : World) (dr
   given = record { namespace = n; rows = rows; cap = begun.front.capability }
 
   abbrev brings : List ℕ → Party
-  brings = calling_party words.area given draw
+  brings = calling_party words.area words.limits given draw
 
   -- ---- the session
 
   party_is : planned peer_rules c.opening.state.namespace c.plan (nonce_of draw) ≡ brings
   party_is =
       ap (λ (m : List ℕ). planned peer_rules m c.plan (nonce_of draw)) begun.front.opened.of_namespace
-      ∙ ap (λ (plan : SessionPlan PeerScheme). planned peer_rules n plan (nonce_of draw)) (plan_asks words.image words.cap words.key words.area run.old began c begun)
+      ∙ ap (λ (plan : SessionPlan PeerScheme). planned peer_rules n plan (nonce_of draw)) (plan_asks words.image words.cap words.key words.area words.limits run.old began c begun)
 
   session : IsCalled (string_bytes words.to) brings c.signer c.opening.state drawn.door called.door x
   session = subst (λ (p : List ℕ → Party). IsCalled (string_bytes words.to) p c.signer c.opening.state drawn.door called.door x) party_is did
 
   was_run : WasRun brings (gives_of c.signer) c.opening.state.log x.state.log session.link x.end
-  was_run = record { handed_out = session.handed_out; fresh = session.fresh; before = session.before; after = session.after; begun = session.begun; ran = session.ran; closed = session.closed }
+  was_run = record { handed_out = session.handed_out; fresh = session.fresh; before = session.before; after = session.after; begun = session.begun; unturned = session.unturned; ran = session.ran; closed = session.closed }
 
   -- what was written, whatever is held elsewhere
   alike : (others : List RowValue) → AreSameInCommon (brings session.ran.signature) session.ran.bytes (live (log_rows session.ran.log)) others
@@ -162,7 +166,7 @@ module _ (words : SyncWords) (run : Run) (c : caller.Caller) (began : World) (dr
       let p = brings session.ran.signature in
       let held = live (log_rows session.ran.log) in
       let a = session_of p held in
-      sym (ap (λ m. flat_map a.spelling (a.opening ++ says_of m)) (same_read (greeting p.rules p.namespace) places (own_part p) (offers_of held) (offers_of others) session.ran.bytes same))
+      sym (ap (λ m. flat_map a.spelling (a.opening ++ says_of m)) (same_read (greeting p.rules p.namespace) places (own_part p) (offers_of p.interest held) (offers_of p.interest others) session.ran.bytes same))
 
   -- where the session was done
   above : (answer : Result SessionReport SessionEnd) → x.end ≡ answer → WhereOk answer (LiesAbove (as_ran was_run) (log_rows x.state.log))
@@ -177,9 +181,12 @@ module _ (words : SyncWords) (run : Run) (c : caller.Caller) (began : World) (dr
         opening = c.opening.state.log;
         opens = begun.front.opened.held ∙ authorised_new n rows begun.front.has_image.is_image.in_order;
         run = was_run;
+        covers = covers_came (as_ran was_run) x.state.log session.closed.0 session.is_log.few;
+        fresh = fresh_of (as_ran was_run);
         above = above x.end refl;
         goes_on = sym session.closed.1 ∙ session.ran.grew.0 ∙ ap (λ (l : List (LogRow AuthorisedValue)). l ++ session.ran.grown) session.begun.1;
         alike = alike;
+        granted = runs_granted brings (as_ran was_run);
       }
 
   -- ---- the objects
@@ -329,7 +336,7 @@ module _ (words : SyncWords) (run : Run) where
   small_stop e syncs small = omega (arith, small)
 
   -- a stop behind the reservation, of a step that left the shelf as it was
-  behind_begun : (e : Stop) (c : caller.Caller) (began : World) → Syncs words run.old after (Err e) → HasBegun words.image words.cap words.key words.area run.old began c → after.shelf ≡ began.shelf
+  behind_begun : (e : Stop) (c : caller.Caller) (began : World) → Syncs words run.old after (Err e) → HasBegun words.image words.cap words.key words.area words.limits run.old began c → after.shelf ≡ began.shelf
       → IsUnasked run.old.door run.new.door → Keeps words run (Err e)
   behind_begun e c began syncs begun shelf unasked =
       uncalled e (small_stop e syncs) unasked (signer_keeps words.key run.old.shelf run.new.shelf c.signer (subst (λ (h : ShelfFacts). IsSignerOf words.key run.old.shelf h c.signer) (sym shelf) begun.reserved))
@@ -350,9 +357,9 @@ module _ (words : SyncWords) (run : Run) where
   stopped : (e : Stop) → Syncs words run.old after (Err e) → Keeps words run (Err e)
   stopped e syncs =
       elim syncs [
-        | inl s ↦ uncalled e (small_stop e (inl s)) (door_unasked (deeds.beginning_keeps words.image words.cap words.key words.area run.old after (Err e) s)) (beginning_keeps words.image words.cap words.key words.area run.old after e s)
+        | inl s ↦ uncalled e (small_stop e (inl s)) (door_unasked (deeds.beginning_keeps words.image words.cap words.key words.area words.limits run.old after (Err e) s)) (beginning_keeps words.image words.cap words.key words.area words.limits run.old after e s)
         | inr p ↦
-            let begun = has_begun words.image words.cap words.key words.area run.old p.between p.value p.given in
+            let begun = has_begun words.image words.cap words.key words.area words.limits run.old p.between p.value p.given in
             let door = ap (λ (w : World). w.door) begun.others in
             elim p.rest [
               | inl s ↦ behind_begun e p.value p.between (inr p) begun (ap (λ (w : World). w.shelf) s.others) (door_unasked (ap (λ (w : World). w.door) s.others ∙ door))
@@ -368,12 +375,12 @@ module _ (words : SyncWords) (run : Run) where
 
   finished : (d : Done) → Syncs words run.old after (Ok d) → Keeps words run (Ok d)
   finished d p =
-      let begun = has_begun words.image words.cap words.key words.area run.old p.between p.value p.given in
+      let begun = has_begun words.image words.cap words.key words.area words.limits run.old p.between p.value p.given in
       let q = p.rest in
       let r = q.rest in
       put_so d p.value p.between begun q.value q.between q.given r.value r.between r.given r.rest
     where
-      put_so : (d : Done) (c : caller.Caller) (began : World) (begun : HasBegun words.image words.cap words.key words.area run.old began c) (draw : List ℕ) (drawn : World) (draws : OnNoise DrawsOne began drawn (Ok draw))
+      put_so : (d : Done) (c : caller.Caller) (began : World) (begun : HasBegun words.image words.cap words.key words.area words.limits run.old began c) (draw : List ℕ) (drawn : World) (draws : OnNoise DrawsOne began drawn (Ok draw))
           (x : Called) (called : World) (did : OnDoor (Calls (string_bytes words.to) (planned peer_rules c.opening.state.namespace c.plan (nonce_of draw)) c.signer c.opening.state) drawn called (Ok x))
           → Finishes (string_bytes words.image) c.opening.rows c.opening.first x called after (Ok d) → Keeps words run (Ok d)
       put_so (done.Synced s) c began begun draw drawn draws x called did f =
@@ -414,7 +421,9 @@ called_as words other run same c =
       is_back = subst (λ (place : List ℕ). IsLinkBack place run.old.door run.new.door c.link) (sym same.to) c.is_back;
       answer = c.answer;
       log = c.log;
-      synced = subst (λ (area : AreaWords). HasSynced (calling_party area c.given c.draw) c.given c.signer c.link c.answer c.log) (sym same.area) c.synced;
+      synced =
+          subst (λ (limits : Interest). HasSynced (calling_party words.area limits c.given c.draw) c.given c.signer c.link c.answer c.log) (sym same.limits)
+          (subst (λ (area : AreaWords). HasSynced (calling_party area other.limits c.given c.draw) c.given c.signer c.link c.answer c.log) (sym same.area) c.synced);
       put = c.put;
       is_put = subst (λ (name : List ℕ). PutsOrFails name c.put c.given.namespace (live (log_rows c.log)) c.reserved run.new.shelf) (sym same.image) c.is_put;
       reports = c.reports;

@@ -8,6 +8,7 @@ use Rattle.willow_outside.specs.Facts.{Names, SinkFacts}
 use Rattle.willow_outside.specs.Names.{name_put}
 use Rattle.willow_area.specs.declared.area.Area.{Area}
 use Rattle.willow_entry.specs.Row.{RowValue, join}
+use Rattle.area_interest.specs.declared.interest.Interest.{Interest}
 use Rattle.cap_codec.specs.Rows.{RawValue}
 use Rattle.mc_cap.specs.declared.refusal.RefusedRow.{RefusedRow}
 use Rattle.mc_cap.specs.declared.refusal.RowRefusal.{RowRefusal}
@@ -39,6 +40,7 @@ use Rattle.peer_run.specs.Deeds.{deed_of}
 use Rattle.peer_run.specs.ImagesMet.{IsMeeting, AreMetCounts, image_turns}
 use Rattle.peer_run.specs.Meet.{Gathers, Meets, Puts, agreed_area, meeting_refusal}
 use Rattle.peer_run.specs.MeetHeadline.{IsWholeMeeting, HaveMet, Stores, stores_of, turns_of}
+use Rattle.peer_run.specs.Offered.{offer}
 use Rattle.peer_run.specs.PairDeeds.{Given, AreGiven, HasImage, HoldsCapability}
 use Rattle.peer_run.specs.Promises.{HasEnded, IsEnd}
 use Rattle.peer_run.specs.Run.{Run, before_report}
@@ -46,6 +48,7 @@ use Rattle.peer_run.specs.Transcript.{transcript}
 use Rattle.peer_run.specs.declared.images_met.Met.{Met}
 use Rattle.peer_run.specs.declared.meeting.MeetWords.{MeetWords}
 use Rattle.peer_run.specs.declared.meeting.Sides.{Sides}
+use Rattle.peer_run.proofs.Alone.{say_alone}
 use Rattle.peer_run.proofs.BothPass.{agreed}
 use Rattle.peer_rows.proofs.AuthorisedRows.{authorised_live, of_namespace}
 use Rattle.peer_run.proofs.Gathered.{WereGot, gathered}
@@ -63,9 +66,10 @@ pub record AreSameWords (words other : MeetWords) : Type 0 where
   pub left_out : string_bytes words.left_out ≡ string_bytes other.left_out
   pub right_out : string_bytes words.right_out ≡ string_bytes other.right_out
   pub area : words.area ≡ other.area
+  pub limits : words.limits ≡ other.limits
 
 abbrev command : MeetWords → Command
-command words = cmd.Meet words.left words.right words.left_cap words.right_cap words.left_out words.right_out words.area None None
+command words = cmd.Meet words.left words.right words.left_cap words.right_cap words.left_out words.right_out words.area words.limits.newest words.limits.bytes
 
 -- words that are a meeting are no other command, and no meeting with other words
 pub record IsSameMeeting (words : MeetWords) (c : Command) : Type 0 where
@@ -73,12 +77,17 @@ pub record IsSameMeeting (words : MeetWords) (c : Command) : Type 0 where
   pub is : c ≡ command other
   pub same : AreSameWords words other
 
+pub same_limits : (one other : Interest) → one.newest ≡ other.newest → one.bytes ≡ other.bytes → one ≡ other
+same_limits one other newest bytes = ap₂ limits_of newest bytes where
+  limits_of : Option ℕ → Option ℕ → Interest
+  limits_of k m = record { newest = k; bytes = m }
+
 alike_is : (words : MeetWords) (c : Command) → AreAlike (command words) c → IsSameMeeting words c
 alike_is words (cmd.Meet a b c d e f g n o) same =
     record {
-      other = record { left = a; right = b; left_cap = c; right_cap = d; left_out = e; right_out = f; area = g };
-      is = cc (same.7, same.8);
-      same = record { left = same.0; right = same.1; left_cap = same.2; right_cap = same.3; left_out = same.4; right_out = same.5; area = same.6 };
+      other = record { left = a; right = b; left_cap = c; right_cap = d; left_out = e; right_out = f; area = g; limits = record { newest = n; bytes = o } };
+      is = refl;
+      same = record { left = same.0; right = same.1; left_cap = same.2; right_cap = same.3; left_out = same.4; right_out = same.5; area = same.6; limits = same_limits words.limits (record { newest = n; bytes = o }) same.7 same.8 };
     }
 alike_is words c same = absurd same
 
@@ -90,7 +99,7 @@ pub record HasCome (words : MeetWords) (old new : World) (d : Done) : Type 0 whe
   pub got : WereGot words old.shelf.names sides
   pub none_against : meeting_refusal words.area sides.left.namespace sides.right.namespace sides.left_cap sides.right_cap ≡ None
   pub met : Met
-  pub is_meeting : IsMeeting sides.left.namespace sides.left.rows.items sides.right.rows.items (agreed_area words.area sides.left_cap sides.right_cap) met
+  pub is_meeting : IsMeeting sides.left.namespace sides.left.rows.items sides.right.rows.items (agreed_area words.area sides.left_cap sides.right_cap) words.limits met
   pub put : new.shelf.names ≡ option_map (name_put (string_bytes words.right_out) met.right.items) (option_map (name_put (string_bytes words.left_out) met.left.items) old.shelf.names)
   pub written : IsWritten old.output new.output met.transcript.items
   pub done_is : d ≡ done.Met met.counts
@@ -110,7 +119,7 @@ has_come words old new d p =
       got = all.got;
       none_against = q.given.0.0;
       met = r.value;
-      is_meeting = subst (λ (area : Option Area). IsMeeting s.left.namespace s.left.rows.items s.right.rows.items area r.value) q.given.0.1 r.given.0;
+      is_meeting = subst (λ (area : Option Area). IsMeeting s.left.namespace s.left.rows.items s.right.rows.items area words.limits r.value) q.given.0.1 r.given.0;
       put =
           ap (λ (w : World). w.shelf.names) u.rest.others
           ∙ u.given.does
@@ -133,7 +142,9 @@ as_told words other old new d same c =
       };
       none_against = subst (λ (area : AreaWords). meeting_refusal area s.left.namespace s.right.namespace s.left_cap s.right_cap ≡ None) (sym same.area) c.none_against;
       met = c.met;
-      is_meeting = subst (λ (area : AreaWords). IsMeeting s.left.namespace s.left.rows.items s.right.rows.items (agreed_area area s.left_cap s.right_cap) c.met) (sym same.area) c.is_meeting;
+      is_meeting =
+          subst (λ (limits : Interest). IsMeeting s.left.namespace s.left.rows.items s.right.rows.items (agreed_area words.area s.left_cap s.right_cap) limits c.met) (sym same.limits)
+          (subst (λ (area : AreaWords). IsMeeting s.left.namespace s.left.rows.items s.right.rows.items (agreed_area area s.left_cap s.right_cap) other.limits c.met) (sym same.area) c.is_meeting);
       put =
           c.put
           ∙ ap₂ (λ (left right : List ℕ). option_map (name_put right c.met.right.items) (option_map (name_put left c.met.left.items) old.shelf.names)) (sym same.left_out) (sym same.right_out);
@@ -180,8 +191,8 @@ module _ (words : MeetWords) (run : Run) (d : Done) (c : HasCome words run.old (
   are_stores : AreStores n stores.left stores.right
   are_stores = record { left = store_of given.left c.got.left.is_image.in_order; right = store_of given.right c.got.right.is_image.in_order }
 
-  turns_are : image_turns n given.left given.right (agreed_area words.area given.left_cap given.right_cap) ≡ turns_of stores
-  turns_are = ap₂ (λ (a b : List RowValue). meeting HIGHEST_VERSION a b stores.area) are_stores.left.live are_stores.right.live
+  turns_are : image_turns n given.left given.right (agreed_area words.area given.left_cap given.right_cap) words.limits ≡ turns_of stores
+  turns_are = ap₂ (λ (a b : List RowValue). meeting HIGHEST_VERSION (offer stores.limits stores.area a) (offer stores.limits stores.area b) stores.area) are_stores.left.live are_stores.right.live
 
   -- the names with these images put
   abbrev names_with : List ℕ → List ℕ → Option Names
@@ -198,6 +209,7 @@ module _ (words : MeetWords) (run : Run) (d : Done) (c : HasCome words run.old (
         converged = λ tell. put ∙ ap₂ (λ (a b : List RowValue). names_with (image n a) (image n b)) (left_converges n stores are_stores tell) (right_converges n stores are_stores tell);
         written = subst (λ (text : List ℕ). IsWritten run.old.output run.new.output text) told c.written;
         alike = meet_alike stores;
+        alone = say_alone n stores are_stores;
       }
 
   whole : IsWritten run.old.report run.new.report (report_of (Ok d)) → run.status ≡ status_of (Ok d) → IsWholeMeeting words run

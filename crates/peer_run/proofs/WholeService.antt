@@ -8,6 +8,7 @@ use Rattle.willow_outside.specs.Draws.{IsDraw}
 use Rattle.willow_outside.specs.Facts.{ShelfFacts, DoorFacts, NoiseFacts}
 use Rattle.willow_entry.specs.Row.{RowValue, live}
 use Rattle.willow_entry.specs.declared.row.LogRow.{LogRow}
+use Rattle.area_interest.specs.declared.interest.Interest.{Interest}
 use Rattle.cap_codec.specs.Rows.{RawValue}
 use Rattle.auth_entry.specs.Authorised.{AuthorisedValue}
 use Rattle.ns_state.specs.Log.{StateValue, IsLog}
@@ -65,14 +66,14 @@ use Rattle.peer_run.proofs.NeverStops.{Never, then_never}
 use Rattle.peer_run.proofs.ServeAbove.{has_visited}
 use Rattle.peer_run.proofs.ServeBegun.{HasHouse, has_house, plan_asks, keeps_as, opening_keeps, opening_keeps_door, opening_never, reserved_keeps, signers_as}
 use Rattle.peer_run.proofs.ServedWell.{served_well}
-use Rattle.peer_run.proofs.WholeMeeting.{none_first, some_first}
+use Rattle.peer_run.proofs.WholeMeeting.{none_first, same_limits, some_first}
 
 -- ---- one server
 
 abbrev command : ServeWords → Command
-command words = cmd.Serve words.image words.cap words.key words.at words.links words.area None None false None
+command words = cmd.Serve words.image words.cap words.key words.at words.links words.area words.limits.newest words.limits.bytes false None
 
--- the same texts, the same signer, as many links, and the same area
+-- the same texts, the same signer, as many links, the same area, and the same limits
 pub record AreSameWords (words other : ServeWords) : Type 0 where
   pub image : string_bytes words.image ≡ string_bytes other.image
   pub cap : string_bytes words.cap ≡ string_bytes other.cap
@@ -80,6 +81,7 @@ pub record AreSameWords (words other : ServeWords) : Type 0 where
   pub at : string_bytes words.at ≡ string_bytes other.at
   pub links : words.links ≡ other.links
   pub area : words.area ≡ other.area
+  pub limits : words.limits ≡ other.limits
 
 -- words that are a server are no other command, and no server with other words
 pub record IsSameService (words : ServeWords) (c : Command) : Type 0 where
@@ -94,9 +96,9 @@ no_log (Some log) same = absurd same
 alike_is : (words : ServeWords) (c : Command) → AreAlike (command words) c → IsSameService words c
 alike_is words (cmd.Serve a b c d e f n o s l) same =
     record {
-      other = record { image = a; cap = b; key = c; at = d; links = e; area = f };
-      is = cc (same.6, same.7, same.8, no_log l same.9);
-      same = record { image = same.0; cap = same.1; key = same.2; at = same.3; links = same.4; area = same.5 };
+      other = record { image = a; cap = b; key = c; at = d; links = e; area = f; limits = record { newest = n; bytes = o } };
+      is = cc (same.8, no_log l same.9);
+      same = record { image = same.0; cap = same.1; key = same.2; at = same.3; links = same.4; area = same.5; limits = same_limits words.limits (record { newest = n; bytes = o }) same.6 same.7 };
     }
 alike_is words c same = absurd same
 
@@ -111,7 +113,7 @@ abbrev plans_of : server.Server → List ℕ → List ℕ → Party
 plans_of c draw = planned peer_rules c.opening.state.namespace c.plan (nonce_of draw)
 
 module _ (words : ServeWords) (run : Run) (c : server.Server) (began : World) (draws : Vec (List ℕ)) (drawn : World) (x : Attended) (attended : World) (s : Served)
-    (begun : HasHouse words.image words.cap words.key words.links words.area run.old began c)
+    (begun : HasHouse words.image words.cap words.key words.links words.area words.limits run.old began c)
     (many : length draws.items ≡ words.links) (are_draws : All IsDraw draws.items) (taken : TakesDraws began.noise drawn.noise draws.items) (only_noise : drawn ≡ record began { noise = drawn.noise })
     (did : AreAttended (string_bytes words.at) (plans_of c) c.signers.items draws.items c.opening.state drawn.door attended.door x) (only_door : attended ≡ record drawn { door = attended.door })
     (is_told : IsServed c.opening.rows c.opening.first x.ends.items x.all_came s.put s)
@@ -130,13 +132,13 @@ module _ (words : ServeWords) (run : Run) (c : server.Server) (began : World) (d
 
   -- ---- the sessions
 
-  party_is : plans_of c ≡ party_of Answerer words.area given
+  party_is : plans_of c ≡ party_of Answerer words.area words.limits given
   party_is =
       let by_namespace : List ℕ → List ℕ → List ℕ → Party = λ m draw. planned peer_rules m c.plan (nonce_of draw) in
       let by_plan : SessionPlan PeerScheme → List ℕ → List ℕ → Party = λ plan draw. planned peer_rules n plan (nonce_of draw) in
-      ap by_namespace begun.front.opened.of_namespace ∙ ap by_plan (plan_asks words.image words.cap words.key words.links words.area run.old began c begun)
+      ap by_namespace begun.front.opened.of_namespace ∙ ap by_plan (plan_asks words.image words.cap words.key words.links words.area words.limits run.old began c begun)
 
-  are_visits : AreVisits opening x.state.log (party_of Answerer words.area given) 1 c.signers.items draws.items did.visits
+  are_visits : AreVisits opening x.state.log (party_of Answerer words.area words.limits given) 1 c.signers.items draws.items did.visits
   are_visits = subst (λ (p : List ℕ → List ℕ → Party). AreVisits opening x.state.log p 1 c.signers.items draws.items did.visits) party_is did.are_visits
 
   opens : log_rows opening ≡ authorised_rows n rows
@@ -271,7 +273,7 @@ module _ (words : ServeWords) (run : Run) where
 
   never_refused : (refusal : RowRefusal) → Never (Serves words) (stop.Refused refusal)
   never_refused refusal =
-      then_never _ _ (stop.Refused refusal) (opening_never words.image words.cap words.key words.links words.area refusal) (λ c.
+      then_never _ _ (stop.Refused refusal) (opening_never words.image words.cap words.key words.links words.area words.limits refusal) (λ c.
       then_never _ _ (stop.Refused refusal) (record { never = λ old new s. s.does }) (λ draws.
       then_never _ _ (stop.Refused refusal) (record { never = λ old new s. s.does }) (λ x. record { never = λ old new s. s })))
 
@@ -280,7 +282,7 @@ module _ (words : ServeWords) (run : Run) where
   small_stop e serves small = omega (arith, small)
 
   -- a stop behind the reservation, of a step that left the shelf as it was
-  behind_begun : (e : Stop) (c : server.Server) (began : World) → Serves words run.old after (Err e) → HasHouse words.image words.cap words.key words.links words.area run.old began c → after.shelf ≡ began.shelf
+  behind_begun : (e : Stop) (c : server.Server) (began : World) → Serves words run.old after (Err e) → HasHouse words.image words.cap words.key words.links words.area words.limits run.old began c → after.shelf ≡ began.shelf
       → IsUnasked run.old.door run.new.door → Keeps words run (Err e)
   behind_begun e c began serves begun shelf unasked =
       unserved e (small_stop e serves) unasked (reserved_keeps words.key words.links run.old.shelf began.shelf run.new.shelf c.signers.items begun.reserved shelf)
@@ -300,10 +302,10 @@ module _ (words : ServeWords) (run : Run) where
   stopped e serves =
       elim serves [
         | inl s ↦
-            unserved e (small_stop e (inl s)) (door_unasked (opening_keeps_door words.image words.cap words.key words.links words.area run.old after (Err e) s))
-            (opening_keeps words.image words.cap words.key words.links words.area run.old after e s)
+            unserved e (small_stop e (inl s)) (door_unasked (opening_keeps_door words.image words.cap words.key words.links words.area words.limits run.old after (Err e) s))
+            (opening_keeps words.image words.cap words.key words.links words.area words.limits run.old after e s)
         | inr p ↦
-            let begun = has_house words.image words.cap words.key words.links words.area run.old p.between p.value p.given in
+            let begun = has_house words.image words.cap words.key words.links words.area words.limits run.old p.between p.value p.given in
             let door = ap (λ (w : World). w.door) begun.others in
             elim p.rest [
               | inl s ↦ behind_begun e p.value p.between (inr p) begun (ap (λ (w : World). w.shelf) s.others) (door_unasked (ap (λ (w : World). w.door) s.others ∙ door))
@@ -321,12 +323,12 @@ module _ (words : ServeWords) (run : Run) where
 
   finished : (d : Done) → Serves words run.old after (Ok d) → Keeps words run (Ok d)
   finished d p =
-      let begun = has_house words.image words.cap words.key words.links words.area run.old p.between p.value p.given in
+      let begun = has_house words.image words.cap words.key words.links words.area words.limits run.old p.between p.value p.given in
       let q = p.rest in
       let r = q.rest in
       put_so d p.value p.between begun q.value q.between q.given r.value r.between r.given r.rest
     where
-      put_so : (d : Done) (c : server.Server) (began : World) (begun : HasHouse words.image words.cap words.key words.links words.area run.old began c) (draws : Vec (List ℕ)) (drawn : World) (drew : OnNoise (DrawsAll words.links) began drawn (Ok draws))
+      put_so : (d : Done) (c : server.Server) (began : World) (begun : HasHouse words.image words.cap words.key words.links words.area words.limits run.old began c) (draws : Vec (List ℕ)) (drawn : World) (drew : OnNoise (DrawsAll words.links) began drawn (Ok draws))
           (x : Attended) (attended : World) (did : AtDoor (Attends (string_bytes words.at) (plans_of c) c.signers.items draws.items c.opening.state) drawn attended (Ok x))
           → ClosesHouse (string_bytes words.image) c.opening.rows c.opening.first x attended after (Ok d) → Keeps words run (Ok d)
       put_so (done.Served s) c began begun draws drawn drew x attended did f =
@@ -376,7 +378,9 @@ served_as words other run same c =
       opens = c.opens;
       shared = c.shared;
       is_log = c.is_log;
-      are_visits = subst (λ (area : AreaWords). AreVisits c.opening c.log (party_of Answerer area c.given) 1 c.signers c.draws c.visits) (sym same.area) c.are_visits;
+      are_visits =
+          subst (λ (limits : Interest). AreVisits c.opening c.log (party_of Answerer words.area limits c.given) 1 c.signers c.draws c.visits) (sym same.limits)
+          (subst (λ (area : AreaWords). AreVisits c.opening c.log (party_of Answerer area other.limits c.given) 1 c.signers c.draws c.visits) (sym same.area) c.are_visits);
       visited = c.visited;
       put = c.put;
       is_put = subst (λ (name : List ℕ). PutsOrFails name c.put c.given.namespace (live (log_rows c.log)) c.reserved run.new.shelf) (sym same.image) c.is_put;

@@ -1,5 +1,5 @@
 -- A session with the one at a place, over a link that is handed out for it and given back behind it.
-use Rattle.std.specs.Prelude.{◌≡◌, ℕ, ◌+◌, List, Result, Ok, Err}
+use Rattle.std.specs.Prelude.{◌≡◌, ℕ, ◌+◌, List, [], Result, Ok, Err}
 use Rattle.willow_outside.specs.Counts.{Rose}
 use Rattle.willow_outside.specs.Facts.{LinkFacts, DoorFacts}
 use Rattle.willow_outside.specs.Links.{IsFresh, list_with}
@@ -46,7 +46,7 @@ pub record IsLinkBack (place : List ℕ) (old new : DoorFacts) (link : LinkFacts
 -- ---- the session
 
 -- One session was run over a link to the place, which is back: of one who brings this and began with the log of a state.
--- The log behind it is all that the one pass had seen then, each row of which is its own.
+-- The log behind it is all that the one pass had seen then, each row of which is its own. That pass had had no turn before.
 -- `handed_out`, `link`: the link as it was handed out, and as it came back.
 pub record IsCalled (place : List ℕ) (p : List ℕ → Party) (signer : KeySigner) (opening : StateValue AuthorisedValue) (old new : DoorFacts) (x : Called) : Type 0 where
   pub handed_out : LinkFacts
@@ -56,6 +56,7 @@ pub record IsCalled (place : List ℕ) (p : List ℕ → Party) (signer : KeySig
   pub before : PassValue AuthorisedValue
   pub after : PassValue AuthorisedValue
   pub begun : (before.seen ≡ opening.log) × (before.own ≡ opening.log)
+  pub unturned : before.turns ≡ []
   pub ran : Runs p (gives_of signer) before after handed_out link 0 0 x.end
   pub closed : (after.seen ≡ x.state.log) × (after.own ≡ x.state.log)
   pub is_log : IsLog entry_row opening.namespace x.state.log

@@ -9,7 +9,7 @@ use Rattle.peer_run.specs.ServeDeed.{serve_deed}
 use Rattle.peer_words.specs.declared.command.Command.{Command}
 use Rattle.peer_words.specs.declared.command.Command.TheVariants as cmd
 
--- One line a command. What limits an offer, follows or keeps a log is not built yet.
+-- One line a command. What follows or keeps a log is not built yet.
 abbrev pub deed_of : Command → Deed
 deed_of (cmd.Join namespace) = join_deed namespace
 deed_of (cmd.Show newest) = show_deed newest
@@ -19,8 +19,9 @@ deed_of (cmd.Delegate key to area) = delegate_deed key to area
 deed_of (cmd.Write key path time payload_length digest subspace) = write_deed key (record { path = path; time = time; payload_length = payload_length; digest = digest; subspace = subspace })
 deed_of (cmd.Gen rows) = gen_deed rows
 deed_of (cmd.Drill rows) = drill_deed rows
-deed_of (cmd.Meet left right left_cap right_cap left_out right_out area None None) =
-    meet_deed (record { left = left; right = right; left_cap = left_cap; right_cap = right_cap; left_out = left_out; right_out = right_out; area = area })
-deed_of (cmd.Sync image cap key to area None None false) = sync_deed (record { image = image; cap = cap; key = key; to = to; area = area })
-deed_of (cmd.Serve image cap key at links area None None false None) = serve_deed (record { image = image; cap = cap; key = key; at = at; links = links; area = area })
+deed_of (cmd.Meet left right left_cap right_cap left_out right_out area newest bytes) =
+    meet_deed (record { left = left; right = right; left_cap = left_cap; right_cap = right_cap; left_out = left_out; right_out = right_out; area = area; limits = record { newest = newest; bytes = bytes } })
+deed_of (cmd.Sync image cap key to area newest bytes false) = sync_deed (record { image = image; cap = cap; key = key; to = to; area = area; limits = record { newest = newest; bytes = bytes } })
+deed_of (cmd.Serve image cap key at links area newest bytes false None) =
+    serve_deed (record { image = image; cap = cap; key = key; at = at; links = links; area = area; limits = record { newest = newest; bytes = bytes } })
 deed_of command = not_built

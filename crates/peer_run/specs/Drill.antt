@@ -12,6 +12,7 @@ use Rattle.peer_stage.specs.Stages.{Writes}
 use Rattle.peer_stage.specs.declared.outcome.Done.{Done}
 use Rattle.peer_stage.specs.declared.outcome.Done.TheVariants as done
 use Rattle.peer_run.specs.Exchanged.{boxed, met}
+use Rattle.peer_run.specs.Offered.{no_limits}
 
 -- any subspace, every path and all times
 abbrev pub full_area : Area
@@ -19,7 +20,7 @@ full_area = record { subspace = None; path = []; times = record { start = 0; end
 
 -- the turns of the generated rows below n and those below half of it, rounded down, over everything
 abbrev pub drilled : ℕ → List TurnValue
-drilled n = met (generated_rows n) (generated_rows (n / 2)) (boxed (Some full_area))
+drilled n = met (generated_rows n) (generated_rows (n / 2)) (boxed (Some full_area)) no_limits
 
 -- the live rows of both sides before and after, and the items and turns of the exchange
 abbrev pub drill_counts : ℕ → DrillCounts

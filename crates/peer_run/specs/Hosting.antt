@@ -32,11 +32,12 @@ pub record Visit : Type 0 where
   pub after : PassValue AuthorisedValue
   pub answer : Answer
 
--- One session was run over the link, of a side that brings this. Its pass had seen the opening log, and had no rows of its
--- own; what it has seen behind it is a front of the log behind all sessions, in which its own list are the rows of its number.
+-- One session was run over the link, of a side that brings this. Its pass had seen the opening log, and had had no turn and no
+-- rows of its own; what it has seen behind it is a front of the log behind all sessions, in which its own list are the rows of its number.
 pub record IsVisit (opening log : List (LogRow AuthorisedValue)) (number : ℕ) (p : List ℕ → Party) (signer : KeySigner) (visit : Visit) : Type 0 where
   pub fresh : IsFresh visit.handed_out
   pub begun : (visit.before.seen ≡ opening) × (visit.before.own ≡ [])
+  pub unturned : visit.before.turns ≡ []
   pub ran : Runs p (gives_of signer) visit.before visit.after visit.handed_out visit.link 0 0 visit.answer
   pub front : IsPrefix visit.after.seen log
   pub own : visit.after.own ≡ rows_of_pass number log

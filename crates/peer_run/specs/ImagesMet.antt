@@ -6,6 +6,7 @@ use Rattle.cap_codec.specs.Rows.{RawValue, IsRaw}
 use Rattle.exchange_rules.specs.Items.{to_left, to_right, counted}
 use Rattle.mc_cap.specs.declared.refusal.RefusedRow.{RefusedRow}
 use Rattle.willow_area.specs.declared.area.Area.{Area}
+use Rattle.area_interest.specs.declared.interest.Interest.{Interest}
 use Rattle.willow_entry.specs.Row.{RowValue, join}
 use Rattle.peer_image.specs.Image.{image}
 use Rattle.peer_rows.specs.RowLogs.{ArePastLog}
@@ -64,27 +65,27 @@ pub record AreMetCounts (n : List ℕ) (left right : List RawValue) (turns : Lis
 
 -- ---- the meeting
 
--- the turns of the authorised rows of two images over an area
-abbrev pub image_turns : List ℕ → List RawValue → List RawValue → Option Area → List TurnValue
-image_turns n left right area = met (authorised_rows n left) (authorised_rows n right) (boxed area)
+-- the turns of the authorised rows of two images over an area, of which each side offers as much as the limits leave
+abbrev pub image_turns : List ℕ → List RawValue → List RawValue → Option Area → Interest → List TurnValue
+image_turns n left right area limits = met (authorised_rows n left) (authorised_rows n right) (boxed area) limits
 
 -- Both sides took what came, of which each row that would be stored found room: these are the images of what they have
 -- then, the transcript and the numbers.
-pub record IsMeeting (n : List ℕ) (left right : List RawValue) (area : Option Area) (m : Met) : Type 0 where
-  pub has_room : IsPastOne (authorised_rows n left) (authorised_rows n right) (boxed area) → ⊥
-  pub left_image : m.left.items ≡ image n (join (authorised_rows n left) (to_left (image_turns n left right area)))
-  pub right_image : m.right.items ≡ image n (join (authorised_rows n right) (to_right (image_turns n left right area)))
-  pub told : m.transcript.items ≡ transcript (map (turn_bytes HIGHEST_VERSION) (image_turns n left right area))
-  pub numbers : AreMetCounts n left right (image_turns n left right area) m.counts
+pub record IsMeeting (n : List ℕ) (left right : List RawValue) (area : Option Area) (limits : Interest) (m : Met) : Type 0 where
+  pub has_room : IsPastOne (authorised_rows n left) (authorised_rows n right) (boxed area) limits → ⊥
+  pub left_image : m.left.items ≡ image n (join (authorised_rows n left) (to_left (image_turns n left right area limits)))
+  pub right_image : m.right.items ≡ image n (join (authorised_rows n right) (to_right (image_turns n left right area limits)))
+  pub told : m.transcript.items ≡ transcript (map (turn_bytes HIGHEST_VERSION) (image_turns n left right area limits))
+  pub numbers : AreMetCounts n left right (image_turns n left right area limits) m.counts
 
 -- the rows of an image, or what came to one side behind them, are too many for a log
-abbrev pub MeetFullLog : List ℕ → List RawValue → List RawValue → Option Area → Type 0
-MeetFullLog n left right area =
-    ArePastLog (authorised_rows n left) ⊎ (ArePastLog (authorised_rows n right) ⊎ IsPastOne (authorised_rows n left) (authorised_rows n right) (boxed area))
+abbrev pub MeetFullLog : List ℕ → List RawValue → List RawValue → Option Area → Interest → Type 0
+MeetFullLog n left right area limits =
+    ArePastLog (authorised_rows n left) ⊎ (ArePastLog (authorised_rows n right) ⊎ IsPastOne (authorised_rows n left) (authorised_rows n right) (boxed area) limits)
 
 -- how the meeting of two images ends
-abbrev pub MeetsImages : List ℕ → List RawValue → List RawValue → Option Area → Result Met Stop → Type 0
-MeetsImages n left right area (Ok m) = IsMeeting n left right area m
-MeetsImages n left right area (Err stop.LogFull) = MeetFullLog n left right area
-MeetsImages n left right area (Err stop.NoMemory) = Unit {0}
-MeetsImages n left right area (Err e) = ⊥
+abbrev pub MeetsImages : List ℕ → List RawValue → List RawValue → Option Area → Interest → Result Met Stop → Type 0
+MeetsImages n left right area limits (Ok m) = IsMeeting n left right area limits m
+MeetsImages n left right area limits (Err stop.LogFull) = MeetFullLog n left right area limits
+MeetsImages n left right area limits (Err stop.NoMemory) = Unit {0}
+MeetsImages n left right area limits (Err e) = ⊥

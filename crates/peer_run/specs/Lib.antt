@@ -1,3 +1,4 @@
+pub mod Offered
 pub mod Exchanged
 pub mod Drill
 pub mod Getting

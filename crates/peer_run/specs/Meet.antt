@@ -86,11 +86,11 @@ Puts left_out right_out met =
 
 -- ---- the command
 
--- It gets both images and both capabilities, agrees on an area, lets the images meet there, puts what comes of them,
--- and writes what was said.
+-- It gets both images and both capabilities, agrees on an area, lets the images meet there within the limits of the words, puts
+-- what comes of them, and writes what was said.
 abbrev pub Meets : MeetWords → Step Done
 Meets words =
     Then (Gathers words.left words.right words.left_cap words.right_cap) (λ s.
     Then (Inside (Agrees words.area s.left.namespace s.right.namespace s.left_cap s.right_cap)) (λ area.
-    Then (Inside (MeetsImages s.left.namespace s.left.rows.items s.right.rows.items area)) (λ met.
+    Then (Inside (MeetsImages s.left.namespace s.left.rows.items s.right.rows.items area words.limits)) (λ met.
     Puts words.left_out words.right_out met)))

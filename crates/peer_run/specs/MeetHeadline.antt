@@ -1,19 +1,20 @@
 -- The headline of a meeting. Each side then has the join of its own rows and those that it was sent. Where fingerprints
--- tell rows apart, that is the join with all that the other has in the area. The rows in the area alone decide what is
--- said and sent.
-use Rattle.std.specs.Prelude.{◌≡◌, ℕ, ◌≤◌, List, ◌++◌, map, Option, Some, None, IsNone, IsSome}
+-- tell rows apart, that is the join with all that the other offers in the area: its rows of interest there, which without limits
+-- are all. The rows that are offered there alone decide what is said and sent, and what each side says its own and what it reads.
+use Rattle.std.specs.Prelude.{◌≡◌, ℕ, ◌≤◌, List, ◌++◌, map, Option, Some, IsNone, IsSome}
 use Rattle.std.specs.Option.{option_map}
 use Rattle.std.specs.String.{string_bytes}
 use Rattle.willow_area.specs.Boxes.{Ranges}
+use Rattle.area_interest.specs.declared.interest.Interest.{Interest}
 use Rattle.willow_entry.specs.Row.{RowValue, join}
 use Rattle.willow_outside.specs.Names.{name_put}
-use Rattle.exchange_rules.specs.Items.{to_left, to_right}
+use Rattle.exchange_rules.specs.AnyPeer.{caller, answerer}
+use Rattle.exchange_rules.specs.Items.{to_left, to_right, caller_turns, answerer_turns}
 use Rattle.exchange_rules.specs.Exchange.{Apart}
 use Rattle.sync_hello.specs.declared.version.TheConstants.{HIGHEST_VERSION}
 use Rattle.sync_core.specs.Flat.{TurnValue}
 use Rattle.sync_core.specs.Place.{rows_of_area}
 use Rattle.sync_core.specs.SyncRules.{sync_rules}
-use Rattle.sync_pair.specs.Agreement.{left_after, right_after}
 use Rattle.sync_pair.specs.Meeting.{meeting, turn_bytes}
 use Rattle.peer_image.specs.Image.{image}
 use Rattle.peer_report.specs.Report.{met_lines, first_line}
@@ -25,6 +26,7 @@ use Rattle.peer_words.specs.declared.command.Command.TheVariants as cmd
 use Rattle.peer_run.specs.Exchanged.{boxed}
 use Rattle.peer_run.specs.ImagesMet.{AreMetCounts}
 use Rattle.peer_run.specs.Meet.{agreed_area}
+use Rattle.peer_run.specs.Offered.{offer}
 use Rattle.peer_run.specs.PairDeeds.{Given, AreGiven}
 use Rattle.peer_run.specs.Run.{Run}
 use Rattle.peer_run.specs.Transcript.{transcript}
@@ -32,38 +34,67 @@ use Rattle.peer_run.specs.declared.meeting.MeetWords.{MeetWords}
 
 -- ---- two stores that meet
 
--- the rows of both, and the box of the area that both sides may read, where there is one
+-- the rows of both, the box of the area that both sides may read, where there is one, and how much of it each offers
 pub record Stores : Type 0 where
   pub left : List RowValue
   pub right : List RowValue
   pub area : Option Ranges
+  pub limits : Interest
 
--- those of a meeting: the authorised rows of its images, and the area that its words and capabilities agree on
+-- what each offers of its rows
+abbrev pub left_offer : Stores → List RowValue
+left_offer s = offer s.limits s.area s.left
+
+abbrev pub right_offer : Stores → List RowValue
+right_offer s = offer s.limits s.area s.right
+
+-- those of a meeting: the authorised rows of its images, the area that its words and capabilities agree on, and the limits of
+-- its words
 abbrev pub stores_of : MeetWords → Given → Stores
 stores_of words g =
     record {
       left = authorised_rows g.namespace g.left;
       right = authorised_rows g.namespace g.right;
       area = boxed (agreed_area words.area g.left_cap g.right_cap);
+      limits = words.limits;
     }
 
 -- the turns that they take in the version that this program speaks, the left one first, and what is said in them, as bytes
 abbrev pub turns_of : Stores → List TurnValue
-turns_of s = meeting HIGHEST_VERSION s.left s.right s.area
+turns_of s = meeting HIGHEST_VERSION (left_offer s) (right_offer s) s.area
 
 abbrev pub said : Stores → List ℕ
 said s = transcript (map (turn_bytes HIGHEST_VERSION) (turns_of s))
 
--- Fingerprints tell their rows apart: where both have the same one for a box that is asked for, both have the same rows
--- there.
-abbrev pub FingerprintsTell : Stores → Type 0
-FingerprintsTell s = (box : Ranges) → s.area ≡ Some box → Apart (sync_rules HIGHEST_VERSION) s.left s.right box
+-- those of the left side, and those of the right one, each of which the other reads
+abbrev pub left_turns : Stores → List TurnValue
+left_turns s = caller_turns (turns_of s)
 
--- the area is the same, and in it both left sides have the same rows, and both right sides
+abbrev pub right_turns : Stores → List TurnValue
+right_turns s = answerer_turns (turns_of s)
+
+-- what each side has then: its rows joined with those that it was sent
+abbrev pub left_behind : Stores → List RowValue
+left_behind s = join s.left (to_left (turns_of s))
+
+abbrev pub right_behind : Stores → List RowValue
+right_behind s = join s.right (to_right (turns_of s))
+
+-- Fingerprints tell the rows that are offered apart: where both have the same one for a box that is asked for, both offer the
+-- same rows there.
+abbrev pub FingerprintsTell : Stores → Type 0
+FingerprintsTell s = (box : Ranges) → s.area ≡ Some box → Apart (sync_rules HIGHEST_VERSION) (left_offer s) (right_offer s) box
+
+-- the area is the same, and in it both left sides offer the same rows, and both right sides
 pub record HaveSameInArea (s t : Stores) : Type 0 where
   pub area : s.area ≡ t.area
-  pub left : rows_of_area s.area s.left ≡ rows_of_area t.area t.left
-  pub right : rows_of_area s.area s.right ≡ rows_of_area t.area t.right
+  pub left : rows_of_area s.area (left_offer s) ≡ rows_of_area t.area (left_offer t)
+  pub right : rows_of_area s.area (right_offer s) ≡ rows_of_area t.area (right_offer t)
+
+-- Each side by itself: what it says is what a side says that has only the rows that it offers in the area, and reads these turns.
+pub record SayAlone (s : Stores) : Type 0 where
+  pub left : left_turns s ≡ caller (sync_rules HIGHEST_VERSION) (rows_of_area s.area (left_offer s)) s.area (right_turns s)
+  pub right : right_turns s ≡ answerer (sync_rules HIGHEST_VERSION) (rows_of_area s.area (right_offer s)) s.area (left_turns s)
 
 -- they say the same, and the same rows are sent to either side
 pub record MeetAlike (s t : Stores) : Type 0 where
@@ -81,13 +112,15 @@ ArePut words run n left right =
 -- the three sentences, of stores in a namespace
 pub record HaveMet (words : MeetWords) (run : Run) (n : List ℕ) (s : Stores) : Type 0 where
   -- each side joined its rows with those that it was sent, and the images of that are put
-  pub joined : ArePut words run n (left_after HIGHEST_VERSION s.left s.right s.area) (right_after HIGHEST_VERSION s.left s.right s.area)
-  -- where fingerprints tell rows apart, these are the joins with all that the other side has in the area
-  pub converged : FingerprintsTell s → ArePut words run n (join s.left (rows_of_area s.area s.right)) (join s.right (rows_of_area s.area s.left))
+  pub joined : ArePut words run n (left_behind s) (right_behind s)
+  -- where fingerprints tell rows apart, these are the joins with all that the other side offers in the area
+  pub converged : FingerprintsTell s → ArePut words run n (join s.left (rows_of_area s.area (right_offer s))) (join s.right (rows_of_area s.area (left_offer s)))
   -- the output grew by what was said
   pub written : IsWritten run.old.output run.new.output (said s)
-  -- the rows in the area alone decide what is said and sent, whatever the sides hold elsewhere
+  -- the rows that are offered in the area alone decide what is said and sent, whatever the sides hold besides
   pub alike : (others : Stores) → HaveSameInArea s others → MeetAlike s others
+  -- and so it is with each side by itself: what it says is a function of the rows that it offers there and of what it reads
+  pub alone : SayAlone s
 
 -- a run in which what stood under the names of the words met, and its numbers were reported
 pub record IsWholeMeeting (words : MeetWords) (run : Run) : Type 0 where
@@ -106,5 +139,5 @@ pub record IsWholeMeeting (words : MeetWords) (run : Run) : Type 0 where
 -- A `meet` that ends with status 0 or 1 is such a meeting.
 abbrev pub MeetHeadline : Run → Type 0
 MeetHeadline run =
-    (words : MeetWords) → IsWords run.words (cmd.Meet words.left words.right words.left_cap words.right_cap words.left_out words.right_out words.area None None)
+    (words : MeetWords) → IsWords run.words (cmd.Meet words.left words.right words.left_cap words.right_cap words.left_out words.right_out words.area words.limits.newest words.limits.bytes)
     → run.status ≤ 1 → IsWholeMeeting words run

@@ -65,7 +65,7 @@ pub record CanMeet (words : MeetWords) (told : Option Names) : Type 0 where
   pub are_told : told ≡ Some names
   pub given : Given
   pub are_given : AreGiven words (Some names) given
-  pub room : MeetFullLog given.namespace given.left given.right (agreed_area words.area given.left_cap given.right_cap) → ⊥
+  pub room : MeetFullLog given.namespace given.left given.right (agreed_area words.area given.left_cap given.right_cap) words.limits → ⊥
 
 abbrev pub meet_deed : MeetWords → Deed
 meet_deed words =

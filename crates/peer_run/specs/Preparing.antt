@@ -2,6 +2,7 @@
 use Rattle.std.specs.Prelude.{ℕ, List, take, replicate}
 use Rattle.std.specs.declared.string.String.{String}
 use Rattle.std.specs.declared.alloc.Global.{Global}
+use Rattle.area_interest.specs.declared.interest.Interest.{Interest}
 use Rattle.lms_core.specs.declared.scheme.PeerScheme.{PeerScheme}
 use Rattle.sync_msg.specs.declared.role.Role.{Role}
 use Rattle.sync_hello.specs.declared.hello.Hello.{Hello}
@@ -27,9 +28,9 @@ Prepares image cap area =
     Then (Inside (Greets i.namespace area c no_nonce)) (λ h.
     Inside (Yields (record { opening = opening; hello = h }))))))
 
--- the plan of a side of this role that says this of itself
-abbrev pub plan_of : Role → Hello → SessionPlan PeerScheme
-plan_of role h = record { scheme = record {}; version = h.version; role = role; capability = h.capability; ask = h.ask }
+-- the plan of a side of this role that says this of itself, and offers as much as the limits leave
+abbrev pub plan_of : Role → Hello → Interest → SessionPlan PeerScheme
+plan_of role h limits = record { scheme = record {}; version = h.version; role = role; capability = h.capability; ask = h.ask; interest = limits }
 
 -- the nonce of a draw: its first 16 bytes
 abbrev pub nonce_of : List ℕ → List ℕ

@@ -4,6 +4,7 @@ use Rattle.std.specs.String.{string_bytes}
 use Rattle.std.specs.declared.string.String.{String}
 use Rattle.std.specs.declared.alloc.Global.{Global}
 use Rattle.spelling.specs.Answers.{or_else}
+use Rattle.area_interest.specs.declared.interest.Interest.{Interest}
 use Rattle.lms_core.specs.Use.{peer_rules}
 use Rattle.mc_cap.specs.declared.refusal.RefusedRow.{RefusedRow}
 use Rattle.session_end.specs.declared.end.SessionEnd.{SessionEnd}
@@ -33,11 +34,11 @@ use Rattle.peer_run.specs.declared.serving.Server as server
 use Rattle.peer_run.specs.declared.serving.ServeWords.{ServeWords}
 
 -- It gets what a side brings, and reserves as many signers as links are to come.
-abbrev pub OpensHouse : String Global → String Global → SignerWord → ℕ → AreaWords → Step server.Server
-OpensHouse image cap key links area =
+abbrev pub OpensHouse : String Global → String Global → SignerWord → ℕ → AreaWords → Interest → Step server.Server
+OpensHouse image cap key links area limits =
     Then (Prepares image cap area) (λ r.
     Then (OnShelf (HandsSigners key links)) (λ signers.
-    Inside (Yields (record { opening = r.opening; plan = plan_of Answerer r.hello; signers = signers }))))
+    Inside (Yields (record { opening = r.opening; plan = plan_of Answerer r.hello limits; signers = signers }))))
 
 -- ---- what is told
 
@@ -94,7 +95,7 @@ ClosesHouse name rows first x old new end = ⊥
 -- come to the place, and puts the image of what is live behind all sessions.
 abbrev pub Serves : ServeWords → Step Done
 Serves words =
-    Then (OpensHouse words.image words.cap words.key words.links words.area) (λ s.
+    Then (OpensHouse words.image words.cap words.key words.links words.area words.limits) (λ s.
     Then (OnNoise (DrawsAll words.links)) (λ draws.
     Then (AtDoor (Attends (string_bytes words.at) (λ draw. planned peer_rules s.opening.state.namespace s.plan (nonce_of draw)) s.signers.items draws.items s.opening.state)) (λ x.
     ClosesHouse (string_bytes words.image) s.opening.rows s.opening.first x)))

@@ -86,7 +86,7 @@ pub record HadSessions (words : ServeWords) (given : SideGiven) (old new : World
   pub opens : log_rows opening ≡ authorised_rows given.namespace given.rows
   pub shared : IsShared opening log (length visits)
   pub is_log : IsLog entry_row given.namespace log
-  pub are_visits : AreVisits opening log (party_of Answerer words.area given) 1 signers draws visits
+  pub are_visits : AreVisits opening log (party_of Answerer words.area words.limits given) 1 signers draws visits
   pub is_put : IsPut (string_bytes words.image) (image given.namespace (live (log_rows log))) reserved new.shelf
 
 -- The shelf tells that the names hold what a server goes by, the rows of the image fit a log, and the signer has a signature
@@ -102,7 +102,7 @@ pub record CanServe (words : ServeWords) (old new : World) : Type 0 where
   pub signs : (signers : List KeySigner) (reserved : ShelfFacts) → AreSignersOf words.key words.links old.shelf reserved signers
       → (signer : KeySigner) → Contains signers signer → SignsFor given.cap signer
   pub answered : (links : List LinkFacts) → new.door.back ≡ list_with_all links old.door.back
-      → (draws : List (List ℕ)) → TakesDraws old.noise new.noise draws → length draws ≡ words.links → AreAnswered (party_of Answerer words.area given) draws links
+      → (draws : List (List ℕ)) → TakesDraws old.noise new.noise draws → length draws ≡ words.links → AreAnswered (party_of Answerer words.area words.limits given) draws links
   pub unfilled : (had : HadSessions words given old new) (visit : Visit) → Contains had.visits visit → (missed : ℕ) → visit.answer ≡ Err (LogFull missed) → ⊥
 
 -- ---- the deed

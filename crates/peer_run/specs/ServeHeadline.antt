@@ -2,22 +2,21 @@
 -- rows that came over the links and are authorised, each told by the number of its link. Where the one at the other end of a
 -- link whose session was done said what the link gave, the store lies at or above the join of what that session began with
 -- and of that one's rows in the area that both may read. What was written on a link is a function of the rows with which its
--- session began in that area and of what was read.
-use Rattle.std.specs.Prelude.{◌≡◌, ◌≢◌, ◌⊎◌, ℕ, ◌≤◌, Bool, true, false, List, length, map, All, None, IsNone, IsSome, Ok, Err}
+-- session began in that area and of what was read. Each session told rows of the whole log as it stood at a turn of its own,
+-- and only to one that may read them.
+use Rattle.std.specs.Prelude.{◌≡◌, ◌≢◌, ◌⊎◌, ℕ, ◌≤◌, Bool, true, false, List, length, map, All, None, IsNone, IsSome, Ok}
 use Rattle.std.specs.String.{string_bytes}
 use Rattle.willow_outside.specs.Draws.{IsDraw}
 use Rattle.willow_outside.specs.Facts.{ShelfFacts}
-use Rattle.willow_entry.specs.Row.{RowValue, HasCovering, live}
+use Rattle.willow_entry.specs.Row.{RowValue, live}
 use Rattle.willow_entry.specs.declared.row.LogRow.{LogRow}
 use Rattle.auth_entry.specs.Authorised.{AuthorisedValue}
 use Rattle.ns_state.specs.Log.{IsLog}
-use Rattle.ns_state.specs.declared.live_log.TheConstants.{LOG_LIMIT}
 use Rattle.lms_core.specs.Key.{Key, raised}
 use Rattle.lms_core.specs.Reserve.{HoldsKey, KeepsNames, PutsKey}
-use Rattle.session_end.specs.declared.end.SessionEnd.TheVariants.{LinkWrite, SignFault, NoMemory}
 use Rattle.auth_entry.specs.Rows.{entry_row, authorised_rows as authorised_of}
 use Rattle.sync_link.specs.Kept.{log_rows}
-use Rattle.sync_link.specs.Run.{Answer}
+use Rattle.sync_link.specs.Ran.{TellsGranted}
 use Rattle.sync_link.specs.Sessions.{Party, AreSameInCommon, out}
 use Rattle.sync_msg.specs.declared.role.Role.TheVariants.{Answerer}
 use Rattle.peer_make.specs.KeySigners.{AreSignersOf}
@@ -36,28 +35,22 @@ use Rattle.peer_run.specs.Hosting.{Visit, IsVisit, AreVisits, IsShared, AreBack,
 use Rattle.peer_run.specs.Run.{Run}
 use Rattle.peer_run.specs.Serve.{IsServed}
 use Rattle.peer_run.specs.SideGiven.{SideGiven, AreSideGiven, party_of}
-use Rattle.peer_run.specs.SyncHeadline.{AnswersOk, WhereOk, LiesAbove, PutsOrFails}
+use Rattle.peer_run.specs.SyncHeadline.{AnswersOk, CoversCame, LiesAbove, OpensWhole, PutsOrFails, WhereOk}
 use Rattle.peer_run.specs.declared.serving.ServeWords.{ServeWords}
 
 -- ---- what a session makes of the store
 
--- The log covers the rows that came; or it is full, unless the session was done. Where writing to the link failed, or memory
--- was wanting, it may cover fewer.
-abbrev pub CoversCame : List RowValue → List RowValue → Answer → Type 0
-CoversCame log rows (Ok report) = All (HasCovering log) rows
-CoversCame log rows (Err LinkWrite) = Unit {0}
-CoversCame log rows (Err SignFault) = Unit {0}
-CoversCame log rows (Err NoMemory) = Unit {0}
-CoversCame log rows (Err end) = All (HasCovering log) rows ⊎ (length log ≡ LOG_LIMIT)
-
--- What a session of a server makes of the log behind all: the authorised rows that came to it are covered, the second
--- sentence of the headline (`above`), already by what its pass had then seen, and the third (`alike`), whatever the store
--- holds outside of what both may read.
+-- What a session of a server makes of the log behind all: the authorised rows that came to it are covered, its opening store is
+-- what is live of the whole log at one moment of the service (`fresh`), the second sentence of the headline (`above`), already by
+-- what its pass had then seen, the third (`alike`), whatever the store holds outside of what both may read, and rows and
+-- fingerprints are told only to one that may read them (`granted`).
 pub record HasVisited {opening log : List (LogRow AuthorisedValue)} {number : ℕ} {p : List ℕ → Party} {signer : KeySigner} {visit : Visit} (run : IsVisit opening log number p signer visit) : Type 0 where
   pub covers : CoversCame (log_rows log) (authorised_of (p run.ran.signature).rules (p run.ran.signature).namespace run.ran.rows) visit.answer
+  pub fresh : OpensWhole (ran_of run)
   pub above : WhereOk visit.answer (LiesAbove (ran_of run) (log_rows visit.after.seen))
   pub alike : (others : List RowValue) → AreSameInCommon (p run.ran.signature) run.ran.bytes (live (log_rows run.ran.log)) others
       → out (p run.ran.signature) others run.ran.bytes ≡ out (p run.ran.signature) (live (log_rows run.ran.log)) run.ran.bytes
+  pub granted : TellsGranted (ran_of run)
 
 -- ---- a run of `serve`
 
@@ -97,7 +90,7 @@ pub record HasServed (words : ServeWords) (run : Run) : Type 0 where
   pub shared : IsShared opening log (length visits)
   pub is_log : IsLog entry_row given.namespace log
   -- the session of each link, and what it makes of the store
-  pub are_visits : AreVisits opening log (party_of Answerer words.area given) 1 signers draws visits
+  pub are_visits : AreVisits opening log (party_of Answerer words.area words.limits given) 1 signers draws visits
   pub visited : (number : ℕ) (p : List ℕ → Party) (signer : KeySigner) (visit : Visit) (run : IsVisit opening log number p signer visit) → HasVisited run
   -- the image of what is live of the log was put, or could not be
   pub put : Bool
@@ -121,4 +114,4 @@ pub record ServePromises (words : ServeWords) (run : Run) : Type 0 where
   pub whole : run.status ≤ 1 → IsWholeService words run
 
 abbrev pub ServeHeadline : Run → Type 0
-ServeHeadline run = (words : ServeWords) → IsWords run.words (cmd.Serve words.image words.cap words.key words.at words.links words.area None None false None) → ServePromises words run
+ServeHeadline run = (words : ServeWords) → IsWords run.words (cmd.Serve words.image words.cap words.key words.at words.links words.area words.limits.newest words.limits.bytes false None) → ServePromises words run

@@ -1,6 +1,7 @@
 -- What a side of a session goes by, and what it says of itself.
 use Rattle.std.specs.Prelude.{◌≡◌, ℕ, List, Option, None}
 use Rattle.willow_outside.specs.Facts.{Names}
+use Rattle.area_interest.specs.declared.interest.Interest.{Interest}
 use Rattle.cap_codec.specs.Rows.{RawValue}
 use Rattle.lms_core.specs.Use.{peer_rules}
 use Rattle.mc_cap.specs.declared.capability.Capability.{Capability}
@@ -23,6 +24,7 @@ pub record AreSideGiven (image_name cap_name : List ℕ) (area : AreaWords) (tol
   pub cap : HoldsCapability told cap_name g.cap
   pub passes : own_refusal g.namespace (own_hello area g.cap no_nonce) ≡ None
 
--- the side of this role: its hello has the own capability, the ask of the words, and the first 16 bytes of a draw
-abbrev pub party_of : Role → AreaWords → SideGiven → List ℕ → List ℕ → Party
-party_of role area g draw signature = record { rules = peer_rules; namespace = g.namespace; role = role; hello = own_hello area g.cap (nonce_of draw); signature = signature }
+-- the side of this role, which offers as much as the limits leave: its hello has the own capability, the ask of the words, and the
+-- first 16 bytes of a draw
+abbrev pub party_of : Role → AreaWords → Interest → SideGiven → List ℕ → List ℕ → Party
+party_of role area limits g draw signature = record { rules = peer_rules; namespace = g.namespace; role = role; hello = own_hello area g.cap (nonce_of draw); interest = limits; signature = signature }

@@ -4,6 +4,7 @@ use Rattle.std.specs.String.{string_bytes}
 use Rattle.std.specs.declared.string.String.{String}
 use Rattle.std.specs.declared.alloc.Global.{Global}
 use Rattle.spelling.specs.Answers.{or_else}
+use Rattle.area_interest.specs.declared.interest.Interest.{Interest}
 use Rattle.lms_core.specs.Use.{peer_rules}
 use Rattle.mc_cap.specs.declared.refusal.RefusedRow.{RefusedRow}
 use Rattle.session_end.specs.declared.end.SessionEnd.{SessionEnd}
@@ -29,11 +30,11 @@ use Rattle.peer_run.specs.declared.syncing.Caller as caller
 use Rattle.peer_run.specs.declared.syncing.SyncWords.{SyncWords}
 
 -- It gets what a side brings, and reserves what signs.
-abbrev pub Begins : String Global → String Global → SignerWord → AreaWords → Step caller.Caller
-Begins image cap key area =
+abbrev pub Begins : String Global → String Global → SignerWord → AreaWords → Interest → Step caller.Caller
+Begins image cap key area limits =
     Then (Prepares image cap area) (λ r.
     Then (OnShelf (HandsSigner key)) (λ signer.
-    Inside (Yields (record { opening = r.opening; plan = plan_of Caller r.hello; signer = signer }))))
+    Inside (Yields (record { opening = r.opening; plan = plan_of Caller r.hello limits; signer = signer }))))
 
 -- what is told of a session behind an image of so many rows, of which this is the first refused one, and of the put;
 -- nothing is followed
@@ -57,7 +58,7 @@ Finishes name rows first x old new end = ⊥
 -- what is live behind the session.
 abbrev pub Syncs : SyncWords → Step Done
 Syncs words =
-    Then (Begins words.image words.cap words.key words.area) (λ c.
+    Then (Begins words.image words.cap words.key words.area words.limits) (λ c.
     Then (OnNoise DrawsOne) (λ draw.
     Then (OnDoor (Calls (string_bytes words.to) (planned peer_rules c.opening.state.namespace c.plan (nonce_of draw)) c.signer c.opening.state)) (λ x.
     Finishes (string_bytes words.image) c.opening.rows c.opening.first x)))

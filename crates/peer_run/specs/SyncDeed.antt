@@ -60,7 +60,7 @@ pub record HadSession (words : SyncWords) (given : CallGiven) (old new : World) 
   pub opens : log_rows opening ≡ authorised_rows given.namespace given.rows
   pub is_log : IsLog entry_row given.namespace log
   pub is_put : IsPut (string_bytes words.image) (image given.namespace (live (log_rows log))) reserved new.shelf
-  pub run : WasRun (calling_party words.area given draw) (gives_of signer) opening log link answer
+  pub run : WasRun (calling_party words.area words.limits given draw) (gives_of signer) opening log link answer
 
 -- The shelf tells that the names hold what a call goes by, the rows of the image fit a log, and the signer has a signature left
 -- and signs for the capability's receiver. Another side answered over the link that is back (`answered`), and no row that came
@@ -74,7 +74,7 @@ pub record CanSync (words : SyncWords) (old new : World) : Type 0 where
   pub can_sign : CanSign words.key old.shelf
   pub signs : (signer : KeySigner) (reserved : ShelfFacts) → IsSignerOf words.key old.shelf reserved signer → SignsFor given.cap signer
   pub answered : (link : LinkFacts) → new.door.back ≡ list_with link old.door.back
-      → (draw : List ℕ) → TakesDraws old.noise new.noise (draw ∷ []) → IsAnsweredOver (calling_party words.area given draw) link
+      → (draw : List ℕ) → TakesDraws old.noise new.noise (draw ∷ []) → IsAnsweredOver (calling_party words.area words.limits given draw) link
   pub unfilled : (missed : ℕ) → HadSession words given old new (Err (LogFull missed)) → ⊥
 
 -- ---- the deed

@@ -2,6 +2,7 @@
 use Rattle.std.specs.Prelude.{ℕ, List, Option}
 use Rattle.std.specs.String.{string_bytes}
 use Rattle.willow_outside.specs.Facts.{Names}
+use Rattle.area_interest.specs.declared.interest.Interest.{Interest}
 use Rattle.sync_msg.specs.declared.role.Role.TheVariants.{Caller}
 use Rattle.sync_link.specs.Sessions.{Party}
 use Rattle.peer_words.specs.declared.command.AreaWords.{AreaWords}
@@ -17,5 +18,5 @@ abbrev pub AreCallGiven : SyncWords → Option Names → CallGiven → Type 0
 AreCallGiven words told g = AreSideGiven (string_bytes words.image) (string_bytes words.cap) words.area told g
 
 -- the side that calls
-abbrev pub calling_party : AreaWords → CallGiven → List ℕ → List ℕ → Party
+abbrev pub calling_party : AreaWords → Interest → CallGiven → List ℕ → List ℕ → Party
 calling_party = party_of Caller

@@ -1,7 +1,8 @@
 -- The headline of a call, over the link that the door has back. The log behind it is that of the image and of rows that came
 -- and are authorised. Where one who answers said what the link gave, the store lies at or above the join with that one's rows
--- in the area that both may read. What was written is a function of the opening rows in that area and of what was read.
-use Rattle.std.specs.Prelude.{◌≡◌, ◌≢◌, ◌⊎◌, ℕ, ◌≤◌, Bool, true, false, List, [], ◌∷◌, ◌++◌, length, All, Option, None, IsNone, IsSome, Ok, Err}
+-- in the area that both may read. What was written is a function of the opening rows in that area and of what was read. The
+-- session told rows of the whole log as it stood at a turn of its own, and only to one that may read them.
+use Rattle.std.specs.Prelude.{◌≡◌, ◌≢◌, ◌⊎◌, ℕ, ◌≤◌, Bool, true, false, List, [], ◌∷◌, ◌++◌, length, All, Option, IsNone, IsSome, Ok, Err}
 use Rattle.std.specs.String.{string_bytes}
 use Rattle.willow_outside.specs.Counts.{Rose}
 use Rattle.willow_outside.specs.Draws.{IsDraw}
@@ -9,13 +10,17 @@ use Rattle.willow_outside.specs.Facts.{LinkFacts, ShelfFacts}
 use Rattle.willow_entry.specs.Row.{RowValue, HasCovering, live}
 use Rattle.willow_entry.specs.declared.row.LogRow.{LogRow}
 use Rattle.auth_entry.specs.Authorised.{AuthorisedValue}
+use Rattle.auth_entry.specs.Rows.{authorised_rows as authorised_of}
 use Rattle.mc_cap.specs.declared.refusal.RefusedRow.{RefusedRow}
+use Rattle.ns_cell.specs.Passes.{FirstFound}
+use Rattle.ns_state.specs.declared.live_log.TheConstants.{LOG_LIMIT}
+use Rattle.session_end.specs.declared.end.SessionEnd.TheVariants.{SignFault, NoMemory}
 use Rattle.lms_core.specs.Key.{Key, raised}
 use Rattle.lms_core.specs.Reserve.{HoldsKey, KeepsNames, PutsKey}
 use Rattle.sync_link.specs.Kept.{log_rows}
-use Rattle.sync_link.specs.Ran.{Ran, AreApartAs, AreAuthorised, IsOther, other_common, opening_of, side}
+use Rattle.sync_link.specs.Ran.{Ran, AreAuthorised, AreToldApart, IsOther, TellsGranted, other_common, opening_of}
 use Rattle.sync_link.specs.Run.{Answer}
-use Rattle.sync_link.specs.Sessions.{Party, AreSameInCommon, box_with, out, version_with}
+use Rattle.sync_link.specs.Sessions.{Party, AreSameInCommon, out}
 use Rattle.peer_image.specs.Image.{image}
 use Rattle.peer_make.specs.KeySigners.{gives_of, IsSignerOf}
 use Rattle.peer_make.specs.Making.{TakesDraws}
@@ -45,24 +50,42 @@ abbrev pub WhereOk : Answer → Type 0 → Type 0
 WhereOk (Ok report) P = P
 WhereOk (Err end) P = Unit {0}
 
--- What is live of the log covers the opening store, and all that another side whose bytes were read has in the area that both
--- may read, if its rows are authorised and fingerprints tell the rows of both apart.
+-- What is live of the log covers the opening store, and all that another side whose bytes were read offers in the area that
+-- both may read, if its rows are authorised and fingerprints tell the rows of both apart.
 pub record LiesAbove {p : List ℕ → Party} (ran : Ran p) (log : List RowValue) : Type 0 where
   pub own : All (HasCovering (live log)) (opening_of ran)
-  pub others : (q : Party) (theirs : List RowValue) → IsOther ran q theirs → AreAuthorised ran theirs → AreApartAs (version_with (side ran) q.hello) (side ran).role (box_with (side ran) q.hello) (opening_of ran) theirs
+  pub others : (q : Party) (theirs : List RowValue) → IsOther ran q theirs → AreAuthorised ran theirs → AreToldApart ran q theirs
       → All (HasCovering (live log)) (other_common ran q theirs)
 
+-- Where memory was not wanting, the log with which the session began is the whole one, as it stood at the first turn that its
+-- pass had in it.
+abbrev pub OpensWhole : {p : List ℕ → Party} → Ran p → Type 0
+OpensWhole ran = (ran.answer ≡ Err NoMemory → ⊥) → FirstFound ran.before ran.did.log ran.after
+
+-- The log covers the rows that came; or it is full, unless the session was done. Where signing failed, or memory was wanting, it
+-- may cover fewer.
+abbrev pub CoversCame : List RowValue → List RowValue → Answer → Type 0
+CoversCame log rows (Ok report) = All (HasCovering log) rows
+CoversCame log rows (Err SignFault) = Unit {0}
+CoversCame log rows (Err NoMemory) = Unit {0}
+CoversCame log rows (Err end) = All (HasCovering log) rows ⊎ (length log ≡ LOG_LIMIT)
+
 -- What a session that was run makes of the stores: the log began with the authorised rows of the image (`opens`) and went on
--- by rows that came and are authorised (`goes_on`, as `grew` of `Runs` says). `above`: the second sentence. `alike`: the
--- third, whatever the store holds outside of what both may read.
+-- by rows that came and are authorised (`goes_on`, as `grew` of `Runs` says), and all that came of those are covered where there
+-- was room (`covers`). `fresh`: its opening store is what is live of the whole log at one moment of the call. `above`: the second
+-- sentence. `alike`: the third, whatever the store holds outside of what both may read. `granted`: rows and fingerprints are told
+-- only to one that may read them.
 pub record HasSynced (p : List ℕ → Party) (g : CallGiven) (signer : KeySigner) (link : LinkFacts) (answer : Answer) (log : List (LogRow AuthorisedValue)) : Type 0 where
   pub opening : List (LogRow AuthorisedValue)
   pub opens : log_rows opening ≡ authorised_rows g.namespace g.rows
   pub run : WasRun p (gives_of signer) opening log link answer
   pub goes_on : log ≡ opening ++ run.ran.grown
+  pub covers : CoversCame (log_rows log) (authorised_of (p run.ran.signature).rules (p run.ran.signature).namespace run.ran.rows) answer
+  pub fresh : OpensWhole (as_ran run)
   pub above : WhereOk answer (LiesAbove (as_ran run) (log_rows log))
   pub alike : (others : List RowValue) → AreSameInCommon (p run.ran.signature) run.ran.bytes (live (log_rows run.ran.log)) others
       → out (p run.ran.signature) others run.ran.bytes ≡ out (p run.ran.signature) (live (log_rows run.ran.log)) run.ran.bytes
+  pub granted : TellsGranted (as_ran run)
 
 -- ---- a run of `sync`
 
@@ -100,7 +123,7 @@ pub record HasCalled (words : SyncWords) (run : Run) : Type 0 where
   -- the session that was run over it, and the log behind it
   pub answer : Answer
   pub log : List (LogRow AuthorisedValue)
-  pub synced : HasSynced (calling_party words.area given draw) given signer link answer log
+  pub synced : HasSynced (calling_party words.area words.limits given draw) given signer link answer log
   -- the image of what is live of that was put, or could not be
   pub put : Bool
   pub is_put : PutsOrFails (string_bytes words.image) put given.namespace (live (log_rows log)) reserved run.new.shelf
@@ -124,4 +147,4 @@ pub record SyncPromises (words : SyncWords) (run : Run) : Type 0 where
   pub whole : run.status ≤ 1 → IsWholeCall words run
 
 abbrev pub SyncHeadline : Run → Type 0
-SyncHeadline run = (words : SyncWords) → IsWords run.words (cmd.Sync words.image words.cap words.key words.to words.area None None false) → SyncPromises words run
+SyncHeadline run = (words : SyncWords) → IsWords run.words (cmd.Sync words.image words.cap words.key words.to words.area words.limits.newest words.limits.bytes false) → SyncPromises words run

@@ -6,6 +6,7 @@ ghost use Rattle.peer_run.specs.Drill.{Drills, drill_text};
 
 use crate::exchanging::exchange;
 use crate::judging::RowChecker;
+use area_interest::Interest;
 use ns_state::LogFull;
 use peer_listing::{DrillCounts, GENERATED_ROWS, drill_summary};
 use peer_rows::generated_logs;
@@ -41,7 +42,11 @@ fn drill_text<R: Threads + Sync>(rt: &R, alloc: Global, rows: u32) -> Result<Vec
     let (mut left, mut right) = generated_logs::<RowChecker, R>(rt, alloc, rows)?;
     let before = (left.store().len(), right.store().len());
     let full = Some(Area::full(alloc));
-    let exchanged = match exchange(alloc, &mut left, &mut right, &full) {
+    let limits = Interest {
+        newest: None,
+        bytes: None,
+    };
+    let exchanged = match exchange(alloc, &mut left, &mut right, &full, &limits) {
         Ok(exchanged) => exchanged,
         Err(End::Refused(LogFull { front: _ })) => unreachable!(),
         Err(End::NoMemory) => return Err(NoMemory),

@@ -6,6 +6,7 @@ ghost use Rattle.peer_run.specs.ImagesMet.{IsImageOfRows, MeetsImages, first_of_
 use crate::exchanging::{Came, Exchanged, exchange};
 use crate::judging::RowChecker;
 use crate::transcript::transcript_of;
+use area_interest::Interest;
 use mc_cap::RefusedRow;
 use peer_image::{Image, write_store_image};
 use peer_rows::{log_image, log_stop};
@@ -23,23 +24,25 @@ pub(crate) struct Met {
     pub(crate) counts: MeetCounts,
 }
 
-/// Lets the authorised rows of two images of one namespace meet over the area that both sides may read.
+/// Lets the authorised rows of two images of one namespace meet over the area that both sides may read, of which each offers as
+/// much as the limits leave.
 pub(crate) fn meet_images<R: Threads + Sync>(
     rt: &R,
     alloc: Global,
     left: Image,
     right: Image,
     area: &Option<Area>,
+    limits: &Interest,
 ) -> Result<Met, Stop>
     requires left_image { IsImageOfRows left.rows.items }
     requires right_image { IsImageOfRows right.rows.items }
     requires one_namespace { right.namespace ≡ left.namespace }
-    ensures { MeetsImages left.namespace left.rows.items right.rows.items area.now result }
+    ensures { MeetsImages left.namespace left.rows.items right.rows.items area.now limits.now result }
 {
     let namespace = left.namespace;
     let (mut left_log, left_counts) = log_image::<RowChecker, R>(rt, alloc, left)?;
     let (mut right_log, right_counts) = log_image::<RowChecker, R>(rt, alloc, right)?;
-    let exchanged = match exchange(alloc, &mut left_log, &mut right_log, area) {
+    let exchanged = match exchange(alloc, &mut left_log, &mut right_log, area, limits) {
         Ok(exchanged) => exchanged,
         Err(end) => return Err(log_stop(end)),
     };

@@ -7,6 +7,7 @@ ghost use Rattle.peer_run.specs.Meet.{Agrees, Gathers, Meets, Puts};
 use crate::getting::{get_capability, get_image};
 use crate::greeting::greet;
 use crate::images_met::{Met, meet_images};
+use area_interest::Interest;
 use mc_cap::Capability;
 use peer_image::Image;
 use peer_stage::{Done, Stop, put_bytes, write_output};
@@ -21,7 +22,8 @@ use willow_path::NamespaceKey;
 // A nonce is new in each session, so that no proof serves twice; here nothing is proved.
 const NO_NONCE: [u8; 16] = [0; 16];
 
-/// What the words of a meeting name: the images, the capabilities, the images that come of it, and the area.
+/// What the words of a meeting name: the images, the capabilities, the images that come of it, the area, and how much of it each
+/// side offers.
 #[derive(Drop)]
 pub(crate) struct MeetWords {
     pub(crate) left: String,
@@ -31,6 +33,7 @@ pub(crate) struct MeetWords {
     pub(crate) left_out: String,
     pub(crate) right_out: String,
     pub(crate) area: AreaWords,
+    pub(crate) limits: Interest,
 }
 
 /// Both images, and the capabilities by which each side reads.
@@ -47,7 +50,8 @@ pub(crate) struct Sides {
 /// four bytes, and its bytes.
 ///
 /// Both images are of one namespace, and nothing may be against the hello of either side, which asks for the area of
-/// the words; a field without a word is that of what the side's capability grants.
+/// the words; a field without a word is that of what the side's capability grants. Each side offers as much of its rows as the
+/// limits of the words leave.
 pub(crate) fn meet<R: Threads + Sync, H: Shelf, O: Sink>(
     rt: &R,
     alloc: Global,
@@ -67,6 +71,7 @@ pub(crate) fn meet<R: Threads + Sync, H: Shelf, O: Sink>(
         left_out,
         right_out,
         area,
+        limits,
     } = words;
     let Sides {
         left,
@@ -81,7 +86,7 @@ pub(crate) fn meet<R: Threads + Sync, H: Shelf, O: Sink>(
         right_cap,
         &area,
     )?;
-    let met = meet_images(rt, alloc, left, right, &area)?;
+    let met = meet_images(rt, alloc, left, right, &area, &limits)?;
     put_and_write(shelf, &left_out, &right_out, met, output)
 }
 

@@ -18,7 +18,7 @@ use spelling::NoMemory;
 use std::alloc::Global;
 use std::thread::Threads;
 use sync_hello::Hello;
-use sync_link::SessionPlan;
+use sync_link::{Interest, SessionPlan};
 use sync_msg::Role;
 use willow_outside::Shelf;
 
@@ -70,9 +70,9 @@ pub(crate) fn stop_without_copy<H: Shelf>(alloc: Global, shelf: &mut H, image: S
     }
 }
 
-/// The plan of a side of this role that says this of itself.
-pub(crate) fn plan_of(role: Role, hello: Hello) -> SessionPlan<PeerScheme>
-    ensures { result ≡ plan_of role hello }
+/// The plan of a side of this role that says this of itself, and offers as much as the limits leave.
+pub(crate) fn plan_of(role: Role, hello: Hello, limits: Interest) -> SessionPlan<PeerScheme>
+    ensures { result ≡ plan_of role hello limits }
 {
     let Hello {
         version,
@@ -86,6 +86,7 @@ pub(crate) fn plan_of(role: Role, hello: Hello) -> SessionPlan<PeerScheme>
         role,
         capability,
         ask,
+        interest: limits,
     }
 }
 

@@ -16,6 +16,7 @@ use crate::judging::RowChecker;
 use crate::meeting::{MeetWords, meet};
 use crate::serving::{ServeWords, serve};
 use crate::syncing::{SyncWords, sync};
+use area_interest::Interest;
 use peer_make::{delegate, grant, make_key, write};
 use peer_report::end_run;
 use peer_rows::{generate, join, show};
@@ -63,9 +64,6 @@ fn run_command<R: Threads + Sync, H: Shelf, I: Source, O: Sink, N: Noise>(
             newest,
             bytes,
         } => {
-            if is_limited(newest, bytes) {
-                return Err(Stop::Usage);
-            }
             let words = MeetWords {
                 left,
                 right,
@@ -74,6 +72,7 @@ fn run_command<R: Threads + Sync, H: Shelf, I: Source, O: Sink, N: Noise>(
                 left_out,
                 right_out,
                 area,
+                limits: Interest { newest, bytes },
             };
             meet(rt, alloc, words, shelf, output)
         }
@@ -81,13 +80,6 @@ fn run_command<R: Threads + Sync, H: Shelf, I: Source, O: Sink, N: Noise>(
         Command::Watch { .. } => Err(Stop::Usage),
         made => run_maker(rt, alloc, made, shelf, input, output, noise),
     }
-}
-
-/// Whether less is to be offered than all of an area, which is not built yet.
-fn is_limited(newest: Option<u32>, bytes: Option<u64>) -> bool
-    ensures { result ≡ (is_some newest || is_some bytes) }
-{
-    newest.is_some() || bytes.is_some()
 }
 
 /// Runs a command that makes a key, a capability or a row.
@@ -138,23 +130,11 @@ fn is_local(command: &Command) -> bool
     !matches!(command, Command::Sync { .. } | Command::Serve { .. })
 }
 
-/// Whether a call is to do what is not built yet: to offer less than all of an area, or to follow behind its session.
-fn is_more_than_session(newest: Option<u32>, bytes: Option<u64>, follow: bool) -> bool
-    ensures { result ≡ ((is_some newest || is_some bytes) || follow) }
+/// Whether a server is to do what is not built yet: to follow behind its sessions, or to keep a log.
+fn is_more_than_service(follow: bool, log: &Option<String>) -> bool
+    ensures { result ≡ (follow || is_some log.now) }
 {
-    is_limited(newest, bytes) || follow
-}
-
-/// Whether a server is to do what is not built yet: what a call is not to do, or to keep a log.
-fn is_more_than_service(
-    newest: Option<u32>,
-    bytes: Option<u64>,
-    follow: bool,
-    log: &Option<String>,
-) -> bool
-    ensures { result ≡ ((is_some newest || is_some bytes) || (follow || is_some log.now)) }
-{
-    is_limited(newest, bytes) || (follow || log.is_some())
+    follow || log.is_some()
 }
 
 /// Runs a command that talks to others over links.
@@ -183,7 +163,7 @@ fn run_afar<R: Wait + Threads + Sync, H: Shelf, D: Door, N: Noise>(
             bytes,
             follow,
         } => {
-            if is_more_than_session(newest, bytes, follow) {
+            if follow {
                 return Err(Stop::Usage);
             }
             let words = SyncWords {
@@ -192,6 +172,7 @@ fn run_afar<R: Wait + Threads + Sync, H: Shelf, D: Door, N: Noise>(
                 key,
                 to,
                 area,
+                limits: Interest { newest, bytes },
             };
             sync(rt, alloc, words, shelf, door, noise)
         }
@@ -227,7 +208,7 @@ fn run_server<R: Wait + Threads + Sync, H: Shelf, D: Door, N: Noise>(
             follow,
             log,
         } => {
-            if is_more_than_service(newest, bytes, follow, &log) {
+            if is_more_than_service(follow, &log) {
                 return Err(Stop::Usage);
             }
             let words = ServeWords {
@@ -237,6 +218,7 @@ fn run_server<R: Wait + Threads + Sync, H: Shelf, D: Door, N: Noise>(
                 at,
                 links,
                 area,
+                limits: Interest { newest, bytes },
             };
             serve(rt, alloc, words, shelf, door, noise)
         }

@@ -22,12 +22,12 @@ use spelling::NoMemory;
 use std::alloc::Global;
 use std::sync::Wait;
 use std::thread::Threads;
-use sync_link::{SessionEnd, SessionPlan, SessionReport};
+use sync_link::{Interest, SessionEnd, SessionPlan, SessionReport};
 use sync_msg::Role;
 use willow_outside::{Door, Noise, Shelf};
 
-/// What the words of a server name: the image, the capability, the signer, the place, how many links are to come, and the
-/// area.
+/// What the words of a server name: the image, the capability, the signer, the place, how many links are to come, the area, and
+/// how much of it is offered.
 #[derive(Drop)]
 pub(crate) struct ServeWords {
     pub(crate) image: String,
@@ -36,6 +36,7 @@ pub(crate) struct ServeWords {
     pub(crate) at: String,
     pub(crate) links: u32,
     pub(crate) area: AreaWords,
+    pub(crate) limits: Interest,
 }
 
 /// What a server brings: the log of its image, what it says of itself, and what signs its proofs, one for each link.
@@ -70,8 +71,9 @@ pub(crate) fn serve<R: Wait + Threads + Sync, H: Shelf, D: Door, N: Noise>(
         at,
         links,
         area,
+        limits,
     } = words;
-    let (name, server) = open_named(rt, alloc, shelf, image, cap, key, links, &area)?;
+    let (name, server) = open_named(rt, alloc, shelf, image, cap, key, links, &area, limits)?;
     let Server {
         opening,
         plan,
@@ -93,17 +95,18 @@ fn open_named<R: Threads + Sync, H: Shelf>(
     key: SignerWord,
     links: u32,
     area: &AreaWords,
+    limits: Interest,
 ) -> Result<(String, Server), Stop>
     requires signer { IsSigner key }
     requires links { 1 ≤ links }
     ensures name { IfOk result (λ x. string_bytes x.0 ≡ string_bytes image) }
-    ensures opens { IfOk result (λ x. (others : World) → OpensHouse image cap key links area.now (record others { shelf = H.facts shelf.old }) (record others { shelf = H.facts shelf.new }) (Ok x.1)) }
-    ensures stops { IfErr result (λ e. (others : World) → OpensHouse image cap key links area.now (record others { shelf = H.facts shelf.old }) (record others { shelf = H.facts shelf.new }) (Err e)) }
+    ensures opens { IfOk result (λ x. (others : World) → OpensHouse image cap key links area.now limits (record others { shelf = H.facts shelf.old }) (record others { shelf = H.facts shelf.new }) (Ok x.1)) }
+    ensures stops { IfErr result (λ e. (others : World) → OpensHouse image cap key links area.now limits (record others { shelf = H.facts shelf.old }) (record others { shelf = H.facts shelf.new }) (Err e)) }
 {
     let Ok(name) = copy_of(&image) else {
         return Err(stop_without_copy(alloc, shelf, image));
     };
-    let server = open_house(rt, alloc, shelf, image, cap, key, links, area)?;
+    let server = open_house(rt, alloc, shelf, image, cap, key, links, area, limits)?;
     Ok((name, server))
 }
 
@@ -117,16 +120,17 @@ fn open_house<R: Threads + Sync, H: Shelf>(
     key: SignerWord,
     links: u32,
     area: &AreaWords,
+    limits: Interest,
 ) -> Result<Server, Stop>
     requires signer { IsSigner key }
     requires links { 1 ≤ links }
-    ensures { (others : World) → OpensHouse image cap key links area.now (record others { shelf = H.facts shelf.old }) (record others { shelf = H.facts shelf.new }) result }
+    ensures { (others : World) → OpensHouse image cap key links area.now limits (record others { shelf = H.facts shelf.old }) (record others { shelf = H.facts shelf.new }) result }
 {
     let Prepared { opening, hello } = prepare(rt, alloc, shelf, image, cap, area)?;
     let signers = reserve_signers(rt, alloc, shelf, key, links)?;
     Ok(Server {
         opening,
-        plan: plan_of(Role::Answerer, hello),
+        plan: plan_of(Role::Answerer, hello, limits),
         signers,
     })
 }

@@ -20,11 +20,11 @@ use peer_words::{AreaWords, SignerWord};
 use std::alloc::Global;
 use std::sync::Wait;
 use std::thread::Threads;
-use sync_link::{SessionEnd, SessionPlan, SessionReport};
+use sync_link::{Interest, SessionEnd, SessionPlan, SessionReport};
 use sync_msg::Role;
 use willow_outside::{Door, Noise, Shelf};
 
-/// What the words of a call name: the image, the capability, the signer, the place, and the area.
+/// What the words of a call name: the image, the capability, the signer, the place, the area, and how much of it is offered.
 #[derive(Drop)]
 pub(crate) struct SyncWords {
     pub(crate) image: String,
@@ -32,6 +32,7 @@ pub(crate) struct SyncWords {
     pub(crate) key: SignerWord,
     pub(crate) to: String,
     pub(crate) area: AreaWords,
+    pub(crate) limits: Interest,
 }
 
 /// What a call brings: the log of its image, what it says of itself, and what signs its proof.
@@ -63,8 +64,9 @@ pub(crate) fn sync<R: Wait + Threads + Sync, H: Shelf, D: Door, N: Noise>(
         key,
         to,
         area,
+        limits,
     } = words;
-    let (name, caller) = begin_named(rt, alloc, shelf, image, cap, key, &area)?;
+    let (name, caller) = begin_named(rt, alloc, shelf, image, cap, key, &area, limits)?;
     let Caller {
         opening,
         plan,
@@ -85,16 +87,17 @@ fn begin_named<R: Threads + Sync, H: Shelf>(
     cap: String,
     key: SignerWord,
     area: &AreaWords,
+    limits: Interest,
 ) -> Result<(String, Caller), Stop>
     requires { IsSigner key }
     ensures name { IfOk result (λ x. string_bytes x.0 ≡ string_bytes image) }
-    ensures begins { IfOk result (λ x. (others : World) → Begins image cap key area.now (record others { shelf = H.facts shelf.old }) (record others { shelf = H.facts shelf.new }) (Ok x.1)) }
-    ensures stops { IfErr result (λ e. (others : World) → Begins image cap key area.now (record others { shelf = H.facts shelf.old }) (record others { shelf = H.facts shelf.new }) (Err e)) }
+    ensures begins { IfOk result (λ x. (others : World) → Begins image cap key area.now limits (record others { shelf = H.facts shelf.old }) (record others { shelf = H.facts shelf.new }) (Ok x.1)) }
+    ensures stops { IfErr result (λ e. (others : World) → Begins image cap key area.now limits (record others { shelf = H.facts shelf.old }) (record others { shelf = H.facts shelf.new }) (Err e)) }
 {
     let Ok(name) = copy_of(&image) else {
         return Err(stop_without_copy(alloc, shelf, image));
     };
-    let caller = begin(rt, alloc, shelf, image, cap, key, area)?;
+    let caller = begin(rt, alloc, shelf, image, cap, key, area, limits)?;
     Ok((name, caller))
 }
 
@@ -107,15 +110,16 @@ fn begin<R: Threads + Sync, H: Shelf>(
     cap: String,
     key: SignerWord,
     area: &AreaWords,
+    limits: Interest,
 ) -> Result<Caller, Stop>
     requires { IsSigner key }
-    ensures { (others : World) → Begins image cap key area.now (record others { shelf = H.facts shelf.old }) (record others { shelf = H.facts shelf.new }) result }
+    ensures { (others : World) → Begins image cap key area.now limits (record others { shelf = H.facts shelf.old }) (record others { shelf = H.facts shelf.new }) result }
 {
     let Prepared { opening, hello } = prepare(rt, alloc, shelf, image, cap, area)?;
     let signer = reserve_signer(rt, alloc, shelf, key)?;
     Ok(Caller {
         opening,
-        plan: plan_of(Role::Caller, hello),
+        plan: plan_of(Role::Caller, hello, limits),
         signer,
     })
 }

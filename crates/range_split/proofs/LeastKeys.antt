@@ -48,16 +48,19 @@ least-append : (xs ys : List (List ℕ)) → least (xs ++ ys) ≡ lesser (least 
 least-append [] ys = refl
 least-append (x ∷ xs) ys = ap (lesser (Some x)) (least-append xs ys) ∙ sym (lesser-assoc (Some x) (least xs) (least ys))
 
--- the least subspace above another of the rows in a box, where the rows stand in two parts
-pub least_in-append : (low : List ℕ) (area : Ranges) (xs ys : List RowValue)
-    → least_above low (subspaces_of (rows_in area (xs ++ ys))) ≡ lesser (least_above low (subspaces_of (rows_in area xs))) (least_above low (subspaces_of (rows_in area ys)))
-least_in-append low area xs ys =
+-- the least subspace above another of rows that stand in two parts
+pub least_of-append : (low : List ℕ) (xs ys : List RowValue) → least_above low (subspaces_of (xs ++ ys)) ≡ lesser (least_above low (subspaces_of xs)) (least_above low (subspaces_of ys))
+least_of-append low xs ys =
     let subspace : RowValue → List ℕ = λ row. row.entry.subspace in
     let above : List ℕ → Bool = λ key. is_gt (bytes_cmp key low) in
-    ap (λ rows. least_above low (subspaces_of rows)) (filter-append (is_in area) xs ys)
-    ∙ ap (least_above low) (map-append subspace (rows_in area xs) (rows_in area ys))
-    ∙ ap least (filter-append above (map subspace (rows_in area xs)) (map subspace (rows_in area ys)))
-    ∙ least-append (filter above (map subspace (rows_in area xs))) (filter above (map subspace (rows_in area ys)))
+    ap (least_above low) (map-append subspace xs ys)
+    ∙ ap least (filter-append above (map subspace xs) (map subspace ys))
+    ∙ least-append (filter above (map subspace xs)) (filter above (map subspace ys))
+
+-- the same of the rows in a box
+pub least_in-append : (low : List ℕ) (area : Ranges) (xs ys : List RowValue)
+    → least_above low (subspaces_of (rows_in area (xs ++ ys))) ≡ lesser (least_above low (subspaces_of (rows_in area xs))) (least_above low (subspaces_of (rows_in area ys)))
+least_in-append low area xs ys = ap (λ rows. least_above low (subspaces_of rows)) (filter-append (is_in area) xs ys) ∙ least_of-append low (rows_in area xs) (rows_in area ys)
 
 -- the same of one row
 pub least_in-one : (low : List ℕ) (area : Ranges) (row : RowValue) → least_above low (subspaces_of (rows_in area (row ∷ []))) ≡ then_some (is_in area row && is_gt (bytes_cmp row.entry.subspace low)) row.entry.subspace

@@ -10,7 +10,8 @@ pub mod Evenly
 pub mod Paths
 pub mod Subspaces
 pub mod Timely
-pub mod Loads
+pub mod Finding
+pub mod Tally
 pub mod Rising
 pub mod Pointing
 pub mod CutTest

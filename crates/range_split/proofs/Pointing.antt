@@ -1,19 +1,14 @@
 -- DimensionPoints that are found one by one, and the parts and loads that are found with them.
-use Rattle.std.proofs.Common.{◌≡◌, ℕ, zero, suc, ◌+◌, ◌*◌, ◌/◌, ◌<◌, ◌≤◌, Bool, true, false, cond, List, [], ◌∷◌, ◌++◌, length, map, get_or, slice_get, take, drop, Option, Some, None, refl, sym, ap, ap₂, ◌∙◌, append_assoc, subst, Ordering, is_gt, nat_cmp, arith}
-use Rattle.std.specs.Prelude.{IsSome, option_map, max}
+use Rattle.std.proofs.Common.{◌≡◌, ℕ, ◌+◌, ◌*◌, ◌/◌, ◌<◌, ◌≤◌, Bool, true, false, cond, List, [], ◌∷◌, ◌++◌, length, map, get_or, slice_get, take, drop, Option, Some, None, refl, sym, ap, ap₂, ◌∙◌, append_assoc, subst, Ordering, is_gt, nat_cmp, arith}
+use Rattle.std.specs.Prelude.{IsSome, option_map}
 use Rattle.std.proofs.lemmas.Bool.{false≢true, and_from}
-use Rattle.std.proofs.lemmas.List.{drop_all, drop_more, map-append, length-map, length-take}
-use Rattle.std.proofs.lemmas.List.Elements.{filter-append}
-use Rattle.std.proofs.lemmas.List.Sums.{length-filter, count_by-le-length}
+use Rattle.std.proofs.lemmas.List.{drop_all, drop_more, map-append}
 use Rattle.std.proofs.lemmas.Option.{get_or_from_slice_get, slice_get-get_or, slice_get_within}
 use Rattle.willow_area.specs.Boxes.{Ranges}
 use Rattle.willow_area.specs.Cuts.{can_cut, lower_part, upper_part}
 use Rattle.willow_area.specs.declared.cut.CutAt.{CutAt}
-use Rattle.willow_entry.specs.Row.{RowValue}
-use Rattle.block_store.specs.InBox.{is_in, rows_in}
-use Rattle.sync_msg.proofs.Writing.{take_one_more}
 use Rattle.range_split.specs.Parts.{cut_all}
-use Rattle.range_split.specs.Quarters.{next_low, distinct_above, or_others, cuts_of, greatest, timestamps_of}
+use Rattle.range_split.specs.Quarters.{next_low, distinct_above, or_others, cuts_of}
 use Rattle.range_split.proofs.Evenly.{distinct_next}
 
 -- ---- one value more
@@ -92,29 +87,6 @@ cut_end area rest parts points i past e = e ∙ ap (λ l. option_map (λ ps. par
 pub nothing_cut : (o : Option (List Ranges)) → o ≡ option_map (λ ps. [] ++ ps) o
 nothing_cut None = refl
 nothing_cut (Some ps) = refl
-
--- ---- loads
-
-pub greatest_next : {X : Type 0} (f : X → ℕ) (xs : List X) (i : ℕ) (d : X) → i < length xs → greatest (map f (take (i + 1) xs)) ≡ max (greatest (map f (take i xs))) (f (get_or xs i d))
-greatest_next f [] i d h = absurd (omega (arith, h))
-greatest_next f (x ∷ xs) zero d h = omega arith
-greatest_next f (x ∷ xs) (suc i) d h =
-    let next : suc i + 1 ≡ suc (i + 1) = omega arith in
-    ap (λ n. greatest (map f (take n (x ∷ xs)))) next ∙ omega (arith, greatest_next f xs i d (omega (arith, h)))
-
--- ---- times
-
-pub times_more : (area : Ranges) (rows : List RowValue) (i : ℕ) (row : RowValue) → slice_get rows i ≡ Some row
-    → timestamps_of (rows_in area (take (i + 1) rows)) ≡ timestamps_of (rows_in area (take i rows)) ++ timestamps_of (rows_in area (row ∷ []))
-times_more area rows i row there =
-    ap (λ l. timestamps_of (rows_in area l)) (take_one_more rows i row there)
-    ∙ ap timestamps_of (filter-append (is_in area) (take i rows) (row ∷ []))
-    ∙ map-append (λ (r : RowValue). r.entry.timestamp) (rows_in area (take i rows)) (rows_in area (row ∷ []))
-
-pub times_few : (area : Ranges) (rows : List RowValue) (n : ℕ) → length (timestamps_of (rows_in area (take n rows))) ≤ n
-times_few area rows n =
-    let front = take n rows in
-    omega (arith, length-map (rows_in area front) (λ (r : RowValue). r.entry.timestamp), length-filter (is_in area) front, count_by-le-length (is_in area) front, length-take n rows)
 
 -- ---- three values one by one
 

@@ -1,6 +1,6 @@
 -- The points of a choice of up to four parts divide the rows of a box.
 use Rattle.std.proofs.Common.{◌≡◌, ◌↔◌, ◌⊎◌, inl, inr, ℕ, ◌*◌, ◌<◌, ◌≤◌, Bool, true, false, not, cond, List, [], ◌∷◌, length, map, filter, Some, None, refl, sym, ap, ◌∙◌, subst, Ordering, Less, Equal, Greater, nat_cmp, arith}
-use Rattle.std.specs.Prelude.{IsSome, is_some, nat_le, nat_lt}
+use Rattle.std.specs.Prelude.{nat_le, nat_lt}
 use Rattle.std.specs.List.Sorted.{IsStrictlySortedBy}
 use Rattle.std.specs.Ordering.{ordering_then, ordering_reverse}
 use Rattle.std.specs.Cmp.Lexicographic.{bytes_decides}
@@ -24,7 +24,7 @@ use Rattle.block_store.specs.InBox.{is_in, rows_in}
 use Rattle.range_split.specs.Points.{DimensionPoints, by_time, cuts_at}
 use Rattle.range_split.specs.Choice.{subspaces_of}
 use Rattle.range_split.specs.Sides.{is_row_below}
-use Rattle.range_split.specs.Parts.{Divides, cut_all}
+use Rattle.range_split.specs.Parts.{Divides}
 use Rattle.range_split.specs.Quarters.{cuts_among, part_sizes, greatest, load, paths_of, timestamps_of, have_subspaces, subspace_points, path_points, time_points, base_points, even_points, even_choice}
 use Rattle.range_split.specs.declared.choice.TheConstants.{ENTRIES_MAX}
 use Rattle.range_split.proofs.Sorting.{StepUp, AreCuts, cuts_are, cuts_some}
@@ -78,11 +78,7 @@ module _ {A : Type 0} (cmp : A → A → Ordering) (cut : A → CutAt) (value : 
       let low = valued value held c.low c.there in
       divided cmp cut value d area rows low.0 points low.1 (subst (λ v. StepUp cmp v points) (sym low.2) c.up) (λ z m. valued value held z (c.members z m))
 
-  -- where there are rows the box can be cut at the points, also at none
-  pub parts_by : 0 < length (rows_in area rows) → IsSome (cut_all area (map cut (cuts_among cmp (map value (rows_in area rows)))))
-  parts_by some = ap is_some (has_parts some).cut
-
-  -- and where there are points they divide the rows
+  -- where there are points they divide the rows
   pub divides_by : 0 < length (rows_in area rows) → 1 ≤ length (cuts_among cmp (map value (rows_in area rows))) → Divides area rows (map cut (cuts_among cmp (map value (rows_in area rows))))
   divides_by some points =
       let at = cuts_among cmp (map value (rows_in area rows)) in

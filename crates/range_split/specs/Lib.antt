@@ -4,3 +4,4 @@ pub mod Choice
 pub mod Sides
 pub mod Parts
 pub mod Quarters
+pub mod PartOf

@@ -1,6 +1,6 @@
 //! The choice between the rows of a box and a cut of it into up to four parts.
 
-ghost use Rattle.std.specs.Prelude.{◌≡◌, ◌+◌, ◌*◌, ◌/◌, ◌<◌, ◌≤◌, ◌^◌, [], ◌∷◌, ◌++◌, length, map, take, true, false, Some, slice_get, option_map, IsSome, IfOk, OnOk};
+ghost use Rattle.std.specs.Prelude.{◌≡◌, ◌+◌, ◌*◌, ◌/◌, ◌<◌, ◌≤◌, ◌^◌, [], ◌∷◌, ◌++◌, length, map, take, true, false, Some, slice_get, option_map, IfOk, OnOk};
 ghost use Rattle.std.specs.List.{AllByRecursion};
 ghost use Rattle.std.specs.List.Sorted.{IsStrictlySortedBy};
 ghost use Rattle.std.specs.Option.{option_to_list};
@@ -9,15 +9,17 @@ ghost use Rattle.willow_area.specs.declared.cut.CutAt.TheVariants as cuts;
 ghost use Rattle.willow_entry.specs.Entry.{bytes_cmp};
 ghost use Rattle.willow_entry.specs.Row.{inner_place_cmp};
 ghost use Rattle.block_store.specs.BoxKinds.{IsOfOneNamespace};
-ghost use Rattle.block_store.specs.InBox.{rows_in};
+ghost use Rattle.block_store.specs.InBox.{is_in, rows_in};
+ghost use Rattle.block_store.specs.Positions.{positions};
 ghost use Rattle.sync_msg.specs.CutPoints.{dimension};
 ghost use Rattle.range_split.specs.Points.{cuts_at};
-ghost use Rattle.range_split.specs.Quarters.{cuts_of, distinct_above, even_choice, even_points, have_subspaces, path_points, next_low, subspace_points, time_points, timestamps_of};
+ghost use Rattle.range_split.specs.Quarters.{cuts_of, distinct_above, even_choice, even_points, have_subspaces, path_points, next_low, subspace_points, time_points};
 
+use crate::among::{least_among, row_among, times_among};
 use crate::choice::ENTRIES_MAX;
-use crate::least::{is_above, least_above};
-use crate::parts::load;
-use crate::rows::{known_rising, nth, row_at};
+use crate::least::is_above;
+use crate::load::load;
+use crate::rows::known_rising;
 use block_store::Snapshot;
 use std::alloc::Global;
 use sync_msg::{MAX_POINTS, Points};
@@ -40,46 +42,63 @@ pub fn choose_parts<R: Row>(
     requires one { IsOfOneNamespace (map R.value snapshot.now) }
     ensures chosen { IfOk result (λ chosen. chosen ≡ option_map cuts_at (even_choice (rows_in area.now (map R.value snapshot.now)))) }
 {
-    let count = snapshot.count_in(area);
-    if count <= ENTRIES_MAX {
+    let found = snapshot.positions_in(area)?;
+    choose_parts_among(alloc, snapshot, area, &found)
+}
+
+/// The same, over the positions of the rows that the box includes, which the caller has found. No other row is looked at.
+pub fn choose_parts_among<R: Row>(
+    alloc: Global,
+    snapshot: &Snapshot<R>,
+    area: &Box3,
+    found: &[u32],
+) -> Result<Option<Points>, NoMemory>
+    requires one { IsOfOneNamespace (map R.value snapshot.now) }
+    requires found { found.now ≡ positions (is_in area.now) (map R.value snapshot.now) }
+    ensures chosen { IfOk result (λ chosen. chosen ≡ option_map cuts_at (even_choice (rows_in area.now (map R.value snapshot.now)))) }
+{
+    if found.len() <= ENTRIES_MAX as usize {
         return Ok(None);
     }
     known_rising(snapshot);
-    let points = even_points(alloc, snapshot, area, count)?;
+    let points = even_points(alloc, snapshot, area, found)?;
     Ok(Some(points))
 }
 
-// The points for so many rows.
+// The points for many rows.
 fn even_points<R: Row>(
     alloc: Global,
     snapshot: &Snapshot<R>,
     area: &Box3,
-    count: u32,
+    found: &[u32],
 ) -> Result<Points, NoMemory>
-    requires many { ENTRIES_MAX < count }
-    requires count { count ≡ length (rows_in area.now (map R.value snapshot.now)) }
+    requires found { found.now ≡ positions (is_in area.now) (map R.value snapshot.now) }
+    requires many { ENTRIES_MAX < length found.now }
     requires rise { IsStrictlySortedBy inner_place_cmp (map R.value snapshot.now) }
     ensures { IfOk result (λ points. points ≡ cuts_at (even_points (rows_in area.now (map R.value snapshot.now)))) }
 {
-    let (start, first) = nth(snapshot, area, 0);
-    let (last, end) = nth(snapshot, area, count - 1);
-    if end.entry().subspace == first.entry().subspace {
-        path_points(alloc, snapshot, area, count)
+    let first = row_among(snapshot, area, found, 0);
+    let last = row_among(snapshot, area, found, found.len() - 1);
+    if last.entry().subspace == first.entry().subspace {
+        path_points(alloc, snapshot, area, found)
     } else {
-        several(alloc, snapshot, area, count, start, last)
+        several(alloc, snapshot, area, found)
     }
 }
 
 // The row before which so many quarters of the rows stand, rounded down.
-fn quarter<'a, R: Row>(snapshot: &'a Snapshot<R>, area: &Box3, quarters: u32, count: u32) -> &'a R
+fn quarter<'a, R: Row>(
+    snapshot: &'a Snapshot<R>,
+    area: &Box3,
+    found: &[u32],
+    quarters: usize,
+) -> &'a R
+    requires found { found.now ≡ positions (is_in area.now) (map R.value snapshot.now) }
+    requires many { ENTRIES_MAX < length found.now }
     requires few { quarters ≤ 3 }
-    requires many { ENTRIES_MAX < count }
-    requires count { count ≡ length (rows_in area.now (map R.value snapshot.now)) }
     ensures { slice_get (rows_in area.now (map R.value snapshot.now)) ((quarters * length (rows_in area.now (map R.value snapshot.now))) / 4) ≡ Some (R.value result.now) }
 {
-    let at = u64::from(quarters) * u64::from(count) / 4;
-    let (_, row) = nth(snapshot, area, at as u32);
-    row
+    row_among(snapshot, area, found, quarters * found.len() / 4)
 }
 
 // The points of paths, where the rows have one subspace: they are those of the rows at the quarters, and no points of
@@ -88,18 +107,18 @@ fn path_points<R: Row>(
     alloc: Global,
     snapshot: &Snapshot<R>,
     area: &Box3,
-    count: u32,
+    found: &[u32],
 ) -> Result<Points, NoMemory>
-    requires many { ENTRIES_MAX < count }
-    requires count { count ≡ length (rows_in area.now (map R.value snapshot.now)) }
+    requires found { found.now ≡ positions (is_in area.now) (map R.value snapshot.now) }
+    requires many { ENTRIES_MAX < length found.now }
     requires rise { IsStrictlySortedBy inner_place_cmp (map R.value snapshot.now) }
     requires one { have_subspaces (rows_in area.now (map R.value snapshot.now)) ≡ false }
     ensures { IfOk result (λ points. points ≡ cuts_at (even_points (rows_in area.now (map R.value snapshot.now)))) }
 {
     let mut points = Points::new(alloc);
-    points.push(path_of(quarter(snapshot, area, 1, count))?)?;
-    points.push(path_of(quarter(snapshot, area, 2, count))?)?;
-    points.push(path_of(quarter(snapshot, area, 3, count))?)?;
+    points.push(path_of(quarter(snapshot, area, found, 1))?)?;
+    points.push(path_of(quarter(snapshot, area, found, 2))?)?;
+    points.push(path_of(quarter(snapshot, area, found, 3))?)?;
     Ok(points)
 }
 
@@ -116,27 +135,21 @@ fn several<R: Row>(
     alloc: Global,
     snapshot: &Snapshot<R>,
     area: &Box3,
-    count: u32,
-    start: u32,
-    last: u32,
+    found: &[u32],
 ) -> Result<Points, NoMemory>
-    requires many { ENTRIES_MAX < count }
-    requires count { count ≡ length (rows_in area.now (map R.value snapshot.now)) }
+    requires found { found.now ≡ positions (is_in area.now) (map R.value snapshot.now) }
+    requires many { ENTRIES_MAX < length found.now }
     requires rise { IsStrictlySortedBy inner_place_cmp (map R.value snapshot.now) }
     requires several { have_subspaces (rows_in area.now (map R.value snapshot.now)) ≡ true }
-    requires before { rows_in area.now (take start (map R.value snapshot.now)) ≡ [] }
-    requires upto { rows_in area.now (take (last + 1) (map R.value snapshot.now)) ≡ rows_in area.now (map R.value snapshot.now) }
-    requires order { start ≤ last }
-    requires within { last < length snapshot.now }
     ensures { IfOk result (λ points. points ≡ cuts_at (even_points (rows_in area.now (map R.value snapshot.now)))) }
 {
-    let base = subspace_points(alloc, snapshot, area, count, start, last)?;
-    let most = load(alloc, snapshot, area, &base)?;
-    if most <= count / 2 {
+    let base = subspace_points(alloc, snapshot, area, found)?;
+    let most = load(alloc, snapshot, area, found, &base)?;
+    if most as usize <= found.len() / 2 {
         return Ok(base);
     }
-    let times = time_points(alloc, snapshot, area, start, last)?;
-    let least = load(alloc, snapshot, area, &times)?;
+    let times = time_points(alloc, snapshot, area, found)?;
+    let least = load(alloc, snapshot, area, found, &times)?;
     if 2 * u64::from(least) < u64::from(most) {
         Ok(times)
     } else {
@@ -149,40 +162,34 @@ fn subspace_points<R: Row>(
     alloc: Global,
     snapshot: &Snapshot<R>,
     area: &Box3,
-    count: u32,
-    start: u32,
-    last: u32,
+    found: &[u32],
 ) -> Result<Points, NoMemory>
-    requires many { ENTRIES_MAX < count }
-    requires count { count ≡ length (rows_in area.now (map R.value snapshot.now)) }
+    requires found { found.now ≡ positions (is_in area.now) (map R.value snapshot.now) }
+    requires many { ENTRIES_MAX < length found.now }
     requires rise { IsStrictlySortedBy inner_place_cmp (map R.value snapshot.now) }
-    requires before { rows_in area.now (take start (map R.value snapshot.now)) ≡ [] }
-    requires upto { rows_in area.now (take (last + 1) (map R.value snapshot.now)) ≡ rows_in area.now (map R.value snapshot.now) }
-    requires order { start ≤ last }
-    requires within { last < length snapshot.now }
     ensures { IfOk result (λ points. points ≡ cuts_at (subspace_points (rows_in area.now (map R.value snapshot.now)))) }
 {
-    let low = quarter(snapshot, area, 0, count).entry().subspace;
+    let low = quarter(snapshot, area, found, 0).entry().subspace;
     let mut points = Points::new(alloc);
     let one = push_key(
         &mut points,
         low,
-        quarter(snapshot, area, 1, count).entry().subspace,
+        quarter(snapshot, area, found, 1).entry().subspace,
     )?;
     let two = push_key(
         &mut points,
         one,
-        quarter(snapshot, area, 2, count).entry().subspace,
+        quarter(snapshot, area, found, 2).entry().subspace,
     )?;
     let _three = push_key(
         &mut points,
         two,
-        quarter(snapshot, area, 3, count).entry().subspace,
+        quarter(snapshot, area, found, 3).entry().subspace,
     )?;
     if points.len() > 0 {
         return Ok(points);
     }
-    key_points(alloc, least_above(snapshot, area, &low, start, last))
+    key_points(alloc, least_among(snapshot, area, found, &low))
 }
 
 // The point of a subspace, if there is one.
@@ -221,51 +228,14 @@ fn time_points<R: Row>(
     alloc: Global,
     snapshot: &Snapshot<R>,
     area: &Box3,
-    start: u32,
-    last: u32,
+    found: &[u32],
 ) -> Result<Points, NoMemory>
-    requires before { rows_in area.now (take start (map R.value snapshot.now)) ≡ [] }
-    requires upto { rows_in area.now (take (last + 1) (map R.value snapshot.now)) ≡ rows_in area.now (map R.value snapshot.now) }
-    requires order { start ≤ last }
-    requires within { last < length snapshot.now }
+    requires found { found.now ≡ positions (is_in area.now) (map R.value snapshot.now) }
     ensures { IfOk result (λ points. points ≡ cuts_at (time_points (rows_in area.now (map R.value snapshot.now)))) }
 {
-    let mut times = times_in(alloc, snapshot, area, start, last)?;
+    let mut times = times_among(alloc, snapshot, area, found)?;
     times.sort_unstable();
     points_of(alloc, &times)
-}
-
-// The times of the rows that the box includes. These rows stand from the position `start` to the position `last`.
-fn times_in<R: Row>(
-    alloc: Global,
-    snapshot: &Snapshot<R>,
-    area: &Box3,
-    start: u32,
-    last: u32,
-) -> Result<Vec<u64>, NoMemory>
-    requires before { rows_in area.now (take start (map R.value snapshot.now)) ≡ [] }
-    requires upto { rows_in area.now (take (last + 1) (map R.value snapshot.now)) ≡ rows_in area.now (map R.value snapshot.now) }
-    requires order { start ≤ last }
-    requires within { last < length snapshot.now }
-    ensures times { IfOk result (λ times. times.items ≡ timestamps_of (rows_in area.now (map R.value snapshot.now))) }
-    ensures few { IfOk result (λ times. length times.items ≤ 2 ^ 32) }
-{
-    let mut times = Vec::new(alloc);
-    for at in start..=last {
-        push_time_of(row_at(snapshot, at), area, &mut times)?;
-    }
-    Ok(times)
-}
-
-// Adds the row's time, where the box includes the row.
-fn push_time_of<R: Row>(row: &R, area: &Box3, times: &mut Vec<u64>) -> Result<(), NoMemory>
-    ensures { OnOk result (times.new.items ≡ times.old.items ++ timestamps_of (rows_in area.now (R.value row.now ∷ []))) }
-{
-    let entry = row.entry();
-    if area.includes(&entry.subspace, &entry.path, entry.timestamp) {
-        times.push(entry.timestamp)?;
-    }
-    Ok(())
 }
 
 // The points of times that rise.

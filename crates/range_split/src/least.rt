@@ -51,8 +51,16 @@ fn subspace_above<R: Row>(row: &R, area: &Box3, low: &UserKey) -> Option<UserKey
     (inside && is_above(&entry.subspace, low)).then_some(entry.subspace)
 }
 
+// The row's subspace, where it is above this one.
+pub(crate) fn subspace_over<R: Row>(row: &R, low: &UserKey) -> Option<UserKey>
+    ensures { result ≡ least_above low.now (subspaces_of (R.value row.now ∷ [])) }
+{
+    let subspace = row.entry().subspace;
+    is_above(&subspace, low).then_some(subspace)
+}
+
 // The lesser of two subspaces, of which either may be wanting.
-fn lesser(one: Option<UserKey>, other: Option<UserKey>) -> Option<UserKey>
+pub(crate) fn lesser(one: Option<UserKey>, other: Option<UserKey>) -> Option<UserKey>
     ensures { result ≡ lesser one other }
 {
     match (one, other) {

@@ -4,15 +4,17 @@
 //! each cut leaves some of them in each part.
 #![tactic(auto)]
 
+mod among;
 mod choice;
 mod even;
 mod inside;
 pub mod laws;
 mod least;
+mod load;
 mod parts;
 mod rows;
 
 pub use choice::{Choice, ENTRIES_MAX, choose};
-pub use even::choose_parts;
+pub use even::{choose_parts, choose_parts_among};
 pub use parts::box_parts;
 pub use rows::{nth, row_at};

@@ -1,18 +1,14 @@
 //! The parts of a box that is cut at several points.
 
-ghost use Rattle.std.specs.Prelude.{◌≡◌, ◌<◌, map, max, not, length, slice_get, IfOk, IsSome, IsTrue, Some};
+ghost use Rattle.std.specs.Prelude.{◌≡◌, ◌<◌, not, length, slice_get, IfOk, IsSome, IsTrue, Some};
 ghost use Rattle.spelling.specs.Answers.{JudgesFirst, cause_if};
 ghost use Rattle.willow_area.specs.Cuts.{can_cut, lower_part, upper_part};
-ghost use Rattle.block_store.specs.InBox.{rows_in};
 ghost use Rattle.range_split.specs.Parts.{can_cut_at, cut_all};
-ghost use Rattle.range_split.specs.Quarters.{greatest, part_sizes};
 
 use crate::inside::can_cut_at;
-use block_store::Snapshot;
 use std::alloc::Global;
 use sync_msg::Points;
 use willow_area::{Box3, CutAt, CutOutside};
-use willow_entry::Row;
 use willow_path::{End, NoMemory};
 
 /// The parts of a box that is cut at the points, from the lowest up. It is refused exactly where the points do not rise, or
@@ -29,7 +25,7 @@ pub fn box_parts(alloc: Global, area: &Box3, points: &Points) -> Result<Vec<Box3
 }
 
 // The parts of a box that can be cut at the points.
-pub(crate) fn cut_parts(alloc: Global, area: &Box3, points: &Points) -> Result<Vec<Box3>, NoMemory>
+fn cut_parts(alloc: Global, area: &Box3, points: &Points) -> Result<Vec<Box3>, NoMemory>
     requires { IsSome (cut_all area.now points.now) }
     ensures { IfOk result (λ parts. cut_all area.now points.now ≡ Some parts.items) }
 {
@@ -45,7 +41,7 @@ pub(crate) fn cut_parts(alloc: Global, area: &Box3, points: &Points) -> Result<V
 }
 
 // The point at the place.
-fn point_at(points: &Points, i: usize) -> &CutAt
+pub(crate) fn point_at(points: &Points, i: usize) -> &CutAt
     requires { i < length points.now }
     ensures { slice_get points.now i ≡ Some result.now }
 {
@@ -66,36 +62,4 @@ fn cut(area: &Box3, at: &CutAt) -> Result<(Box3, Box3), NoMemory>
         Err(End::Refused(_)) => unreachable!(),
         Err(End::NoMemory) => Err(NoMemory),
     }
-}
-
-// The greatest number of rows in one part.
-pub(crate) fn load<R: Row>(
-    alloc: Global,
-    snapshot: &Snapshot<R>,
-    area: &Box3,
-    points: &Points,
-) -> Result<u32, NoMemory>
-    requires { IsSome (cut_all area.now points.now) }
-    ensures { IfOk result (λ most. most ≡ greatest (part_sizes points.now (rows_in area.now (map R.value snapshot.now)))) }
-{
-    let parts = cut_parts(alloc, area, points)?;
-    Ok(most_in(snapshot, &parts))
-}
-
-// The greatest number of rows in one of some boxes.
-fn most_in<R: Row>(snapshot: &Snapshot<R>, parts: &[Box3]) -> u32
-    ensures { result ≡ greatest (map (λ part. length (rows_in part (map R.value snapshot.now))) parts.now) }
-{
-    let mut most = 0;
-    for i in 0..parts.len() {
-        most = greater(most, snapshot.count_in(&parts[i]));
-    }
-    most
-}
-
-// The greater of two numbers.
-fn greater(one: u32, other: u32) -> u32
-    ensures { result ≡ max one other }
-{
-    if one < other { other } else { one }
 }

@@ -1,4 +1,5 @@
 pub mod Rules
+pub mod Signing
 pub mod Open
 pub mod OpenLaws
 pub mod Claims

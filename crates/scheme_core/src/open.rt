@@ -99,6 +99,8 @@ impl Signer for OpenSigner {
 
     ghost faults = { λ _. 0 };
 
+    ghost asks = { λ old new. new ≡ old };
+
     /// Signs a message. It never refuses, and the signer stays as it was.
     #[tactic(auto, using(crate::proofs::OpenSignatures::open_accepts_own))]
     fn sign(&mut self, alloc: Global, message: &[u8]) -> Result<Vec<u8>, End<SignRefusal>>

@@ -1,8 +1,8 @@
 //! What makes signatures.
 
 ghost use Rattle.std.specs.Prelude.{◌≡◌, ℕ, ◌≤◌, ◌↔◌, Bool, true, List, length, IfOk, OnErr, IsErrOf};
-ghost use Rattle.willow_outside.specs.Counts.{Rose};
 ghost use Rattle.spelling.specs.declared.ending.End.TheVariants as ends;
+ghost use Rattle.scheme_core.specs.Signing.{CountsSigning};
 ghost use Rattle.scheme_core.specs.declared.signer.TheConstants.{MAX_SIGNATURE};
 
 use std::alloc::Global;
@@ -28,17 +28,19 @@ pub trait Signer: Drop {
     ghost left: { Self → ℕ };
     /// how often it failed
     ghost faults: { Self → ℕ };
+    /// how the signer may stand behind one call
+    ghost asks: { Self → Self → Type 0 };
 
-    /// Signs a message. `Spent` comes exactly where nothing is left, `Failed` only where `faults` rose. After a
-    /// refusal or want of memory the signer is as it was, its count of faults apart.
+    /// Signs a message. `Spent` comes exactly where nothing is left, `Failed` only where `faults` rose, and it rises
+    /// nowhere else. After a refusal or want of memory the signer is as it was, its count of faults apart.
     fn sign(&mut self, alloc: Global, message: &[u8]) -> Result<Vec<u8>, End<SignRefusal>>
         ensures given { IfOk result (λ signature. gives self.old message.now signature.items ≡ true) }
         ensures short { IfOk result (λ signature. length signature.items ≤ MAX_SIGNATURE) }
         ensures same { gives self.new ≡ gives self.old }
         ensures spent { IsErrOf result (ends.Refused SignRefusal.Spent) ↔ (left self.old ≡ 0) }
-        ensures failed { IsErrOf result (ends.Refused SignRefusal.Failed) → Rose (faults self.old) (faults self.new) }
-        ensures counted { faults self.old ≤ faults self.new }
-        ensures kept { OnErr result (left self.new ≡ left self.old) };
+        ensures counts { CountsSigning (faults self.old) (faults self.new) result }
+        ensures kept { OnErr result (left self.new ≡ left self.old) }
+        ensures asked { asks self.old self.new };
 
     /// How many signatures are left.
     fn left(&self) -> u64

@@ -18,3 +18,4 @@ pub mod Settled
 pub mod TurnByTurn
 pub mod Holding
 pub mod Tellers
+pub mod Weighing

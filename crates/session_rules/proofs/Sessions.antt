@@ -1,11 +1,12 @@
 -- A session by its first two messages: what it grants, and in two worlds.
-use Rattle.std.proofs.Common.{◌≡◌, ℕ, ◌+◌, List, [], ◌∷◌, ◌++◌, map, length, Contains, Option, None, Some, add-zero, append_assoc, sym, refl, ap, ◌∙◌, subst, ⊎_elim}
-use Rattle.std.proofs.lemmas.List.Elements.{Contains-append_cases, Contains-append_left, Contains-append_right, Contains-push}
+use Rattle.std.proofs.Common.{◌≡◌, ◌⊎◌, inl, inr, ℕ, ◌+◌, ◌≤◌, Bool, List, [], ◌∷◌, ◌++◌, map, filter_map, count_by, length, Contains, Option, None, Some, add-zero, append_assoc, sym, refl, ap, ◌∙◌, subst, ⊎_elim}
+use Rattle.std.specs.List.{cons_option}
+use Rattle.std.proofs.lemmas.List.Elements.{Contains-append_cases, Contains-append_left, Contains-append_right, Contains-push, filter_map-append}
 use Rattle.session_rules.specs.Machine.{Whole, Machine}
 use Rattle.session_rules.specs.Reading.{Stand, Waits, Broken, Refused, Move, stay, then, stepped, move, read, start, said, got}
-use Rattle.session_rules.specs.Talk.{Role, Caller, Answerer, Talk}
+use Rattle.session_rules.specs.Talk.{Role, Caller, Answerer, Talk, TellsNoMore}
 use Rattle.session_rules.specs.Greeting.{Greeting, Own, other_refusal, agreed_with, HasHello, IsGreeted}
-use Rattle.session_rules.specs.Session.{Message, Hello, Proof, Item, Stage, Opening, Proving, Talking, Cause, InGreeting, opening, to_hello, to_proof, rows_offered, exchange_with, hello_read, proof_read, session, Offering}
+use Rattle.session_rules.specs.Session.{Message, Hello, Proof, Item, Stage, Opening, Proving, Talking, Cause, InGreeting, opening, to_hello, to_proof, rows_offered, exchange_with, hello_read, proof_read, session, row_of_message, message_rows, Offering}
 use Rattle.session_rules.proofs.Members.{none_in, in_one}
 use Rattle.session_rules.proofs.Runs.{run_idle}
 use Rattle.session_rules.proofs.Firsts.{First, Found, Unfinished, Bad, first_of, IsFirst, first_is, first_as, first_of-as, by_first, read_first}
@@ -23,6 +24,9 @@ hello-no_proof hello proof e = cc
 
 proof-no_item : {H P I : Type 0} (proof : P) (item : I) → ◌≡◌ {A = Message H P I} (Proof proof) (Item item) → ⊥
 proof-no_item proof item e = cc
+
+no_nothing : {A : Type 0} (x : A) (xs : List A) → [] ≡ x ∷ xs → ⊥
+no_nothing x xs e = cc
 
 module _ {H P I : Type 0} (own : Own H P) where
   no_item_in_opening : (role : Role) (item : I) → Contains (opening role own) (Item item) → ⊥
@@ -193,3 +197,74 @@ module _ {H P A F R T I G : Type 0} (g : Greeting H P A F) (k : Talk R A T I G) 
       (⊎_elim (λ c. absurd (no_proof_in_opening own own.role proof c)) (λ c. c)
       (Contains-append_cases (opening own.role own) (read here (start here) bytes).says (Proof proof) c)) in
       (w.0, w.1)
+
+  -- ---- the rows that are told
+
+  no_row_in_opening : (role : Role) → message_rows k (opening role own) ≡ []
+  no_row_in_opening Caller = refl
+  no_row_in_opening Answerer = refl
+
+  no_row_to_hello : (role : Role) → message_rows k (to_hello role own) ≡ []
+  no_row_to_hello Caller = refl
+  no_row_to_hello Answerer = refl
+
+  no_row_to_proof : (role : Role) → message_rows k (to_proof role own) ≡ []
+  no_row_to_proof Caller = refl
+  no_row_to_proof Answerer = refl
+
+  -- behind messages that tell none
+  behind_none : (silent messages : List (Message H P I)) → message_rows k silent ≡ [] → message_rows k (silent ++ messages) ≡ message_rows k messages
+  behind_none silent messages none = filter_map-append (row_of_message k) silent messages ∙ ap (λ rows. rows ++ message_rows k messages) none
+
+  rows_of_items : (items : List I) → message_rows {H = H} {P = P} k (map Item items) ≡ filter_map k.row_in items
+  rows_of_items [] = refl
+  rows_of_items (item ∷ items) = ap (cons_option (k.row_in item)) (rows_of_items items)
+
+  rows_in_exchange : (hello : H) (rows : List R) (n : ℕ) (rest : List ℕ)
+      → (let m = stepped n (proof_read own (exchange_with g k own offers hello) None) in message_rows k (then m (read here m.stand rest)).says ≡ rows)
+      → filter_map k.row_in (said (exchange_with g k own offers hello) rest) ≡ rows
+  rows_in_exchange hello rows n rest told =
+      let e = exchange_with g k own offers hello in
+      let later = (read e (start e) rest).says in
+      let all : (to_proof own.role own ++ map Item e.opening) ++ (read here (Waits (Talking e.first) n []) rest).says ≡ to_proof own.role own ++ map Item (e.opening ++ later)
+      = ap (λ m. (to_proof own.role own ++ map Item e.opening) ++ says_of m) (exchange_read hello n rest)
+      ∙ append_assoc (to_proof own.role own) (map Item e.opening) (map Item later)
+      ∙ ap (λ items. to_proof own.role own ++ items) (sym (map-append Item e.opening later)) in
+      sym (rows_of_items (e.opening ++ later)) ∙ sym (behind_none (to_proof own.role own) (map Item (e.opening ++ later)) (no_row_to_proof own.role))
+      ∙ sym (ap (message_rows k) all) ∙ told
+
+  -- a side that told rows was greeted, and told those of the exchange
+  rows_behind : (bytes : List ℕ) (row : R) (rows : List R) → message_rows k (said here bytes) ≡ row ∷ rows
+      → (w : IsGreeted g own bytes) × (filter_map k.row_in (said (exchange_with g k own offers w.hello) w.behind) ≡ row ∷ rows)
+  rows_behind bytes row rows told =
+      let Wanted : AMove → Type 0 = λ m. message_rows k m.says ≡ row ∷ rows in
+      let Then : H → List ℕ → Type 0 = λ hello rest. filter_map k.row_in (said (exchange_with g k own offers hello) rest) ≡ row ∷ rows in
+      let nothing : (q : Stand (Stage H T) (Cause F G)) → Wanted (stay q) → ⊥ = λ q wanted. no_nothing row rows wanted in
+      let goes_on : (hello : H) (n : ℕ) (rest : List ℕ) → (let m = stepped n (hello_read own hello None) in Wanted (then m (read here m.stand rest))) → HasProof Then hello rest
+      = λ hello n rest wanted. proved Wanted nothing Then hello n (rows_in_exchange hello (row ∷ rows)) rest
+      (sym (behind_none (to_hello own.role own) (read here (Waits (Proving hello) n []) rest).says (no_row_to_hello own.role)) ∙ wanted) in
+      greeted Then bytes (opened Wanted nothing (HasProof Then) goes_on bytes
+      (sym (behind_none (opening own.role own) (read here (start here) bytes).says (no_row_in_opening own.role)) ∙ told))
+
+  pub rows_exchanged : (bytes : List ℕ) → (message_rows k (said here bytes) ≡ [])
+      ⊎ ((w : IsGreeted g own bytes) × (message_rows k (said here bytes) ≡ filter_map k.row_in (said (exchange_with g k own offers w.hello) w.behind)))
+  rows_exchanged bytes = by_rows (message_rows k (said here bytes)) refl
+    where
+      by_rows : (rows : List R) → message_rows k (said here bytes) ≡ rows → (rows ≡ []) ⊎ ((w : IsGreeted g own bytes) × (rows ≡ filter_map k.row_in (said (exchange_with g k own offers w.hello) w.behind)))
+      by_rows [] is = inl refl
+      by_rows (row ∷ rows) is =
+          let w = rows_behind bytes row rows is in
+          inr (w.0, sym w.1)
+
+  pub rows_few : TellsNoMore k → (bytes : List ℕ) → (message_rows k (said here bytes) ≡ [])
+      ⊎ ((w : IsGreeted g own bytes) × ((passes : R → Bool) → count_by passes (message_rows k (said here bytes)) ≤ count_by passes (rows_offered g own offers w.hello)))
+  rows_few no_more bytes = elim (rows_exchanged bytes) [
+    | inl none ↦ inl none
+    | inr told ↦ (
+        let w = told.0 in
+        inr (
+          w,
+          λ passes. subst (λ rows. count_by passes rows ≤ count_by passes (rows_offered g own offers w.hello)) (sym told.1)
+              (no_more own.role (rows_offered g own offers w.hello) (agreed_with g own w.hello) w.behind passes),
+        ))
+  ]

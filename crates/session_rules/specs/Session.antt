@@ -1,5 +1,5 @@
 -- A session of one side: it greets the other, and then they exchange the rows that they offer each other.
-use Rattle.std.specs.Prelude.{◌≡◌, ℕ, ◌+◌, List, [], ◌∷◌, ◌++◌, map, Option, None, Some}
+use Rattle.std.specs.Prelude.{◌≡◌, ℕ, ◌+◌, List, [], ◌∷◌, ◌++◌, map, filter_map, Option, None, Some}
 use Rattle.session_rules.specs.Machine.{Seen, Whole, Part, Wrong, Step, Goes, Ends, Refuses, Machine}
 use Rattle.session_rules.specs.Reading.{Ending, Done, More, BadMessage, Refusal}
 use Rattle.session_rules.specs.Talk.{Role, Caller, Answerer, Talk, talk, item_heard}
@@ -105,6 +105,18 @@ session g k own offers = record {
   step = session_step g k own offers;
   spelling = message_spelling g k;
 }
+
+-- ---- the rows that are told
+
+-- the row of a message, if it is one
+abbrev pub row_of_message : {H P R A T I G : Type 0} → Talk R A T I G → Message H P I → Option R
+row_of_message k (Hello hello) = None
+row_of_message k (Proof proof) = None
+row_of_message k (Item item) = k.row_in item
+
+-- the rows that stand in what a side says, in order
+abbrev pub message_rows : {H P R A T I G : Type 0} → Talk R A T I G → List (Message H P I) → List R
+message_rows k messages = filter_map (row_of_message k) messages
 
 -- ---- two worlds
 

@@ -1,12 +1,12 @@
 -- What the laws of sessions say, at whatever hellos H, proofs P, things A that two hellos agree on, rows R, places T, items I
 -- and causes to refuse F and G there are.
-use Rattle.std.specs.Prelude.{◌≡◌, ℕ, suc, List, ◌++◌, length, map, flat_map, Contains, Some}
+use Rattle.std.specs.Prelude.{◌≡◌, ◌⊎◌, ◌≤◌, ℕ, suc, Bool, List, [], ◌++◌, length, map, flat_map, filter_map, count_by, Contains, Some}
 use Rattle.session_rules.specs.Reading.{said, out, got, ending_of, ending}
 use Rattle.session_rules.specs.Rounds.{IsOver, rounds, Meet}
 use Rattle.session_rules.specs.Messages.{hear, CanTalk}
-use Rattle.session_rules.specs.Talk.{Talk, TellsOwn}
+use Rattle.session_rules.specs.Talk.{Talk, TellsOwn, TellsNoMore}
 use Rattle.session_rules.specs.Greeting.{Greeting, Own, HasHello, IsGreeted, Greets, greeting_bytes}
-use Rattle.session_rules.specs.Session.{Item, Proof, Offering, rows_offered, exchange_with, session, OfferSame, with_proof, retold, ends_as}
+use Rattle.session_rules.specs.Session.{Item, Proof, Offering, rows_offered, exchange_with, session, message_rows, OfferSame, with_proof, retold, ends_as}
 use Rattle.session_rules.specs.Pairs.{Pair, calling, answering, caller_side, answerer_side, by_caller, by_answerer, GreetEachOther, exchanged, AreSettled}
 
 module _ (H P A F R T I G : Type 0) where
@@ -38,6 +38,23 @@ module _ (H P A F R T I G : Type 0) where
   abbrev pub ProofsAreGranted : Type 0
   ProofsAreGranted = (g : Greeting H P A F) (k : Talk R A T I G) (own : Own H P) (offers : Offering A R) (bytes : List ℕ) (proof : P)
       → Contains (said (session g k own offers) bytes) (Proof proof) → (hello : H) × HasHello g bytes hello
+
+  -- no row is told; or the side was greeted, and the rows that it told are those that the exchange told over the rows that
+  -- it offers to the other, reading what stands behind the greeting
+  abbrev pub ToldRowsAreExchange : Type 0
+  ToldRowsAreExchange = (g : Greeting H P A F) (k : Talk R A T I G) (own : Own H P) (offers : Offering A R) (bytes : List ℕ)
+      → (message_rows k (said (session g k own offers) bytes) ≡ [])
+      ⊎ ((greeted : IsGreeted g own bytes)
+      × (message_rows k (said (session g k own offers) bytes) ≡ filter_map k.row_in (said (exchange_with g k own offers greeted.hello) greeted.behind)))
+
+  -- where sides of the exchange tell no row more often than they began with it, no row is told; or the side was greeted, and
+  -- of the rows that pass a test it told no more than it offers to the other
+  abbrev pub ToldRowsAreFew : Type 0
+  ToldRowsAreFew = (g : Greeting H P A F) (k : Talk R A T I G) (own : Own H P) (offers : Offering A R) (bytes : List ℕ)
+      → TellsNoMore k
+      → (message_rows k (said (session g k own offers) bytes) ≡ [])
+      ⊎ ((greeted : IsGreeted g own bytes)
+      × ((passes : R → Bool) → count_by passes (message_rows k (said (session g k own offers) bytes)) ≤ count_by passes (rows_offered g own offers greeted.hello)))
 
   -- ---- rows that are not offered
 

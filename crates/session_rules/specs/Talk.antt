@@ -1,5 +1,5 @@
 -- One side of an exchange, item by item, as a machine that reads items.
-use Rattle.std.specs.Prelude.{◌≡◌, ℕ, zero, suc, Bool, true, false, List, [], ◌∷◌, Option, None, Some, option_to_list, Result, Ok, Err, Contains}
+use Rattle.std.specs.Prelude.{◌≡◌, ℕ, zero, suc, Bool, true, false, List, [], ◌∷◌, Option, None, Some, option_to_list, Result, Ok, Err, Contains, count_by, filter_map, ◌≤◌}
 use Rattle.session_rules.specs.Machine.{Seen, Step, Goes, Ends, Refuses, Machine}
 use Rattle.session_rules.specs.Reading.{said}
 
@@ -72,3 +72,8 @@ talk k role rows agreed = record {
 abbrev pub TellsOwn : {R A T I G : Type 0} → Talk R A T I G → Type 0
 TellsOwn {R} {A} {I = I} k = (role : Role) (rows : List R) (agreed : A) (bytes : List ℕ) (item : I) (row : R)
     → Contains (said (talk k role rows agreed) bytes) item → k.row_in item ≡ Some row → Contains rows row
+
+-- whatever it reads, of the rows that pass a test a side tells no more than it began with
+abbrev pub TellsNoMore : {R A T I G : Type 0} → Talk R A T I G → Type 0
+TellsNoMore {R} {A} k = (role : Role) (rows : List R) (agreed : A) (bytes : List ℕ) (passes : R → Bool)
+    → count_by passes (filter_map k.row_in (said (talk k role rows agreed) bytes)) ≤ count_by passes rows

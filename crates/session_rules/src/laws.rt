@@ -11,7 +11,7 @@ ghost use Rattle.session_rules.specs.Pairs.{calling, answering, caller_side, ans
 ghost use Rattle.session_rules.specs.Adding.{adding};
 ghost use Rattle.session_rules.specs.Telling.{by_telling, tellers, caller_told, answerer_told, TellingCallerIsOver};
 ghost use Rattle.session_rules.specs.Laws.{TwoPiecesReadAlike, PiecesReadAlike, OutGrows, GotGrows, OverWritesNoMore, OverTakesNoMore, OverStaysOver, PartsWriteNothing, PartsTakeNothing, PartsEndNothing, MoreWaits, DoneByMessage, BadByMessage, RefusedByMessage, ReadsMessages, RoundsWriteFronts, FirstOverSettles, SecondOverSettles, OverRoundsMeet, RoundsSpellDialogue, OverIsDialogue, OverDialogueMeets};
-ghost use Rattle.session_rules.specs.SessionLaws.{ItemsAreGranted, RowsAreGranted, ToldRowsAreOffered, ProofsAreGranted, OutSeesOfferedAlone, GotSeesOfferedAlone, EndingSeesOfferedAlone, AnotherProofIsRetold, AnotherProofGetsSame, AnotherProofEndsAlike, GreetedWritesExchange, GreetedGetsExchange, GreetedEndsAsExchange, SessionRoundsAreExchange, SessionsSettle, SessionsMeet};
+ghost use Rattle.session_rules.specs.SessionLaws.{ItemsAreGranted, RowsAreGranted, ToldRowsAreOffered, ToldRowsAreExchange, ToldRowsAreFew, ProofsAreGranted, OutSeesOfferedAlone, GotSeesOfferedAlone, EndingSeesOfferedAlone, AnotherProofIsRetold, AnotherProofGetsSame, AnotherProofEndsAlike, GreetedWritesExchange, GreetedGetsExchange, GreetedEndsAsExchange, SessionRoundsAreExchange, SessionsSettle, SessionsMeet};
 ghost use Rattle.session_rules.specs.TurnLaws.{ItemsTellTurns, CallerHearsTurns, AnswererHearsTurns, WholeTurnsAreTaken, TurnsSettle, TurnsMeet};
 
 /// A small machine on no bytes, on two messages, on one and a half, on one behind that which ends it, on one that it
@@ -111,6 +111,13 @@ pub fn grants<H, P, A, F, R, T, I, G>()
     ensures rows { RowsAreGranted H P A F R T I G }
     ensures told { ToldRowsAreOffered H P A F R T I G }
     ensures proofs { ProofsAreGranted H P A F R T I G }
+{}
+
+/// No row stands in what a side says more often than it offers it to the other, where sides of the exchange tell none more
+/// often than they began with it; and before a greeting that passes none is told at all.
+pub fn each_row_once<H, P, A, F, R, T, I, G>()
+    ensures exchange { ToldRowsAreExchange H P A F R T I G }
+    ensures few { ToldRowsAreFew H P A F R T I G }
 {}
 
 /// What a side writes and takes and how it ends is a function of the rows that it offers, of its own part, and of the bytes

@@ -1,5 +1,6 @@
 //! A signer that fails, and a checker that counts.
 
+ghost use Rattle.std.specs.Prelude.{◌≡◌};
 ghost use Rattle.scheme_core.specs.Open.{open_accepts};
 ghost use Rattle.scheme_core.specs.OpenLaws.{open_accepts-short};
 
@@ -23,6 +24,8 @@ impl Signer for FailingSigner {
     ghost left = { λ _. 1 };
 
     ghost faults = { λ s. s.failed };
+
+    ghost asks = { λ old new. new.signer ≡ old.signer };
 
     fn sign(&mut self, _alloc: Global, _message: &[u8]) -> Result<Vec<u8>, End<SignRefusal>> {
         self.failed = self.failed.saturating_add(1);

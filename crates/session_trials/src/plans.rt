@@ -12,7 +12,7 @@ use scheme_core::OpenScheme;
 use spelling::NoMemory;
 use std::alloc::Global;
 use sync_hello::{HIGHEST_VERSION, Hello, check_hello};
-use sync_link::SessionPlan;
+use sync_link::{Interest, SessionPlan};
 use sync_msg::Role;
 use willow_path::NamespaceKey;
 
@@ -45,6 +45,10 @@ fn made(alloc: Global, role: Role, version: u8) -> Option<SessionPlan<OpenScheme
         role,
         capability,
         ask: ask(alloc)?,
+        interest: Interest {
+            newest: None,
+            bytes: None,
+        },
     })
 }
 

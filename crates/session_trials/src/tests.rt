@@ -3,7 +3,7 @@
 use crate::fakes::FailingSigner;
 use crate::plans::Side;
 use crate::rounds::{Met, have_lengths, meeting};
-use crate::rows::{Rows, signature_at, signer};
+use crate::rows::{Rows, ask, signature_at, signer};
 use crate::runs::{Ran, run_with};
 use mc_cap::RowRefusal;
 use session_end::HelloRefusal;
@@ -22,6 +22,7 @@ fn the_laws_can_be_called() {
     sync_link::laws::grows();
     sync_link::laws::granted();
     sync_link::laws::worlds();
+    sync_link::laws::offers();
     sync_link::laws::speaks_to_the_end();
     sync_link::laws::settles();
     sync_link::run_laws::runs_alike();
@@ -91,10 +92,10 @@ static CASES: [Case; 5] = [
     ),
 ];
 
-// The report of these, where no row was refused.
-fn reported(numbers: Numbers) -> SessionReport {
+// The report of these, where no row was refused. Both ask for the user's subspace.
+fn reported(alloc: Global, numbers: Numbers) -> Option<SessionReport> {
     let (opened, stored, kept, sent, read) = numbers;
-    SessionReport {
+    Some(SessionReport {
         opened,
         closed: opened.saturating_add(stored),
         stored,
@@ -103,15 +104,16 @@ fn reported(numbers: Numbers) -> SessionReport {
         first: None,
         sent,
         read,
-    }
+        area: Some(ask(alloc)?),
+    })
 }
 
 // Whether two sides met as the case says.
-fn is_as_told(met: &Met, case: &Case) -> bool {
+fn is_as_told(alloc: Global, met: &Met, case: &Case) -> Option<bool> {
     let (_, _, _, turns, caller, answerer) = case;
-    have_lengths(&met.turns, turns)
-        && met.caller.answer == Ok(reported(*caller))
-        && met.answerer.answer == Ok(reported(*answerer))
+    let told = met.caller.answer == Ok(reported(alloc, *caller)?)
+        && met.answerer.answer == Ok(reported(alloc, *answerer)?);
+    Some(told && have_lengths(&met.turns, turns))
 }
 
 // Whether the sides of a case meet so, which read at most so many bytes at a time.
@@ -130,7 +132,7 @@ fn meet_so<R: Wait + Threads + Sync>(
         version: versions.1,
         rows: rows(*count, *newer),
     };
-    Some(is_as_told(&meeting(rt, alloc, caller, answerer, most)?, case))
+    is_as_told(alloc, &meeting(rt, alloc, caller, answerer, most)?, case)
 }
 
 #[test]
@@ -181,7 +183,12 @@ fn without_signature(alloc: Global, bytes: &[u8]) -> Option<Vec<u8>> {
 }
 
 // The meeting of the own side in this role with the other, which speaks this version.
-fn met<R: Wait + Threads + Sync>(rt: &R, alloc: Global, role: Role, version: u8) -> Option<Met> {
+pub(crate) fn met<R: Wait + Threads + Sync>(
+    rt: &R,
+    alloc: Global,
+    role: Role,
+    version: u8,
+) -> Option<Met> {
     match role {
         Role::Caller => meeting(rt, alloc, OWN, other(version), 1_000_000),
         Role::Answerer => meeting(rt, alloc, other(version), OWN, 1_000_000),
@@ -189,7 +196,7 @@ fn met<R: Wait + Threads + Sync>(rt: &R, alloc: Global, role: Role, version: u8)
 }
 
 // What both wrote, the own side and then the other.
-fn written(met: &Met, role: Role) -> (&[u8], &[u8]) {
+pub(crate) fn written(met: &Met, role: Role) -> (&[u8], &[u8]) {
     match role {
         Role::Caller => (&met.caller.written, &met.answerer.written),
         Role::Answerer => (&met.answerer.written, &met.caller.written),
@@ -211,7 +218,7 @@ fn run_own<R: Wait + Threads + Sync>(
 }
 
 // The same over a link without failing calls.
-fn run_on<R: Wait + Threads + Sync>(
+pub(crate) fn run_on<R: Wait + Threads + Sync>(
     rt: &R,
     alloc: Global,
     role: Role,
@@ -223,12 +230,12 @@ fn run_on<R: Wait + Threads + Sync>(
 
 // The answerer tells its four rows, and the caller its row that was not among them; or it tells its three, and the caller
 // the two that were not. What the answerer has at the path of 1 is stored, and its last row refused.
-fn report(role: Role) -> SessionReport {
+fn report(alloc: Global, role: Role) -> Option<SessionReport> {
     let (row, kept, sent, read) = match role {
         Role::Caller => (4, 2, 2, 1),
         Role::Answerer => (2, 0, 1, 2),
     };
-    SessionReport {
+    Some(SessionReport {
         opened: 3,
         closed: 4,
         stored: 1,
@@ -240,16 +247,19 @@ fn report(role: Role) -> SessionReport {
         }),
         sent,
         read,
-    }
+        area: Some(ask(alloc)?),
+    })
 }
 
 // Whether the own side in this role reported so, wrote these bytes, has the rows that it should, and judged the other's in
 // so many calls.
-fn is_session(ran: &Ran, role: Role, own: &[u8], calls: u64) -> bool {
-    ran.answer == Ok(report(role))
-        && ran.written.as_slice() == own
-        && ran.times.as_slice() == [100, 101, 102, 200].as_slice()
-        && ran.calls == calls
+fn is_session(alloc: Global, ran: &Ran, role: Role, own: &[u8], calls: u64) -> Option<bool> {
+    let told = ran.answer == Ok(report(alloc, role)?);
+    Some(
+        told && ran.written.as_slice() == own
+            && ran.times.as_slice() == [100, 101, 102, 200].as_slice()
+            && ran.calls == calls,
+    )
 }
 
 // Whether it does on what the other wrote, without the signature of the row at the path of 3.
@@ -263,7 +273,7 @@ fn comes_out<R: Wait + Threads + Sync>(
 ) -> Option<bool> {
     let heard = without_signature(alloc, other)?;
     let ran = run_on(rt, alloc, role, heard, most)?;
-    Some(is_session(&ran, role, own, calls))
+    is_session(alloc, &ran, role, own, calls)
 }
 
 // The same in the meeting of that role.

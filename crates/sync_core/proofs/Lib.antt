@@ -19,3 +19,6 @@ pub mod TwoSides
 pub mod OneByOne
 pub mod Walking
 pub mod Parts
+pub mod Cases
+pub mod Distinct
+pub mod Weighing

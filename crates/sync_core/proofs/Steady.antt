@@ -11,12 +11,11 @@ use Rattle.sync_msg.specs.Items.{ItemValue, HasPrints, is_counted, item_value}
 use Rattle.sync_msg.specs.declared.item.Item.{Item}
 use Rattle.sync_msg.specs.declared.refusal.CoreRefusal.{CoreRefusal}
 use Rattle.sync_msg.specs.declared.refusal.CoreRefusal.TheVariants.{ItemMismatch, BadCut, EntryOutside, RowsOutOfOrder, TooManyItems}
-use Rattle.sync_core.specs.declared.out_item.OutItem.{OutItem}
 use Rattle.sync_core.specs.declared.stage.TheConstants.{SNAPSHOT_MAX}
 use Rattle.sync_core.specs.declared.work.Work.{Work}
 use Rattle.sync_core.specs.Place.{Doing, Place, most_items, rows_of_area}
 use Rattle.sync_core.specs.Steps.{count_one, heard, next_heard, next_said}
-use Rattle.sync_core.specs.Held.{IsReady, IsSteady, counts, doing_of, item_at, owing}
+use Rattle.sync_core.specs.Held.{IsReady, IsSteady, doing_of, item_at, owing}
 use Rattle.sync_core.specs.Hears.{Does, within}
 use Rattle.sync_core.proofs.Owing.{OwesAtMost, next_owes}
 use Rattle.sync_core.proofs.Heard.{MatchesHeard, answer_matches, counted_value}
@@ -116,8 +115,8 @@ module _ (place : Place) (most : ℕ) (work : Work) (steady : IsSteady place mos
         }
 
   -- a side that has said an item
-  pub steady_said : (new : Work) (item : OutItem) (sent : ℕ) → IsReady place.rows new → item_at place.rows item ≡ option_map (λ step. step.0) (next_said place.doing) → option_map (λ step. step.1) (next_said place.doing) ≡ Some (doing_of place.rows new)
-      → sent ≡ place.sent + cond (counts item) 1 0 → IsSteady (record place { sent = sent; doing = doing_of place.rows new }) most new
+  pub steady_said : (new : Work) (item : Item ℕ) (sent : ℕ) → IsReady place.rows new → item_at place.rows item ≡ option_map (λ step. step.0) (next_said place.doing) → option_map (λ step. step.1) (next_said place.doing) ≡ Some (doing_of place.rows new)
+      → sent ≡ place.sent + cond (is_counted item) 1 0 → IsSteady (record place { sent = sent; doing = doing_of place.rows new }) most new
   steady_said new item sent ready i d e = record {
     version = steady.version;
     one = steady.one;

@@ -1,5 +1,5 @@
 -- The answers to asks, by their cases, and the items that tell them.
-use Rattle.std.proofs.Common.{◌≡◌, ℕ, zero, suc, ◌<◌, ◌≤◌, Bool, true, false, not, cond, List, [], ◌∷◌, ◌++◌, map, filter, length, slice_get, option_map, Some, None, refl, sym, ap, ap₂, ◌∙◌, arith}
+use Rattle.std.proofs.Common.{◌≡◌, ℕ, zero, suc, ◌<◌, ◌≤◌, Bool, true, false, not, cond, List, [], ◌∷◌, ◌++◌, map, length, slice_get, option_map, Some, None, refl, sym, ap, ap₂, ◌∙◌, arith}
 use Rattle.std.specs.Prelude.{unwrap_or, IsSomeAnd}
 use Rattle.std.proofs.lemmas.List.{append_assoc, map-append, length-map}
 use Rattle.std.proofs.lemmas.List.Sums.{length-filter, count_by-le-length}
@@ -16,8 +16,7 @@ use Rattle.exchange_rules.specs.Items as rules
 use Rattle.exchange_rules.specs.Answer.{reply, differing, lacking}
 use Rattle.sync_msg.specs.Items.{ItemValue}
 use Rattle.sync_msg.specs.declared.item.Item.TheVariants as items
-use Rattle.sync_core.specs.declared.out_item.OutItem.{OutItem}
-use Rattle.sync_core.specs.declared.out_item.OutItem.TheVariants as out
+use Rattle.sync_msg.specs.declared.item.Item.{Item}
 use Rattle.sync_core.specs.SyncRules.{choice_in, sync_rules}
 use Rattle.sync_core.specs.Held.{item_at}
 use Rattle.sync_core.specs.Answers.{ReplyValue}
@@ -66,14 +65,6 @@ some_cause false e f h = refl
 
 -- ---- the rows of an answer
 
-filter_passing : {X : Type 0} (xs : List X) → filter (λ _. true) xs ≡ xs
-filter_passing [] = refl
-filter_passing (x ∷ xs) = ap (λ l. x ∷ l) (filter_passing xs)
-
--- where none was sent, none is left out
-pub lacking_none : (version : ℕ) (rows : List RowValue) (area : Ranges) → lacking (sync_rules version) rows area [] ≡ rows_in area rows
-lacking_none version rows area = filter_passing (rows_in area rows)
-
 pub found_length : (rows : List RowValue) (positions : List ℕ) (found : List RowValue) → map (slice_get rows) positions ≡ map (λ r. Some r) found → length positions ≡ length found
 found_length rows positions found e =
     let two : length (map (slice_get rows) positions) ≡ length (map (λ (r : RowValue). Some r) found) = ap length e in
@@ -83,17 +74,17 @@ pub rows_in-le : (area : Ranges) (rows : List RowValue) → length (rows_in area
 rows_in-le area rows = omega (arith, length-filter (is_in area) rows, count_by-le-length (is_in area) rows)
 
 -- a head with its rows behind other items
-pub adds_rows : (rows : List RowValue) (old new : List OutItem) (head : OutItem) (value : ItemValue) (positions : List ℕ) (found : List RowValue)
-    → new ≡ (old ++ head ∷ []) ++ map (λ at. out.Row at) positions → item_at rows head ≡ Some value → map (slice_get rows) positions ≡ map (λ r. Some r) found
+pub adds_rows : (rows : List RowValue) (old new : List (Item ℕ)) (head : Item ℕ) (value : ItemValue) (positions : List ℕ) (found : List RowValue)
+    → new ≡ (old ++ head ∷ []) ++ map (λ at. items.Row at) positions → item_at rows head ≡ Some value → map (slice_get rows) positions ≡ map (λ r. Some r) found
     → map (item_at rows) new ≡ map (item_at rows) old ++ map (λ (i : ItemValue). Some i) (value ∷ map (λ r. items.Row r) found)
 adds_rows rows old new head value positions found made here there =
-    let behind = map (λ at. out.Row at) positions in
+    let behind = map (λ at. items.Row at) positions in
     ap (map (item_at rows)) (made ∙ append_assoc old (head ∷ []) behind)
     ∙ map-append (item_at rows) old (head ∷ behind)
     ∙ ap₂ (λ o l. map (item_at rows) old ++ o ∷ l) here (named_rows rows positions found there)
 
 -- an item alone behind other items
-pub adds_one : (rows : List RowValue) (old new : List OutItem) (item : OutItem) (value : ItemValue) → new ≡ old ++ item ∷ [] → item_at rows item ≡ Some value → map (item_at rows) new ≡ map (item_at rows) old ++ map (λ (i : ItemValue). Some i) (value ∷ [])
+pub adds_one : (rows : List RowValue) (old new : List (Item ℕ)) (item : Item ℕ) (value : ItemValue) → new ≡ old ++ item ∷ [] → item_at rows item ≡ Some value → map (item_at rows) new ≡ map (item_at rows) old ++ map (λ (i : ItemValue). Some i) (value ∷ [])
 adds_one rows old new item value made here =
     ap (map (item_at rows)) made ∙ map-append (item_at rows) old (item ∷ []) ∙ ap (λ o. map (item_at rows) old ++ o ∷ []) here
 

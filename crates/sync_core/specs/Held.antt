@@ -1,5 +1,5 @@
 -- What contracts see of a side in memory.
-use Rattle.std.specs.Prelude.{◌≡◌, ℕ, ◌+◌, ◌*◌, ◌<◌, ◌≤◌, Bool, true, false, List, [], ◌∷◌, map, length, filter_map, slice_get, option_map, Option, None, Some, Result, Err}
+use Rattle.std.specs.Prelude.{◌≡◌, ℕ, ◌+◌, ◌*◌, ◌<◌, ◌≤◌, List, [], ◌∷◌, map, length, filter_map, slice_get, option_map, Option, None, Some, Result, Err}
 use Rattle.willow_entry.specs.Row.{RowValue}
 use Rattle.block_store.specs.BoxKinds.{IsOfOneNamespace}
 use Rattle.block_store.specs.InBox.{rows_in}
@@ -13,8 +13,7 @@ use Rattle.sync_core.specs.declared.stage.TheConstants.{SNAPSHOT_MAX}
 use Rattle.sync_core.specs.Steps.{count_one, hearing_rows, due_heard}
 use Rattle.sync_msg.specs.declared.refusal.CoreRefusal.{CoreRefusal}
 use Rattle.sync_msg.specs.declared.refusal.CoreRefusal.TheVariants.{ItemMismatch}
-use Rattle.sync_core.specs.declared.out_item.OutItem.{OutItem}
-use Rattle.sync_core.specs.declared.out_item.OutItem.TheVariants as out
+use Rattle.sync_msg.specs.declared.item.Item.{Item}
 use Rattle.sync_core.specs.declared.ask.Ask.{Ask}
 use Rattle.sync_core.specs.declared.ask.Ask.TheVariants as ask
 use Rattle.sync_core.specs.declared.ask.Owed.{Owed}
@@ -26,23 +25,23 @@ use Rattle.sync_core.specs.declared.work.Ear.{Ear}
 use Rattle.sync_core.specs.declared.work.Work.{Work}
 
 -- the item that is said, where a row is named by its position; none where no row stands there
-abbrev pub item_at : List RowValue → OutItem → Option ItemValue
-item_at rows (out.First print) = Some (items.First print)
-item_at rows out.Agree = Some items.Agree
-item_at rows (out.Split at lower upper) = Some (items.Split at lower upper)
-item_at rows (out.Parts points prints) = Some (items.Parts points prints)
-item_at rows (out.Entries count) = Some (items.Entries count)
-item_at rows (out.Rest count) = Some (items.Rest count)
-item_at rows (out.Row at) = option_map items.Row (slice_get rows at)
-item_at rows out.EndTurn = Some items.EndTurn
-item_at rows out.Bye = Some items.Bye
+abbrev pub item_at : List RowValue → Item ℕ → Option ItemValue
+item_at rows (items.First print) = Some (items.First print)
+item_at rows items.Agree = Some items.Agree
+item_at rows (items.Split at lower upper) = Some (items.Split at lower upper)
+item_at rows (items.Parts points prints) = Some (items.Parts points prints)
+item_at rows (items.Entries count) = Some (items.Entries count)
+item_at rows (items.Rest count) = Some (items.Rest count)
+item_at rows (items.Row at) = option_map items.Row (slice_get rows at)
+item_at rows items.EndTurn = Some items.EndTurn
+item_at rows items.Bye = Some items.Bye
 
 -- the items that are said
-abbrev pub items_at : List RowValue → List OutItem → List ItemValue
+abbrev pub items_at : List RowValue → List (Item ℕ) → List ItemValue
 items_at rows outs = filter_map (item_at rows) outs
 
 -- each of them is one of these items
-abbrev pub Tell : List RowValue → List OutItem → List ItemValue → Type 0
+abbrev pub Tell : List RowValue → List (Item ℕ) → List ItemValue → Type 0
 Tell rows outs said = map (item_at rows) outs ≡ map Some said
 
 -- an ask that this side has to answer
@@ -107,7 +106,7 @@ CanSay phase.Finished left = ⊥
 CanSay (phase.Refused cause) left = ⊥
 
 -- a row stands at each position that is still to be named
-abbrev pub AreNamed : List RowValue → List OutItem → Type 0
+abbrev pub AreNamed : List RowValue → List (Item ℕ) → Type 0
 AreNamed rows outs = Tell rows outs (items_at rows outs)
 
 -- that is so, and what is to be said is not all said
@@ -140,15 +139,3 @@ pub record IsSteady (place : Place) (most : ℕ) (work : Work) : Type 0 where
   pub ready : IsReady place.rows work
   pub said : place.sent + owing place.doing ≤ 4 * place.read + 1
   pub heard : place.read ≤ most
-
--- the items that count against the limit of an exchange
-abbrev pub counts : OutItem → Bool
-counts (out.First print) = true
-counts out.Agree = true
-counts (out.Split at lower upper) = true
-counts (out.Parts points prints) = true
-counts (out.Entries count) = true
-counts (out.Rest count) = true
-counts (out.Row at) = false
-counts out.EndTurn = false
-counts out.Bye = false

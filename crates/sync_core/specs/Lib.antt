@@ -6,3 +6,5 @@ pub mod Held
 pub mod Answers
 pub mod Hears
 pub mod Runs
+pub mod Talks
+pub mod Orders

@@ -4,7 +4,8 @@ ghost use Rattle.std.specs.Prelude.{◌≡◌, ℕ, ◌++◌, ◌<◌, ◌≤◌
 ghost use Rattle.willow_area.specs.declared.cut.CutAt.TheVariants as cuts;
 ghost use Rattle.willow_entry.specs.Row.{RowValue};
 ghost use Rattle.block_store.specs.BoxKinds.{IsOfOneNamespace};
-ghost use Rattle.block_store.specs.InBox.{rows_in};
+ghost use Rattle.block_store.specs.InBox.{is_in, rows_in};
+ghost use Rattle.block_store.specs.Positions.{positions};
 ghost use Rattle.exchange_rules.specs.Answer.{reply, differing, lacking, opened, print_ask, turn};
 ghost use Rattle.exchange_rules.specs.Rules.{box_print};
 ghost use Rattle.exchange_rules.specs.Items as rules;
@@ -17,13 +18,16 @@ ghost use Rattle.sync_core.specs.SyncRules.{IsVersion, sync_rules};
 ghost use Rattle.sync_core.specs.Flat.{items_of, turn_items};
 ghost use Rattle.sync_core.specs.Held.{Tell, ask_value, owed_value};
 ghost use Rattle.sync_core.specs.Answers.{Adds};
+ghost use Rattle.sync_core.specs.Orders.{IsOrderOf};
 
 use crate::ask::{Ask, Owed};
+use crate::boxes::found_in;
+use crate::by_time::order_for;
 use crate::out_item::OutItem;
 use crate::print::print_of;
 use crate::rows::{positions_lacking, push_rows};
-use block_store::Snapshot;
-use range_split::{Choice, box_parts, choose, choose_parts};
+use block_store::{Snapshot, TimeOrder};
+use range_split::{Choice, box_parts, choose, choose_parts_among};
 use std::alloc::Global;
 use std::collections::VecDeque;
 use sync_msg::{Points, Prints};
@@ -56,14 +60,18 @@ pub(crate) fn turn_of<R: Row>(
     alloc: Global,
     version: u8,
     snapshot: &Snapshot<R>,
+    order: &mut Option<TimeOrder>,
     asks: &[Ask],
 ) -> Result<Turn, NoMemory>
     requires version { IsVersion version }
     requires one { IsOfOneNamespace (map R.value snapshot.now) }
+    requires order { IsOrderOf order.old (map R.value snapshot.now) }
+    ensures order { IsOrderOf order.new (map R.value snapshot.now) }
     ensures items { IfOk result (λ made. Tell (map R.value snapshot.now) made.items.items (turn_items version (turn (sync_rules version) (map R.value snapshot.now) (map ask_value asks.now)))) }
     ensures opens { IfOk result (λ made. map (owed_value (map R.value snapshot.now)) made.opens.items ≡ opened (sync_rules version) (map R.value snapshot.now) (map ask_value asks.now)) }
 {
-    let mut turn = answers_to(alloc, version, snapshot, asks)?;
+    order_for(alloc, snapshot, asks, order)?;
+    let mut turn = answers_to(alloc, version, snapshot, order, asks)?;
     let end = if turn.opens.is_empty() {
         OutItem::Bye
     } else {
@@ -78,16 +86,18 @@ fn answers_to<R: Row>(
     alloc: Global,
     version: u8,
     snapshot: &Snapshot<R>,
+    order: &Option<TimeOrder>,
     asks: &[Ask],
 ) -> Result<Turn, NoMemory>
     requires version { IsVersion version }
     requires one { IsOfOneNamespace (map R.value snapshot.now) }
+    requires order { IsOrderOf order.now (map R.value snapshot.now) }
     ensures items { IfOk result (λ made. Tell (map R.value snapshot.now) made.items.items (flat_map (items_of version) (turn (sync_rules version) (map R.value snapshot.now) (map ask_value asks.now)).items)) }
     ensures opens { IfOk result (λ made. map (owed_value (map R.value snapshot.now)) made.opens.items ≡ opened (sync_rules version) (map R.value snapshot.now) (map ask_value asks.now)) }
 {
     let mut turn = Turn::new(alloc);
     for ask in asks {
-        answer(alloc, version, snapshot, ask, &mut turn)?;
+        answer(alloc, version, snapshot, order, ask, &mut turn)?;
     }
     Ok(turn)
 }
@@ -97,22 +107,24 @@ fn answer<R: Row>(
     alloc: Global,
     version: u8,
     snapshot: &Snapshot<R>,
+    order: &Option<TimeOrder>,
     ask: &Ask,
     turn: &mut Turn,
 ) -> Result<(), NoMemory>
     requires version { IsVersion version }
     requires one { IsOfOneNamespace (map R.value snapshot.now) }
+    requires order { IsOrderOf order.now (map R.value snapshot.now) }
     ensures { OnOk result (Adds version (map R.value snapshot.now) turn.old turn.new (reply (sync_rules version) (map R.value snapshot.now) (ask_value ask.now))) }
 {
     match ask {
         Ask::Print { area, print } => {
-            if *print == print_of(snapshot, area) {
+            if *print == print_of(snapshot, order, area) {
                 agree(turn)
             } else {
-                differ(alloc, version, snapshot, area, turn)
+                differ(alloc, version, snapshot, order, area, turn)
             }
         }
-        Ask::Sent { area, rows } => rest(alloc, snapshot, area, rows, turn),
+        Ask::Sent { area, rows } => rest(alloc, snapshot, order, area, rows, turn),
     }
 }
 
@@ -129,33 +141,36 @@ fn differ<R: Row>(
     alloc: Global,
     version: u8,
     snapshot: &Snapshot<R>,
+    order: &Option<TimeOrder>,
     area: &Box3,
     turn: &mut Turn,
 ) -> Result<(), NoMemory>
     requires version { IsVersion version }
     requires one { IsOfOneNamespace (map R.value snapshot.now) }
+    requires order { IsOrderOf order.now (map R.value snapshot.now) }
     ensures { OnOk result (Adds version (map R.value snapshot.now) turn.old turn.new (differing (sync_rules version) (map R.value snapshot.now) area.now ((sync_rules version).choice (rows_in area.now (map R.value snapshot.now))))) }
 {
     if version == 1 {
-        differ_in_two(alloc, snapshot, area, turn)
+        differ_in_two(snapshot, order, area, turn)
     } else {
-        differ_in_parts(alloc, snapshot, area, turn)
+        differ_in_parts(alloc, snapshot, order, area, turn)
     }
 }
 
 // The same in version 1: by all of them, or by a cut of the box in two.
 fn differ_in_two<R: Row>(
-    alloc: Global,
     snapshot: &Snapshot<R>,
+    order: &Option<TimeOrder>,
     area: &Box3,
     turn: &mut Turn,
 ) -> Result<(), NoMemory>
+    requires { IsOrderOf order.now (map R.value snapshot.now) }
     ensures { OnOk result (Adds 1 (map R.value snapshot.now) turn.old turn.new (differing (sync_rules 1) (map R.value snapshot.now) area.now (option_map cuts_at (choice (rows_in area.now (map R.value snapshot.now)))))) }
 {
     match choose(snapshot, area) {
-        Choice::Entries => entries(alloc, snapshot, area, turn),
-        Choice::AtSubspace(key) => split(snapshot, area, CutAt::Subspace(key), turn),
-        Choice::AtPathOf(at) => split(snapshot, area, path_at(snapshot, at)?, turn),
+        Choice::Entries => entries(area, &found_in(snapshot, order, area)?, turn),
+        Choice::AtSubspace(key) => split(snapshot, order, area, CutAt::Subspace(key), turn),
+        Choice::AtPathOf(at) => split(snapshot, order, area, path_at(snapshot, at)?, turn),
     }
 }
 
@@ -163,15 +178,18 @@ fn differ_in_two<R: Row>(
 fn differ_in_parts<R: Row>(
     alloc: Global,
     snapshot: &Snapshot<R>,
+    order: &Option<TimeOrder>,
     area: &Box3,
     turn: &mut Turn,
 ) -> Result<(), NoMemory>
-    requires { IsOfOneNamespace (map R.value snapshot.now) }
+    requires one { IsOfOneNamespace (map R.value snapshot.now) }
+    requires order { IsOrderOf order.now (map R.value snapshot.now) }
     ensures { OnOk result (Adds 2 (map R.value snapshot.now) turn.old turn.new (differing (sync_rules 2) (map R.value snapshot.now) area.now (option_map cuts_at (even_choice (rows_in area.now (map R.value snapshot.now)))))) }
 {
-    match choose_parts(alloc, snapshot, area)? {
-        None => entries(alloc, snapshot, area, turn),
-        Some(points) => parts(alloc, snapshot, area, points, turn),
+    let found = found_in(snapshot, order, area)?;
+    match choose_parts_among(alloc, snapshot, area, &found)? {
+        None => entries(area, &found, turn),
+        Some(points) => parts(alloc, snapshot, order, area, points, turn),
     }
 }
 
@@ -186,21 +204,15 @@ fn path_at<R: Row>(snapshot: &Snapshot<R>, at: u32) -> Result<CutAt, NoMemory>
     }
 }
 
-// Says all rows of a box, and opens it with them.
-fn entries<R: Row>(
-    alloc: Global,
-    snapshot: &Snapshot<R>,
-    area: &Box3,
-    turn: &mut Turn,
-) -> Result<(), NoMemory>
-    requires { length (rows_in area.now (map R.value snapshot.now)) ≤ ENTRIES_MAX }
-    ensures { OnOk result ((version : ℕ) → Adds version (map R.value snapshot.now) turn.old turn.new (differing (sync_rules version) (map R.value snapshot.now) area.now None)) }
+// Says all rows of a box, which stand at these positions, and opens it with them.
+fn entries(area: &Box3, found: &[u32], turn: &mut Turn) -> Result<(), NoMemory>
+    requires { length found.now ≤ ENTRIES_MAX }
+    ensures { OnOk result ((version : ℕ) (rows : List RowValue) → found.now ≡ positions (is_in area.now) rows → Adds version rows turn.old turn.new (differing (sync_rules version) rows area.now None)) }
 {
-    let positions = positions_lacking(alloc, snapshot, area, &[])?;
     turn.items.push(OutItem::Entries {
-        count: positions.len() as u8,
+        count: found.len() as u8,
     })?;
-    push_rows(&positions, &mut turn.items)?;
+    push_rows(found, &mut turn.items)?;
     turn.opens.push(Owed::Rest { area: area.copy()? })?;
     Ok(())
 }
@@ -209,13 +221,15 @@ fn entries<R: Row>(
 fn rest<R: Row>(
     alloc: Global,
     snapshot: &Snapshot<R>,
+    order: &Option<TimeOrder>,
     area: &Box3,
     sent: &[BareRow],
     turn: &mut Turn,
 ) -> Result<(), NoMemory>
+    requires { IsOrderOf order.now (map R.value snapshot.now) }
     ensures { OnOk result ((version : ℕ) → Adds version (map R.value snapshot.now) turn.old turn.new (record { item = rules.Rest (lacking (sync_rules version) (map R.value snapshot.now) area.now sent.now); opens = [] })) }
 {
-    let positions = positions_lacking(alloc, snapshot, area, sent)?;
+    let positions = positions_lacking(alloc, snapshot, order, area, sent)?;
     turn.items.push(OutItem::Rest {
         count: positions.len() as u32,
     })?;
@@ -226,15 +240,18 @@ fn rest<R: Row>(
 // a point that is not inside the box; of others nothing is said then.
 fn split<R: Row>(
     snapshot: &Snapshot<R>,
+    order: &Option<TimeOrder>,
     area: &Box3,
     at: CutAt,
     turn: &mut Turn,
 ) -> Result<(), NoMemory>
+    requires { IsOrderOf order.now (map R.value snapshot.now) }
     ensures { OnOk result (Adds 1 (map R.value snapshot.now) turn.old turn.new (differing (sync_rules 1) (map R.value snapshot.now) area.now (Some (at ∷ [])))) }
 {
     match area.cut(&at) {
         Ok((below, above)) => {
-            let (lower, upper) = (print_of(snapshot, &below), print_of(snapshot, &above));
+            let lower = print_of(snapshot, order, &below);
+            let upper = print_of(snapshot, order, &above);
             turn.items.push(OutItem::Split { at, lower, upper })?;
             turn.opens.push(Owed::Print {
                 area: below,
@@ -256,16 +273,18 @@ fn split<R: Row>(
 fn parts<R: Row>(
     alloc: Global,
     snapshot: &Snapshot<R>,
+    order: &Option<TimeOrder>,
     area: &Box3,
     points: Points,
     turn: &mut Turn,
 ) -> Result<(), NoMemory>
-    requires { IsTrue (are_of_one points) }
+    requires order { IsOrderOf order.now (map R.value snapshot.now) }
+    requires points { IsTrue (are_of_one points) }
     ensures { OnOk result (Adds 2 (map R.value snapshot.now) turn.old turn.new (differing (sync_rules 2) (map R.value snapshot.now) area.now (Some points))) }
 {
     match box_parts(alloc, area, &points) {
         Ok(parts) => {
-            let prints = print_parts(alloc, snapshot, parts, &mut turn.opens)?;
+            let prints = print_parts(alloc, snapshot, order, parts, &mut turn.opens)?;
             turn.items.push(OutItem::Parts { points, prints })?;
             Ok(())
         }
@@ -278,9 +297,11 @@ fn parts<R: Row>(
 fn print_parts<R: Row>(
     alloc: Global,
     snapshot: &Snapshot<R>,
+    order: &Option<TimeOrder>,
     parts: Vec<Box3>,
     opens: &mut Vec<Owed>,
 ) -> Result<Prints, NoMemory>
+    requires { IsOrderOf order.now (map R.value snapshot.now) }
     ensures prints { IfOk result (λ prints. prints ≡ map (λ part. box_print (sync_rules 2) part (map R.value snapshot.now)) parts.items) }
     ensures opens { OnOk result (map (owed_value (map R.value snapshot.now)) opens.new.items ≡ map (owed_value (map R.value snapshot.now)) opens.old.items ++ map (print_ask (sync_rules 2) (map R.value snapshot.now)) parts.items) }
 {
@@ -291,7 +312,7 @@ fn print_parts<R: Row>(
         match rest.pop_front() {
             None => unreachable!(),
             Some(area) => {
-                let print = print_of(snapshot, &area);
+                let print = print_of(snapshot, order, &area);
                 prints.push(print)?;
                 opens.push(Owed::Print { area, print })?;
             }

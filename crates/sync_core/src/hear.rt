@@ -8,12 +8,13 @@ ghost use Rattle.sync_core.specs.SyncRules.{IsVersion};
 ghost use Rattle.sync_core.specs.Steps.{bye_heard, end_heard, first_heard, next_heard};
 ghost use Rattle.sync_core.specs.Held.{IsReady, ask_value, doing_of};
 ghost use Rattle.sync_core.specs.Hears.{Does};
+ghost use Rattle.sync_core.specs.Orders.{IsOrderOf};
 
 use crate::answer::turn_of;
 use crate::ask::Ask;
 use crate::head::{head, row_due};
 use crate::work::{Ear, Phase, Work};
-use block_store::Snapshot;
+use block_store::{Snapshot, TimeOrder};
 use std::alloc::Global;
 use std::collections::VecDeque;
 use sync_msg::{CoreRefusal, Item};
@@ -26,6 +27,7 @@ pub(crate) fn hear<R: Row, Q: Row>(
     alloc: Global,
     version: u8,
     snapshot: &Snapshot<R>,
+    order: &mut Option<TimeOrder>,
     area: &Option<Box3>,
     work: &mut Work,
     item: &Item<Q>,
@@ -34,6 +36,8 @@ pub(crate) fn hear<R: Row, Q: Row>(
     requires one { IsOfOneNamespace (map R.value snapshot.now) }
     requires ready { IsReady (map R.value snapshot.now) work.old }
     requires prints { HasPrints (item_value Q.value item.now) }
+    requires order { IsOrderOf order.old (map R.value snapshot.now) }
+    ensures order { IsOrderOf order.new (map R.value snapshot.now) }
     ensures does { Does (doing_of (map R.value snapshot.now) work.old) (doing_of (map R.value snapshot.now) work.new)
         (next_heard version area.now (map R.value snapshot.now) (doing_of (map R.value snapshot.now) work.old) (item_value Q.value item.now)) result }
     ensures ready { IsReady (map R.value snapshot.now) work.new }
@@ -42,7 +46,7 @@ pub(crate) fn hear<R: Row, Q: Row>(
         Phase::Beginning => first(alloc, area, work, item),
         Phase::Hearing if work.ear.due.is_some() => row_due(alloc, &mut work.ear, item),
         Phase::Hearing if work.ear.owed.is_empty() => {
-            end_of_turn(alloc, version, snapshot, work, item)
+            end_of_turn(alloc, version, snapshot, order, work, item)
         }
         Phase::Hearing => head(alloc, version, &mut work.ear, item),
         Phase::Parting => farewell(work, item),
@@ -88,12 +92,15 @@ fn end_of_turn<R: Row, Q: Row>(
     alloc: Global,
     version: u8,
     snapshot: &Snapshot<R>,
+    order: &mut Option<TimeOrder>,
     work: &mut Work,
     item: &Item<Q>,
 ) -> Result<(), End<CoreRefusal>>
     requires version { IsVersion version }
     requires one { IsOfOneNamespace (map R.value snapshot.now) }
     requires ready { IsReady (map R.value snapshot.now) work.old }
+    requires order { IsOrderOf order.old (map R.value snapshot.now) }
+    ensures order { IsOrderOf order.new (map R.value snapshot.now) }
     ensures does { Does (doing_of (map R.value snapshot.now) work.old) (doing_of (map R.value snapshot.now) work.new)
         (end_heard version (map R.value snapshot.now) (map ask_value work.old.ear.opens.items) (item_value Q.value item.now)) result }
     ensures ready { IsReady (map R.value snapshot.now) work.new }
@@ -104,7 +111,7 @@ fn end_of_turn<R: Row, Q: Row>(
             Ok(())
         }
         Item::EndTurn if !work.ear.opens.is_empty() => {
-            let turn = turn_of(alloc, version, snapshot, &work.ear.opens)?;
+            let turn = turn_of(alloc, version, snapshot, order, &work.ear.opens)?;
             work.items = VecDeque::from_vec(turn.items);
             work.ear.owed = VecDeque::from_vec(turn.opens);
             work.phase = Phase::Saying;

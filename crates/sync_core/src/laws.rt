@@ -1,22 +1,26 @@
 //! What holds of the rules of stores. These functions do nothing: each is called, if at all, for its clauses.
 
-ghost use Rattle.std.specs.Prelude.{◌≡◌, ℕ, ◌≤◌, List, [], length, All, Option, None, Some, Ok, IsErr};
+ghost use Rattle.std.specs.Prelude.{◌≡◌, ℕ, ◌≤◌, Bool, List, [], length, count_by, All, Contains, Option, None, Some, Ok, IsErr};
+ghost use Rattle.std.specs.List.{IsDistinct};
 ghost use Rattle.std.specs.List.Sorted.{IsStrictlySortedBy};
 ghost use Rattle.willow_area.specs.Boxes.{Ranges};
 ghost use Rattle.willow_entry.specs.Frame.{HasFrame};
-ghost use Rattle.willow_entry.specs.Row.{RowValue, AreLive, inner_place_cmp};
+ghost use Rattle.willow_entry.specs.Row.{RowValue, AreLive, inner_place_cmp, same_row};
 ghost use Rattle.block_store.specs.BoxKinds.{IsOfOneNamespace};
+ghost use Rattle.block_store.specs.InBox.{rows_in};
 ghost use Rattle.exchange_rules.specs.AnyPeer.{heard, first_opens};
 ghost use Rattle.exchange_rules.specs.Answer.{turn};
 ghost use Rattle.exchange_rules.specs.Exchange.{exchange, first_turn};
 ghost use Rattle.exchange_rules.specs.Items.{bye};
 ghost use Rattle.exchange_rules.specs.Premises.{IsDeciding, HasDisjointParts, CanCut, CanSend};
-ghost use Rattle.sync_msg.specs.Items.{HasSpelling};
+ghost use Rattle.sync_msg.specs.Items.{ItemValue, HasSpelling};
+ghost use Rattle.sync_msg.specs.declared.role.Role.{Role};
 ghost use Rattle.sync_msg.specs.declared.role.Role.TheVariants.{Caller, Answerer};
 ghost use Rattle.sync_core.specs.SyncRules.{sync_rules};
 ghost use Rattle.sync_core.specs.Flat.{AskValue, TurnValue, IsToldTurn, turn_items};
 ghost use Rattle.sync_core.specs.Place.{Place, first_place, saying};
 ghost use Rattle.sync_core.specs.Runs.{HasRoom, HearsAnswers, HearsFirst, HearsLast, SayTurns, hears, place_after, place_at_end, place_behind, says};
+ghost use Rattle.sync_core.specs.Talks.{rows_said};
 
 use crate::stage::SNAPSHOT_MAX;
 
@@ -81,6 +85,19 @@ pub fn two_sides_say_the_exchange()
         → IsStrictlySortedBy inner_place_cmp a → IsStrictlySortedBy inner_place_cmp b
         → length a ≤ SNAPSHOT_MAX → length b ≤ SNAPSHOT_MAX
         → SayTurns (exchange (sync_rules version) a b x) (first_place version Caller a x) (first_place version Answerer b x) }
+{}
+
+/// Whatever a side reads, it tells only rows that it has in the box, each once: of the rows that pass a test no more than it has
+/// there. Without a box it tells none.
+pub fn each_row_once()
+    ensures no_more { (version : ℕ) (role : Role) (rows : List RowValue) (x : Ranges) (read : List ItemValue) (passes : RowValue → Bool)
+        → count_by passes (rows_said (first_place version role rows (Some x)) read) ≤ count_by passes (rows_in x rows) }
+    ensures held { (version : ℕ) (role : Role) (rows : List RowValue) (x : Ranges) (read : List ItemValue)
+        → All (Contains (rows_in x rows)) (rows_said (first_place version role rows (Some x)) read) }
+    ensures once { (version : ℕ) (role : Role) (rows : List RowValue) (x : Ranges) (read : List ItemValue)
+        → IsDistinct same_row rows → IsDistinct same_row (rows_said (first_place version role rows (Some x)) read) }
+    ensures without_a_box { (version : ℕ) (role : Role) (rows : List RowValue) (read : List ItemValue)
+        → rows_said (first_place version role rows None) read ≡ [] }
 {}
 
 /// What a snapshot keeps rises so: live rows of one namespace rise by subspace and path.

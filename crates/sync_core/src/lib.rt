@@ -5,6 +5,8 @@
 
 mod answer;
 mod ask;
+mod boxes;
+mod by_time;
 mod head;
 mod hear;
 pub mod laws;

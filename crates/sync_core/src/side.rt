@@ -18,7 +18,7 @@ use crate::say::say;
 use crate::stage::{SNAPSHOT_MAX, Stage};
 use crate::start::first_work;
 use crate::work::{Phase, Work};
-use block_store::Snapshot;
+use block_store::{Snapshot, TimeOrder};
 use std::alloc::Global;
 use std::marker::Model;
 use sync_msg::{CoreRefusal, Item, Role};
@@ -33,6 +33,8 @@ pub struct SyncCore<R: Row> {
     version: u8,
     role: Role,
     snapshot: Snapshot<R>,
+    // The order of the rows by time, once a box was cut by time.
+    order: Option<TimeOrder>,
     area: Option<Box3>,
     most: u32,
     sent: u32,
@@ -48,10 +50,11 @@ impl<R: Row> Model for SyncCore<R> {
 
     ghost use Rattle.sync_core.specs.Place.{most_items};
     ghost use Rattle.sync_core.specs.Held.{IsReady, IsSteady, doing_of};
+    ghost use Rattle.sync_core.specs.Orders.{IsOrderOf};
 
     ghost view = { λ s. record { version = s.version; role = s.role; rows = map R.value s.snapshot; area = s.area; sent = s.sent; read = s.read; doing = doing_of (map R.value s.snapshot) s.work } };
 
-    ghost invariant = { λ s. IsSteady (record { version = s.version; role = s.role; rows = map R.value s.snapshot; area = s.area; sent = s.sent; read = s.read; doing = doing_of (map R.value s.snapshot) s.work }) s.most s.work };
+    ghost invariant = { λ s. IsSteady (record { version = s.version; role = s.role; rows = map R.value s.snapshot; area = s.area; sent = s.sent; read = s.read; doing = doing_of (map R.value s.snapshot) s.work }) s.most s.work × IsOrderOf s.order (map R.value s.snapshot) };
 }
 
 impl<R: Row> SyncCore<R> {
@@ -81,6 +84,7 @@ impl<R: Row> SyncCore<R> {
             version,
             role,
             snapshot,
+            order: None,
             area,
             most,
             sent: 0,
@@ -157,6 +161,7 @@ impl<R: Row> SyncCore<R> {
             self.alloc,
             self.version,
             &self.snapshot,
+            &mut self.order,
             &self.area,
             &mut self.work,
             &item,

@@ -36,7 +36,7 @@ pub(crate) fn first_work<R: Row>(
             Ok(work_of(alloc, Phase::Saying, turn))
         }
         (Role::Caller, Some(area)) => {
-            let print = print_of(snapshot, area);
+            let print = print_of(snapshot, &None, area);
             turn.items.push(OutItem::First { print })?;
             turn.items.push(OutItem::EndTurn)?;
             turn.opens.push(Owed::Print {

@@ -13,7 +13,7 @@ use Rattle.session_rules.proofs.Worlds.{same_read}
 use Rattle.sync_link.specs.Greetings.{greeting}
 use Rattle.sync_link.specs.Places.{offers_of, places}
 use Rattle.sync_link.specs.Sessions.{Party, SessionCause, AreSameInCommon, own_part, session_of, out, got, ending}
-use Rattle.sync_link.specs.Run.{Answer, IsAllOf, Ends}
+use Rattle.sync_link.specs.Run.{Answer, AreAllOf, IsAllOf, Ends}
 use Rattle.sync_link.specs.Ran.{Ran, side, opening_of, BringSame, HasProved, IsUnfailed, IsDone, EndAlike, AreAlike}
 use Rattle.sync_link.proofs.Resigned.{got_resigned, ending_resigned, quiet_resigned}
 
@@ -66,7 +66,7 @@ module _ (p q : List ℕ → Party) (one : Ran p) (other : Ran q) (bring : Bring
   as_twin f e = e ∙ ap (f twin (opening_of other)) (sym heard) ∙ ap (λ party. f party (opening_of other) other.did.bytes) (sym bring)
 
   same_moves : read (session_of twin rows) (start (session_of twin rows)) bytes ≡ read (session_of twin (opening_of other)) (start (session_of twin (opening_of other))) bytes
-  same_moves = same_read (greeting party.rules party.namespace) places (own_part twin) (offers_of rows) (offers_of (opening_of other)) bytes same
+  same_moves = same_read (greeting party.rules party.namespace) places (own_part twin) (offers_of twin.interest rows) (offers_of twin.interest (opening_of other)) bytes same
 
   out_alike : out twin rows bytes ≡ out (side other) (opening_of other) other.did.bytes
   out_alike = let a = session_of twin rows in as_twin out (ap (λ m. flat_map a.spelling (a.opening ++ says_of m)) same_moves)
@@ -114,7 +114,7 @@ module _ (p q : List ℕ → Party) (one : Ran p) (other : Ran q) (bring : Bring
         bytes = wrote.0;
         wrote = wrote.1;
         rows = got party rows bytes;
-        sent = (one.did.sent, subst (λ all. IsAllOf all (map row_of other.did.rows) other.answer) (sym got_alike) other.did.sent);
+        sent = (one.did.sent, subst (λ all. AreAllOf all (map row_of other.did.rows) other.answer) (sym got_alike) other.did.sent);
         end = ending party rows bytes;
         ended = (one.did.ended, subst (λ end. Ends end (length other.did.bytes) other.answer) (sym ending_alike) other.did.ended);
         answered = λ ok ok'.

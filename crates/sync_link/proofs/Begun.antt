@@ -1,16 +1,18 @@
 -- A session that has read nothing yet.
-use Rattle.std.proofs.Common.{◌≡◌, inr, ℕ, ◌<◌, ◌≤◌, List, [], length, take, drop, Option, None, Some, refl, sym, ap, ◌∙◌, subst, arith, append-nil}
+use Rattle.std.proofs.Common.{◌≡◌, inl, inr, ℕ, ◌<◌, List, [], ◌∷◌, ◌++◌, length, take, drop, Option, None, Some, refl, sym, ap, ◌∙◌, subst, arith, append-nil}
 use Rattle.std.proofs.lemmas.List.{take-append-drop}
 use Rattle.std.specs.Io.KnownBytes.{Consumes}
 use Rattle.willow_outside.specs.Told.{Extends}
 use Rattle.willow_outside.proofs.Extended.{extends-none}
 use mathlib.Core.List.{IsPrefix}
+use Rattle.scheme_core.specs.Rules.{Rules}
 use Rattle.willow_outside.specs.Counts.{HasRisen}
 use Rattle.willow_outside.specs.Facts.{LinkFacts}
 use Rattle.willow_entry.specs.Row.{RowValue, live}
+use Rattle.willow_entry.specs.declared.row.LogRow.{LogRow}
 use Rattle.auth_entry.specs.Authorised.{AuthorisedValue}
 use Rattle.log_rule.proofs.Prefixes.{prefix_self}
-use Rattle.ns_cell.specs.Passes.{PassValue, IsLater}
+use Rattle.ns_cell.specs.Passes.{PassValue, FirstFound, HadTurn, IsLater}
 use Rattle.session_end.specs.declared.end.SessionEnd.TheVariants as ends
 use Rattle.session_rules.specs.Rounds.{IsFront}
 use Rattle.session_rules.proofs.Growing.{front_by, front_none}
@@ -18,12 +20,14 @@ use Rattle.sync_hello.specs.HelloForm.{hello_spelling}
 use Rattle.sync_link.specs.Sessions.{out, got}
 use Rattle.sync_link.specs.Settling.{IsOpening}
 use Rattle.sync_link.specs.Fed.{Fed, begun, fed_in, first_bytes}
+use Rattle.auth_entry.specs.Rows.{authorised_rows}
 use Rattle.sync_link.specs.Kept.{log_rows}
+use Rattle.sync_link.specs.Run.{CoversOrIsFull}
 use Rattle.sync_link.specs.Tallies.{HasGrown}
 use Rattle.sync_link.specs.UnderWay.{Start, brought, IsReady, Reached, IsUnderWay, ReadsNothing, EndsSo}
 use Rattle.sync_link.proofs.ReadOn.{begun_read}
 use Rattle.sync_link.proofs.Tallying.{tally_none}
-use Rattle.sync_link.proofs.Outcomes.{cut_off}
+use Rattle.sync_link.proofs.Outcomes.{cut_kept, unsent}
 
 none_is_some : (signature : List ℕ) → None ≡ Some signature → ⊥
 none_is_some signature e = cc
@@ -32,18 +36,27 @@ consumes_none : (known : Option (List ℕ)) → Consumes known known []
 consumes_none None = tt
 consumes_none (Some xs) = refl
 
+-- where no row came, none is wanting in the log
+none_came : (rules : Rules) (namespace : List ℕ) (pass : PassValue AuthorisedValue) → CoversOrIsFull (log_rows pass.seen) (authorised_rows rules namespace [])
+none_came rules namespace pass = inl (λ k d within. absurd (omega arith))
+
+-- the one turn that a pass had since is its first
+first_found : {R : Type 0} (before : PassValue R) (log : List (LogRow R)) (after : PassValue R) → HadTurn before after → after.seen ≡ log → FirstFound before log after
+first_found {R} before log after turn seen =
+    subst (λ (turns : List (List (LogRow R))). IsPrefix (before.turns ++ log ∷ []) turns) (sym turn) (subst (λ (l : List (LogRow R)). IsPrefix (before.turns ++ l ∷ []) (before.turns ++ after.seen ∷ [])) seen (prefix_self (before.turns ++ after.seen ∷ [])))
+
 module _ (start : Start) (rows : List RowValue) (pass : PassValue AuthorisedValue) (ready : IsReady start rows pass) where
   abbrev first : Fed
-  first = fed_in start.rules (begun start.namespace start.role start.hello rows)
+  first = fed_in start.rules (begun start.namespace start.role start.hello start.interest rows)
 
   abbrev due : List ℕ
   due = first_bytes start.role start.hello
 
   reached : Reached start first [] due []
   reached = record {
-    side_is = ap (λ (l : List RowValue). (fed_in start.rules (begun start.namespace start.role start.hello l)).side) ready.rows_are;
+    side_is = ap (λ (l : List RowValue). (fed_in start.rules (begun start.namespace start.role start.hello start.interest l)).side) ready.rows_are;
     are_bytes = tt;
-    read = begun_read start.rules start.namespace start.role start.hello rows;
+    read = begun_read start.rules start.namespace start.role start.hello start.interest rows;
     read_out = λ k d within. absurd (omega arith);
     signed = λ signature e. absurd (none_is_some signature e);
   }
@@ -53,6 +66,9 @@ module _ (start : Start) (rows : List RowValue) (pass : PassValue AuthorisedValu
 
   opening : IsPrefix start.pass.seen start.log × IsPrefix start.log pass.seen
   opening = (subst (IsPrefix start.pass.seen) ready.seen ready.later.seen, subst (λ l. IsPrefix start.log l) (sym ready.seen) (prefix_self start.log))
+
+  turn : FirstFound start.pass start.log pass
+  turn = first_found start.pass start.log pass ready.turn ready.seen
 
   grew : HasGrown start.rules start.namespace start.pass [] pass
   grew = record { grown = []; own = ready.own ∙ sym (append-nil start.pass.own); part = tt; later = ready.later }
@@ -70,15 +86,17 @@ module _ (start : Start) (rows : List RowValue) (pass : PassValue AuthorisedValu
       reached = reached;
       opens = opens;
       opening = opening;
+      turn = turn;
       taken = taken;
       held = held;
       count = refl;
+      was_open = inl refl;
       unsigned = λ none. refl;
       tally = tally_none start.rules start.namespace start.pass pass ready.later ready.own ready.pass;
       reads = rest.faults;
       writes = writes;
       ends = rest.ends;
-      faults = omega arith;
+      faults = refl;
     }
 
     front : (k : ℕ) → IsFront (take k due) due
@@ -86,19 +104,19 @@ module _ (start : Start) (rows : List RowValue) (pass : PassValue AuthorisedValu
 
     pub unwritten : ((k : ℕ) × (k < length due) × Extends start.link.held link.held (take k due)) → HasRisen start.link.write_faults link.write_faults → EndsSo start pass link start.faults ends.LinkWrite
     unwritten held rose =
-        cut_off start first [] due [] reached opens pass link start.faults opening grew [] (take held.0 due) ends.LinkWrite tt tt (front held.0) taken held.2
-        (record { reads = rest.faults; writes = rose; ends = rest.ends; signs = omega arith })
+        unsent start first [] due [] reached opens pass link start.faults opening turn grew (none_came start.rules start.namespace pass) (take held.0 due) (front held.0) taken held.2
+        (record { reads = rest.faults; writes = rose; ends = rest.ends; signs = refl })
 
-    pub unwritten_unkept : ((k : ℕ) × (k < length due) × Extends start.link.held link.held (take k due)) → start.link.write_faults ≤ link.write_faults → EndsSo start pass link start.faults ends.NoMemory
-    unwritten_unkept held more =
-        cut_off start first [] due [] reached opens pass link start.faults opening grew [] (take held.0 due) ends.NoMemory tt tt (front held.0) taken held.2
-        (record { reads = omega (arith, rest.faults); writes = more; ends = rest.ends; signs = omega arith })
+    pub unwritten_unkept : ((k : ℕ) × (k < length due) × Extends start.link.held link.held (take k due)) → link.write_faults ≡ start.link.write_faults → EndsSo start pass link start.faults ends.NoMemory
+    unwritten_unkept held same =
+        cut_kept start first [] due [] reached opens pass link start.faults opening turn grew (none_came start.rules start.namespace pass) [] (take held.0 due) ends.NoMemory tt tt (front held.0) taken held.2
+        (record { reads = rest.faults; writes = same; ends = rest.ends; signs = refl })
 
   pub unbegun : EndsSo start pass start.link start.faults ends.NoMemory
   unbegun =
-      cut_off start first [] due [] reached opens pass start.link start.faults opening grew [] [] ends.NoMemory tt tt (front_none due)
+      cut_kept start first [] due [] reached opens pass start.link start.faults opening turn grew (none_came start.rules start.namespace pass) [] [] ends.NoMemory tt tt (front_none due)
       ((consumes_none start.link.left), (extends-none start.link.taken)) (extends-none start.link.held)
-      (record { reads = omega arith; writes = omega arith; ends = refl; signs = omega arith })
+      (record { reads = refl; writes = refl; ends = refl; signs = refl })
 
 -- ---- no snapshot was had
 
@@ -115,6 +133,7 @@ no_snapshot start pass later own = record {
   own_passes = start.own_passes;
   later = later;
   opening = (later.seen, prefix_self pass.seen);
+  turn = inr (refl, (refl, refl));
   opens = λ some. absurd (some refl);
   begun = inr (refl, refl);
   are_bytes = tt;
@@ -127,6 +146,16 @@ no_snapshot start pass later own = record {
   read_out = λ k d within. absurd (omega arith);
   grew = (own ∙ sym (append-nil start.pass.own), tt);
   covers = tt;
+  kept_first = record {
+    front = [];
+    rows = [];
+    log = pass.seen;
+    of_bytes = front_none [];
+    due = front_none (out (brought start []) (live (log_rows pass.seen)) []);
+    came = (begun_read start.rules start.namespace start.role start.hello start.interest (live (log_rows pass.seen)) [] tt).took;
+    of_seen = prefix_self pass.seen;
+    covers = none_came start.rules start.namespace pass;
+  };
   reported = tt;
-  counted_faults = record { reads = omega arith; writes = omega arith; ends = refl; signs = omega arith };
+  counted_faults = record { reads = refl; writes = refl; ends = refl; signs = refl };
 }

@@ -9,6 +9,7 @@ use Rattle.session_end.specs.declared.refusal.HelloRefusal.{HelloRefusal}
 use Rattle.exchange_rules.specs.Items.{counted as count_of_items, caller_turns, answerer_turns}
 use Rattle.exchange_rules.specs.Exchange.{exchange}
 use Rattle.exchange_rules.proofs.Costs.{counted_sides, counted_exchange}
+use Rattle.area_interest.specs.declared.interest.Interest.{Interest}
 use Rattle.sync_msg.specs.Items.{ItemValue, item_spelling}
 use Rattle.sync_msg.specs.declared.refusal.CoreRefusal.{CoreRefusal}
 use Rattle.sync_msg.specs.declared.role.Role.TheVariants as roles
@@ -27,15 +28,17 @@ use Rattle.session_rules.specs.Pairs.{Pair, GreetEachOther, caller_side, answere
 use Rattle.session_rules.proofs.Exchanging.{all_said}
 use Rattle.session_rules.proofs.Growing.{read_over}
 use Rattle.sync_link.specs.Greetings.{Agreement}
-use Rattle.sync_link.specs.Sessions.{Party, SessionStage, SessionMessage, SessionCause, session_of, said, out, ending, box_with, version_with}
+use Rattle.sync_link.specs.Places.{of_interest}
+use Rattle.sync_link.specs.Sessions.{Party, SessionStage, SessionMessage, SessionCause, session_of, said, out, ending, box_with, offered_to, version_with}
 use Rattle.sync_link.specs.Settling.{IsOpening, Accepts, CanMeet, turns_between}
 use Rattle.sync_link.specs.Fed.{heard, counted, noting}
 use Rattle.sync_link.specs.Run.{Reports}
-use Rattle.sync_link.specs.Ran.{Ran, side, opening_of, IsDone, IsOther, most_counted, own_common, other_common}
+use Rattle.sync_link.specs.Ran.{Ran, side, opening_of, IsDone, IsOther, most_counted, own_offered, other_offered, own_common, other_common}
 use Rattle.sync_link.specs.declared.plan.SessionReport.{SessionReport}
 use Rattle.sync_link.proofs.CountedTalk.{said_items, heard_count}
 use Rattle.sync_link.proofs.CoveringRuns.{same_box}
 use Rattle.sync_link.proofs.MetSides.{is_met}
+use Rattle.sync_link.proofs.Offering.{opening_offered}
 use Rattle.sync_link.proofs.OtherSides.{IsMet, meets, meets_back, is_over, all_written, own_opens}
 use Rattle.sync_link.proofs.ReadOn.{noting_stands}
 use Rattle.sync_link.proofs.Settled.{caller, answerer, pair, greet, exchanged, inside, inside_rises, inside_few, inside_sent, same_exchange, session_version_spoken, rises, calling, answering}
@@ -56,15 +59,15 @@ pub record AreCounted (p q : Party) (rows others : List RowValue) (left right : 
   pub by_caller : counted (said p rows right) + counted (heard p rows right) ≤ count_of_items (turns_between p q rows others)
   pub by_answerer : counted (said q others left) + counted (heard q others left) ≤ count_of_items (turns_between p q rows others)
 
-module _ (rules : Rules) (namespace : List ℕ) (hello other : Hello) (signature proof : List ℕ) (rows others : List RowValue)
+module _ (rules : Rules) (namespace : List ℕ) (hello other : Hello) (limits limits' : Interest) (signature proof : List ℕ) (rows others : List RowValue)
     (own : IsOpening namespace rows) (theirs : IsOpening namespace others)
-    (accepts : Accepts (caller rules namespace hello other signature proof) (answerer rules namespace hello other signature proof))
-    (is_accepted : Accepts (answerer rules namespace hello other signature proof) (caller rules namespace hello other signature proof)) where
+    (accepts : Accepts (caller rules namespace hello other limits limits' signature proof) (answerer rules namespace hello other limits limits' signature proof))
+    (is_accepted : Accepts (answerer rules namespace hello other limits limits' signature proof) (caller rules namespace hello other limits limits' signature proof)) where
   abbrev one : Party
-  one = caller rules namespace hello other signature proof
+  one = caller rules namespace hello other limits limits' signature proof
 
   abbrev two : Party
-  two = answerer rules namespace hello other signature proof
+  two = answerer rules namespace hello other limits limits' signature proof
 
   abbrev x : Option Ranges
   x = box_with one other
@@ -72,35 +75,48 @@ module _ (rules : Rules) (namespace : List ℕ) (hello other : Hello) (signature
   abbrev v : ℕ
   v = version_with one other
 
+  -- what each offers
+  abbrev shown : List RowValue
+  shown = of_interest limits x rows
+
+  abbrev shown' : List RowValue
+  shown' = of_interest limits' x others
+
+  shown_opens : IsOpening namespace shown
+  shown_opens = opening_offered namespace limits x rows own
+
+  shown_opens' : IsOpening namespace shown'
+  shown_opens' = opening_offered namespace limits' x others theirs
+
   abbrev mine : List RowValue
-  mine = inside x rows
+  mine = inside x shown
 
   abbrev theirs_in : List RowValue
-  theirs_in = inside x others
+  theirs_in = inside x shown'
 
   abbrev ts : List TurnValue
   ts = exchange (sync_rules v) mine theirs_in x
 
   abbrev both : Pair Hello (List ℕ) Agreement HelloRefusal RowValue Place ItemValue CoreRefusal
-  both = pair rules namespace hello other signature proof rows others
+  both = pair rules namespace hello other limits limits' signature proof rows others
 
   greets : GreetEachOther both
-  greets = greet rules namespace hello other signature proof rows others accepts is_accepted
+  greets = greet rules namespace hello other limits limits' signature proof rows others accepts is_accepted
 
   up : IsStrictlySortedBy inner_place_cmp mine
-  up = inside_rises namespace rows own x
+  up = inside_rises namespace shown shown_opens x
 
   down : IsStrictlySortedBy inner_place_cmp theirs_in
-  down = inside_rises namespace others theirs x
+  down = inside_rises namespace shown' shown_opens' x
 
   can_read : CanReadTurns (by_items v) (caller_side both) (answerer_side both) ts
   can_read =
-      can_read_turns v (session_version_spoken hello other is_accepted.hello_passes.speaks accepts.hello_passes.speaks) mine theirs_in (inside_sent namespace rows own x) (inside_sent namespace others theirs x) x
+      can_read_turns v (session_version_spoken hello other is_accepted.hello_passes.speaks accepts.hello_passes.speaks) mine theirs_in (inside_sent namespace shown shown_opens x) (inside_sent namespace shown' shown_opens' x) x
 
   dialogues : (n : ℕ) → length ts ≤ n → dialogue (caller_side both) (answerer_side both) n ≡ (all_items v (caller_turns ts), all_items v (answerer_turns ts))
   dialogues n h =
       all_said (by_items v) (sync_rules v) (caller_side both) (answerer_side both) mine theirs_in x (disjoint v) (can_cut_rows v mine up) (can_cut_rows v theirs_in down)
-      (take_turns v mine theirs_in up down (inside_few namespace others theirs x) (inside_few namespace rows own x) x) n h
+      (take_turns v mine theirs_in up down (inside_few namespace shown' shown_opens' x) (inside_few namespace shown shown_opens x) x) n h
 
   caller_tells : tells (caller_side both) item_spelling (all_items v (answerer_turns ts)) ≡ all_items v (caller_turns ts)
   unfolding rounds
@@ -118,14 +134,14 @@ module _ (rules : Rules) (namespace : List ℕ) (hello other : Hello) (signature
 
   counts : (left right : List ℕ) → Meet (out one rows) (out two others) left right → AreCounted one two rows others left right
   counts left right meet =
-      let e = exchanged rules namespace hello other signature proof rows others own theirs accepts is_accepted left right meet in
+      let e = exchanged rules namespace hello other limits limits' signature proof rows others own theirs accepts is_accepted left right meet in
       let to_caller = all_items v (answerer_turns ts) in
       let to_answerer = all_items v (caller_turns ts) in
       let said_there = ap (λ l. counted (said one rows l)) e.answerer_writes ∙ said_items one rows other proof greets.caller_hears to_caller can_read.caller_can ∙ ap to_count caller_tells in
       let heard_there = heard_count one rows other proof greets.caller_hears to_caller can_read.caller_can in
       let said_back = ap (λ l. counted (said two others l)) e.caller_writes ∙ said_items two others hello signature greets.answerer_hears to_answerer can_read.answerer_can ∙ ap to_count answerer_tells in
       let heard_back = heard_count two others hello signature greets.answerer_hears to_answerer can_read.answerer_can in
-      let all = ap (λ (l : List TurnValue). count_of_items l) (same_exchange v x rows others) in
+      let all = ap (λ (l : List TurnValue). count_of_items l) (same_exchange v x shown shown') in
       record {
         by_caller = omega (arith, said_there, heard_there, ap (λ l. counted (heard one rows l)) e.answerer_writes, turns_few v (caller_turns ts), turns_few v (answerer_turns ts), counted_sides ts, all);
         by_answerer = omega (arith, said_back, heard_back, ap (λ l. counted (heard two others l)) e.caller_writes, turns_few v (caller_turns ts), turns_few v (answerer_turns ts), counted_sides ts, all);
@@ -139,20 +155,23 @@ CountsFor p q = (rows others : List RowValue) (left right : List ℕ) → Accept
 pub counts_for : (p q : Party) → CanMeet p q → CountsFor p q
 counts_for p q can =
     let plain : CountsFor (record p { role = roles.Caller }) (record q { rules = p.rules; namespace = p.namespace; role = roles.Answerer }) =
-    λ rows others left right accepts is_accepted own theirs meet. counts p.rules p.namespace p.hello q.hello p.signature q.signature rows others own theirs accepts is_accepted left right meet in
+    λ rows others left right accepts is_accepted own theirs meet. counts p.rules p.namespace p.hello q.hello p.interest q.interest p.signature q.signature rows others own theirs accepts is_accepted left right meet in
     let P : Party → Type 0 = λ y. CountsFor (record p { role = roles.Caller }) y in
     subst (λ y. CountsFor y q) (calling p q can) (subst P (answering p q can) plain)
 
 -- ---- the bound
 
+few_in : (namespace : List ℕ) (version : ℕ) (rows others : List RowValue) → IsOpening namespace rows → IsOpening namespace others
+    → (box : Option Ranges) → count_of_items (exchange (sync_rules version) rows others box) ≤ most_counted box (length (rows_of_area box rows)) (length (rows_of_area box others))
+few_in namespace version rows others own theirs None = omega arith
+few_in namespace version rows others own theirs (Some area) =
+    omega (arith, counted_exchange (sync_rules version) rows others area (disjoint version) (can_cut_rows version rows (rises namespace rows own)) (can_cut_rows version others (rises namespace others theirs)))
+
 few_turns : (p q : Party) (rows others : List RowValue) → IsOpening p.namespace rows → IsOpening p.namespace others
-    → count_of_items (turns_between p q rows others) ≤ most_counted (box_with p q.hello) (length (rows_of_area (box_with p q.hello) rows)) (length (rows_of_area (box_with p q.hello) others))
-few_turns p q rows others own theirs = by_box (box_with p q.hello)
-  where
-    by_box : (box : Option Ranges) → count_of_items (exchange (sync_rules (version_with p q.hello)) rows others box) ≤ most_counted box (length (rows_of_area box rows)) (length (rows_of_area box others))
-    by_box None = omega arith
-    by_box (Some area) =
-        omega (arith, counted_exchange (sync_rules (version_with p q.hello)) rows others area (disjoint (version_with p q.hello)) (can_cut_rows (version_with p q.hello) rows (rises p.namespace rows own)) (can_cut_rows (version_with p q.hello) others (rises p.namespace others theirs)))
+    → count_of_items (turns_between p q rows others)
+    ≤ most_counted (box_with p q.hello) (length (rows_of_area (box_with p q.hello) (offered_to p q.hello rows))) (length (rows_of_area (box_with p q.hello) (offered_to q p.hello others)))
+few_turns p q rows others own theirs =
+    few_in p.namespace (version_with p q.hello) (offered_to p q.hello rows) (offered_to q p.hello others) (opening_offered p.namespace p.interest (box_with p q.hello) rows own) (opening_offered p.namespace q.interest (box_with q p.hello) others theirs) (box_with p q.hello)
 
 -- whichever side the rows are of
 either_way : (box : Option Ranges) (a b : ℕ) → most_counted box a b ≤ most_counted box b a
@@ -204,14 +223,16 @@ module _ (p : List ℕ → Party) (ran : Ran p) (q : Party) (others : List RowVa
       let theirs = subst (λ n. IsOpening n others) can.same_namespace other.opens in
       let c = counts_for q party can others rows others_bytes ran.did.written can.accepts can.is_accepted theirs own (meets_back p ran q others other over (all_written p ran q others other done)) in
       let box = same_box party q can.answers can.calls in
-      subst (λ (x : Option Ranges). counted (said party rows bytes) + counted (heard party rows bytes) ≤ most_counted x (length (rows_of_area x rows)) (length (rows_of_area x others))) box
+      let mine = own_offered ran q in
+      let yours = other_offered ran q others in
+      subst (λ (x : Option Ranges). counted (said party rows bytes) + counted (heard party rows bytes) ≤ most_counted x (length (rows_of_area x mine)) (length (rows_of_area x yours))) box
       (omega (
         arith,
         c.by_answerer,
         ap counted said_all,
         ap counted heard_all,
         few_turns q party others rows theirs own,
-        either_way (box_with q party.hello) (length (rows_of_area (box_with q party.hello) others)) (length (rows_of_area (box_with q party.hello) rows)),
+        either_way (box_with q party.hello) (length (rows_of_area (box_with q party.hello) yours)) (length (rows_of_area (box_with q party.hello) mine)),
       ))
 
   pub few : IsFew

@@ -13,7 +13,7 @@ use Rattle.sync_core.specs.Steps.{count_one}
 use Rattle.sync_core.proofs.Owing.{to_count-append}
 use Rattle.session_rules.specs.Machine.{Machine, Seen, Step, Goes, Ends, Refuses}
 use Rattle.session_rules.specs.Reading as reading
-use Rattle.session_rules.specs.Reading.{Stand, Waits, Over, Broken, Refused, Move, stay, then, stepped, move, run, read, start}
+use Rattle.session_rules.specs.Reading.{Stand, Waits, Over, Broken, Refused, Move, stay, stepped, move, run, read, start}
 use Rattle.session_rules.specs.Messages.{IsReadAs, taken, CanReadAll, hear, tells}
 use Rattle.session_rules.specs.Talk.{Role, Caller, Answerer, item_heard}
 use Rattle.session_rules.specs.Greeting.{Greeting, agreed_with, Greets, greeting_bytes}
@@ -81,7 +81,7 @@ module _ (p : Party) (rows : List RowValue) (hello : Hello) (proof : List ℕ) (
 
   -- the exchange behind the greeting
   abbrev pub talks : Machine Place ItemValue ItemValue RowValue CoreRefusal
-  talks = exchange_with rules places (own_part p) (offers_of rows) hello
+  talks = exchange_with rules places (own_part p) (offers_of p.interest rows) hello
 
   abbrev first_bytes : List ℕ
   first_bytes = hello_spelling hello
@@ -107,7 +107,7 @@ module _ (p : Party) (rows : List RowValue) (hello : Hello) (proof : List ℕ) (
 
   talked : (at : ℕ) (bytes : List ℕ) → (read here (Waits (Talking talks.first) (at + 0) []) bytes).says ≡ map Item (read talks (start talks) bytes).says
   talked at bytes =
-      ap says_of (talking rules places (own_part p) (offers_of rows) (own_part p).role (rows_offered rules (own_part p) (offers_of rows) hello) (agreed_with rules (own_part p) hello) (Waits talks.first (at + 0) []) bytes)
+      ap says_of (talking rules places (own_part p) (offers_of p.interest rows) (own_part p).role (rows_offered rules (own_part p) (offers_of p.interest rows) hello) (agreed_with rules (own_part p) hello) (Waits talks.first (at + 0) []) bytes)
       ∙ ap (λ (m : Move Place ItemValue RowValue CoreRefusal). map Item m.says) (shift-read talks at (start talks) bytes)
 
   abbrev says_all : List ℕ → List SessionMessage
@@ -119,7 +119,7 @@ module _ (p : Party) (rows : List RowValue) (hello : Hello) (proof : List ℕ) (
       let none : n ≡ n + 0 = omega arith in
       ap (λ l. (read here (start here) l).says) (append_assoc first_bytes second_bytes bytes)
       ∙ ap says_of (run_append (move here) (start here) first_bytes (second_bytes ++ bytes))
-      ∙ ap (λ (m : AMove). m.says ++ (read here m.stand (second_bytes ++ bytes)).says) (hello_whole rules places (own_part p) (offers_of rows) hello proof greets [])
+      ∙ ap (λ (m : AMove). m.says ++ (read here m.stand (second_bytes ++ bytes)).says) (hello_whole rules places (own_part p) (offers_of p.interest rows) hello proof greets [])
       ∙ ap (λ l. to_first.says ++ l) (
       ap says_of (run_append (move here) to_first.stand second_bytes bytes)
       ∙ ap (λ (m : AMove). m.says ++ (read here m.stand bytes).says) (proof_whole (length first_bytes))

@@ -71,7 +71,7 @@ module _ (p : Party) (rows : List RowValue) where
   hello_few hello None = omega arith
   hello_few hello (Some cause) = omega arith
 
-  proof_few : (hello : Hello) (o : Option HelloRefusal) → length (rows_in_step (proof_read {H = Hello} (own_part p) (exchange_with (greeting p.rules p.namespace) places (own_part p) (offers_of rows) hello) o)) ≤ 1
+  proof_few : (hello : Hello) (o : Option HelloRefusal) → length (rows_in_step (proof_read {H = Hello} (own_part p) (exchange_with (greeting p.rules p.namespace) places (own_part p) (offers_of p.interest rows) hello) o)) ≤ 1
   proof_few hello None = omega arith
   proof_few hello (Some cause) = omega arith
 

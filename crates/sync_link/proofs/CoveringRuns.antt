@@ -30,10 +30,11 @@ use Rattle.sync_link.specs.Settling.{IsOpening, CanMeet, AreApartIn}
 use Rattle.auth_entry.specs.Rows.{authorised_rows}
 use Rattle.sync_link.specs.Kept.{log_rows}
 use Rattle.sync_link.specs.Run.{Covers}
-use Rattle.sync_link.specs.Ran.{Ran, side, opening_of, store_of, LiesAbove, IsDone, IsOther, IsAuthorisedRow, AreAuthorised, AreApartAs, other_common}
+use Rattle.sync_link.specs.Ran.{Ran, side, opening_of, store_of, LiesAbove, IsDone, IsOther, IsAuthorisedRow, AreAuthorised, AreApartAs, AreToldApart, own_offered, other_offered, other_common}
 use Rattle.sync_link.specs.declared.plan.SessionReport.{SessionReport}
 use Rattle.sync_link.proofs.CoveredRows.{rows_behind}
 use Rattle.sync_link.proofs.Grants.{in_rows}
+use Rattle.sync_link.proofs.Offering.{offered_among, opening_offered}
 use Rattle.sync_link.proofs.Settled.{rises}
 use Rattle.sync_link.proofs.MetSides.{is_met}
 use Rattle.sync_link.proofs.OtherSides.{IsMet, got_as_caller, got_as_answerer, is_over, all_written, all_sent, own_opens}
@@ -126,30 +127,44 @@ module _ (p : List ℕ → Party) (ran : Ran p) (q : Party) (others : List RowVa
   abbrev log : List RowValue
   log = log_rows ran.after.seen
 
-  own_covered : (r : RowValue) → Contains rows r → HasCovering log r
-  own_covered r c =
+  -- what the two offer each other
+  abbrev mine : List RowValue
+  mine = own_offered ran q
+
+  abbrev yours : List RowValue
+  yours = other_offered ran q others
+
+  own_covered : (r : RowValue) → Contains mine r → HasCovering log r
+  own_covered r within =
+      let c = offered_among party.interest (box_with party q.hello) rows r within in
       let front = ran.did.opening.1 in
       subst (λ l. HasCovering l r) (sym (rows_behind ran.did.log ran.after.seen front)) (covers_live_front (log_rows ran.did.log) (log_rows front.0) r c)
 
-  pub gets_as_caller : CanMeet party q → AreApartAs (version_with party q.hello) party.role (box_with party q.hello) rows others → Gets (box_with party q.hello) rows others (map row_of ran.did.rows)
+  mine_opens : IsOpening party.namespace mine
+  mine_opens = opening_offered party.namespace party.interest (box_with party q.hello) rows (own_opens p ran q others other done)
+
+  yours_open : IsOpening party.namespace yours
+  yours_open = opening_offered party.namespace q.interest (box_with q party.hello) others other.opens
+
+  pub gets_as_caller : CanMeet party q → AreToldApart ran q others → Gets (box_with party q.hello) mine yours (map row_of ran.did.rows)
   gets_as_caller can apart =
       let own = own_opens p ran q others other done in
-      subst (Gets (box_with party q.hello) rows others)
+      subst (Gets (box_with party q.hello) mine yours)
       (sym (got_as_caller p ran q others other own (is_over p ran q others other done) (all_written p ran q others other done) can) ∙ sym (all_sent p ran q others other done))
-      (caller_gets party.namespace rows others own other.opens (version_with party q.hello) (box_with party q.hello) (apart_as (version_with party q.hello) party.role (box_with party q.hello) rows others can.calls apart))
+      (caller_gets party.namespace mine yours mine_opens yours_open (version_with party q.hello) (box_with party q.hello) (apart_as (version_with party q.hello) party.role (box_with party q.hello) mine yours can.calls apart))
 
-  pub gets_as_answerer : CanMeet q party → AreApartAs (version_with party q.hello) party.role (box_with party q.hello) rows others → Gets (box_with party q.hello) rows others (map row_of ran.did.rows)
+  pub gets_as_answerer : CanMeet q party → AreToldApart ran q others → Gets (box_with party q.hello) mine yours (map row_of ran.did.rows)
   gets_as_answerer can apart =
       let own = own_opens p ran q others other done in
       let same = same_agreement party q can.answers can.calls in
-      subst (Gets (box_with party q.hello) rows others)
-      (ap (λ (a : Agreement). to_right (exchange (sync_rules a.version) others rows a.box)) (sym same) ∙ sym (got_as_answerer p ran q others other own (is_over p ran q others other done) (all_written p ran q others other done) can) ∙ sym (all_sent p ran q others other done))
-      (answerer_gets party.namespace rows others own other.opens (version_with party q.hello) (box_with party q.hello) (apart_back (version_with party q.hello) party.role (box_with party q.hello) rows others can.answers apart))
+      subst (Gets (box_with party q.hello) mine yours)
+      (ap (λ (a : Agreement). to_right (exchange (sync_rules a.version) yours mine a.box)) (sym same) ∙ sym (got_as_answerer p ran q others other own (is_over p ran q others other done) (all_written p ran q others other done) can) ∙ sym (all_sent p ran q others other done))
+      (answerer_gets party.namespace mine yours mine_opens yours_open (version_with party q.hello) (box_with party q.hello) (apart_back (version_with party q.hello) party.role (box_with party q.hello) mine yours can.answers apart))
 
-  gets : AreApartAs (version_with party q.hello) party.role (box_with party q.hello) rows others → Gets (box_with party q.hello) rows others (map row_of ran.did.rows)
+  gets : AreToldApart ran q others → Gets (box_with party q.hello) mine yours (map row_of ran.did.rows)
   gets apart = by_role other.can_meet
     where
-      by_role : CanMeet party q ⊎ CanMeet q party → Gets (box_with party q.hello) rows others (map row_of ran.did.rows)
+      by_role : CanMeet party q ⊎ CanMeet q party → Gets (box_with party q.hello) mine yours (map row_of ran.did.rows)
       by_role (inl can) = gets_as_caller can apart
       by_role (inr can) = gets_as_answerer can apart
 
@@ -170,19 +185,19 @@ module _ (p : List ℕ → Party) (ran : Ran p) (report : SessionReport) (q : Pa
       subst (Covers (log_rows ran.after.seen) (authorised_rows here.rules here.namespace ran.did.rows)) ok ran.did.covers in
       All-contains (HasCovering (log_rows ran.after.seen)) (authorised_rows here.rules here.namespace ran.did.rows) r all (kept here.rules here.namespace ran.did.rows ran.did.read_out r one c)
 
-  covered : (r : RowValue) → Contains others r → Contains (opening_of ran) r ⊎ Contains (map row_of ran.did.rows) r → HasCovering (log_rows ran.after.seen) r
+  covered : (r : RowValue) → Contains others r → Contains (own_offered ran q) r ⊎ Contains (map row_of ran.did.rows) r → HasCovering (log_rows ran.after.seen) r
   covered r whose (inl c) = own_covered p ran q others met is_done r c
   covered r whose (inr c) = sent_covered r whose c
 
-  pub runs_cover : AreApartAs (version_with here q.hello) here.role (box_with here q.hello) (opening_of ran) others → All (HasCovering (log_rows ran.after.seen)) (other_common ran q others)
+  pub runs_cover : AreToldApart ran q others → All (HasCovering (log_rows ran.after.seen)) (other_common ran q others)
   runs_cover apart k d within =
       let r = get_or (other_common ran q others) k d in
       let c = All-contains_itself (other_common ran q others) k d within in
       covered r (in_area_of (box_with here q.hello) r c) (gets p ran q others met is_done apart r c)
     where
-      in_area_of : (box : Option Ranges) (r : RowValue) → Contains (rows_of_area box others) r → Contains others r
+      in_area_of : (box : Option Ranges) (r : RowValue) → Contains (rows_of_area box (other_offered ran q others)) r → Contains others r
       in_area_of None r c = absurd (none_in r c)
-      in_area_of (Some x) r c = in_rows others (Some x) r c
+      in_area_of (Some x) r c = offered_among q.interest (box_with q here.hello) others r (in_rows (other_offered ran q others) (Some x) r c)
 
 -- ---- the store
 
@@ -200,7 +215,7 @@ runs_keep p ran k d within =
     (subst (λ l. HasCovering l r) (sym (rows_behind ran.did.log ran.after.seen front)) (covers_live_front (log_rows ran.did.log) (log_rows front.0) r (All-contains_itself rows k d within)))
 
 module _ (p : List ℕ → Party) (ran : Ran p) (report : SessionReport) (q : Party) (others : List RowValue) (ok : ran.answer ≡ Ok report) (other : IsOther ran q others) (leave : AreAuthorised ran others)
-    (apart : AreApartAs (version_with (side ran) q.hello) (side ran).role (box_with (side ran) q.hello) (opening_of ran) others) where
+    (apart : AreToldApart ran q others) where
   abbrev own : List RowValue
   own = opening_of ran
 

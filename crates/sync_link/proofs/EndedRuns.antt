@@ -36,12 +36,12 @@ use Rattle.sync_link.proofs.Spellings.{hello_as, hello_back}
 
 -- what a side writes is nothing, or begins with its hello
 begins : (q : Party) (others : List RowValue) (bytes : List ℕ) → (out q others bytes ≡ []) ⊎ ((later : List ℕ) × (out q others bytes ≡ hello_spelling q.hello ++ later))
-begins q others bytes = by_case (told (greeting q.rules q.namespace) places (own_part q) (offers_of others) bytes)
+begins q others bytes = by_case (told (greeting q.rules q.namespace) places (own_part q) (offers_of q.interest others) bytes)
   where
     spell : List SessionMessage → List ℕ
     spell = flat_map (session_of q others).spelling
 
-    by_case : (Quiet (greeting q.rules q.namespace) places (own_part q) (offers_of others) (said q others bytes) ⊎ Proved (greeting q.rules q.namespace) places (own_part q) (offers_of others) (said q others bytes))
+    by_case : (Quiet (greeting q.rules q.namespace) places (own_part q) (offers_of q.interest others) (said q others bytes) ⊎ Proved (greeting q.rules q.namespace) places (own_part q) (offers_of q.interest others) (said q others bytes))
         → (out q others bytes ≡ []) ⊎ ((later : List ℕ) × (out q others bytes ≡ hello_spelling q.hello ++ later))
     by_case (inl (inl none)) = inl (ap (flat_map (session_of q others).spelling) none)
     by_case (inl (inr one)) = inr ([], ap (flat_map (session_of q others).spelling) one)

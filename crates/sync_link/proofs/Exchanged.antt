@@ -40,8 +40,7 @@ use Rattle.sync_link.specs.declared.due.Cause.TheVariants as causes
 use Rattle.sync_link.specs.declared.due.Due.TheVariants as dues
 use Rattle.sync_link.specs.declared.due.Exchange.{Exchange}
 use Rattle.sync_link.specs.declared.talker.Talker.{Talker}
-use Rattle.sync_link.proofs.Cases.{AreCases, by_cases, heard_as}
-use Rattle.sync_link.proofs.Own.{same_some, same_ok, not_err, unless_ok}
+use Rattle.sync_core.proofs.Cases.{AreCases, by_cases, heard_as, same_some, same_ok, not_err, unless_ok}
 use Rattle.sync_link.proofs.Heard.{reading_on, version_heard}
 use Rattle.sync_link.proofs.Speaking.{spoken_as, version_spoken}
 use Rattle.sync_link.proofs.Sound.{all_within, heard_alike, says_all_alike}
@@ -151,7 +150,7 @@ awaits_due due (Refused cause) h = ap is_due h
 module _ {R S : Type 0} (rules : Rules) (value : R → RowValue) (talker : Talker R S) (old new : Exchange R) (at : ℕ) (is : IsExchange old) (waits : stage_of old.core.doing ≡ stage.Reading)
     (bytes out_old out_new : List ℕ) (rows_old rows_new : List RowValue) where
   abbrev party : List ℕ → Party
-  party signature = record { rules = rules; namespace = talker.namespace; role = talker.role; hello = talker.hello; signature = signature }
+  party signature = record { rules = rules; namespace = talker.namespace; role = talker.role; hello = talker.hello; interest = talker.interest; signature = signature }
 
   abbrev own_rows : List RowValue
   own_rows = map value talker.snapshot
@@ -302,8 +301,8 @@ module _ {R S : Type 0} (rules : Rules) (value : R → RowValue) (talker : Talke
 
   pub item_holds : (came : ItemCame) → ComesItem old new bytes out_old out_new rows_old rows_new came → taken_behind came ≡ None → Holds rules value talker (after_item (dues.Items new) came) bytes
   item_holds items.More h none at signature =
-      subst (λ x. IsSilent (party_with rules talker.namespace talker.role talker.hello signature) (map value talker.snapshot) (stand_of (dues.Items x) at []) bytes (stand_of (dues.Items x) at bytes))
+      subst (λ x. IsSilent (party_with rules talker.namespace talker.role talker.hello talker.interest signature) (map value talker.snapshot) (stand_of (dues.Items x) at []) bytes (stand_of (dues.Items x) at bytes))
       (sym h.1.0) (item_silent rules value talker old new at is waits bytes out_old out_new rows_old rows_new h.0 signature)
-  item_holds items.Bad h none at signature = broken_silent (party_with rules talker.namespace talker.role talker.hello signature) (map value talker.snapshot) at bytes
+  item_holds items.Bad h none at signature = broken_silent (party_with rules talker.namespace talker.role talker.hello talker.interest signature) (map value talker.snapshot) at bytes
   item_holds (items.Taken taken) h none at signature = absurd (none_taken taken none)
   item_holds (items.Refused cause taken) h none at signature = absurd (none_taken taken none)

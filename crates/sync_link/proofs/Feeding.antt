@@ -153,7 +153,7 @@ module _ {R S : Type 0} (rules : Rules) (value : R → RowValue) where
 
   module _ (talker : Talker R S) (role : Role) (made : Option (List ℕ)) (due : Due R) (fits : Fits role made due) (closed : IsOpen due → ⊥) where
     abbrev party : List ℕ → Party
-    party signature = record { rules = rules; namespace = talker.namespace; role = talker.role; hello = talker.hello; signature = signature }
+    party signature = record { rules = rules; namespace = talker.namespace; role = talker.role; hello = talker.hello; interest = talker.interest; signature = signature }
 
     pub idle_silent : (at : ℕ) (held bytes : List ℕ) (signature : List ℕ) → IsSilent (party signature) (map value talker.snapshot) (stand_of due at held) bytes (stand_of due at held)
     idle_silent at held bytes signature = (idle role made due fits closed at held).1 (party signature) (map value talker.snapshot) bytes
@@ -206,11 +206,3 @@ signed_by gives old new other h signature made = by_either (h signature made)
     by_either : (old.signature ≡ Some signature) ⊎ (gives (own_message old.role old.hello other) signature ≡ true) → (old.signature ≡ Some signature) ⊎ ((hello : Hello) × (gives (own_message old.role old.hello hello) signature ≡ true))
     by_either (inl e) = inl e
     by_either (inr e) = inr (other, e)
-
--- a side that was not signed before, and is not now, was not signed between
-pub unsigned_before : (old new : Option (List ℕ)) → ((signature : List ℕ) → MayBe new signature → MayBe old signature) → new ≡ None → old ≡ None
-unsigned_before None new once e = refl
-unsigned_before (Some made) new once e = absurd (two_made (once [] (subst (λ o. MayBe o []) (sym e) tt)) (once (0 ∷ []) (subst (λ o. MayBe o (0 ∷ [])) (sym e) tt)))
-  where
-    two_made : made ≡ [] → made ≡ 0 ∷ [] → ⊥
-    two_made e f = cc

@@ -37,9 +37,9 @@ use Rattle.sync_hello.specs.declared.read.HelloStep.TheVariants as hellos
 use Rattle.sync_hello.proofs.HelloReads.{draft-reads, draft_reader}
 use Rattle.session_rules.specs.Machine.{Seen, Whole, Part, Wrong}
 use Rattle.session_rules.specs.Messages.{IsReadAs, ArePart}
+use Rattle.sync_core.proofs.Cases.{same_some}
 use Rattle.sync_link.specs.Readers.{all_seen, all_read, judged_whole, hello_drafted, hello_seen, proof_seen, row_spelled, row_seen, head_seen, item_seen}
 use Rattle.sync_link.specs.Found.{IsFound, GoWrong, is_due, FindsHello, FindsItem}
-use Rattle.sync_link.proofs.Own.{same_some}
 use Rattle.sync_link.proofs.Seen.{part_front, judged_part, judged_back, read_back}
 use Rattle.sync_link.proofs.Spellings.{all_front, hello_as, hello_back, proof_as, proof_back, head_as, row_as}
 

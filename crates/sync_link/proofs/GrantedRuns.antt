@@ -1,6 +1,7 @@
 -- What a session wrote tells rows and fingerprints only to one that may read them.
 use Rattle.std.proofs.Common.{◌≡◌, ◌⊎◌, inl, inr, ℕ, List, [], ◌++◌, length, length-append, Contains, Ok, Err, refl, ap, arith}
-use Rattle.willow_entry.specs.Row.{RowValue}
+use Rattle.std.specs.List.{IsDistinct}
+use Rattle.willow_entry.specs.Row.{RowValue, same_row}
 use Rattle.mc_cap.specs.Signature.{signature_spelling}
 use Rattle.session_end.specs.declared.end.SessionEnd.TheVariants.{LinkRead, LinkWrite, ClosedEarly, BadMessage, Hello, Core, SignFault, LogFull, NoMemory}
 use Rattle.sync_msg.specs.declared.item.Item.TheVariants.{Row}
@@ -8,13 +9,14 @@ use Rattle.sync_hello.specs.HelloForm.{hello_spelling}
 use Rattle.session_rules.specs.Rounds.{IsFront}
 use Rattle.session_rules.specs.Session.{Item}
 use Rattle.session_rules.proofs.Growing.{front_self, front_is}
-use Rattle.sync_link.specs.Sessions.{Party, said, out}
+use Rattle.sync_link.specs.Sessions.{Party, said, told_rows, out}
 use Rattle.sync_link.specs.Granting.{IsGranted, GrantsRow}
 use Rattle.sync_link.specs.Settling.{IsOpening}
 use Rattle.sync_link.specs.Run.{Answer, IsAllOf, IsSilent}
 use Rattle.sync_link.specs.Ran.{Ran, side, opening_of, TellsGranted}
 use Rattle.sync_link.proofs.Grants.{item_granted, row_told}
 use Rattle.sync_link.proofs.Spellings.{hello_as}
+use Rattle.sync_link.proofs.ToldOnce.{told_offered, told_once, told_nobody}
 
 -- whatever is answered, it is a front
 pub front_of : {A : Type 0} (all part : List A) (answer : Answer) → IsAllOf all part answer → IsFront part all
@@ -64,8 +66,14 @@ runs_granted p ran =
       wrote = front_of (out party rows bytes) ran.did.written ran.answer ran.did.wrote;
       items = λ item c. item_granted party rows bytes ran.did.are_bytes item c;
       rows = λ row c. by_case ran.did.begun row c;
+      offered = told_offered party rows bytes ran.did.are_bytes;
+      once = once_by ran.did.begun;
     }
   where
+    once_by : IsOpening (side ran).namespace (opening_of ran) ⊎ IsSilent ran.did.bytes ran.did.written → IsDistinct same_row (told_rows (side ran) (opening_of ran) ran.did.bytes)
+    once_by (inl opening) = told_once (side ran) (opening_of ran) ran.did.bytes opening
+    once_by (inr silent) = told_nobody (side ran) (opening_of ran) ran.did.bytes ran.did.are_bytes (nobody (side ran) ran.did.bytes silent.0)
+
     by_case : IsOpening (side ran).namespace (opening_of ran) ⊎ IsSilent ran.did.bytes ran.did.written
         → (row : RowValue) → Contains (said (side ran) (opening_of ran) ran.did.bytes) (Item (Row row))
         → (granted : IsGranted (side ran) ran.did.bytes) × (Contains (opening_of ran) row × GrantsRow granted.hello row)

@@ -34,9 +34,10 @@ use Rattle.session_rules.proofs.Members.{none_in}
 use Rattle.session_rules.proofs.Sessions.{items_granted}
 use Rattle.sync_link.specs.Greetings.{side_of, greeting}
 use Rattle.sync_link.specs.Places.{offers_of, places}
-use Rattle.sync_link.specs.Sessions.{Party, own_part, said, agreement_with, box_with, rows_with}
+use Rattle.sync_link.specs.Sessions.{Party, own_part, said, agreement_with, box_with, offered_to, rows_with}
 use Rattle.sync_link.specs.Granting.{message_due, IsGranted, GrantsRow}
 use Rattle.sync_link.proofs.Spellings.{hello_back, proof_back}
+use Rattle.sync_link.proofs.Offering.{offered_among}
 use Rattle.sync_link.proofs.Own.{tells_own}
 
 -- ---- a greeting that was read
@@ -74,6 +75,11 @@ module _ (p : Party) (bytes : List ℕ) (are : AreBytes bytes) (greeted : IsGree
     proved = accepted_by p.role greeted.proof_passes;
   }
 
+  -- by the hello that was greeted
+  pub granted_hello : is_granted.hello ≡ greeted.hello
+  unfolding is_granted
+  granted_hello = refl
+
 -- ---- rows
 
 -- a row in the box of what two asks have in common is in the second
@@ -95,19 +101,19 @@ in_rows rows None row c = absurd (none_in row c)
 in_rows rows (Some box) row c = (kept_from (is_in box) rows row c).0
 
 module _ (p : Party) (rows : List RowValue) (own_fits : IsArea p.hello.ask) (hello : Hello) (fits : IsHello hello) (none : hello_refusal p.rules p.namespace hello ≡ None) (row : RowValue) where
-  -- the box of an area that both ask for
-  in_area_of : (role : Role) (area : Option Area) → common_area (caller_of (side_of role) p.hello hello) (answerer_of (side_of role) p.hello hello) ≡ area
-      → Contains (rows_of_area (option_map area_box area) rows) row → IsEntry row.entry → IsTrue (in_area hello.ask row.entry.subspace row.entry.path row.entry.timestamp)
+  -- the box of an area that both ask for, and rows that are offered
+  in_area_of : (shown : List RowValue) (role : Role) (area : Option Area) → common_area (caller_of (side_of role) p.hello hello) (answerer_of (side_of role) p.hello hello) ≡ area
+      → Contains (rows_of_area (option_map area_box area) shown) row → IsEntry row.entry → IsTrue (in_area hello.ask row.entry.subspace row.entry.path row.entry.timestamp)
   unfolding common_area
-  in_area_of role None is c entry = absurd (none_in row c)
-  in_area_of Caller (Some area) is c entry =
-      (in_both p.hello.ask hello.ask area row entry own_fits fits.ask_fits is (kept_from (is_in (area_box area)) rows row c).1).1
-  in_area_of Answerer (Some area) is c entry =
-      (in_both hello.ask p.hello.ask area row entry fits.ask_fits own_fits is (kept_from (is_in (area_box area)) rows row c).1).0
+  in_area_of shown role None is c entry = absurd (none_in row c)
+  in_area_of shown Caller (Some area) is c entry =
+      (in_both p.hello.ask hello.ask area row entry own_fits fits.ask_fits is (kept_from (is_in (area_box area)) shown row c).1).1
+  in_area_of shown Answerer (Some area) is c entry =
+      (in_both hello.ask p.hello.ask area row entry fits.ask_fits own_fits is (kept_from (is_in (area_box area)) shown row c).1).0
 
   pub row_granted : IsEntry row.entry → Contains (rows_with p hello rows) row → GrantsRow hello row
   row_granted entry c =
-      let asked = in_area_of p.role (common_area (caller_of (side_of p.role) p.hello hello) (answerer_of (side_of p.role) p.hello hello)) refl c entry in
+      let asked = in_area_of (offered_to p hello rows) p.role (common_area (caller_of (side_of p.role) p.hello hello) (answerer_of (side_of p.role) p.hello hello)) refl c entry in
       let triple : IsTriple row.entry.subspace row.entry.path row.entry.timestamp = record { key = entry.subspace; path_fits = entry.path; time_fits = entry.timestamp } in
       asks_within p.rules p.namespace hello fits none row.entry.subspace row.entry.path row.entry.timestamp triple asked
 
@@ -115,14 +121,14 @@ module _ (p : Party) (rows : List RowValue) (own_fits : IsArea p.hello.ask) (hel
 
 module _ (p : Party) (rows : List RowValue) (bytes : List ℕ) (are : AreBytes bytes) where
   pub item_granted : (item : ItemValue) → Contains (said p rows bytes) (Item item) → IsGranted p bytes
-  item_granted item c = is_granted p bytes are (items_granted (greeting p.rules p.namespace) places (own_part p) (offers_of rows) bytes item c).0
+  item_granted item c = is_granted p bytes are (items_granted (greeting p.rules p.namespace) places (own_part p) (offers_of p.interest rows) bytes item c).0
 
   pub row_told : IsArea p.hello.ask → All (λ r. IsEntry r.entry) rows → (row : RowValue) → Contains (said p rows bytes) (Item (Row row)) → (granted : IsGranted p bytes) × (Contains rows row × GrantsRow granted.hello row)
   unfolding is_granted
   row_told own_fits fit row c =
-      let told = items_granted (greeting p.rules p.namespace) places (own_part p) (offers_of rows) bytes (Row row) c in
+      let told = items_granted (greeting p.rules p.namespace) places (own_part p) (offers_of p.interest rows) bytes (Row row) c in
       let hello = told.0.hello in
       let granted = is_granted p bytes are told.0 in
       let own = tells_own (side_of p.role) (rows_with p hello rows) (agreement_with p hello) told.0.behind (Row row) row told.1 refl in
-      let within = in_rows rows (box_with p hello) row own in
+      let within = offered_among p.interest (box_with p hello) rows row (in_rows (offered_to p hello rows) (box_with p hello) row own) in
       (granted, (within, row_granted p rows own_fits hello granted.fits told.0.greets.passes row (All-contains (λ r. IsEntry r.entry) rows row fit within) own))

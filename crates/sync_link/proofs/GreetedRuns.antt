@@ -3,6 +3,7 @@ use Rattle.std.proofs.Common.{◌≡◌, inl, inr, ℕ, ◌+◌, ◌<◌, not, L
 use Rattle.spelling.specs.Answers.{cause_if}
 use Rattle.scheme_core.specs.Rules.{Rules}
 use Rattle.willow_entry.specs.Row.{RowValue}
+use Rattle.area_interest.specs.declared.interest.Interest.{Interest}
 use Rattle.mc_cap.specs.Signature.{signature_spelling}
 use Rattle.session_end.specs.declared.refusal.HelloRefusal.TheVariants.{BadProof}
 use Rattle.sync_msg.specs.Items.{ItemValue}
@@ -39,9 +40,9 @@ read_as f sees bytes x is = record {
 }
 
 -- one that accepts the other reads its greeting
-module _ (rules : Rules) (namespace : List ℕ) (hello : Hello) (signature : List ℕ) (q : Party) where
+module _ (rules : Rules) (namespace : List ℕ) (hello : Hello) (limits : Interest) (signature : List ℕ) (q : Party) where
   abbrev with_role : Role → Party
-  with_role role = record { rules = rules; namespace = namespace; role = role; hello = hello; signature = signature }
+  with_role role = record { rules = rules; namespace = namespace; role = role; hello = hello; interest = limits; signature = signature }
 
   greets_as : (role : Role) → Accepts (with_role role) q → Greets (greeting rules namespace) (own_part (with_role role)) q.hello q.signature
   greets_as roles.Caller a = record {
@@ -58,7 +59,7 @@ module _ (rules : Rules) (namespace : List ℕ) (hello : Hello) (signature : Lis
   }
 
 pub greets_of : (p q : Party) → Accepts p q → Greets (greeting p.rules p.namespace) (own_part p) q.hello q.signature
-greets_of p q a = greets_as p.rules p.namespace p.hello p.signature q p.role a
+greets_of p q a = greets_as p.rules p.namespace p.hello p.interest p.signature q p.role a
 
 -- the bytes of a proof
 some_proof : (signature : List ℕ) → 0 < length (signature_spelling signature)
@@ -92,7 +93,7 @@ module _ (p : Party) (rows : List RowValue) where
   greeted_said q a =
       let g = greeting p.rules p.namespace in
       let all = hello_spelling q.hello ++ signature_spelling q.signature in
-      front_by both_bytes (out p rows all) _ (ap (out p rows) (sym (append-nil all)) ∙ out_is_exchange g places (own_part p) (offers_of rows) q.hello q.signature (greets_of p q a) [])
+      front_by both_bytes (out p rows all) _ (ap (out p rows) (sym (append-nil all)) ∙ out_is_exchange g places (own_part p) (offers_of p.interest rows) q.hello q.signature (greets_of p q a) [])
 
   -- that is longer than the hello
   pub longer : (written : List ℕ) → IsFront both_bytes written → IsFront written (hello_spelling p.hello) → ⊥

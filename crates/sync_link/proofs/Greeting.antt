@@ -4,6 +4,7 @@ use Rattle.std.proofs.lemmas.List.Concat.{flat_map-append}
 use Rattle.scheme_core.specs.Rules.{Rules}
 use Rattle.willow_area.specs.Boxes.{Ranges}
 use Rattle.willow_entry.specs.Row.{RowValue}
+use Rattle.area_interest.specs.declared.interest.Interest.{Interest}
 use Rattle.mc_cap.specs.Signature.{signature_spelling}
 use Rattle.sync_msg.specs.Items.{ItemValue, item_spelling}
 use Rattle.sync_msg.specs.declared.role.Role.{Role}
@@ -28,7 +29,7 @@ use Rattle.session_rules.specs.Messages.{ArePart}
 use Rattle.session_rules.specs.Reading.{Stand, Waits, Over, Move, stepped}
 use Rattle.session_rules.specs.Reading as reading
 use Rattle.session_rules.specs.Session as session
-use Rattle.session_rules.specs.Session.{Opening, Proving, Talking, InGreeting, InTalk, seen_as, to_hello, to_proof, hello_read, proof_read, exchange_with}
+use Rattle.session_rules.specs.Session.{Opening, Proving, Talking, InGreeting, to_hello, to_proof, hello_read, proof_read, exchange_with}
 use Rattle.session_rules.specs.Greeting.{other_refusal}
 use Rattle.session_rules.specs.Talk as talk
 use Rattle.sync_link.specs.Readers.{hello_seen, proof_seen}
@@ -38,7 +39,7 @@ use Rattle.sync_link.specs.Sessions.{Party, SessionStage, SessionMessage, Sessio
 use Rattle.sync_link.specs.Standing.{MayBe, Feeds, within}
 use Rattle.sync_link.specs.Found.{IsFound, GoWrong}
 use Rattle.sync_link.specs.Due.{stand_in, stand_of}
-use Rattle.sync_link.specs.Talking.{HearsHello, HearsProof, AcceptsProof, BeginsExchange, Keeps, SpeaksSome, UnsignedIf, Writes, box_between, first_with, proof_cause, said_to_hello, said_to_proof, side_with, version_between}
+use Rattle.sync_link.specs.Talking.{AreOffered, HearsHello, HearsProof, AcceptsProof, BeginsExchange, Keeps, SpeaksSome, UnsignedIf, Writes, box_between, first_with, proof_cause, said_to_hello, said_to_proof, side_with, version_between}
 use Rattle.sync_link.specs.Taking.{AreDueIn, IsExchange, Fits, ComesHello, ComesProof, Holds, Steps, due_after, read_by, taken_after, taken_of, waiting_side}
 use Rattle.sync_link.specs.declared.take.Came.{Came}
 use Rattle.sync_link.specs.declared.take.Came.TheVariants as came
@@ -73,10 +74,10 @@ pub refused_by : (rules : Rules) (namespace : List ℕ) (role : Role) (own other
 refused_by rules namespace Caller own other signature proof = refl
 refused_by rules namespace Answerer own other signature proof = refl
 
-agreed_by : (rules : Rules) (namespace : List ℕ) (role : Role) (own other : Hello) (signature : List ℕ)
-    → agreement_with (record { rules = rules; namespace = namespace; role = role; hello = own; signature = signature }) other ≡ record { version = version_between role own other; box = box_between role own other }
-agreed_by rules namespace Caller own other signature = refl
-agreed_by rules namespace Answerer own other signature = refl
+agreed_by : (rules : Rules) (namespace : List ℕ) (role : Role) (own other : Hello) (limits : Interest) (signature : List ℕ)
+    → agreement_with (record { rules = rules; namespace = namespace; role = role; hello = own; interest = limits; signature = signature }) other ≡ record { version = version_between role own other; box = box_between role own other }
+agreed_by rules namespace Caller own other limits signature = refl
+agreed_by rules namespace Answerer own other limits signature = refl
 
 -- items as messages
 pub items_said : (p : Party) (rows : List RowValue) (items : List ItemValue) → flat_map (session_of p rows).spelling (map session.Item items) ≡ flat_map item_spelling items
@@ -106,15 +107,16 @@ first_spoken version role box rows =
     ∙ spoken_as (within (first_place version role rows box))
     ∙ says_all_alike (first_place version role rows box)
 
-abbrev pub party_with : Rules → List ℕ → Role → Hello → List ℕ → Party
-party_with rules namespace role own signature = record { rules = rules; namespace = namespace; role = role; hello = own; signature = signature }
+abbrev pub party_with : Rules → List ℕ → Role → Hello → Interest → List ℕ → Party
+party_with rules namespace role own limits signature = record { rules = rules; namespace = namespace; role = role; hello = own; interest = limits; signature = signature }
 
-pub begun_spoken : (rules : Rules) (namespace : List ℕ) (role : Role) (own other : Hello) (rows : List RowValue) (signature : List ℕ)
-    → (let p = party_with rules namespace role own signature in talk.spoken places (first_place (version_with p other) (role_of (side_of role)) (rows_with p other rows) (box_with p other)))
-    ≡ (let place = first_place (version_between role own other) role rows (box_between role own other) in ((says_all place).0, within (says_all place).1))
-begun_spoken rules namespace role own other rows signature =
-    ap (λ (a : Agreement). talk.spoken places (first_place a.version (role_of (side_of role)) (rows_of_area a.box rows) a.box)) (agreed_by rules namespace role own other signature)
-    ∙ first_spoken (version_between role own other) role (box_between role own other) rows
+pub begun_spoken : (rules : Rules) (namespace : List ℕ) (role : Role) (own other : Hello) (limits : Interest) (rows shown : List RowValue) → AreOffered limits (box_between role own other) rows shown → (signature : List ℕ)
+    → (let p = party_with rules namespace role own limits signature in talk.spoken places (first_place (version_with p other) (role_of (side_of role)) (rows_with p other rows) (box_with p other)))
+    ≡ (let place = first_place (version_between role own other) role shown (box_between role own other) in ((says_all place).0, within (says_all place).1))
+begun_spoken rules namespace role own other limits rows shown are signature =
+    ap (λ (a : Agreement). talk.spoken places (first_place a.version (role_of (side_of role)) (offers_of limits rows a) a.box)) (agreed_by rules namespace role own other limits signature)
+    ∙ ap (λ (l : List RowValue). talk.spoken places (first_place (version_between role own other) (role_of (side_of role)) l (box_between role own other))) (sym are.inside)
+    ∙ first_spoken (version_between role own other) role (box_between role own other) shown
 
 pub first_goes_on : (version : ℕ) (role : Role) (box : Option Ranges) (rows : List RowValue) → has_finished (says_all (first_place version role rows box)).1.doing ≡ false
 first_goes_on version Caller None rows = ap (λ s. has_finished s.1.doing) (says_whole (first_place version Caller rows None) bye [] refl)
@@ -137,7 +139,7 @@ none_due version Answerer box rows = subst (λ s. AreDueIn 0 s.1.doing) (sym (sa
 
 module _ {R S : Type 0} (rules : Rules) (value : R → RowValue) (old new : Talker R S) (keeps : Keeps old new) (at : ℕ) (bytes out_old out_new : List ℕ) (list : List RowValue) where
   abbrev party : List ℕ → Party
-  party signature = record { rules = rules; namespace = old.namespace; role = old.role; hello = old.hello; signature = signature }
+  party signature = record { rules = rules; namespace = old.namespace; role = old.role; hello = old.hello; interest = old.interest; signature = signature }
 
   abbrev own_rows : List RowValue
   own_rows = map value old.snapshot
@@ -202,9 +204,9 @@ module _ {R S : Type 0} (rules : Rules) (value : R → RowValue) (old new : Talk
     step_of p proof now = stepped now ((session_of p own_rows).step (Proving other) (session.Proof proof))
 
     judged : (signature proof : List ℕ) (now : ℕ) (o : Option HelloRefusal) → proof_cause rules old.role old.hello other proof ≡ o
-        → step_of (party signature) proof now ≡ stepped now (proof_read (own_part (party signature)) (exchange_with (greeting rules old.namespace) places (own_part (party signature)) (offers_of own_rows) other) o)
+        → step_of (party signature) proof now ≡ stepped now (proof_read (own_part (party signature)) (exchange_with (greeting rules old.namespace) places (own_part (party signature)) (offers_of old.interest own_rows) other) o)
     judged signature proof now o is =
-        ap (λ c. stepped now (proof_read (own_part (party signature)) (exchange_with (greeting rules old.namespace) places (own_part (party signature)) (offers_of own_rows) other) c)) (refused_by rules old.namespace old.role old.hello other signature proof ∙ is)
+        ap (λ c. stepped now (proof_read (own_part (party signature)) (exchange_with (greeting rules old.namespace) places (own_part (party signature)) (offers_of old.interest own_rows) other) c)) (refused_by rules old.namespace old.role old.hello other signature proof ∙ is)
 
     proof_refused : (proof : List ℕ) (n : ℕ) (cause : HelloRefusal) → IsFound proof_seen bytes proof n → proof_cause rules old.role old.hello other proof ≡ Some cause → new ≡ old → out_new ≡ out_old
         → FeedsTo (dues.Nothing (causes.Hello cause)) (at + n) [] (Waits (Proving other) at []) (take n bytes)
@@ -216,38 +218,40 @@ module _ {R S : Type 0} (rules : Rules) (value : R → RowValue) (old new : Talk
         (ap (λ m. flat_map (session_of (party signature) own_rows).spelling m.says) step) (ap (λ m. m.rows) step))
 
     -- the place at the beginning of the exchange
-    abbrev first : Place
-    first = first_with value old other
+    abbrev first : List RowValue → Place
+    first shown = first_with old other shown
 
     -- the same of the session
     abbrev begun : Party → Place
     begun p = first_place (version_with p other) (role_of (side_of old.role)) (rows_with p other own_rows) (box_with p other)
 
-    spoken_first : (signature : List ℕ) → talk.spoken places (begun (party signature)) ≡ ((says_all first).0, within (says_all first).1)
-    spoken_first signature = begun_spoken rules old.namespace old.role old.hello other own_rows signature
+    spoken_first : (shown : List RowValue) → AreOffered old.interest (box_between old.role old.hello other) own_rows shown → (signature : List ℕ) → talk.spoken places (begun (party signature)) ≡ ((says_all (first shown)).0, within (says_all (first shown)).1)
+    spoken_first shown are signature = begun_spoken rules old.namespace old.role old.hello other old.interest own_rows shown are signature
 
-    accepted_to : (exchange : Exchange R) (now : ℕ) → exchange.core ≡ (says_all first).1 → Waits (Talking (within (says_all first).1)) now [] ≡ stand_of (dues.Items exchange) now []
-    accepted_to exchange now is =
-        ap (λ b. cond b Over (Waits (Talking (within (says_all first).1)) now [])) (sym (first_goes_on (version_between old.role old.hello other) old.role (box_between old.role old.hello other) own_rows))
+    accepted_to : (shown : List RowValue) (exchange : Exchange R) (now : ℕ) → exchange.core ≡ (says_all (first shown)).1 → Waits (Talking (within (says_all (first shown)).1)) now [] ≡ stand_of (dues.Items exchange) now []
+    accepted_to shown exchange now is =
+        ap (λ b. cond b Over (Waits (Talking (within (says_all (first shown)).1)) now [])) (sym (first_goes_on (version_between old.role old.hello other) old.role (box_between old.role old.hello other) shown))
         ∙ ap (λ place. stand_in place now []) (sym is)
 
     proof_accepted : (proof : List ℕ) (n : ℕ) (due : Due R) → IsFound proof_seen bytes proof n → proof_cause rules old.role old.hello other proof ≡ None → AcceptsProof value old new other due out_old out_new
         → FeedsTo due (at + n) [] (Waits (Proving other) at []) (take n bytes)
     proof_accepted proof n due found is h =
         let spoken = said_to_proof old.role in
-        let items = flat_map item_spelling (says_all first).0 in
+        let shown = h.over.rows in
+        let begins = h.over.begins in
+        let items = flat_map item_spelling (says_all (first shown)).0 in
         let written = spoken (or_none new.signature) ++ items in
         let to = stand_of (dues.Items h.exchange) (at + n) [] in
         let wrote : out_new ≡ out_old ++ written =
-        h.begins.said ∙ ap (λ l. l ++ items) (h.proved (or_none new.signature) (may_be new.signature)) ∙ append_assoc out_old (spoken (or_none new.signature)) items in
+        begins.said ∙ ap (λ l. l ++ items) (h.proved (or_none new.signature) (may_be new.signature)) ∙ append_assoc out_old (spoken (or_none new.signature)) items in
         subst (λ d. FeedsTo d (at + n) [] (Waits (Proving other) at []) (take n bytes)) (sym h.due_is)
         (feeds rules value old new (Waits (Proving other) at []) to (take n bytes) out_old out_new list list keeps h.once written [] wrote no_rows
         (λ signature may.
         let p = party signature in
         let step = judged signature proof (at + n) None is in
-        let first_said = spoken_first signature in
+        let first_said = spoken_first shown h.over.offered signature in
         found_reads p own_rows (Proving other) session.Proof proof_seen refl at bytes proof n to written [] found
-        (ap (λ m. m.stand) step ∙ ap (λ s. Waits (Talking s.1) (at + n) []) first_said ∙ accepted_to h.exchange (at + n) h.begins.core)
+        (ap (λ m. m.stand) step ∙ ap (λ s. Waits (Talking s.1) (at + n) []) first_said ∙ accepted_to shown h.exchange (at + n) begins.core)
         (ap (λ m. flat_map (session_of p own_rows).spelling m.says) step
         ∙ flat_map-append (session_of p own_rows).spelling (to_proof (side_of old.role) (own_part p)) (map session.Item (talk.spoken places (begun p)).0)
         ∙ ap₂ (λ x y. x ++ y) (proof_said p ∙ same_written new.signature spoken out_old h.between h.proved signature may)
@@ -271,7 +275,7 @@ module _ {R S : Type 0} (rules : Rules) (value : R → RowValue) (old new : Talk
   none_taken n e = cc
 
   abbrev party_at : Talker R S → List ℕ → Party
-  party_at talker signature = record { rules = rules; namespace = talker.namespace; role = talker.role; hello = talker.hello; signature = signature }
+  party_at talker signature = record { rules = rules; namespace = talker.namespace; role = talker.role; hello = talker.hello; interest = talker.interest; signature = signature }
 
   bad_holds : Holds rules value new (dues.Nothing causes.Bad) bytes
   bad_holds at signature = broken_silent (party_at new signature) (map value new.snapshot) at bytes
@@ -312,17 +316,17 @@ module _ {R S : Type 0} (rules : Rules) (value : R → RowValue) (old new : Talk
     proof_steps came.Bad h at = proof_bad rules value old new keeps at bytes out_old out_new list other h.0 h.1.0 h.1.1
     proof_steps (came.Next due n) h at = proof_next rules value old new keeps at bytes out_old out_new list other h.0 n due h.1.0 h.1.1
 
-    begun_fits : (exchange : Exchange R) (between : List ℕ) → BeginsExchange (first_with value old other) exchange between out_new → IsExchange exchange
-    begun_fits exchange between b = record {
+    begun_fits : (shown : List RowValue) (exchange : Exchange R) (between : List ℕ) → BeginsExchange (first_with old other shown) exchange between out_new → IsExchange exchange
+    begun_fits shown exchange between b = record {
       sound = b.sound;
       silent = b.silent;
-      due = subst (λ r. AreDueIn r.due exchange.core.doing) (sym b.reader) (subst (λ p. AreDueIn 0 p.doing) (sym b.core) (none_due (version_between old.role old.hello other) old.role (box_between old.role old.hello other) (map value old.snapshot)));
-      version = ap (λ r. r.version) b.reader ∙ sym (ap (λ p. p.version) b.core ∙ version_spoken (first_with value old other));
+      due = subst (λ r. AreDueIn r.due exchange.core.doing) (sym b.reader) (subst (λ p. AreDueIn 0 p.doing) (sym b.core) (none_due (version_between old.role old.hello other) old.role (box_between old.role old.hello other) shown));
+      version = ap (λ r. r.version) b.reader ∙ sym (ap (λ p. p.version) b.core ∙ version_spoken (first_with old other shown));
     }
 
     proved_fits : (due : Due R) (o : Option HelloRefusal) → HearsProof value old new other due out_old out_new o → Fits old.role new.signature due
     proved_fits due (Some cause) h = subst (λ d. Fits old.role new.signature d) (sym h.0) tt
-    proved_fits due None h = subst (λ d. Fits old.role new.signature d) (sym h.due_is) (begun_fits h.exchange h.between h.begins)
+    proved_fits due None h = subst (λ d. Fits old.role new.signature d) (sym h.due_is) (begun_fits h.over.rows h.exchange h.between h.over.begins)
 
     pub proof_fits : Fits {R = R} old.role old.signature (dues.Proof other) → (came : Came R) → ComesProof rules value old new other bytes out_old out_new came → Fits old.role new.signature (due_after (dues.Proof other) came)
     proof_fits fits came.More h = (fits.0, (fits.1.0, subst (λ s. UnsignedIf old.role s) (sym (ap (λ t. t.signature) h.1.0)) fits.1.1))
@@ -331,7 +335,7 @@ module _ {R S : Type 0} (rules : Rules) (value : R → RowValue) (old new : Talk
 
     proved_read : (due : Due R) (n : ℕ) (o : Option HelloRefusal) → HearsProof value old new other due out_old out_new o → read_by due ≤ n
     proved_read due n (Some cause) h = subst (λ d. read_by d ≤ n) (sym h.0) (omega arith)
-    proved_read due n None h = subst (λ d. read_by d ≤ n) (sym h.due_is) (omega (arith, ap (λ r. r.taken) h.begins.reader))
+    proved_read due n None h = subst (λ d. read_by d ≤ n) (sym h.due_is) (omega (arith, ap (λ r. r.taken) h.over.begins.reader))
 
     pub proof_read_by : (came : Came R) → ComesProof rules value old new other bytes out_old out_new came → read_by (due_after (dues.Proof other) came) ≤ 0 + taken_of (taken_after came)
     proof_read_by came.More h = omega arith

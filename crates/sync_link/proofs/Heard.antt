@@ -25,8 +25,7 @@ use Rattle.sync_link.specs.Greetings.{Agreement}
 use Rattle.sync_link.specs.Readers.{item_seen}
 use Rattle.sync_link.specs.Places.{awaits_row, has_finished, places}
 use Rattle.sync_link.proofs.Spellings.{head_as, row_as}
-use Rattle.sync_link.proofs.Cases.{AreCases, by_cases, heard_as}
-use Rattle.sync_link.proofs.Own.{not_err, same_ok}
+use Rattle.sync_core.proofs.Cases.{AreCases, by_cases, heard_as, not_err, same_ok}
 use Rattle.sync_link.proofs.Speaking.{spoken_as}
 
 -- ---- which items a side reads

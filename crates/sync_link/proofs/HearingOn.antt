@@ -1,5 +1,5 @@
 -- A piece is read behind the bytes that are held.
-use Rattle.std.proofs.Common.{◌≡◌, ℕ, ◌+◌, ◌<◌, ◌^◌, List, [], ◌++◌, length, map, drop, sym, ap, ◌∙◌, subst, arith}
+use Rattle.std.proofs.Common.{◌≡◌, ℕ, ◌+◌, ◌<◌, ◌^◌, inl, List, [], ◌++◌, length, map, drop, refl, sym, ap, ◌∙◌, subst, arith}
 use Rattle.std.proofs.lemmas.List.{length-drop, map-append}
 use Rattle.scheme_core.specs.Rules.{Rules}
 use Rattle.willow_entry.specs.Row.{RowValue}
@@ -21,6 +21,7 @@ use Rattle.sync_link.specs.declared.due.Cause.TheVariants as causes
 use Rattle.sync_link.specs.declared.due.Due.{Due}
 use Rattle.sync_link.specs.declared.due.Due.TheVariants as dues
 use Rattle.sync_link.specs.declared.talker.Talker.{Talker}
+use Rattle.sync_link.proofs.Agreeing.{agrees_behind}
 use Rattle.sync_link.proofs.Feeding.{closed_stays, feeds_behind, feeds_into, idle_silent}
 use Rattle.sync_link.proofs.Moves.{broken_silent}
 use Rattle.sync_link.proofs.Tally.{same_on}
@@ -36,6 +37,7 @@ module _ {R S : Type 0} (rules : Rules) (value : R → RowValue) (old new : Talk
       record {
         sent = k.sent ∙ ap (λ m. sent_of due + counted m.says) all;
         read = k.read ∙ ap (λ m. read_of due + counted m.rows) noted_all;
+        agreed = agrees_behind rules value old due at held piece (fed_with rules value new next then_at rest) signature holds k.agreed;
       }
 
   module _ (is : IsHeld rules value old due at held) (all : bytes ≡ held ++ piece) (there : then_at ≡ at + taken) (left : rest ≡ drop taken bytes)
@@ -84,7 +86,7 @@ module _ {R S : Type 0} (rules : Rules) (value : R → RowValue) (talker : Talke
   pub closed_counts_on : CountsOn (fed_with rules value talker due at held) (fed_with rules value talker due at held) piece
   closed_counts_on = λ well signature may.
       let silent = idle_silent rules value talker talker.role talker.signature due is.fits closed at held piece signature in
-      record { sent = same_on (sent_of due) _ (ap (λ m. counted m.says) silent.0); read = same_on (read_of due) _ (ap (λ m. counted m.rows) silent.1) }
+      record { sent = same_on (sent_of due) _ (ap (λ m. counted m.says) silent.0); read = same_on (read_of due) _ (ap (λ m. counted m.rows) silent.1); agreed = λ talks. inl (talks, refl) }
 
 -- what reads no more
 pub held_shut : {R S : Type 0} (rules : Rules) (value : R → RowValue) (old new : Talker R S) (due : Due R) (at then_at : ℕ) (held : List ℕ) → IsHeld rules value old due at held → Keeps old new → then_at < 2 ^ 64 → IsHeld rules value new (dues.Nothing causes.Bad) then_at []

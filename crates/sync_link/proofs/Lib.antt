@@ -1,8 +1,8 @@
 pub mod Seen
 pub mod Spellings
-pub mod Cases
 pub mod Own
 pub mod Grants
+pub mod ToldOnce
 pub mod Speaking
 pub mod Heard
 pub mod TakingTurns
@@ -14,9 +14,12 @@ pub mod Sound
 pub mod Speech
 pub mod Finding
 pub mod Moves
+pub mod Offering
 pub mod Greeting
 pub mod Exchanged
 pub mod Feeding
+pub mod Asked
+pub mod Agreeing
 pub mod ReadOn
 pub mod PartsOf
 pub mod CoveredRows

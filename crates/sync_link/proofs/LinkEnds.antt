@@ -1,5 +1,5 @@
 -- How a session that is under way ends.
-use Rattle.std.proofs.Common.{◌≡◌, inl, inr, ℕ, zero, suc, ◌<◌, ◌≤◌, ◌^◌, ◌==◌, length-append, List, [], length, All, Option, None, Some, Ok, Err, IfOk, refl, sym, ap, ◌∙◌, subst, arith, append-nil}
+use Rattle.std.proofs.Common.{◌≡◌, inl, inr, ℕ, ◌<◌, ◌≤◌, ◌^◌, ◌==◌, length-append, List, [], length, All, Option, None, Some, Ok, Err, IfOk, refl, sym, ap, ◌∙◌, subst, arith, append-nil}
 use Rattle.std.specs.Io.KnownBytes.{Consumes, Keeps}
 use Rattle.willow_outside.specs.Told.{Extends}
 use Rattle.std.proofs.lemmas.List.{length-map}
@@ -10,7 +10,8 @@ use Rattle.willow_outside.proofs.Extended.{extends-none, extends-trans}
 use Rattle.std.proofs.lemmas.List.Elements.{All-from_recursion}
 use Rattle.willow_outside.specs.Counts.{HasRisen}
 use Rattle.willow_outside.specs.Facts.{LinkFacts}
-use Rattle.willow_entry.specs.Row.{RowValue, HasCovering}
+use Rattle.willow_area.specs.declared.area.Area.{Area}
+use Rattle.willow_entry.specs.Row.{RowValue, HasCovering, live}
 use Rattle.willow_entry.specs.declared.row.LogRow.{LogRow}
 use Rattle.auth_entry.specs.Authorised.{AuthorisedValue}
 use Rattle.session_end.specs.declared.end.SessionEnd.TheVariants as ends
@@ -18,19 +19,22 @@ use Rattle.session_end.specs.declared.refusal.HelloRefusal.{HelloRefusal}
 use Rattle.sync_msg.specs.declared.refusal.CoreRefusal.{CoreRefusal}
 use Rattle.session_rules.specs.Reading.{Stand, Waits, Over, Broken, Refused, ending_of}
 use Rattle.session_rules.specs.Reading as reading
+use Rattle.session_rules.specs.Reading.{run}
 use Rattle.session_rules.specs.Session.{InGreeting, InTalk}
 use Rattle.session_rules.proofs.Growing.{front_self}
-use Rattle.sync_link.specs.Sessions.{SessionStage, SessionCause}
-use Rattle.sync_link.specs.Fed.{GoesWell, standing_as}
+use Rattle.sync_link.specs.Sessions.{Party, SessionStage, SessionCause, ending}
+use Rattle.sync_link.specs.Fed.{AgreesOn, GoesWell, standing_as}
 use Rattle.sync_link.specs.declared.standing.Standing.TheVariants as standings
 use Rattle.auth_entry.specs.Rows.{entry_row, authorised_rows}
 use Rattle.sync_link.specs.Kept.{log_rows}
-use Rattle.sync_link.specs.Run.{Answer, CoversOrIsFull, Ends, Covers, Counts, Reports, Runs}
-use Rattle.sync_link.specs.UnderWay.{Start, Now, brought, IsUnderWay, EndsSo}
+use Rattle.sync_link.specs.Run.{Answer, CoversOrIsFull, Ends, Covers, Counts, Reports, Runs, StopsInTime}
+use Rattle.sync_link.specs.UnderWay.{Start, Now, WasOpen, brought, IsUnderWay, EndsInTime, EndsSo}
 use Rattle.sync_link.specs.declared.plan.SessionReport.{SessionReport}
+use Rattle.sync_link.proofs.Agreeing.{talks_done}
 use Rattle.sync_link.proofs.CoveredRows.{covered_all}
-use Rattle.sync_link.proofs.Reaching.{chosen, may_chosen, has_read}
-use Rattle.sync_link.proofs.Outcomes.{complete, cut_off}
+use Rattle.sync_link.proofs.Reaching.{chosen, ending_is, may_chosen, has_read}
+use Rattle.sync_link.proofs.Outcomes.{complete, cut_kept}
+use Rattle.sync_link.proofs.Tallying.{tally_keeps}
 
 pub keeps_none : (old new : Option (List ℕ)) → Keeps old new → Consumes old new []
 keeps_none None new h = tt
@@ -74,6 +78,17 @@ as_core (reading.Refusal (InTalk other)) cause h = cc
 of_pass_few : (number : ℕ) (log : List (LogRow AuthorisedValue)) → length (rows_of_pass number log) ≤ length log
 of_pass_few number log = omega (arith, length-filter (λ (l : LogRow AuthorisedValue). number == l.pass) log, count_by-le-length (λ (l : LogRow AuthorisedValue). number == l.pass) log)
 
+-- a session that read nothing is open
+first_open : (p : Party) (rows : List RowValue) → ending p rows [] ≡ reading.More
+unfolding run
+first_open p rows = refl
+
+more_not_done : ◌≡◌ {A = reading.Ending SessionCause} reading.More reading.Done → ⊥
+more_not_done e = cc
+
+open_first : (p : Party) (rows : List RowValue) (bytes : List ℕ) → bytes ≡ [] → ending p rows bytes ≡ reading.Done → ⊥
+open_first p rows bytes none over = more_not_done (sym (first_open p rows) ∙ sym (ap (ending p rows) none) ∙ over)
+
 module _ (start : Start) (now : Now) (u : IsUnderWay start now) where
   abbrev covering : List RowValue
   covering = log_rows now.pass.seen
@@ -88,11 +103,7 @@ module _ (start : Start) (now : Now) (u : IsUnderWay start now) where
   all_covered none = All-from_recursion (HasCovering covering) rows (covered_all covering rows (sym u.tally.missed ∙ none))
 
   covers : CoversOrIsFull covering rows
-  covers = by_number now.tally.missed refl
-    where
-      by_number : (n : ℕ) → now.tally.missed ≡ n → CoversOrIsFull covering rows
-      by_number zero e = inl (all_covered e)
-      by_number (suc n) e = inr (rows_long ∙ u.tally.full (omega arith))
+  covers = tally_keeps start.rules start.namespace start.pass u.rows now.pass now.tally u.tally
 
   -- the link gave no more
   module _ (link : LinkFacts) (left : Consumes now.link.left link.left []) (taken : Extends now.link.taken link.taken []) (held : link.held ≡ now.link.held) where
@@ -106,37 +117,37 @@ module _ (start : Start) (now : Now) (u : IsUnderWay start now) where
 
     pub closed_early : ending_of now.fed.side.stand ≡ reading.More → link.read_faults ≡ now.link.read_faults → link.write_faults ≡ now.link.write_faults → HasRisen now.link.ends link.ends → EndsSo start now.pass link now.faults (ends.ClosedEarly now.count)
     closed_early more reads writes rose =
-        complete start now.fed u.bytes u.written u.rows u.reached u.opens now.pass link now.faults u.opening u.tally.grew
+        complete start now.fed u.bytes u.written u.rows u.reached u.opens now.pass link now.faults u.opening u.turn u.tally.grew covers
         (Err (ends.ClosedEarly now.count)) taken_still held_still (more, u.count) covers tt
         (record { reads = reads ∙ u.reads; writes = writes ∙ u.writes; ends = subst (λ n. HasRisen n link.ends) u.ends rose; signs = u.faults })
 
     pub read_failed : ending_of now.fed.side.stand ≡ reading.More → HasRisen now.link.read_faults link.read_faults → link.write_faults ≡ now.link.write_faults → link.ends ≡ now.link.ends → EndsSo start now.pass link now.faults ends.LinkRead
     read_failed more rose writes same =
-        complete start now.fed u.bytes u.written u.rows u.reached u.opens now.pass link now.faults u.opening u.tally.grew
+        complete start now.fed u.bytes u.written u.rows u.reached u.opens now.pass link now.faults u.opening u.turn u.tally.grew covers
         (Err ends.LinkRead) taken_still held_still more covers tt
         (record { reads = subst (λ n. HasRisen n link.read_faults) u.reads rose; writes = writes ∙ u.writes; ends = same ∙ u.ends; signs = u.faults })
 
-    pub read_unkept : now.link.read_faults ≤ link.read_faults → link.write_faults ≡ now.link.write_faults → link.ends ≡ now.link.ends → EndsSo start now.pass link now.faults ends.NoMemory
+    pub read_unkept : link.read_faults ≡ now.link.read_faults → link.write_faults ≡ now.link.write_faults → link.ends ≡ now.link.ends → EndsSo start now.pass link now.faults ends.NoMemory
     read_unkept reads writes same =
-        cut_off start now.fed u.bytes u.written u.rows u.reached u.opens now.pass link now.faults u.opening u.tally.grew
+        cut_kept start now.fed u.bytes u.written u.rows u.reached u.opens now.pass link now.faults u.opening u.turn u.tally.grew covers
         [] u.written ends.NoMemory tt tt (front_self u.written)
         (subst (λ l. Consumes start.link.left link.left l × Extends start.link.taken link.taken l) (sym (append-nil u.bytes)) taken_still) held_still
-        (record { reads = omega (arith, reads, u.reads); writes = omega (arith, writes, u.writes); ends = same ∙ u.ends; signs = u.faults })
+        (record { reads = reads ∙ u.reads; writes = writes ∙ u.writes; ends = same ∙ u.ends; signs = u.faults })
 
   pub unkept_room : EndsSo start now.pass now.link now.faults ends.NoMemory
   unkept_room =
-      cut_off start now.fed u.bytes u.written u.rows u.reached u.opens now.pass now.link now.faults u.opening u.tally.grew
+      cut_kept start now.fed u.bytes u.written u.rows u.reached u.opens now.pass now.link now.faults u.opening u.turn u.tally.grew covers
       [] u.written ends.NoMemory tt tt (front_self u.written)
       (subst (λ l. Consumes start.link.left now.link.left l × Extends start.link.taken now.link.taken l) (sym (append-nil u.bytes)) u.taken) u.held
-      (record { reads = omega (arith, u.reads); writes = omega (arith, u.writes); ends = u.ends; signs = u.faults })
+      (record { reads = u.reads; writes = u.writes; ends = u.ends; signs = u.faults })
 
   -- ---- behind the end
 
   ended : (answer : Answer) → Ends (ending_of now.fed.side.stand) (length u.bytes) answer → Covers covering rows answer
       → IfOk answer (Reports (brought start (chosen now.fed.side.signature)) start.log u.bytes u.rows (length u.tally.grew.grown) (length now.pass.seen)) → Counts start.link now.link start.faults now.faults answer
       → Runs (brought start) start.gives start.pass now.pass start.link now.link start.faults now.faults answer
-  ended answer ends covers reported counts =
-      complete start now.fed u.bytes u.written u.rows u.reached u.opens now.pass now.link now.faults u.opening u.tally.grew answer u.taken u.held ends covers reported counts
+  ended answer ends all reported counts =
+      complete start now.fed u.bytes u.written u.rows u.reached u.opens now.pass now.link now.faults u.opening u.turn u.tally.grew covers answer u.taken u.held ends all reported counts
 
   pub bad_message : (at : ℕ) → ending_of now.fed.side.stand ≡ reading.BadMessage at → EndsSo start now.pass now.link now.faults (ends.BadMessage at)
   bad_message at e = ended (Err (ends.BadMessage at)) e covers tt (record { reads = u.reads; writes = u.writes; ends = u.ends; signs = u.faults })
@@ -160,24 +171,31 @@ module _ (start : Start) (now : Now) (u : IsUnderWay start now) where
 
   pub done : (report : SessionReport) → ending_of now.fed.side.stand ≡ reading.Done → now.tally.missed ≡ 0
       → report.opened ≡ length start.log → report.closed ≡ length now.pass.seen → report.stored ≡ now.tally.stored → report.kept ≡ now.tally.kept → report.refused ≡ now.tally.refused → report.first ≡ now.tally.first
-      → report.sent ≡ now.fed.sent → report.read ≡ now.fed.read
-      → Runs (brought start) start.gives start.pass now.pass start.link now.link start.faults now.faults (Ok report)
-  done report e none opened closed stored kept refused first sent read =
+      → report.sent ≡ now.fed.sent → report.read ≡ now.fed.read → report.area ≡ now.fed.area
+      → EndsInTime start now.pass now.link now.faults (Ok report)
+  done report e none opened closed stored kept refused first sent read area =
       let s = chosen now.fed.side.signature in
       let h = has_read start now.fed u.bytes u.written u.rows u.reached s (may_chosen now.fed.side.signature) in
-      let well = went_well now.fed.side.stand e in
-      ended (Ok report) e (all_covered none)
-      (record {
-        opened = opened;
-        closed_at = closed;
-        stored = stored ∙ u.tally.stored;
-        kept = omega (arith, stored, kept, u.tally.kept, none);
-        refused = omega (arith, refused, u.tally.refused);
-        first = first ∙ u.tally.first;
-        sent = sent ∙ h.sent well;
-        read = read ∙ h.read well;
-      })
-      (record { reads = u.reads; writes = u.writes; ends = u.ends; signs = u.faults })
+      let well = went_well now.fed.side.stand e in (
+        complete start now.fed u.bytes u.written u.rows u.reached u.opens now.pass now.link now.faults u.opening u.turn u.tally.grew covers (Ok report) u.taken u.held e (all_covered none)
+            (record {
+              opened = opened;
+              closed_at = closed;
+              stored = stored ∙ u.tally.stored;
+              kept = omega (arith, stored, kept, u.tally.kept, none);
+              refused = omega (arith, refused, u.tally.refused);
+              first = first ∙ u.tally.first;
+              sent = sent ∙ h.sent well;
+              read = read ∙ h.read well;
+              area = subst (λ (x : Option Area). AgreesOn (brought start s) u.bytes x) (sym area) (h.agreed (talks_done now.fed.side.stand e));
+            })
+            (record { reads = u.reads; writes = u.writes; ends = u.ends; signs = u.faults }),
+        in_time s (ending_is start now.fed u.bytes u.written u.rows u.reached s (may_chosen now.fed.side.signature) ∙ e) u.was_open,
+      )
+    where
+      in_time : (s : List ℕ) → ending (brought start s) (live (log_rows start.log)) u.bytes ≡ reading.Done → WasOpen start u.bytes → StopsInTime (brought start s) (live (log_rows start.log)) start.most u.bytes
+      in_time s over (inl none) = absurd (open_first (brought start s) (live (log_rows start.log)) u.bytes none over)
+      in_time s over (inr was) = was s
 
   -- a row that is stored stands in the log that the pass has seen
   pub stored_few : now.tally.stored < 2 ^ 32

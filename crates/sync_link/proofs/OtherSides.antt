@@ -9,7 +9,7 @@ use Rattle.session_rules.specs.Rounds.{IsOver, Meet}
 use Rattle.session_rules.proofs.Growing.{same_over}
 use Rattle.sync_link.specs.Sessions.{Party, SessionCause, session_of, out, got, ending}
 use Rattle.sync_link.specs.Settling.{IsOpening, CanMeet, AreDone, turns_between}
-use Rattle.sync_link.specs.Run.{Answer, IsAllOf, Ends}
+use Rattle.sync_link.specs.Run.{Answer, AreAllOf, IsAllOf, Ends}
 use Rattle.sync_link.specs.Ran.{Ran, side, opening_of, IsDone, HearsFrom}
 use Rattle.sync_link.proofs.Settled.{settled}
 
@@ -34,6 +34,18 @@ done_all all part (Err (Core cause)) done e = absurd done
 done_all all part (Err SignFault) done e = absurd done
 done_all all part (Err (LogFull missed)) done e = e
 done_all all part (Err NoMemory) done e = absurd done
+
+done_came : (all part : List RowValue) (answer : Answer) → IsDone answer → AreAllOf all part answer → part ≡ all
+done_came all part (Ok report) done e = e
+done_came all part (Err LinkRead) done e = absurd done
+done_came all part (Err LinkWrite) done e = absurd done
+done_came all part (Err (ClosedEarly at)) done e = absurd done
+done_came all part (Err (BadMessage at)) done e = absurd done
+done_came all part (Err (Hello cause)) done e = absurd done
+done_came all part (Err (Core cause)) done e = absurd done
+done_came all part (Err SignFault) done e = absurd done
+done_came all part (Err (LogFull missed)) done e = e
+done_came all part (Err NoMemory) done e = absurd done
 
 done_ends : (end : reading.Ending SessionCause) (n : ℕ) (answer : Answer) → IsDone answer → Ends end n answer → end ≡ reading.Done
 done_ends end n (Ok report) done e = e
@@ -112,7 +124,7 @@ module _ (p : List ℕ → Party) (ran : Ran p) (q : Party) (others : List RowVa
     all_written = done_all (out party rows bytes) ran.did.written ran.answer done ran.did.wrote
 
     pub all_sent : map row_of ran.did.rows ≡ got party rows bytes
-    all_sent = done_all (got party rows bytes) (map row_of ran.did.rows) ran.answer done ran.did.sent
+    all_sent = done_came (got party rows bytes) (map row_of ran.did.rows) ran.answer done ran.did.sent
 
     pub own_opens : IsOpening party.namespace rows
     own_opens = ran.did.opens (remembers ran.answer done)

@@ -18,7 +18,7 @@ use Rattle.session_rules.proofs.Growing.{front_by}
 use Rattle.session_rules.proofs.Runs.{run_append}
 use Rattle.sync_link.specs.Greetings.{greeting}
 use Rattle.sync_link.specs.Places.{offers_of, places}
-use Rattle.sync_link.specs.Sessions.{Party, SessionStage, SessionMessage, SessionCause, own_part, session_of}
+use Rattle.sync_link.specs.Sessions.{SessionStage, SessionMessage, SessionCause, own_part, session_of}
 use Rattle.sync_link.specs.Sessions as sessions
 use Rattle.sync_link.specs.Talking.{own_message}
 use Rattle.sync_link.specs.Standing.{Side, MayBe, Feeds, party_of}
@@ -62,13 +62,13 @@ module _ (start : Start) where
   OutIs signature written = IsFront written own ⊎ ((later : List ℕ) × (written ≡ own ++ (signature_spelling signature ++ later)))
 
   out_is : (signature bytes : List ℕ) → OutIs signature (sessions.out (brought start signature) rows bytes)
-  out_is signature bytes = by_case (told (greeting start.rules start.namespace) places (own_part (brought start signature)) (offers_of rows) bytes)
+  out_is signature bytes = by_case (told (greeting start.rules start.namespace) places (own_part (brought start signature)) (offers_of start.interest rows) bytes)
     where
       spell : List SessionMessage → List ℕ
       spell = flat_map (here signature).spelling
 
-      by_case : (Quiet (greeting start.rules start.namespace) places (own_part (brought start signature)) (offers_of rows) (sessions.said (brought start signature) rows bytes)
-          ⊎ Proved (greeting start.rules start.namespace) places (own_part (brought start signature)) (offers_of rows) (sessions.said (brought start signature) rows bytes))
+      by_case : (Quiet (greeting start.rules start.namespace) places (own_part (brought start signature)) (offers_of start.interest rows) (sessions.said (brought start signature) rows bytes)
+          ⊎ Proved (greeting start.rules start.namespace) places (own_part (brought start signature)) (offers_of start.interest rows) (sessions.said (brought start signature) rows bytes))
           → OutIs signature (sessions.out (brought start signature) rows bytes)
       by_case (inl (inl none)) = inl (front_by _ own own (ap (λ l. flat_map (here signature).spelling l ++ own) (sym none)))
       by_case (inl (inr one)) = inl (front_by _ own [] (sym (append-nil own) ∙ sym (ap (λ l. flat_map (here signature).spelling l ++ []) one ∙ append-nil (own ++ []))))
@@ -102,7 +102,7 @@ module _ (start : Start) where
     signed_or_quiet more = by_case side.side.signature refl
       where
         longer : (signature : List ℕ) → IsProofOf (brought start signature) start.gives bytes → IsProofOf (brought start signature) start.gives (bytes ++ more)
-        longer signature p = record { other = p.other; stands = hello_longer (greeting start.rules start.namespace) places (own_part (brought start signature)) (offers_of rows) bytes more p.other p.stands; given = p.given; fits = p.fits }
+        longer signature p = record { other = p.other; stands = hello_longer (greeting start.rules start.namespace) places (own_part (brought start signature)) (offers_of start.interest rows) bytes more p.other p.stands; given = p.given; fits = p.fits }
 
         by_case : (made : Option (List ℕ)) → side.side.signature ≡ made → IsProofOf (brought start (chosen made)) start.gives (bytes ++ more) ⊎ IsFront written own
         by_case None e = inr (unsigned_quiet bytes written (λ signature. (has_read signature (subst (λ o. MayBe o signature) (sym e) tt)).wrote))
@@ -130,10 +130,10 @@ module _ (start : Start) where
         ap (λ q. (read (here signature) q s.front).stand) (sym h.stands) ∙ subst (λ (x : Side). (read (session_of (party_of x signature) x.rows) side.side.stand s.front).stand ≡ Waits (session.Proving s.other) s.at s.held) r.side_is s.waits in
         let both : (read (here signature) (started (here signature)) (bytes ++ s.front)).stand ≡ Waits (session.Proving s.other) s.at s.held =
         ap (λ (m : Move SessionStage SessionMessage RowValue SessionCause). m.stand) (run_append (move (here signature)) (started (here signature)) bytes s.front) ∙ at_front in
-        let front = waits_hello g places o (offers_of rows) (bytes ++ s.front) s.other s.at s.held both in
+        let front = waits_hello g places o (offers_of start.interest rows) (bytes ++ s.front) s.other s.at s.held both in
         record {
           other = s.other;
-          stands = subst (λ l. HasHello g l s.other) (append_assoc bytes s.front s.behind ∙ ap (λ l. bytes ++ l) (sym s.joined)) (hello_longer g places o (offers_of rows) (bytes ++ s.front) s.behind s.other front);
+          stands = subst (λ l. HasHello g l s.other) (append_assoc bytes s.front s.behind ∙ ap (λ l. bytes ++ l) (sym s.joined)) (hello_longer g places o (offers_of start.interest rows) (bytes ++ s.front) s.behind s.other front);
           given = subst (λ (x : Side). start.gives (own_message x.role x.hello s.other) signature ≡ true) r.side_is s.given;
           fits = fits;
         }
@@ -155,5 +155,5 @@ module _ (start : Start) where
         by_case : (signature : List ℕ) → new.side.signature ≡ Some signature → (side.side.signature ≡ Some signature) ⊎ SignsFor start.gives side.side piece signature → IsProofOf (brought start signature) start.gives (bytes ++ piece)
         by_case signature e (inl old) =
             let p = r.signed signature old in
-            record { other = p.other; stands = hello_longer (greeting start.rules start.namespace) places (own_part (brought start signature)) (offers_of rows) bytes piece p.other p.stands; given = p.given; fits = p.fits }
+            record { other = p.other; stands = hello_longer (greeting start.rules start.namespace) places (own_part (brought start signature)) (offers_of start.interest rows) bytes piece p.other p.stands; given = p.given; fits = p.fits }
         by_case signature e (inr s) = signs_for signature piece (f.signed_once signature (subst (λ o. MayBe o signature) (sym e) refl)) (subst (λ o. IfSome o IsSignature) e fits) s

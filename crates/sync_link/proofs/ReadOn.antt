@@ -3,19 +3,21 @@ use Rattle.std.proofs.Common.{◌≡◌, ℕ, ◌+◌, List, [], ◌∷◌, ◌+
 use Rattle.std.proofs.lemmas.List.Concat.{flat_map-append}
 use Rattle.scheme_core.specs.Rules.{Rules}
 use Rattle.willow_entry.specs.Row.{RowValue}
+use Rattle.area_interest.specs.declared.interest.Interest.{Interest}
 use Rattle.sync_msg.specs.declared.role.Role.{Role}
 use Rattle.sync_msg.specs.declared.role.Role.TheVariants.{Caller, Answerer}
 use Rattle.sync_hello.specs.HelloForm.{hello_spelling}
 use Rattle.sync_hello.specs.declared.hello.Hello.{Hello}
 use Rattle.sync_core.specs.Steps.{count_one}
 use Rattle.session_rules.specs.Machine.{Machine, Seen, Whole, Part, Wrong, Step, Goes, Ends, Refuses}
-use Rattle.session_rules.specs.Reading.{Stand, Waits, Over, Broken, Refused, Move, stay, then, stepped, judged, move, run, start}
+use Rattle.session_rules.specs.Reading.{Stand, Waits, Over, Broken, Refused, Move, stepped, judged, move, run, start}
 use Rattle.session_rules.specs.Reading as reading
 use Rattle.session_rules.specs.Session.{Hello as HelloMessage, Proof, Item}
 use Rattle.session_rules.proofs.Runs.{run_append, run_idle}
 use Rattle.sync_link.specs.Sessions.{Party, SessionStage, SessionMessage, SessionCause, session_of, said}
 use Rattle.sync_link.specs.Standing.{Reads, Feeds, party_of}
-use Rattle.sync_link.specs.Fed.{Fed, GoesWell, CountsOn, HasRead, HaveRead, begun, counted, fed_in, first_bytes, heard, noted, noting}
+use Rattle.sync_link.specs.Fed.{Fed, AgreesOn, GoesWell, CountsOn, TalksOn, HasRead, HaveRead, begun, counted, fed_in, first_bytes, heard, noted, noting}
+use Rattle.sync_link.proofs.Agreeing.{agreed_on, talks_well}
 
 -- ---- the messages that are read
 
@@ -71,8 +73,9 @@ module _ (p : Party) (rows : List RowValue) where
 
     has_read_on : HasRead p rows old bytes written taken → Reads p rows old.side.stand piece new.side.stand more came
         → (GoesWell new.side.stand → (new.sent ≡ old.sent + counted (reading.read here old.side.stand piece).says) × (new.read ≡ old.read + counted (reading.read (noting here) old.side.stand piece).rows))
+        → (TalksOn new.side.stand → AgreesOn p (bytes ++ piece) new.area)
         → HasRead p rows new (bytes ++ piece) (written ++ more) (taken ++ came)
-    has_read_on h r counts =
+    has_read_on h r counts agreed =
         let before = reading.read here (start here) bytes in
         let both = run_append (move here) (start here) bytes piece in
         let there = ap (λ q. reading.read here q piece) h.stands in
@@ -98,6 +101,7 @@ module _ (p : Party) (rows : List RowValue) where
               ∙ ap₂ (λ x y. x + y) (h.read (well g)) (ap (λ m. counted m.rows) noted_there)
               ∙ sym (counted-append (heard p rows bytes) (reading.read (noting here) (reading.read (noting here) (start here) bytes).stand piece).rows)
               ∙ sym (ap (λ m. counted m.rows) noted_both);
+          agreed = agreed;
         }
 
 pub reads_on : (old new : Fed) (bytes piece written out_old out_new : List ℕ) (taken rows_old rows_new : List RowValue)
@@ -107,21 +111,24 @@ reads_on old new bytes piece written out_old out_new taken rows_old rows_new h f
     let p = party_of old.side signature in
     subst (λ x. HasRead (party_of x signature) x.rows new (bytes ++ piece) (written ++ f.written) (taken ++ f.taken)) (sym f.kept)
     (has_read_on p old.side.rows old new bytes piece written f.written taken f.taken (h signature (f.signed_once signature may)) (f.reads signature may)
-    (λ g. let c = counts g signature may in (c.sent, c.read)))
+    (λ g. let c = counts g signature may in (c.sent, c.read))
+    (λ talks. agreed_on old new bytes piece written taken signature (h signature (f.signed_once signature may)) (counts (talks_well new.side.stand talks) signature may).agreed talks))
 
-pub begun_read : (rules : Rules) (namespace : List ℕ) (role : Role) (hello : Hello) (rows : List RowValue) → HaveRead (fed_in rules (begun namespace role hello rows)) [] (first_bytes role hello) []
+pub begun_read : (rules : Rules) (namespace : List ℕ) (role : Role) (hello : Hello) (limits : Interest) (rows : List RowValue) → HaveRead (fed_in rules (begun namespace role hello limits rows)) [] (first_bytes role hello) []
 unfolding run
-begun_read rules namespace Caller hello rows signature may = record {
+begun_read rules namespace Caller hello limits rows signature may = record {
   stands = refl;
   wrote = sym (append-nil (hello_spelling hello));
   took = refl;
   sent = λ g. refl;
   read = λ g. refl;
+  agreed = λ talks. absurd talks;
 }
-begun_read rules namespace Answerer hello rows signature may = record {
+begun_read rules namespace Answerer hello limits rows signature may = record {
   stands = refl;
   wrote = refl;
   took = refl;
   sent = λ g. refl;
   read = λ g. refl;
+  agreed = λ talks. absurd talks;
 }

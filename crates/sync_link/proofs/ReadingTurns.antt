@@ -1,5 +1,5 @@
 -- The items of the turns of an exchange are read as what they are.
-use Rattle.std.proofs.Common.{◌≡◌, ℕ, zero, suc, ◌*◌, ◌/◌, ◌^◌, ◌<◌, ◌≤◌, Bool, true, false, cond, not, nat_eq, nat_le, nat_lt, List, [], ◌∷◌, map, flat_map, length, get_or, take, Option, Some, None, refl, sym, subst, arith}
+use Rattle.std.proofs.Common.{◌≡◌, ℕ, zero, suc, ◌*◌, ◌/◌, ◌^◌, ◌<◌, ◌≤◌, Bool, true, false, cond, not, nat_eq, nat_le, nat_lt, List, [], ◌∷◌, filter, map, flat_map, length, get_or, take, Option, Some, None, refl, sym, subst, arith}
 use Rattle.std.specs.Prelude.{option_map}
 use Rattle.std.specs.Option.{option_map_or}
 use Rattle.std.specs.Ordering.{is_gt, nat_cmp}
@@ -28,7 +28,6 @@ use Rattle.range_split.specs.Least.{least_above}
 use Rattle.range_split.proofs.Choosing.{are_many}
 use Rattle.range_split.proofs.LeastKeys.{least_above_is}
 use Rattle.exchange_rules.specs.Items as rules
-use Rattle.exchange_rules.specs.Items.{caller_turns, answerer_turns}
 use Rattle.exchange_rules.specs.Answer.{lacking, reply, turn, opened}
 use Rattle.exchange_rules.specs.Exchange.{turns, enough, exchange, first_asks}
 use Rattle.exchange_rules.proofs.Replies.{reply_cases}
@@ -41,7 +40,14 @@ use Rattle.sync_core.specs.Flat.{AskValue, TurnValue, split_items, parts_items, 
 use Rattle.sync_core.proofs.SpelledTurns.{few_chosen, filter_few, told_turn}
 use Rattle.sync_link.proofs.Digests.{fingerprint_fits}
 use Rattle.sync_link.proofs.Heard.{IsReadable}
-use Rattle.sync_link.proofs.Own.{all_kept}
+
+pub all_kept : {X : Type 0} (P : X → Type 0) (keep : X → Bool) (xs : List X) → AllByRecursion P xs → AllByRecursion P (filter keep xs)
+all_kept P keep [] h = tt
+all_kept P keep (x ∷ xs) h = by_test (keep x) (all_kept P keep xs h.1)
+  where
+    by_test : (b : Bool) → AllByRecursion P (filter keep xs) → AllByRecursion P (cond b (x ∷ filter keep xs) (filter keep xs))
+    by_test true rest = (h.0, rest)
+    by_test false rest = rest
 
 -- ---- the items of a turn
 

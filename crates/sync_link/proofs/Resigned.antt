@@ -33,22 +33,22 @@ module _ (p : Party) (signature : List ℕ) (rows : List RowValue) (bytes : List
   spell = flat_map (session_of p rows).spelling
 
   pub got_resigned : got resigned rows bytes ≡ got p rows bytes
-  got_resigned = same_got (greeting p.rules p.namespace) places (own_part p) signature (offers_of rows) bytes
+  got_resigned = same_got (greeting p.rules p.namespace) places (own_part p) signature (offers_of p.interest rows) bytes
 
   pub ending_resigned : ending resigned rows bytes ≡ ending p rows bytes
-  ending_resigned = same_ending (greeting p.rules p.namespace) places (own_part p) signature (offers_of rows) bytes
+  ending_resigned = same_ending (greeting p.rules p.namespace) places (own_part p) signature (offers_of p.interest rows) bytes
 
   said_resigned : said resigned rows bytes ≡ map (retold signature) (said p rows bytes)
-  said_resigned = said_retold (greeting p.rules p.namespace) places (own_part p) signature (offers_of rows) bytes
+  said_resigned = said_retold (greeting p.rules p.namespace) places (own_part p) signature (offers_of p.interest rows) bytes
 
   -- the two write the same, or behind their hello a signature each
   abbrev WriteApart : Type 0
   WriteApart = (later : List ℕ) × (later' : List ℕ) × (out p rows bytes ≡ hello_spelling p.hello ++ (signature_spelling p.signature ++ later)) × (out resigned rows bytes ≡ hello_spelling p.hello ++ (signature_spelling signature ++ later'))
 
   out_resigned : (out resigned rows bytes ≡ out p rows bytes) ⊎ WriteApart
-  out_resigned = by_case (told (greeting p.rules p.namespace) places (own_part p) (offers_of rows) bytes)
+  out_resigned = by_case (told (greeting p.rules p.namespace) places (own_part p) (offers_of p.interest rows) bytes)
     where
-      by_case : (Quiet (greeting p.rules p.namespace) places (own_part p) (offers_of rows) (said p rows bytes) ⊎ Proved (greeting p.rules p.namespace) places (own_part p) (offers_of rows) (said p rows bytes))
+      by_case : (Quiet (greeting p.rules p.namespace) places (own_part p) (offers_of p.interest rows) (said p rows bytes) ⊎ Proved (greeting p.rules p.namespace) places (own_part p) (offers_of p.interest rows) (said p rows bytes))
           → (out resigned rows bytes ≡ out p rows bytes) ⊎ WriteApart
       by_case (inl (inl none)) = inl (ap spell (said_resigned ∙ ap (map (retold signature)) none ∙ sym none))
       by_case (inl (inr one)) = inl (ap spell (said_resigned ∙ ap (map (retold signature)) one ∙ sym one))

@@ -15,6 +15,7 @@ use Rattle.exchange_rules.specs.Items.{to_left, to_right}
 use Rattle.exchange_rules.specs.Exchange.{exchange}
 use Rattle.exchange_rules.proofs.Converging.{left_gets, right_gets}
 use Rattle.exchange_rules.proofs.TwoExchanges.{exchange_alike}
+use Rattle.area_interest.specs.declared.interest.Interest.{Interest}
 use Rattle.sync_msg.specs.Items.{ItemValue}
 use Rattle.sync_msg.specs.declared.role.Role.TheVariants as roles
 use Rattle.sync_msg.specs.declared.refusal.CoreRefusal.{CoreRefusal}
@@ -34,14 +35,14 @@ use Rattle.session_rules.specs.Pairs.{Pair, GreetEachOther}
 use Rattle.session_rules.specs.Turns.{AreExchanged}
 use Rattle.session_rules.proofs.Settled.{exchanged_all, they_meet as do_meet}
 use Rattle.sync_link.specs.Greetings.{Agreement, greeting}
-use Rattle.sync_link.specs.Places.{offers_of, places}
+use Rattle.sync_link.specs.Places.{of_interest, offers_of, places}
 use Rattle.sync_link.specs.Sessions.{Party, own_part, out, box_with, version_with}
 use Rattle.sync_link.specs.Settling.{IsOpening, Accepts, CanMeet, AreDone, AreApartIn}
-use Rattle.sync_link.proofs.Own.{all_kept}
+use Rattle.sync_link.proofs.Offering.{AreAmong, opening_offered}
 use Rattle.sync_link.proofs.Grants.{in_rows}
 use Rattle.sync_link.proofs.Spellings.{hello_as, proof_as}
 use Rattle.sync_link.proofs.TakingTurns.{by_items, take_turns}
-use Rattle.sync_link.proofs.ReadingTurns.{AreSent, IsSendable}
+use Rattle.sync_link.proofs.ReadingTurns.{AreSent, IsSendable, all_kept}
 use Rattle.sync_link.proofs.CanRead.{can_read_turns}
 
 -- ---- the rows of a box
@@ -97,15 +98,15 @@ session_version_spoken one other some some' = (omega (arith, some_version one.ve
 
 -- ---- a caller and an answerer
 
-module _ (rules : Rules) (namespace : List ℕ) (hello other : Hello) (signature proof : List ℕ) where
+module _ (rules : Rules) (namespace : List ℕ) (hello other : Hello) (limits limits' : Interest) (signature proof : List ℕ) where
   abbrev pub caller : Party
-  caller = record { rules = rules; namespace = namespace; role = roles.Caller; hello = hello; signature = signature }
+  caller = record { rules = rules; namespace = namespace; role = roles.Caller; hello = hello; interest = limits; signature = signature }
 
   abbrev pub answerer : Party
-  answerer = record { rules = rules; namespace = namespace; role = roles.Answerer; hello = other; signature = proof }
+  answerer = record { rules = rules; namespace = namespace; role = roles.Answerer; hello = other; interest = limits'; signature = proof }
 
   abbrev pub pair : List RowValue → List RowValue → Pair Hello (List ℕ) Agreement HelloRefusal RowValue Place ItemValue CoreRefusal
-  pair rows others = record { greeting = greeting rules namespace; talk = places; caller = own_part caller; answerer = own_part answerer; caller_offers = offers_of rows; answerer_offers = offers_of others }
+  pair rows others = record { greeting = greeting rules namespace; talk = places; caller = own_part caller; answerer = own_part answerer; caller_offers = offers_of limits rows; answerer_offers = offers_of limits' others }
 
   pub greet : (rows others : List RowValue) → Accepts caller answerer → Accepts answerer caller → GreetEachOther (pair rows others)
   greet rows others accepts is_accepted = record {
@@ -132,37 +133,50 @@ module _ (rules : Rules) (namespace : List ℕ) (hello other : Hello) (signature
     abbrev pub box : Option Ranges
     box = box_with caller other
 
-    -- which is one that is spoken
+    -- what each offers
+    abbrev pub mine : List RowValue
+    mine = of_interest limits box rows
+
+    abbrev pub yours : List RowValue
+    yours = of_interest limits' box others
+
+    mine_opens : IsOpening namespace mine
+    mine_opens = opening_offered namespace limits box rows own
+
+    yours_open : IsOpening namespace yours
+    yours_open = opening_offered namespace limits' box others theirs
+
+    -- the version is one that is spoken
     spoken : IsVersion version
     spoken = session_version_spoken hello other is_accepted.hello_passes.speaks accepts.hello_passes.speaks
 
-    pub exchanged : (left right : List ℕ) → Meet (out caller rows) (out answerer others) left right → AreExchanged (pair rows others) (by_items version) (exchange (sync_rules version) (inside box rows) (inside box others) box) left right
+    pub exchanged : (left right : List ℕ) → Meet (out caller rows) (out answerer others) left right → AreExchanged (pair rows others) (by_items version) (exchange (sync_rules version) (inside box mine) (inside box yours) box) left right
     exchanged left right meet =
-        let up = inside_rises namespace rows own box in
-        let down = inside_rises namespace others theirs box in
-        let few = inside_few namespace rows own box in
-        let few' = inside_few namespace others theirs box in
-        exchanged_all (pair rows others) (by_items version) (sync_rules version) (inside box rows) (inside box others) box (disjoint version) (can_cut_rows version (inside box rows) up) (can_cut_rows version (inside box others) down)
+        let up = inside_rises namespace mine mine_opens box in
+        let down = inside_rises namespace yours yours_open box in
+        let few = inside_few namespace mine mine_opens box in
+        let few' = inside_few namespace yours yours_open box in
+        exchanged_all (pair rows others) (by_items version) (sync_rules version) (inside box mine) (inside box yours) box (disjoint version) (can_cut_rows version (inside box mine) up) (can_cut_rows version (inside box yours) down)
         (greet rows others accepts is_accepted)
-        (take_turns version (inside box rows) (inside box others) up down few' few box)
-        (can_read_turns version spoken (inside box rows) (inside box others) (inside_sent namespace rows own box) (inside_sent namespace others theirs box) box)
+        (take_turns version (inside box mine) (inside box yours) up down few' few box)
+        (can_read_turns version spoken (inside box mine) (inside box yours) (inside_sent namespace mine mine_opens box) (inside_sent namespace yours yours_open box) box)
         left right meet
 
     they_meet : (left : List ℕ) × (right : List ℕ) × Meet (out caller rows) (out answerer others) left right
     they_meet =
-        let up = inside_rises namespace rows own box in
-        let down = inside_rises namespace others theirs box in
-        let few = inside_few namespace rows own box in
-        let few' = inside_few namespace others theirs box in
-        do_meet (pair rows others) (by_items version) (sync_rules version) (inside box rows) (inside box others) box (disjoint version) (can_cut_rows version (inside box rows) up) (can_cut_rows version (inside box others) down)
+        let up = inside_rises namespace mine mine_opens box in
+        let down = inside_rises namespace yours yours_open box in
+        let few = inside_few namespace mine mine_opens box in
+        let few' = inside_few namespace yours yours_open box in
+        do_meet (pair rows others) (by_items version) (sync_rules version) (inside box mine) (inside box yours) box (disjoint version) (can_cut_rows version (inside box mine) up) (can_cut_rows version (inside box yours) down)
         (greet rows others accepts is_accepted)
-        (take_turns version (inside box rows) (inside box others) up down few' few box)
-        (can_read_turns version spoken (inside box rows) (inside box others) (inside_sent namespace rows own box) (inside_sent namespace others theirs box) box)
+        (take_turns version (inside box mine) (inside box yours) up down few' few box)
+        (can_read_turns version spoken (inside box mine) (inside box yours) (inside_sent namespace mine mine_opens box) (inside_sent namespace yours yours_open box) box)
 
     both_done : (left right : List ℕ) → Meet (out caller rows) (out answerer others) left right → AreDone caller answerer rows others left right
     both_done left right meet =
         let e = exchanged left right meet in
-        let same = same_exchange version box rows others in
+        let same = same_exchange version box mine yours in
         record { caller_done = e.caller_done; caller_got = e.caller_got ∙ ap to_left same; answerer_done = e.answerer_done; answerer_got = e.answerer_got ∙ ap to_right same }
 
 -- ---- two parties
@@ -186,14 +200,14 @@ module _ (p q : Party) (can : CanMeet p q) where
   settles_for : Settles p q
   settles_for =
       let plain : Settles (record p { role = roles.Caller }) (record q { rules = p.rules; namespace = p.namespace; role = roles.Answerer }) =
-      λ rows others left right accepts is_accepted own theirs meet. both_done p.rules p.namespace p.hello q.hello p.signature q.signature rows others own theirs accepts is_accepted left right meet in
+      λ rows others left right accepts is_accepted own theirs meet. both_done p.rules p.namespace p.hello q.hello p.interest q.interest p.signature q.signature rows others own theirs accepts is_accepted left right meet in
       let P : Party → Type 0 = λ x. Settles (record p { role = roles.Caller }) x in
       subst (λ x. Settles x q) calling (subst P answering plain)
 
   meets_for : Meets p q
   meets_for =
       let plain : Meets (record p { role = roles.Caller }) (record q { rules = p.rules; namespace = p.namespace; role = roles.Answerer }) =
-      λ rows others accepts is_accepted own theirs. they_meet p.rules p.namespace p.hello q.hello p.signature q.signature rows others own theirs accepts is_accepted in
+      λ rows others accepts is_accepted own theirs. they_meet p.rules p.namespace p.hello q.hello p.interest q.interest p.signature q.signature rows others own theirs accepts is_accepted in
       let P : Party → Type 0 = λ x. Meets (record p { role = roles.Caller }) x in
       subst (λ x. Meets x q) calling (subst P answering plain)
 
@@ -213,20 +227,21 @@ covered rows sent wanted has k d within = by_case (has (get_or wanted k d) (All-
     by_case (inr c) = live_covers (rows ++ sent) (get_or wanted k d) (Contains-append_right rows sent (get_or wanted k d) c)
 
 module _ (namespace : List ℕ) (rows others : List RowValue) (own : IsOpening namespace rows) (theirs : IsOpening namespace others) where
-  held : (x : Ranges) (all sent : List RowValue) (r : RowValue) → Contains (rows_in x all) r ⊎ Contains sent r → Contains all r ⊎ Contains sent r
-  held x all sent r (inl c) = inl (in_rows all (Some x) r c)
-  held x all sent r (inr c) = inr c
+  held : (x : Ranges) (some all sent : List RowValue) → AreAmong all some → (r : RowValue) → Contains (rows_in x some) r ⊎ Contains sent r → Contains all r ⊎ Contains sent r
+  held x some all sent among r (inl c) = inl (among r (in_rows some (Some x) r c))
+  held x some all sent among r (inr c) = inr c
 
-  pub caller_covers : (version : ℕ) (box : Option Ranges) → AreApartIn version box rows others → All (HasCovering (join rows (to_left (exchange (sync_rules version) rows others box)))) (rows_of_area box others)
-  caller_covers version None apart = λ k d within. absurd (omega arith)
-  caller_covers version (Some x) apart =
+  -- with all that it has besides these rows, which it offers
+  pub caller_covers : (all : List RowValue) → AreAmong all rows → (version : ℕ) (box : Option Ranges) → AreApartIn version box rows others → All (HasCovering (join all (to_left (exchange (sync_rules version) rows others box)))) (rows_of_area box others)
+  caller_covers all among version None apart = λ k d within. absurd (omega arith)
+  caller_covers all among version (Some x) apart =
       let sent = to_left (exchange (sync_rules version) rows others (Some x)) in
-      covered rows sent (rows_in x others)
-      (λ r c. held x rows sent r (left_gets (sync_rules version) (deciding version) (disjoint version) rows others x (can_cut_rows version rows (rises namespace rows own)) (can_cut_rows version others (rises namespace others theirs)) apart r c))
+      covered all sent (rows_in x others)
+      (λ r c. held x rows all sent among r (left_gets (sync_rules version) (deciding version) (disjoint version) rows others x (can_cut_rows version rows (rises namespace rows own)) (can_cut_rows version others (rises namespace others theirs)) apart r c))
 
-  pub answerer_covers : (version : ℕ) (box : Option Ranges) → AreApartIn version box rows others → All (HasCovering (join others (to_right (exchange (sync_rules version) rows others box)))) (rows_of_area box rows)
-  answerer_covers version None apart = λ k d within. absurd (omega arith)
-  answerer_covers version (Some x) apart =
+  pub answerer_covers : (all : List RowValue) → AreAmong all others → (version : ℕ) (box : Option Ranges) → AreApartIn version box rows others → All (HasCovering (join all (to_right (exchange (sync_rules version) rows others box)))) (rows_of_area box rows)
+  answerer_covers all among version None apart = λ k d within. absurd (omega arith)
+  answerer_covers all among version (Some x) apart =
       let sent = to_right (exchange (sync_rules version) rows others (Some x)) in
-      covered others sent (rows_in x rows)
-      (λ r c. held x others sent r (right_gets (sync_rules version) (deciding version) (disjoint version) rows others x (can_cut_rows version rows (rises namespace rows own)) (can_cut_rows version others (rises namespace others theirs)) apart r c))
+      covered all sent (rows_in x rows)
+      (λ r c. held x others all sent among r (right_gets (sync_rules version) (deciding version) (disjoint version) rows others x (can_cut_rows version rows (rises namespace rows own)) (can_cut_rows version others (rises namespace others theirs)) apart r c))

@@ -27,7 +27,7 @@ use Rattle.sync_link.proofs.Staying.{cut_twice, same_stage, waited}
 -- ---- one piece behind another
 
 module _ (gives : List ℕ → List ℕ → Bool) where
-  signs_before : (a : Side) (piece more signature : List ℕ) → SignsFor gives a piece signature → SignsFor gives a (piece ++ more) signature
+  abbrev pub signs_before : (a : Side) (piece more signature : List ℕ) → SignsFor gives a piece signature → SignsFor gives a (piece ++ more) signature
   signs_before a piece more signature f = record {
     other = f.other;
     given = f.given;
@@ -39,7 +39,7 @@ module _ (gives : List ℕ → List ℕ → Bool) where
     waits = f.waits;
   }
 
-  signs_behind : (a b : Side) (piece more out_a out_b : List ℕ) (rows_a rows_b : List RowValue) (signature : List ℕ)
+  abbrev pub signs_behind : (a b : Side) (piece more out_a out_b : List ℕ) (rows_a rows_b : List RowValue) (signature : List ℕ)
       → Feeds a b piece out_a out_b rows_a rows_b → MayBe b.signature signature → SignsFor gives b more signature → SignsFor gives a (piece ++ more) signature
   signs_behind a b piece more out_a out_b rows_a rows_b signature f may g =
       let here = session_of (party_of a signature) a.rows in
@@ -154,7 +154,7 @@ module _ {R S : Type 0} (gives then_gives : List ℕ → List ℕ → Bool) (rul
 
 -- ---- behind the bytes that are held
 
-nothing_read : (p : Party) (rows : List RowValue) (q : Stand SessionStage SessionCause) → (read (session_of p rows) q []).stand ≡ q
+pub nothing_read : (p : Party) (rows : List RowValue) (q : Stand SessionStage SessionCause) → (read (session_of p rows) q []).stand ≡ q
 unfolding run
 nothing_read p rows q = refl
 
@@ -191,39 +191,49 @@ module _ {R S : Type 0} (gives : List ℕ → List ℕ → Bool) (rules : Rules)
   abbrev here : List ℕ → Machine SessionStage SessionMessage SessionMessage RowValue SessionCause
   here signature = session_of (party_of (waiting_side rules value old due at []) signature) (map value old.snapshot)
 
-  signs_held : (signature : List ℕ) → SignsFor gives (waiting_side rules value old due at []) (held ++ piece) signature → SignsFor gives (waiting_side rules value old due at held) piece signature
-  signs_held signature f = by_cut (cut_twice held piece f.front f.behind f.joined)
+  -- for the same one
+  pub held_signs : (signature : List ℕ) (f : SignsFor gives (waiting_side rules value old due at []) (held ++ piece) signature) → (g : SignsFor gives (waiting_side rules value old due at held) piece signature) × (g.other ≡ f.other)
+  held_signs signature f = by_cut (cut_twice held piece f.front f.behind f.joined)
     where
-      by_cut : ((more : List ℕ) × ((f.front ≡ held ++ more) × (piece ≡ more ++ f.behind))) ⊎ ((more : List ℕ) × (held ≡ f.front ++ more)) → SignsFor gives (waiting_side rules value old due at held) piece signature
-      by_cut (inl c) = record {
-        other = f.other;
-        given = f.given;
-        front = c.0;
-        behind = f.behind;
-        joined = c.1.1;
-        at = f.at;
-        held = f.held;
-        waits =
-            sym (ap (λ m. m.stand) (run_append (move (here signature)) (stand_of due at []) held c.0 ∙ ap (λ m. then m (read (here signature) m.stand c.0)) (holds at signature).0))
-            ∙ ap (λ l. (read (here signature) (stand_of due at []) l).stand) (sym c.1.0)
-            ∙ f.waits;
-      }
-      by_cut (inr c) = record {
-        other = f.other;
-        given = f.given;
-        front = [];
-        behind = piece;
-        joined = refl;
-        at = at;
-        held = held;
-        waits =
-            nothing_read (party_of (waiting_side rules value old due at []) signature) (map value old.snapshot) (stand_of due at held)
-            ∙ still_due (here signature) f.other f.at f.held f.front c.0 at held due f.waits
-            (sym (ap (λ q. (read (here signature) q c.0).stand) f.waits)
-            ∙ sym (ap (λ m. m.stand) (run_append (move (here signature)) (stand_of due at []) f.front c.0))
-            ∙ ap (λ l. (read (here signature) (stand_of due at []) l).stand) (sym c.1)
-            ∙ ap (λ m. m.stand) (holds at signature).0);
-      }
+      by_cut : ((more : List ℕ) × ((f.front ≡ held ++ more) × (piece ≡ more ++ f.behind))) ⊎ ((more : List ℕ) × (held ≡ f.front ++ more)) → (g : SignsFor gives (waiting_side rules value old due at held) piece signature) × (g.other ≡ f.other)
+      by_cut (inl c) = (
+        record {
+          other = f.other;
+          given = f.given;
+          front = c.0;
+          behind = f.behind;
+          joined = c.1.1;
+          at = f.at;
+          held = f.held;
+          waits =
+              sym (ap (λ m. m.stand) (run_append (move (here signature)) (stand_of due at []) held c.0 ∙ ap (λ m. then m (read (here signature) m.stand c.0)) (holds at signature).0))
+              ∙ ap (λ l. (read (here signature) (stand_of due at []) l).stand) (sym c.1.0)
+              ∙ f.waits;
+        },
+        refl,
+      )
+      by_cut (inr c) = (
+        record {
+          other = f.other;
+          given = f.given;
+          front = [];
+          behind = piece;
+          joined = refl;
+          at = at;
+          held = held;
+          waits =
+              nothing_read (party_of (waiting_side rules value old due at []) signature) (map value old.snapshot) (stand_of due at held)
+              ∙ still_due (here signature) f.other f.at f.held f.front c.0 at held due f.waits
+              (sym (ap (λ q. (read (here signature) q c.0).stand) f.waits)
+              ∙ sym (ap (λ m. m.stand) (run_append (move (here signature)) (stand_of due at []) f.front c.0))
+              ∙ ap (λ l. (read (here signature) (stand_of due at []) l).stand) (sym c.1)
+              ∙ ap (λ m. m.stand) (holds at signature).0);
+        },
+        refl,
+      )
+
+  signs_held : (signature : List ℕ) → SignsFor gives (waiting_side rules value old due at []) (held ++ piece) signature → SignsFor gives (waiting_side rules value old due at held) piece signature
+  signs_held signature f = (held_signs signature f).0
 
   pub signs_on_held : (bytes : List ℕ) (new then_new : Side) → bytes ≡ held ++ piece → then_new.signature ≡ new.signature → SignsTo gives (waiting_side rules value old due at []) new bytes → SignsTo gives (waiting_side rules value old due at held) then_new piece
   signs_on_held bytes new then_new all same h signature made = by_either (subst (λ l. (old.signature ≡ Some signature) ⊎ SignsFor gives (waiting_side rules value old due at []) l signature) all (h signature (sym same ∙ made)))

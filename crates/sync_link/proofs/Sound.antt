@@ -33,8 +33,7 @@ use Rattle.sync_core.proofs.Lawful.{disjoint}
 use Rattle.sync_core.proofs.SpelledTurns.{spelled_turn}
 use Rattle.sync_link.specs.Sound.{IsIn, AreIn, AsksIn, IsUnrefused, AreSound, IsSound}
 use Rattle.sync_link.specs.Standing.{within}
-use Rattle.sync_link.proofs.Cases.{AreCases, by_cases, heard_to, heard_as}
-use Rattle.sync_link.proofs.Own.{same_some, same_ok, not_err, unless_ok}
+use Rattle.sync_core.proofs.Cases.{AreCases, by_cases, heard_to, heard_as, same_some, same_ok, not_err, unless_ok}
 use Rattle.sync_link.proofs.Settled.{filter_twice}
 
 -- ---- asks within the area

@@ -7,7 +7,7 @@ use Rattle.scheme_core.specs.Rules.{Rules}
 use Rattle.willow_entry.specs.Row.{RowValue}
 use Rattle.sync_msg.specs.declared.role.Role.{Role}
 use Rattle.sync_hello.specs.declared.hello.Hello.{Hello}
-use Rattle.session_rules.specs.Reading.{Stand, Over, move, run, stay}
+use Rattle.session_rules.specs.Reading.{Over, move, run}
 use Rattle.session_rules.specs.Reading as reading
 use Rattle.session_rules.proofs.Runs.{run_idle}
 use Rattle.sync_link.specs.Sessions.{session_of}
@@ -15,14 +15,15 @@ use Rattle.sync_link.specs.Standing.{MayBe, Feeds, party_of}
 use Rattle.sync_link.specs.Due.{stand_of}
 use Rattle.sync_link.specs.Fed.{CountsOn, counted, noting}
 use Rattle.sync_link.specs.Held.{CountsStep, fed_with, read_of, sent_of}
-use Rattle.sync_link.specs.Talking.{AsksOnce, CanFail, FailsSign, Keeps, SignsBy, own_message}
+use Rattle.sync_link.specs.Talking.{Keeps, SignsBy, own_message}
 use Rattle.sync_link.specs.Taking.{Fits, Holds, IsOpen, Steps, read_by, taken_of, waiting_side}
 use Rattle.sync_link.specs.TakingAll.{TakesAll, TakesFront}
 use Rattle.sync_link.specs.declared.due.Cause.TheVariants as causes
 use Rattle.sync_link.specs.declared.due.Due.{Due}
 use Rattle.sync_link.specs.declared.due.Due.TheVariants as dues
 use Rattle.sync_link.specs.declared.talker.Talker.{Talker}
-use Rattle.sync_link.proofs.Feeding.{closed_feeds, closed_holds, over_by, taken_on, taken_last, unsigned_before}
+use Rattle.sync_link.proofs.Agreeing.{talks_still}
+use Rattle.sync_link.proofs.Feeding.{closed_feeds, closed_holds, over_by, taken_on, taken_last}
 use Rattle.sync_link.proofs.Tally.{counts_append}
 
 module _ {R S : Type 0} (rules : Rules) (value : R → RowValue) where
@@ -46,7 +47,7 @@ module _ {R S : Type 0} (rules : Rules) (value : R → RowValue) where
         });
     counts = λ at.
         subst (λ n. CountsOn (fed_with rules value talker due at []) (fed_with rules value talker due n []) []) (same at)
-        (λ well signature may. record { sent = omega arith; read = omega arith });
+        (λ well signature may. record { sent = omega arith; read = omega arith; agreed = λ talks. inl (talks, refl) });
     fits = fits;
     read = omega arith;
   }
@@ -143,6 +144,7 @@ module _ {R S : Type 0} (rules : Rules) (value : R → RowValue) where
       record {
         sent = sym (ap (λ q. sent_of due + counted (reading.read here q rest).says) over ∙ ap (λ m. sent_of due + counted m.says) (run_idle (move here) Over (λ b. refl) rest) ∙ omega arith);
         read = sym (ap (λ q. read_of due + counted (reading.read (noting here) q rest).rows) over ∙ ap (λ m. read_of due + counted m.rows) (run_idle (move (noting here)) Over (λ b. refl) rest) ∙ omega arith);
+        agreed = λ talks. inl (talks_still due at at rest [] talks, refl);
       }
 
   closed_counts : (talker : Talker R S) (role : Role) (made : Option (List ℕ)) (due : Due R) (at : ℕ) (rest : List ℕ) → Fits role made due → (IsOpen due → ⊥) → CountsOn (fed_with rules value talker due at []) (fed_with rules value talker due at rest) rest
@@ -184,13 +186,3 @@ signs_on gives then_gives role then_role own then_own first old new same same_ro
     by_later : (old ≡ Some signature) ⊎ ((other : Hello) × (then_gives (own_message then_role then_own other) signature ≡ true)) → (first ≡ Some signature) ⊎ ((other : Hello) × (gives (own_message role own other) signature ≡ true))
     by_later (inl e) = before signature e
     by_later (inr h) = inr (h.0, sym (moved h.0) ∙ h.1)
-
-pub asks_on : (old new : Option (List ℕ)) (left_first left_old left_new : ℕ) → ((signature : List ℕ) → MayBe new signature → MayBe old signature) → AsksOnce old left_first left_old → AsksOnce new left_old left_new → AsksOnce new left_first left_new
-asks_on old new left_first left_old left_new once before later e = later e ∙ before (unsigned_before old new once e)
-
-pub fails_on : (first old : Option (List ℕ)) (left_first left_old faults_first faults_old faults_new : ℕ) → ((signature : List ℕ) → MayBe old signature → MayBe first signature) → AsksOnce old left_first left_old → faults_first ≤ faults_old → FailsSign old left_old faults_old faults_new → FailsSign first left_first faults_first faults_new
-fails_on first old left_first left_old faults_first faults_old faults_new once asks grew h = (unsigned_before first old once h.0, by_why h.1)
-  where
-    by_why : CanFail left_old faults_old faults_new → CanFail left_first faults_first faults_new
-    by_why (inl e) = inl (sym (asks h.0) ∙ e)
-    by_why (inr rose) = inr (omega (arith, rose, grew))

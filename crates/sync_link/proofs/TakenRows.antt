@@ -38,7 +38,7 @@ middle_of f (x ∷ xs) (z ∷ front) y back e =
     }
 
 pub later_self : {R : Type 0} (pass : PassValue R) → IsLater pass pass
-later_self pass = record { cell = refl; number = refl; seen = prefix_self pass.seen }
+later_self pass = record { cell = refl; number = refl; seen = prefix_self pass.seen; turns = prefix_self pass.turns }
 
 -- what is so of a failed call is so of what it gives on
 pub takes_err : {A E : Type 0} (rules : Rules) (n : List ℕ) (start : PassValue AuthorisedValue) (rows : List RawValue) (pass : PassValue AuthorisedValue) (tally : Tally) (P : E → Type 0) (result : Result A E)

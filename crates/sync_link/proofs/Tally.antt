@@ -1,5 +1,5 @@
 -- What a side counts is what its session says and reads.
-use Rattle.std.proofs.Common.{◌≡◌, ℕ, ◌+◌, Bool, true, false, cond, List, [], ◌∷◌, ◌++◌, map, take, Option, Some, None, Ok, option_to_list, refl, sym, ap, ap₂, ◌∙◌, subst, arith}
+use Rattle.std.proofs.Common.{◌≡◌, inl, inr, ℕ, ◌+◌, Bool, true, false, cond, List, [], ◌∷◌, ◌++◌, map, take, Option, Some, None, Ok, option_to_list, refl, sym, ap, ap₂, ◌∙◌, subst, arith}
 use Rattle.std.proofs.lemmas.List.{length-take-le}
 use Rattle.scheme_core.specs.Rules.{Rules}
 use Rattle.willow_entry.specs.Row.{RowValue}
@@ -19,7 +19,7 @@ use Rattle.sync_core.specs.Steps.{count_one, heard}
 use Rattle.sync_core.proofs.OneByOne.{HearsCounted, says_counted, hears_counted_items}
 use Rattle.session_rules.specs.Machine.{Machine, Seen, Step}
 use Rattle.session_rules.specs.Messages.{ArePart}
-use Rattle.session_rules.specs.Reading.{Stand, Waits, Over, Move, stay, stepped, run, move}
+use Rattle.session_rules.specs.Reading.{Stand, Waits, Over, stepped, move}
 use Rattle.session_rules.specs.Reading as reading
 use Rattle.session_rules.specs.Session as session
 use Rattle.session_rules.specs.Session.{Opening, Proving, Talking, to_hello, to_proof, hello_read, proof_read, item_read, exchange_with, seen_as}
@@ -47,11 +47,13 @@ use Rattle.sync_link.specs.declared.due.Due.{Due}
 use Rattle.sync_link.specs.declared.due.Due.TheVariants as dues
 use Rattle.sync_link.specs.declared.due.Exchange.{Exchange}
 use Rattle.sync_link.specs.declared.talker.Talker.{Talker}
+use Rattle.sync_link.proofs.Agreeing.{agrees_append, talks_in}
 use Rattle.sync_link.proofs.Exchanged.{awaits_due}
 use Rattle.sync_link.proofs.Heard.{reading_on}
 use Rattle.sync_link.proofs.Greeting.{begun_spoken, refused_by}
 use Rattle.sync_link.proofs.Moves.{part_as, found_as}
 use Rattle.sync_link.proofs.ReadOn.{counted-append, noting_stands, went_well}
+use Rattle.sync_link.proofs.Signed.{nothing_read}
 use Rattle.sync_link.proofs.Sound.{all_within, heard_alike, says_all_alike}
 use Rattle.sync_link.proofs.Speaking.{spoken_as}
 
@@ -105,7 +107,7 @@ module _ (p : Party) (rows : List RowValue) where
 
 module _ {R S : Type 0} (rules : Rules) (value : R → RowValue) (old new : Talker R S) (at : ℕ) (bytes : List ℕ) where
   abbrev party : List ℕ → Party
-  party signature = record { rules = rules; namespace = old.namespace; role = old.role; hello = old.hello; signature = signature }
+  party signature = record { rules = rules; namespace = old.namespace; role = old.role; hello = old.hello; interest = old.interest; signature = signature }
 
   abbrev own_rows : List RowValue
   own_rows = map value old.snapshot
@@ -137,7 +139,7 @@ module _ {R S : Type 0} (rules : Rules) (value : R → RowValue) (old new : Talk
       let p = party signature in
       let step = ap (λ o. hello_read (own_part p) other o) none in
       let t = found_tells p own_rows Opening session.Hello hello_seen refl at bytes other n (hello_read (own_part p) other None) found step in
-      record { sent = same_on 0 _ (t.0 ∙ to_hello_counts old.role p); read = same_on 0 _ t.1 })
+      record { sent = same_on 0 _ (t.0 ∙ to_hello_counts old.role p); read = same_on 0 _ t.1; agreed = λ talks. absurd talks })
 
   hello_by : (other : Hello) (next : Due R) (n : ℕ) (out_old out_new : List ℕ) → IsFound hello_seen bytes other n → (o : Option HelloRefusal) → hello_refusal rules old.namespace other ≡ o → HearsHello old new other next out_old out_new o → Then dues.Hello next (Some n)
   hello_by other next n out_old out_new found (Some cause) is h = hello_refused dues.Hello next n cause h.0
@@ -146,37 +148,43 @@ module _ {R S : Type 0} (rules : Rules) (value : R → RowValue) (old new : Talk
   pub hello_counts : (out_old out_new : List ℕ) (came : Came R) → ComesHello rules old new bytes out_old out_new came → Then dues.Hello (due_after dues.Hello came) (taken_after came)
   hello_counts out_old out_new came.More h = λ well signature may.
       let t = part_tells (party signature) own_rows Opening session.Hello hello_seen refl at bytes h.0 in
-      record { sent = same_on 0 _ t.0; read = same_on 0 _ t.1 }
+      record { sent = same_on 0 _ t.0; read = same_on 0 _ t.1; agreed = λ talks. absurd talks }
   hello_counts out_old out_new came.Bad h = bad_counts dues.Hello
   hello_counts out_old out_new (came.Next next n) h = hello_by h.0 next n out_old out_new h.1.0 (hello_refusal rules old.namespace h.0) refl h.1.1.1
 
   -- ---- a proof
 
   module _ (other : Hello) where
-    abbrev first : Place
-    first = first_with value old other
+    abbrev first : List RowValue → Place
+    first shown = first_with old other shown
 
     proof_accepted : (proof : List ℕ) (next : Due R) (n : ℕ) (out_old out_new : List ℕ) → IsFound proof_seen bytes proof n → proof_cause rules old.role old.hello other proof ≡ None → AcceptsProof value old new other next out_old out_new → Then (dues.Proof other) next (Some n)
     proof_accepted proof next n out_old out_new found none h =
         subst (λ d. Then (dues.Proof other) d (Some n)) (sym h.due_is)
         (λ well signature may.
         let p = party signature in
-        let exchange = exchange_with (greeting rules old.namespace) places (own_part p) (offers_of own_rows) other in
-        let begins = begun_spoken rules old.namespace old.role old.hello other own_rows signature in
+        let exchange = exchange_with (greeting rules old.namespace) places (own_part p) (offers_of old.interest own_rows) other in
+        let shown = h.over.rows in
+        let over = h.over.begins in
+        let begins = begun_spoken rules old.namespace old.role old.hello other old.interest own_rows shown h.over.offered signature in
         let step = ap (λ o. proof_read (own_part p) exchange o) (refused_by rules old.namespace old.role old.hello other signature proof ∙ none) in
         let t = found_tells p own_rows (Proving other) session.Proof proof_seen refl at bytes proof n (proof_read (own_part p) exchange None) found step in
-        let c = says_counted first in
+        let c = says_counted (first shown) in
         record {
           sent =
-              ap (λ place. place.sent) h.begins.core
+              ap (λ place. place.sent) over.core
               ∙ c.sent
               ∙ ap (λ k. 0 + k)
-              (sym (counted_items (says_all first).0)
+              (sym (counted_items (says_all (first shown)).0)
               ∙ sym (ap (λ s. counted (map session.Item s.0)) begins)
               ∙ behind_none (counted (to_proof (side_of old.role) (own_part p))) (counted (map session.Item exchange.opening)) (to_proof_counts old.role p)
               ∙ sym (counted-append (to_proof (side_of old.role) (own_part p)) (map session.Item exchange.opening))
               ∙ sym t.0);
-          read = ap (λ place. place.read) h.begins.core ∙ c.read ∙ same_on 0 _ t.1;
+          read = ap (λ place. place.read) over.core ∙ c.read ∙ same_on 0 _ t.1;
+          agreed = λ talks. inr (
+            record { other = other; given = refl; front = []; behind = take n bytes; joined = refl; at = at; held = []; waits = nothing_read p own_rows (Waits (Proving other) at []) },
+            h.over.area,
+          );
         })
 
     proof_by : (proof : List ℕ) (next : Due R) (n : ℕ) (out_old out_new : List ℕ) → IsFound proof_seen bytes proof n → (o : Option HelloRefusal) → proof_cause rules old.role old.hello other proof ≡ o → HearsProof value old new other next out_old out_new o → Then (dues.Proof other) next (Some n)
@@ -186,7 +194,7 @@ module _ {R S : Type 0} (rules : Rules) (value : R → RowValue) (old new : Talk
     pub proof_counts : (out_old out_new : List ℕ) (came : Came R) → ComesProof rules value old new other bytes out_old out_new came → Then (dues.Proof other) (due_after (dues.Proof other) came) (taken_after came)
     proof_counts out_old out_new came.More h = λ well signature may.
         let t = part_tells (party signature) own_rows (Proving other) session.Proof proof_seen refl at bytes h.0 in
-        record { sent = same_on 0 _ t.0; read = same_on 0 _ t.1 }
+        record { sent = same_on 0 _ t.0; read = same_on 0 _ t.1; agreed = λ talks. absurd talks }
     proof_counts out_old out_new came.Bad h = bad_counts (dues.Proof other)
     proof_counts out_old out_new (came.Next next n) h = proof_by h.0 next n out_old out_new h.1.0 (proof_cause rules old.role old.hello other h.0) refl h.1.1
 
@@ -215,7 +223,7 @@ module _ {R S : Type 0} (rules : Rules) (value : R → RowValue) (old new : Talk
         (λ well signature may.
         let t = part_tells (party signature) own_rows talks session.Item sees refl at bytes (subst (λ look. ArePart look [] bytes) same_sees part) in
         let u = subst (From 0 0 signature bytes) (sym stands) t in
-        record { sent = same_on ex.core.sent _ u.0; read = same_on ex.core.read _ u.1 })
+        record { sent = same_on ex.core.sent _ u.0; read = same_on ex.core.read _ u.1; agreed = λ talks. inl (talks_in ex.core at [], refl) })
 
     answered_says : (now : ℕ) (b : Bool) (item : ItemValue) (list : List ItemValue) (last : Place) (rows : List RowValue)
         → (counted (stepped {R = RowValue} now (item_read {H = Hello} {P = List ℕ} {F = HelloRefusal} (answered {G = CoreRefusal} b (list, last) rows))).says ≡ to_count list)
@@ -243,6 +251,7 @@ module _ {R S : Type 0} (rules : Rules) (value : R → RowValue) (old new : Talk
         record {
           sent = ap (λ place. place.sent) t.hears.says.place ∙ said.sent ∙ ap (λ k. k + to_count list) came.sent ∙ sym (ap (λ k. ex.core.sent + k) u.0);
           read = ap (λ place. place.read) t.hears.says.place ∙ said.read ∙ came.read ∙ sym (ap (λ k. ex.core.read + k) u.1);
+          agreed = λ talks. inl (talks_in ex.core at [], t.area);
         }
 
     item_refused : (next : Due R) (n : ℕ) (cause : CoreRefusal) → next ≡ dues.Nothing (causes.Core cause) → Then (dues.Items ex) next (Some n)
@@ -287,4 +296,5 @@ counts_append a b c bytes more out_a out_b out_c rows_a rows_b rows_c f g first 
           ∙ ap₂ (λ x y. x + y) one.read (sym (ap (λ m. counted m.rows) noted_there))
           ∙ omega (arith, counted-append heard (reading.read (noting here) (reading.read (noting here) a.side.stand bytes).stand more).rows)
           ∙ sym (ap (λ m. a.read + counted m.rows) noted_both);
+      agreed = agrees_append a b c bytes more out_a out_b rows_a rows_b signature f may_b one.agreed (second well signature may).agreed;
     }

@@ -1,7 +1,7 @@
 -- What becomes of the numbers of the rows that came with one row more.
-use Rattle.std.proofs.Common.{◌≡◌, inl, ℕ, zero, suc, ◌+◌, ◌<◌, cond, not, List, [], ◌∷◌, ◌++◌, map, filter, length, Option, Some, None, is_some, option_map, Ok, Err, refl, sym, ap, ◌∙◌, subst, arith, append_assoc, append-nil, length-append}
-use Rattle.std.proofs.lemmas.List.{map-append}
-use Rattle.std.proofs.lemmas.List.Elements.{filter-append, Contains-push}
+use Rattle.std.proofs.Common.{◌≡◌, inl, inr, ℕ, zero, suc, ◌+◌, ◌<◌, cond, not, List, [], ◌∷◌, ◌++◌, map, filter, length, Option, Some, None, is_some, option_map, Ok, Err, refl, sym, ap, ◌∙◌, subst, arith, append_assoc, append-nil, length-append}
+use Rattle.std.proofs.lemmas.List.{length-map, map-append}
+use Rattle.std.proofs.lemmas.List.Elements.{All-from_recursion, filter-append, Contains-push}
 use mathlib.Core.List.{IsPrefix}
 use Rattle.spelling.specs.Answers.{or_else, first_some}
 use Rattle.spelling.specs.declared.ending.End.TheVariants as ends
@@ -24,15 +24,16 @@ use Rattle.ns_cell.specs.Answers.{IsOffered, offered}
 use Rattle.ns_cell.proofs.Offers.{stored_is, kept_is, full_is, unanswered}
 use Rattle.auth_entry.specs.Rows.{entry_row, authorised_rows, numbered_refusal, first_refused}
 use Rattle.sync_link.specs.Kept.{log_rows, uncovered, IsPart}
+use Rattle.sync_link.specs.Run.{CoversOrIsFull}
 use Rattle.sync_link.specs.Tallies.{with_refused, with_told, HasGrown, IsTally}
 use Rattle.sync_link.specs.declared.intake.Tally.{Tally}
 use Rattle.sync_link.proofs.PartsOf.{part_more, part_with}
-use Rattle.sync_link.proofs.CoveredRows.{uncovered-append, covered_one, uncovered_one, none_more, rows_behind}
+use Rattle.sync_link.proofs.CoveredRows.{uncovered-append, covered_all, covered_one, uncovered_one, none_more, rows_behind}
 
 -- ---- a pass later
 
 pub later_trans : {R : Type 0} (one two three : PassValue R) → IsLater one two → IsLater two three → IsLater one three
-later_trans one two three a b = record { cell = b.cell ∙ a.cell; number = b.number ∙ a.number; seen = prefix_trans one.seen two.seen three.seen a.seen b.seen }
+later_trans one two three a b = record { cell = b.cell ∙ a.cell; number = b.number ∙ a.number; seen = prefix_trans one.seen two.seen three.seen a.seen b.seen; turns = prefix_trans one.turns two.turns three.turns a.turns b.turns }
 
 or_else-none : {E : Type 0} (o : Option E) → or_else o None ≡ o
 or_else-none None = refl
@@ -232,3 +233,15 @@ tally_none rules namespace start pass later own is_pass = record {
   missed = refl;
   full = λ some. absurd (omega arith);
 }
+
+-- ---- what the log has
+
+-- all authorised rows that were offered are covered, or the log is full
+pub tally_keeps : (rules : Rules) (namespace : List ℕ) (start : PassValue AuthorisedValue) (rows : List RawValue) (pass : PassValue AuthorisedValue) (tally : Tally) → IsTally rules namespace start rows pass tally
+    → CoversOrIsFull (log_rows pass.seen) (authorised_rows rules namespace rows)
+tally_keeps rules namespace start rows pass tally t = by_number tally.missed refl
+  where
+    by_number : (n : ℕ) → tally.missed ≡ n → CoversOrIsFull (log_rows pass.seen) (authorised_rows rules namespace rows)
+    by_number zero e =
+        inl (All-from_recursion (HasCovering (log_rows pass.seen)) (authorised_rows rules namespace rows) (covered_all (log_rows pass.seen) (authorised_rows rules namespace rows) (sym t.missed ∙ e)))
+    by_number (suc n) e = inr (length-map pass.seen (λ (l : LogRow AuthorisedValue). entry_row l.row) ∙ t.full (omega arith))

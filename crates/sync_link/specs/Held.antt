@@ -1,6 +1,7 @@
 -- What a side of a session keeps to that is fed.
 use Rattle.std.specs.Prelude.{ℕ, ◌+◌, ◌<◌, ◌≤◌, ◌^◌, List, [], length, map, take, Option, None, Some}
 use Rattle.scheme_core.specs.Rules.{Rules}
+use Rattle.willow_area.specs.declared.area.Area.{Area}
 use Rattle.willow_entry.specs.Row.{RowValue}
 use Rattle.sync_hello.specs.HelloForm.{HasSpelling}
 use Rattle.sync_link.specs.Sound.{AreSound}
@@ -27,9 +28,16 @@ read_of (dues.Proof other) = 0
 read_of (dues.Items exchange) = exchange.core.read
 read_of (dues.Nothing cause) = 0
 
+-- the area that both may read, as long as an exchange lasts or is done
+abbrev pub area_agreed : {R : Type 0} → Due R → Option Area
+area_agreed dues.Hello = None
+area_agreed (dues.Proof other) = None
+area_agreed (dues.Items exchange) = exchange.area
+area_agreed (dues.Nothing cause) = None
+
 -- what contracts see of a side in memory
 abbrev pub fed_with : {R S : Type 0} → Rules → (R → RowValue) → Talker R S → Due R → ℕ → List ℕ → Fed
-fed_with rules value talker due at held = record { side = waiting_side rules value talker due at held; sent = sent_of due; read = read_of due }
+fed_with rules value talker due at held = record { side = waiting_side rules value talker due at held; sent = sent_of due; read = read_of due; area = area_agreed due }
 
 -- the same of a side by its ear, which has what is due and is there of it
 abbrev pub heard_side : {R S : Type 0} → Rules → (R → RowValue) → Talker R S → Ear R → Side
@@ -43,11 +51,13 @@ state_of value talker due at held = record {
   namespace = talker.namespace;
   role = talker.role;
   hello = talker.hello;
+  interest = talker.interest;
   signature = talker.signature;
   rows = map value talker.snapshot;
   stand = stand_of due at held;
   sent = sent_of due;
   read = read_of due;
+  area = area_agreed due;
 }
 
 -- it counts what comes of a message in so many bytes, behind which the next begins; or of all the bytes, with no message whole

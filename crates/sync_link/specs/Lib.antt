@@ -10,6 +10,7 @@ pub mod Hearing
 pub mod Found
 pub mod Standing
 pub mod Due
+pub mod Asking
 pub mod Talking
 pub mod Taking
 pub mod Fed

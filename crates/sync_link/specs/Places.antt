@@ -1,6 +1,9 @@
 -- A side of an exchange of stores, as the rules of sessions ask for it: it says and reads items by its place.
-use Rattle.std.specs.Prelude.{Bool, true, false, List}
+use Rattle.std.specs.Prelude.{Bool, true, false, List, Option, None, Some}
+use Rattle.willow_area.specs.Boxes.{Ranges}
 use Rattle.willow_entry.specs.Row.{RowValue}
+use Rattle.area_interest.specs.Interest.{interest}
+use Rattle.area_interest.specs.declared.interest.Interest.{Interest}
 use Rattle.sync_msg.specs.Items.{ItemValue, item_spelling}
 use Rattle.sync_msg.specs.declared.refusal.CoreRefusal.{CoreRefusal}
 use Rattle.sync_core.specs.Flat.{row_in}
@@ -48,6 +51,12 @@ places = record {
   spelling = item_spelling;
 }
 
--- of a side's rows those in the box that was agreed on are offered
-abbrev pub offers_of : List RowValue → Offering Agreement RowValue
-offers_of rows agreed = rows_of_area agreed.box rows
+-- of the rows of a store those that it offers where this box was agreed on: those of interest in it; all where none was, since
+-- none is told then
+abbrev pub of_interest : Interest → Option Ranges → List RowValue → List RowValue
+of_interest limits None rows = rows
+of_interest limits (Some x) rows = interest rows x limits.newest limits.bytes
+
+-- those of them that the exchange begins over: all in the box that was agreed on
+abbrev pub offers_of : Interest → List RowValue → Offering Agreement RowValue
+offers_of limits rows agreed = rows_of_area agreed.box (of_interest limits agreed.box rows)

@@ -16,5 +16,6 @@ planned rules namespace plan nonce signature = record {
   namespace = namespace;
   role = plan.role;
   hello = own_hello plan nonce;
+  interest = plan.interest;
   signature = signature;
 }

@@ -1,10 +1,11 @@
 -- Sessions that were run, and what holds of them where the other side is one of the same kind.
 use Rattle.std.specs.Prelude.{◌≡◌, ◌⊎◌, ℕ, ◌+◌, ◌*◌, ◌<◌, max, Bool, true, List, length, Option, None, Some, map, All, Contains, Ok, Err, IsTrue}
+use Rattle.std.specs.List.{IsDistinct}
 use Rattle.scheme_core.specs.Rules.{Rules}
 use Rattle.willow_outside.specs.Counts.{HasRisen}
 use Rattle.willow_outside.specs.Facts.{LinkFacts}
 use Rattle.willow_area.specs.Boxes.{Ranges}
-use Rattle.willow_entry.specs.Row.{RowValue, HasCovering, live}
+use Rattle.willow_entry.specs.Row.{RowValue, HasCovering, live, same_row}
 use Rattle.mc_cap.specs.Grant.{receiver_of}
 use Rattle.mc_cap.specs.Signature.{IsSignature}
 use Rattle.cap_codec.specs.Rows.{RawValue, IsRaw, row_of}
@@ -21,11 +22,11 @@ use Rattle.sync_core.specs.Place.{rows_of_area}
 use Rattle.session_rules.specs.Reading as reading
 use Rattle.session_rules.specs.Rounds.{IsFront}
 use Rattle.session_rules.specs.Session.{Item}
-use Rattle.sync_link.specs.Sessions.{Party, SessionCause, said, out, box_with}
+use Rattle.sync_link.specs.Sessions.{Party, SessionCause, said, told_rows, out, box_with, offered_to, rows_with, version_with}
 use Rattle.sync_link.specs.Granting.{IsGranted, GrantsRow, message_due}
 use Rattle.sync_link.specs.Settling.{IsOpening, Accepts, AreApartIn}
 use Rattle.sync_link.specs.Kept.{log_rows}
-use Rattle.sync_link.specs.Run.{Answer, IsAllOf, Ends, Runs}
+use Rattle.sync_link.specs.Run.{Answer, AreAllOf, IsAllOf, Ends, Runs}
 
 -- ---- a session that was run
 
@@ -104,7 +105,7 @@ pub record AreAlike {p q : List ℕ → Party} (one : Ran p) (other : Ran q) : T
   pub bytes : List ℕ
   pub wrote : IsAllOf bytes one.did.written one.answer × IsAllOf bytes other.did.written other.answer
   pub rows : List RowValue
-  pub sent : IsAllOf rows (map row_of one.did.rows) one.answer × IsAllOf rows (map row_of other.did.rows) other.answer
+  pub sent : AreAllOf rows (map row_of one.did.rows) one.answer × AreAllOf rows (map row_of other.did.rows) other.answer
   pub end : reading.Ending SessionCause
   pub ended : Ends end (length one.did.bytes) one.answer × Ends end (length other.did.bytes) other.answer
   pub answered : IsUnfailed one.answer → IsUnfailed other.answer → EndAlike one.answer other.answer
@@ -113,12 +114,16 @@ pub record AreAlike {p q : List ℕ → Party} (one : Ran p) (other : Ran q) : T
 
 -- What was written is what is due to the bytes that were read, or a front of it. An item is among the messages of that, be it
 -- a row or a fingerprint, only where what was read begins with the other side's hello and a proof that is accepted; and each
--- row among them is one of the own, which what that hello's capability grants includes.
+-- row among them is one of the own, which what that hello's capability grants includes, and one of those that are offered to
+-- that side in the area that both may read. No row is told twice.
 pub record TellsGranted {p : List ℕ → Party} (ran : Ran p) : Type 0 where
   pub wrote : IsFront ran.did.written (out (side ran) (opening_of ran) ran.did.bytes)
   pub items : (item : ItemValue) → Contains (said (side ran) (opening_of ran) ran.did.bytes) (Item item) → IsGranted (side ran) ran.did.bytes
   pub rows : (row : RowValue) → Contains (said (side ran) (opening_of ran) ran.did.bytes) (Item (Row row))
       → (granted : IsGranted (side ran) ran.did.bytes) × (Contains (opening_of ran) row × GrantsRow granted.hello row)
+  pub offered : (row : RowValue) → Contains (told_rows (side ran) (opening_of ran) ran.did.bytes) row
+      → (granted : IsGranted (side ran) ran.did.bytes) × Contains (rows_with (side ran) granted.hello (opening_of ran)) row
+  pub once : IsDistinct same_row (told_rows (side ran) (opening_of ran) ran.did.bytes)
 
 -- ---- the other side
 
@@ -169,12 +174,23 @@ abbrev pub AreApartAs : ℕ → Role → Option Ranges → List RowValue → Lis
 AreApartAs version Caller box rows others = AreApartIn version box rows others
 AreApartAs version Answerer box rows others = AreApartIn version box others rows
 
--- the own rows and the other side's in the area that both may read
+-- the rows that the two offer each other: of the own store, and of the other side's
+abbrev pub own_offered : {p : List ℕ → Party} → Ran p → Party → List RowValue
+own_offered ran q = offered_to (side ran) q.hello (opening_of ran)
+
+abbrev pub other_offered : {p : List ℕ → Party} → Ran p → Party → List RowValue → List RowValue
+other_offered ran q others = offered_to q (side ran).hello others
+
+-- the fingerprints of their exchange tell rows apart
+abbrev pub AreToldApart : {p : List ℕ → Party} → Ran p → Party → List RowValue → Type 0
+AreToldApart ran q others = AreApartAs (version_with (side ran) q.hello) (side ran).role (box_with (side ran) q.hello) (own_offered ran q) (other_offered ran q others)
+
+-- those of these rows that lie in the area that both may read
 abbrev pub own_common : {p : List ℕ → Party} → Ran p → Party → List RowValue
-own_common ran q = rows_of_area (box_with (side ran) q.hello) (opening_of ran)
+own_common ran q = rows_of_area (box_with (side ran) q.hello) (own_offered ran q)
 
 abbrev pub other_common : {p : List ℕ → Party} → Ran p → Party → List RowValue → List RowValue
-other_common ran q others = rows_of_area (box_with (side ran) q.hello) others
+other_common ran q others = rows_of_area (box_with (side ran) q.hello) (other_offered ran q others)
 
 -- of so many rows of both sides in the area that both may read there are at most so many counted items, and none without one
 abbrev pub most_counted : Option Ranges → ℕ → ℕ → ℕ

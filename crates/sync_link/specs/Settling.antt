@@ -15,7 +15,7 @@ use Rattle.sync_core.specs.declared.stage.TheConstants.{SNAPSHOT_MAX}
 use Rattle.sync_core.specs.Flat.{TurnValue}
 use Rattle.sync_core.specs.SyncRules.{sync_rules}
 use Rattle.session_rules.specs.Reading.{Done}
-use Rattle.sync_link.specs.Sessions.{Party, ending, got, box_with, version_with}
+use Rattle.sync_link.specs.Sessions.{Party, ending, got, box_with, offered_to, version_with}
 use Rattle.sync_link.specs.Granting.{message_due}
 
 -- What a store of the namespace has as a session begins: live rows, each of this namespace, not too many; their tokens are
@@ -43,9 +43,10 @@ pub record CanMeet (p q : Party) : Type 0 where
   pub accepts : Accepts p q
   pub is_accepted : Accepts q p
 
--- the exchange of their rows in the version of their session, over the box of the area that both may read
+-- the exchange of the rows that they offer each other, in the version of their session, over the box of the area that both may
+-- read
 abbrev pub turns_between : Party → Party → List RowValue → List RowValue → List TurnValue
-turns_between p q rows others = exchange (sync_rules (version_with p q.hello)) rows others (box_with p q.hello)
+turns_between p q rows others = exchange (sync_rules (version_with p q.hello)) (offered_to p q.hello rows) (offered_to q p.hello others) (box_with p q.hello)
 
 -- Both come to the end, and each is sent the rows that the exchange sends it. The caller reads the bytes on the right.
 pub record AreDone (p q : Party) (rows others : List RowValue) (left right : List ℕ) : Type 0 where
@@ -58,3 +59,7 @@ pub record AreDone (p q : Party) (rows others : List RowValue) (left right : Lis
 abbrev pub AreApartIn : ℕ → Option Ranges → List RowValue → List RowValue → Type 0
 AreApartIn version None rows others = Unit {0}
 AreApartIn version (Some x) rows others = Apart (sync_rules version) rows others x
+
+-- so do those of the exchange of the rows that a caller and an answerer offer each other
+abbrev pub AreApartBetween : Party → Party → List RowValue → List RowValue → Type 0
+AreApartBetween p q rows others = AreApartIn (version_with p q.hello) (box_with p q.hello) (offered_to p q.hello rows) (offered_to q p.hello others)

@@ -22,6 +22,10 @@ pub record SignsFor (gives : List ℕ → List ℕ → Bool) (side : Side) (piec
   pub held : List ℕ
   pub waits : (read (session_of (party_of side signature) side.rows) side.stand front).stand ≡ Waits (Proving other) at held
 
+-- any signature is given of any message
+abbrev pub anyone : List ℕ → List ℕ → Bool
+anyone = λ message signature. true
+
 -- a side that reads a piece and is signed then was signed before, or so
 abbrev pub SignsTo : (List ℕ → List ℕ → Bool) → Side → Side → List ℕ → Type 0
 SignsTo gives old new piece =

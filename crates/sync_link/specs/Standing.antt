@@ -2,6 +2,7 @@
 use Rattle.std.specs.Prelude.{◌≡◌, ℕ, List, ◌++◌, flat_map, Option, None, Some}
 use Rattle.scheme_core.specs.Rules.{Rules}
 use Rattle.willow_entry.specs.Row.{RowValue}
+use Rattle.area_interest.specs.declared.interest.Interest.{Interest}
 use Rattle.sync_msg.specs.declared.role.Role.{Role}
 use Rattle.sync_hello.specs.declared.hello.Hello.{Hello}
 use Rattle.sync_core.specs.Place.{Place, rows_of_area}
@@ -15,13 +16,14 @@ pub record Side : Type 0 where
   pub namespace : List ℕ
   pub role : Role
   pub hello : Hello
+  pub interest : Interest
   pub signature : Option (List ℕ)
   pub rows : List RowValue
   pub stand : Stand SessionStage SessionCause
 
 -- what it brings, where this is its signature
 abbrev pub party_of : Side → List ℕ → Party
-party_of side signature = record { rules = side.rules; namespace = side.namespace; role = side.role; hello = side.hello; signature = signature }
+party_of side signature = record { rules = side.rules; namespace = side.namespace; role = side.role; hello = side.hello; interest = side.interest; signature = signature }
 
 -- this may be the signature: it is the one that was made, or none was made yet
 abbrev pub MayBe : Option (List ℕ) → List ℕ → Type 0

@@ -100,6 +100,7 @@ pub record TakesItem {R : Type 0} (old new : Exchange R) (bytes : List ℕ) (tak
   pub found : IsFound (item_seen old.reader.version (is_due old.reader.due)) bytes item taken
   pub reader : new.reader ≡ moved_on old.reader item taken
   pub hears : HearsItem old.core new.core item out_old out_new rows_old rows_new
+  pub area : new.area ≡ old.area
   pub silent : stage_of new.core.doing ≡ Writing → ⊥
 
 -- where an item is due

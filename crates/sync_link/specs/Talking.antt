@@ -1,10 +1,11 @@
 -- How a side in memory greets the other.
 use Rattle.std.specs.Prelude.{◌≡◌, ◌≢◌, ◌⊎◌, ℕ, Bool, true, List, [], ◌++◌, map, flat_map, Option, None, Some, option_map}
-use Rattle.willow_outside.specs.Counts.{Rose}
 use Rattle.scheme_core.specs.Rules.{Rules}
 use Rattle.willow_area.specs.AreaBox.{area_box}
 use Rattle.willow_area.specs.Boxes.{Ranges}
+use Rattle.willow_area.specs.declared.area.Area.{Area}
 use Rattle.willow_entry.specs.Row.{RowValue}
+use Rattle.area_interest.specs.declared.interest.Interest.{Interest}
 use Rattle.mc_cap.specs.Signature.{signature_spelling}
 use Rattle.sync_msg.specs.Items.{item_spelling}
 use Rattle.sync_msg.specs.Reader.{at_start}
@@ -16,12 +17,13 @@ use Rattle.sync_hello.specs.HelloForm.{hello_spelling}
 use Rattle.sync_hello.specs.Proof.{proof_message, proof_refusal}
 use Rattle.sync_hello.specs.Version.{session_version}
 use Rattle.sync_hello.specs.declared.hello.Hello.{Hello}
-use Rattle.sync_core.specs.Place.{Place, first_place, stage_of}
+use Rattle.sync_core.specs.Place.{Place, first_place, rows_of_area, stage_of}
 use Rattle.sync_core.specs.Runs.{says_all}
 use Rattle.sync_core.specs.declared.stage.Stage.TheVariants.{Writing}
 use Rattle.session_rules.specs.Reading.{Stand}
 use Rattle.sync_link.specs.Sessions.{SessionStage, SessionCause}
-use Rattle.sync_link.specs.Sound.{IsSound}
+use Rattle.sync_link.specs.Places.{of_interest}
+use Rattle.sync_link.specs.Sound.{AreSound, IsSound}
 use Rattle.sync_link.specs.Standing.{Side, MayBe}
 use Rattle.sync_link.specs.declared.due.Cause.TheVariants as causes
 use Rattle.sync_link.specs.declared.due.Due.{Due}
@@ -50,15 +52,25 @@ abbrev pub version_between : Role → Hello → Hello → ℕ
 version_between Caller own other = session_version own other
 version_between Answerer own other = session_version other own
 
--- the box of the area that both may read
+-- the area that both may read, if there is one
+abbrev pub area_between : Role → Hello → Hello → Option Area
+area_between Caller own other = common_area own other
+area_between Answerer own other = common_area other own
+
+-- its box
 abbrev pub box_between : Role → Hello → Hello → Option Ranges
 box_between Caller own other = option_map area_box (common_area own other)
 box_between Answerer own other = option_map area_box (common_area other own)
 
--- the place of a side at the beginning of the exchange with one that said a hello
-abbrev pub first_with : {R S : Type 0} → (R → RowValue) → Talker R S → Hello → Place
-first_with value talker other =
-    first_place (version_between talker.role talker.hello other) talker.role (map value talker.snapshot) (box_between talker.role talker.hello other)
+-- the place of a side at the beginning of the exchange over some rows with one that said a hello
+abbrev pub first_with : {R S : Type 0} → Talker R S → Hello → List RowValue → Place
+first_with talker other rows = first_place (version_between talker.role talker.hello other) talker.role rows (box_between talker.role talker.hello other)
+
+-- These rows are offered in place of all that a side has: those of them that lie in the box are the ones of interest, and all can
+-- be told.
+pub record AreOffered (limits : Interest) (box : Option Ranges) (rows shown : List RowValue) : Type 0 where
+  pub inside : rows_of_area box shown ≡ rows_of_area box (of_interest limits box rows)
+  pub sound : AreSound shown
 
 -- ---- what is said
 
@@ -93,6 +105,7 @@ side_with rules value talker stand = record {
   namespace = talker.namespace;
   role = talker.role;
   hello = talker.hello;
+  interest = talker.interest;
   signature = talker.signature;
   rows = map value talker.snapshot;
   stand = stand;
@@ -120,18 +133,6 @@ abbrev pub SignsBy : (List ℕ → List ℕ → Bool) → Role → Hello → Opt
 SignsBy gives role own made_old made_new =
     (signature : List ℕ) → made_new ≡ Some signature → (made_old ≡ Some signature) ⊎ ((other : Hello) × (gives (own_message role own other) signature ≡ true))
 
--- a signer fails only where its count of faults rose or nothing was left of it
-abbrev pub CanFail : ℕ → ℕ → ℕ → Type 0
-CanFail left faults_old faults_new = (left ≡ 0) ⊎ Rose faults_old faults_new
-
--- it fails only a side that is not signed
-abbrev pub FailsSign : Option (List ℕ) → ℕ → ℕ → ℕ → Type 0
-FailsSign made left faults_old faults_new = (made ≡ None) × CanFail left faults_old faults_new
-
--- while a side is not signed nothing is taken from the signer
-abbrev pub AsksOnce : Option (List ℕ) → ℕ → ℕ → Type 0
-AsksOnce made left_old left_new = made ≡ None → left_new ≡ left_old
-
 -- What is due behind a hello, by why it is refused, if it is.
 abbrev pub HearsHello : {R S : Type 0} → Talker R S → Talker R S → Hello → Due R → List ℕ → List ℕ → Option HelloRefusal → Type 0
 HearsHello old new other due out_old out_new (Some cause) = (due ≡ dues.Nothing (causes.Hello cause)) × (new ≡ old) × (out_new ≡ out_old)
@@ -145,13 +146,20 @@ pub record BeginsExchange {R : Type 0} (place : Place) (exchange : Exchange R) (
   pub sound : IsSound exchange.core
   pub silent : stage_of exchange.core.doing ≡ Writing → ⊥
 
--- the same behind a proof
+-- The same over the rows that a side offers to one that said a hello, in the area that both may read.
+pub record BeginsOffered {R S : Type 0} (value : R → RowValue) (talker : Talker R S) (other : Hello) (exchange : Exchange R) (out_old out_new : List ℕ) : Type 0 where
+  pub rows : List RowValue
+  pub offered : AreOffered talker.interest (box_between talker.role talker.hello other) (map value talker.snapshot) rows
+  pub begins : BeginsExchange (first_with talker other rows) exchange out_old out_new
+  pub area : exchange.area ≡ area_between talker.role talker.hello other
+
+-- and that behind a proof
 pub record AcceptsProof {R S : Type 0} (value : R → RowValue) (old new : Talker R S) (other : Hello) (due : Due R) (out_old out_new : List ℕ) : Type 0 where
   pub between : List ℕ
   pub proved : Writes new.signature (said_to_proof old.role) out_old between
   pub once : Once old.signature new.signature
   pub exchange : Exchange R
-  pub begins : BeginsExchange (first_with value old other) exchange between out_new
+  pub over : BeginsOffered value old other exchange between out_new
   pub due_is : due ≡ dues.Items exchange
 
 abbrev pub HearsProof : {R S : Type 0} → (R → RowValue) → Talker R S → Talker R S → Hello → Due R → List ℕ → List ℕ → Option HelloRefusal → Type 0

@@ -5,13 +5,15 @@ use session_end::HelloRefusal;
 use sync_core::{CoreRefusal, SyncCore};
 use sync_hello::Hello;
 use sync_msg::ItemReader;
+use willow_area::Area;
 use willow_entry::Row;
 
-// An exchange, and the reader of the other side's items.
+// An exchange, the reader of the other side's items, and the area that both may read, if there is one.
 #[derive(Drop)]
 pub(crate) struct Exchange<R: Row> {
     pub(crate) core: SyncCore<R>,
     pub(crate) reader: ItemReader<RawRows>,
+    pub(crate) area: Option<Area>,
 }
 
 // Why nothing more is due.

@@ -1,11 +1,12 @@
 //! What a side of a session has of the message that is due.
 
-ghost use Rattle.std.specs.Prelude.{◌≡◌, ◌+◌, ◌<◌, ◌≤◌, ◌^◌, [], ◌++◌, drop, length, IfOk, IsErrOf, OnOk};
+ghost use Rattle.std.specs.Prelude.{◌≡◌, ◌+◌, ◌<◌, ◌≤◌, ◌^◌, [], ◌++◌, drop, length, IfOk, OnOk};
+ghost use Rattle.sync_link.specs.Asking.{AsksOnce, CountsSign, IsUnasked};
 ghost use Rattle.sync_link.specs.Fed.{CountsOn};
 ghost use Rattle.sync_link.specs.Held.{IsHeld, heard_fed, heard_side};
 ghost use Rattle.sync_link.specs.Signing.{SignsTo};
 ghost use Rattle.sync_link.specs.Standing.{Feeds};
-ghost use Rattle.sync_link.specs.Talking.{AsksOnce, FailsSign, Keeps, SignsBy};
+ghost use Rattle.sync_link.specs.Talking.{Keeps, SignsBy};
 ghost use Rattle.sync_link.specs.Taking.{listed};
 ghost use Rattle.sync_link.specs.declared.due.Cause.TheVariants as causes;
 ghost use Rattle.sync_link.specs.declared.due.Due.TheVariants as dues;
@@ -47,15 +48,15 @@ pub(crate) fn hear_on<R: Row, S: Verify, K: Signer>(
     ensures held { OnOk result (IsHeld S.rules R.value talker.new ear.new.due ear.new.at ear.new.held.items) }
     ensures greets { OnOk result (SignsTo (K.gives signer.old) (heard_side S.rules R.value talker.old ear.old) (heard_side S.rules R.value talker.new ear.new) piece.now) }
     ensures gives { K.gives signer.new ≡ K.gives signer.old }
-    ensures faults { K.faults signer.old ≤ K.faults signer.new }
     ensures signs { OnOk result (SignsBy (K.gives signer.old) talker.old.role talker.old.hello talker.old.signature talker.new.signature) }
-    ensures asks { OnOk result (AsksOnce talker.new.signature (K.left signer.old) (K.left signer.new)) }
-    ensures failed { IsErrOf result Stop.SignFault → FailsSign talker.old.signature (K.left signer.old) (K.faults signer.old) (K.faults signer.new) }
+    ensures unasked { OnOk result (IsUnasked talker.old.signature talker.new.signature signer.old signer.new) }
+    ensures asks { AsksOnce K.asks talker.old.signature signer.old signer.new }
+    ensures faults { CountsSign talker.old.signature (K.left signer.old) (K.faults signer.old) (K.faults signer.new) result }
 {
     hold(ear.at, &mut ear.held, piece)?;
     let taken = take_all(talker, &mut ear.due, signer, &ear.held, out, lists)?;
     ear.at += taken as u64;
-    ear.held = rest_of(talker.alloc, &ear.held, taken)?;
+    drop_front(talker.alloc, &mut ear.held, taken)?;
     Ok(())
 }
 
@@ -72,13 +73,16 @@ fn hold(at: u64, held: &mut Vec<u8>, piece: &[u8]) -> Result<(), NoMemory>
     Ok(())
 }
 
-// The bytes behind so many.
-fn rest_of(alloc: Global, bytes: &[u8], taken: usize) -> Result<Vec<u8>, NoMemory>
-    requires { taken ≤ length bytes.now }
-    ensures { IfOk result (λ rest. rest.items ≡ drop taken bytes.now) }
+// Leaves the bytes behind so many. Where none are taken nothing is copied, so that a message which comes in many pieces costs
+// no more for each than the piece.
+fn drop_front(alloc: Global, held: &mut Vec<u8>, taken: usize) -> Result<(), NoMemory>
+    requires { taken ≤ length held.old.items }
+    ensures { OnOk result (held.new.items ≡ drop taken held.old.items) }
 {
-    let rest = Vec::from_slice(alloc, &bytes[taken..])?;
-    Ok(rest)
+    if taken > 0 {
+        *held = Vec::from_slice(alloc, &held[taken..])?;
+    }
+    Ok(())
 }
 
 // Nothing is due any more, as behind what is no message.

@@ -1,18 +1,21 @@
 //! How a side greets the other: what comes of a hello and of a proof.
 
-ghost use Rattle.std.specs.Prelude.{◌≡◌, ◌≤◌, ◌++◌, true, map, option_map, IfOk, IsErrOf, OnOk, None};
+ghost use Rattle.std.specs.Prelude.{◌≡◌, ◌≤◌, ◌++◌, true, map, option_map, IfOk, OnOk, None};
 ghost use Rattle.spelling.specs.Answers.{Judges};
 ghost use Rattle.willow_area.specs.AreaBox.{area_box};
 ghost use Rattle.mc_cap.specs.Signature.{signature_spelling};
 ghost use Rattle.sync_hello.specs.Checked.{hello_refusal};
 ghost use Rattle.sync_hello.specs.HelloForm.{HasSpelling};
+ghost use Rattle.sync_link.specs.Asking.{AsksOnce, CountsSign, IsUnasked};
 ghost use Rattle.sync_link.specs.Sound.{AreSound};
-ghost use Rattle.sync_link.specs.Talking.{AsksOnce, BeginsExchange, CanFail, FailsSign, HearsHello, HearsProof, IsSigned, Keeps, Once, Proves, SpeaksSome, UnsignedIf, Writes, box_between, first_with, own_message, proof_cause, said_to_hello, said_to_proof, version_between};
+ghost use Rattle.sync_link.specs.Talking.{AreOffered, BeginsExchange, BeginsOffered, HearsHello, HearsProof, IsSigned, Keeps, Once, Proves, SpeaksSome, UnsignedIf, Writes, area_between, box_between, first_with, own_message, proof_cause, said_to_hello, said_to_proof, version_between};
 
 use crate::due::{Cause, Due, Exchange};
 use crate::speak::speak;
 use crate::standing::Stop;
 use crate::talker::Talker;
+use area_interest::{Interest, offered};
+use block_store::Snapshot;
 use mc_cap::Signature;
 use scheme_core::{MAX_SIGNATURE, Signer, Verify};
 use spelling::{End, NoMemory, put_bytes, put_u16};
@@ -37,11 +40,11 @@ pub(crate) fn hear_hello<R: Row, S: Verify, K: Signer>(
     requires unsigned { talker.old.signature ≡ None }
     ensures keeps { Keeps talker.old talker.new }
     ensures gives { K.gives signer.new ≡ K.gives signer.old }
-    ensures faults { K.faults signer.old ≤ K.faults signer.new }
     ensures hears { IfOk result (λ due. HearsHello talker.old talker.new other due out.old.items out.new.items (hello_refusal S.rules talker.old.namespace other)) }
     ensures signs { OnOk result (IsSigned (K.gives signer.old) talker.old talker.new other) }
-    ensures asks { OnOk result (AsksOnce talker.new.signature (K.left signer.old) (K.left signer.new)) }
-    ensures failed { IsErrOf result Stop.SignFault → FailsSign talker.old.signature (K.left signer.old) (K.faults signer.old) (K.faults signer.new) }
+    ensures unasked { OnOk result (IsUnasked talker.old.signature talker.new.signature signer.old signer.new) }
+    ensures asks { AsksOnce K.asks talker.old.signature signer.old signer.new }
+    ensures faults { CountsSign talker.old.signature (K.left signer.old) (K.faults signer.old) (K.faults signer.new) result }
 {
     match check_hello(&talker.scheme, &talker.namespace, &other) {
         Ok(()) => {
@@ -65,12 +68,12 @@ fn greet_back<R: Row, S: Verify, K: Signer>(
     requires unsigned { talker.old.signature ≡ None }
     ensures keeps { Keeps talker.old talker.new }
     ensures gives { K.gives signer.new ≡ K.gives signer.old }
-    ensures faults { K.faults signer.old ≤ K.faults signer.new }
     ensures writes { OnOk result (Writes talker.new.signature (said_to_hello talker.old.role talker.old.hello) out.old.items out.new.items) }
     ensures unsigned { OnOk result (UnsignedIf talker.old.role talker.new.signature) }
     ensures signs { OnOk result (IsSigned (K.gives signer.old) talker.old talker.new other.now) }
-    ensures asks { OnOk result (AsksOnce talker.new.signature (K.left signer.old) (K.left signer.new)) }
-    ensures failed { IsErrOf result Stop.SignFault → FailsSign talker.old.signature (K.left signer.old) (K.faults signer.old) (K.faults signer.new) }
+    ensures unasked { OnOk result (IsUnasked talker.old.signature talker.new.signature signer.old signer.new) }
+    ensures asks { AsksOnce K.asks talker.old.signature signer.old signer.new }
+    ensures faults { CountsSign talker.old.signature (K.left signer.old) (K.faults signer.old) (K.faults signer.new) result }
 {
     match talker.role {
         Role::Caller => Ok(()),
@@ -90,11 +93,12 @@ fn prove<R: Row, S: Verify, K: Signer>(
 ) -> Result<(), Stop>
     requires own { HasSpelling talker.old.hello }
     requires other { HasSpelling other.now }
+    requires unsigned { talker.old.signature ≡ None }
     ensures keeps { Keeps talker.old talker.new }
     ensures gives { K.gives signer.new ≡ K.gives signer.old }
-    ensures faults { K.faults signer.old ≤ K.faults signer.new }
     ensures proves { OnOk result (Proves (K.gives signer.old) talker.old talker.new other.now out.old.items out.new.items) }
-    ensures failed { IsErrOf result Stop.SignFault → CanFail (K.left signer.old) (K.faults signer.old) (K.faults signer.new) }
+    ensures asks { AsksOnce K.asks talker.old.signature signer.old signer.new }
+    ensures faults { CountsSign talker.old.signature (K.left signer.old) (K.faults signer.old) (K.faults signer.new) result }
 {
     let message = own_message(talker.alloc, talker.role, &talker.hello, other)?;
     let signature = sign(talker.alloc, signer, &message)?;
@@ -118,9 +122,9 @@ fn own_message(alloc: Global, role: Role, own: &Hello, other: &Hello) -> Result<
 // The signature of a message.
 fn sign<K: Signer>(alloc: Global, signer: &mut K, message: &[u8]) -> Result<Signature, Stop>
     ensures gives { K.gives signer.new ≡ K.gives signer.old }
-    ensures faults { K.faults signer.old ≤ K.faults signer.new }
     ensures given { IfOk result (λ signature. K.gives signer.old message.now signature ≡ true) }
-    ensures failed { IsErrOf result Stop.SignFault → CanFail (K.left signer.old) (K.faults signer.old) (K.faults signer.new) }
+    ensures asks { K.asks signer.old signer.new }
+    ensures faults { CountsSign None (K.left signer.old) (K.faults signer.old) (K.faults signer.new) result }
 {
     match signer.sign(alloc, message) {
         Ok(bytes) => match Signature::new(bytes) {
@@ -157,11 +161,11 @@ pub(crate) fn hear_proof<R: Row, S: Verify, K: Signer>(
     requires unsigned { UnsignedIf talker.old.role talker.old.signature }
     ensures keeps { Keeps talker.old talker.new }
     ensures gives { K.gives signer.new ≡ K.gives signer.old }
-    ensures faults { K.faults signer.old ≤ K.faults signer.new }
     ensures hears { IfOk result (λ due. HearsProof R.value talker.old talker.new other.now due out.old.items out.new.items (proof_cause S.rules talker.old.role talker.old.hello other.now proof.now)) }
     ensures signs { OnOk result (IsSigned (K.gives signer.old) talker.old talker.new other.now) }
-    ensures asks { OnOk result (AsksOnce talker.new.signature (K.left signer.old) (K.left signer.new)) }
-    ensures failed { IsErrOf result Stop.SignFault → FailsSign talker.old.signature (K.left signer.old) (K.faults signer.old) (K.faults signer.new) }
+    ensures unasked { OnOk result (IsUnasked talker.old.signature talker.new.signature signer.old signer.new) }
+    ensures asks { AsksOnce K.asks talker.old.signature signer.old signer.new }
+    ensures faults { CountsSign talker.old.signature (K.left signer.old) (K.faults signer.old) (K.faults signer.new) result }
 {
     match judge_proof(talker, other, proof) {
         Ok(()) => {
@@ -217,12 +221,12 @@ fn prove_back<R: Row, S: Verify, K: Signer>(
     requires unsigned { UnsignedIf talker.old.role talker.old.signature }
     ensures keeps { Keeps talker.old talker.new }
     ensures gives { K.gives signer.new ≡ K.gives signer.old }
-    ensures faults { K.faults signer.old ≤ K.faults signer.new }
     ensures writes { OnOk result (Writes talker.new.signature (said_to_proof talker.old.role) out.old.items out.new.items) }
     ensures once { OnOk result (Once talker.old.signature talker.new.signature) }
     ensures signs { OnOk result (IsSigned (K.gives signer.old) talker.old talker.new other.now) }
-    ensures asks { OnOk result (AsksOnce talker.new.signature (K.left signer.old) (K.left signer.new)) }
-    ensures failed { IsErrOf result Stop.SignFault → FailsSign talker.old.signature (K.left signer.old) (K.faults signer.old) (K.faults signer.new) }
+    ensures unasked { OnOk result (IsUnasked talker.old.signature talker.new.signature signer.old signer.new) }
+    ensures asks { AsksOnce K.asks talker.old.signature signer.old signer.new }
+    ensures faults { CountsSign talker.old.signature (K.left signer.old) (K.faults signer.old) (K.faults signer.new) result }
 {
     match talker.role {
         Role::Caller => prove(talker, signer, other, out),
@@ -230,7 +234,8 @@ fn prove_back<R: Row, S: Verify, K: Signer>(
     }
 }
 
-// Begins the exchange in the version that both speak, in the area that both may read, and says what is due first.
+// Begins the exchange of the rows that are offered in the area that both may read, in the version that both speak, and says what
+// is due first.
 fn begin_exchange<R: Row, S: Verify>(
     talker: &Talker<R, S>,
     other: &Hello,
@@ -239,17 +244,63 @@ fn begin_exchange<R: Row, S: Verify>(
     requires rows { AreSound (map R.value talker.now.snapshot) }
     requires speaks { SpeaksSome talker.now.hello }
     requires other_speaks { SpeaksSome other.now }
-    ensures { IfOk result (λ exchange. BeginsExchange (first_with R.value talker.now other.now) exchange out.old.items out.new.items) }
+    ensures { IfOk result (λ exchange. BeginsOffered R.value talker.now other.now exchange out.old.items out.new.items) }
+{
+    let area = area_between(talker.role, &talker.hello, other)?;
+    let rows = offered_in(talker.alloc, &talker.snapshot, &area, &talker.interest)?;
+    begin_over(talker, other, area, rows, out)
+}
+
+// The rows that are offered where this is the area that both may read, if there is one. None is copied.
+fn offered_in<R: Row>(
+    alloc: Global,
+    snapshot: &Snapshot<R>,
+    area: &Option<Area>,
+    limits: &Interest,
+) -> Result<Snapshot<R>, NoMemory>
+    requires rows { AreSound (map R.value snapshot.now) }
+    ensures { IfOk result (λ rows. AreOffered limits.now (option_map area_box area.now) (map R.value snapshot.now) (map R.value rows)) }
+{
+    match area {
+        None => snapshot.share(),
+        Some(area) => offered(alloc, snapshot, area, limits),
+    }
+}
+
+// Begins it over these rows.
+fn begin_over<R: Row, S: Verify>(
+    talker: &Talker<R, S>,
+    other: &Hello,
+    area: Option<Area>,
+    rows: Snapshot<R>,
+    out: &mut Vec<u8>,
+) -> Result<Exchange<R>, NoMemory>
+    requires rows { AreSound (map R.value rows) }
+    requires area { option_map area_box area ≡ box_between talker.now.role talker.now.hello other.now }
+    requires speaks { SpeaksSome talker.now.hello }
+    requires other_speaks { SpeaksSome other.now }
+    ensures begins { IfOk result (λ exchange. BeginsExchange (first_with talker.now other.now (map R.value rows)) exchange out.old.items out.new.items) }
+    ensures area { IfOk result (λ exchange. exchange.area ≡ area) }
 {
     let version = version_between(talker.role, &talker.hello, other);
-    let area = area_between(talker.role, &talker.hello, other)?;
-    let rows = talker.snapshot.share()?;
+    let both = copy_of(&area)?;
     let mut core = SyncCore::begin(talker.alloc, version, talker.role, rows, area)?;
     speak(&mut core, out)?;
     Ok(Exchange {
         core,
         reader: ItemReader::new(talker.alloc, version),
+        area: both,
     })
+}
+
+// A copy of the area, if there is one.
+fn copy_of(area: &Option<Area>) -> Result<Option<Area>, NoMemory>
+    ensures { IfOk result (λ copy. copy ≡ area.now) }
+{
+    match area {
+        None => Ok(None),
+        Some(area) => Ok(Some(area.copy()?)),
+    }
 }
 
 // The version of the session.
@@ -266,7 +317,8 @@ fn version_between(role: Role, own: &Hello, other: &Hello) -> u8
 
 // The area that both may read.
 fn area_between(role: Role, own: &Hello, other: &Hello) -> Result<Option<Area>, NoMemory>
-    ensures { IfOk result (λ area. option_map area_box area ≡ box_between role own.now other.now) }
+    ensures area { IfOk result (λ area. area ≡ area_between role own.now other.now) }
+    ensures boxed { IfOk result (λ area. option_map area_box area ≡ box_between role own.now other.now) }
 {
     match role {
         Role::Caller => common_area(own, other),

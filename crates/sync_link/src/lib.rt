@@ -27,6 +27,7 @@ mod take;
 mod take_all;
 mod talker;
 
+pub use area_interest::Interest;
 pub use mc_cap::RefusedRow;
 pub use opening::known_plan;
 pub use plan::{SessionPlan, SessionReport};

@@ -32,7 +32,7 @@ pub(crate) fn begin_side<S: Scheme>(
 ) -> Result<Speaker<AuthorisedEntry<S>, S>, NoMemory>
     requires passes { hello_refusal S.rules namespace (own_hello plan.now nonce) ≡ None }
     requires rows { IsOpening namespace (map entry_row snapshot) }
-    ensures begun { IfOk result (λ speaker. speaker ≡ begun namespace plan.now.role (own_hello plan.now nonce) (map entry_row snapshot)) }
+    ensures begun { IfOk result (λ speaker. speaker ≡ begun namespace plan.now.role (own_hello plan.now nonce) plan.now.interest (map entry_row snapshot)) }
     ensures says { OnOk result (out.new.items ≡ out.old.items ++ first_bytes plan.now.role (own_hello plan.now nonce)) }
 {
     let hello = own_hello(plan, nonce)?;
@@ -43,6 +43,7 @@ pub(crate) fn begin_side<S: Scheme>(
         namespace,
         plan.role,
         hello,
+        plan.interest,
         snapshot,
         out,
     )

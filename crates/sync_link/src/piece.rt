@@ -4,7 +4,8 @@ ghost use Rattle.std.specs.Prelude.{◌≡◌, ◌+◌, ◌<◌, ◌≤◌, leng
 ghost use Rattle.session_rules.specs.Reading.{ending_of, More};
 ghost use Rattle.ns_cell.specs.Passes.{IsPassOf};
 ghost use Rattle.willow_outside.specs.Facts.{LinkFacts};
-ghost use Rattle.sync_link.specs.UnderWay.{Start, IsCounted, IsUnderWay, GaveBytes, GoesOnOrEnds, now_of};
+ghost use Rattle.sync_link.specs.Asking.{AsksOnce, IsUnasked};
+ghost use Rattle.sync_link.specs.UnderWay.{Start, IsBy, IsCounted, IsUnderWay, GaveBytes, GoesOnOrEnds, now_of};
 
 use crate::intake::{Tally, known_raws};
 use crate::judge::take_lists;
@@ -51,9 +52,12 @@ pub(crate) fn hear_piece<R: Wait + Threads + Sync, S: Scheme, C: Checker<S>, K: 
     ensures pass { IsPassOf cell.now pass.new }
     ensures namespace { C.judged_in checker.new ≡ C.judged_in checker.old }
     ensures gives { K.gives signer.new ≡ K.gives signer.old }
+    ensures most { L.most link.new ≡ L.most link.old }
+    ensures unasked { OnOk result (IsUnasked session.old.speaker.signature session.new.speaker.signature signer.old signer.new) }
+    ensures asks { AsksOnce K.asks session.old.speaker.signature signer.old signer.new }
     ensures counted { OnOk result (IsCounted session.new) }
     ensures grows { OnOk result (session.old.count < session.new.count) }
-    ensures goes_on { (start : Start) → start.rules ≡ S.rules → start.namespace ≡ cell.now.namespace → start.gives ≡ K.gives signer.old → 1 ≤ start.left
+    ensures goes_on { (start : Start) → IsBy start S.rules cell.now.namespace (K.gives signer.old) (L.most link.old)
         → IsUnderWay start (now_of S.rules session.old pass.old (L.facts link.old) (K.left signer.old) (K.faults signer.old))
         → GoesOnOrEnds start (now_of S.rules session.new pass.new (L.facts link.new) (K.left signer.new) (K.faults signer.new)) result }
 {
@@ -90,12 +94,17 @@ fn take_piece<R: Wait + Threads + Sync, S: Scheme, C: Checker<S>, K: Signer, L: 
     requires pass { IsPassOf cell.now pass.old }
     requires namespace { C.judged_in checker.old ≡ cell.now.namespace }
     requires counted { IsCounted session.old }
+    requires piece { (1 ≤ length piece.now) × (length piece.now ≤ L.most link.old) }
+    requires open { ending_of session.old.speaker.stand ≡ More }
     ensures pass { IsPassOf cell.now pass.new }
     ensures namespace { C.judged_in checker.new ≡ C.judged_in checker.old }
     ensures gives { K.gives signer.new ≡ K.gives signer.old }
+    ensures most { L.most link.new ≡ L.most link.old }
+    ensures unasked { OnOk result (IsUnasked session.old.speaker.signature session.new.speaker.signature signer.old signer.new) }
+    ensures asks { AsksOnce K.asks session.old.speaker.signature signer.old signer.new }
     ensures counted { OnOk result (IsCounted session.new) }
     ensures grows { OnOk result (session.new.count ≡ session.old.count + length piece.now) }
-    ensures goes_on { (start : Start) (before : LinkFacts) → start.rules ≡ S.rules → start.namespace ≡ cell.now.namespace → start.gives ≡ K.gives signer.old → 1 ≤ start.left
+    ensures goes_on { (start : Start) (before : LinkFacts) → IsBy start S.rules cell.now.namespace (K.gives signer.old) (L.most link.old)
         → IsUnderWay start (now_of S.rules session.old pass.old before (K.left signer.old) (K.faults signer.old))
         → GaveBytes before (L.facts link.old) piece.now
         → GoesOnOrEnds start (now_of S.rules session.new pass.new (L.facts link.new) (K.left signer.new) (K.faults signer.new)) result }

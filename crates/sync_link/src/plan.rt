@@ -3,6 +3,7 @@
 ghost use Rattle.std.specs.Prelude.{◌≡◌, IfOk};
 ghost use Rattle.sync_link.specs.Plans.{own_hello};
 
+use area_interest::Interest;
 use mc_cap::{Capability, RefusedRow};
 use spelling::NoMemory;
 use sync_hello::Hello;
@@ -22,10 +23,12 @@ pub struct SessionPlan<S> {
     pub capability: Capability,
     /// The area that it wants to compare.
     pub ask: Area,
+    /// How much of the area it offers. No message tells that.
+    pub interest: Interest,
 }
 
 /// What came of a session that was done.
-#[derive(Clone, Copy, Debug, PartialEq, Eq)]
+#[derive(PartialEq, Eq, Drop)]
 pub struct SessionReport {
     /// How many rows the log had as the session began.
     pub opened: u32,
@@ -43,6 +46,8 @@ pub struct SessionReport {
     pub sent: u32,
     /// How many were read.
     pub read: u32,
+    /// The area that both sides may read, if there is one.
+    pub area: Option<Area>,
 }
 
 // The hello of a side with this plan.

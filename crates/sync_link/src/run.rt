@@ -1,6 +1,6 @@
 //! The session of a store with the one at the other end of a link.
 
-ghost use Rattle.std.specs.Prelude.{◌≡◌, ℕ, ◌≤◌, ◌<◌, ◌^◌, length, map, None, OnOk, IfOk, IsTrue, false};
+ghost use Rattle.std.specs.Prelude.{◌≡◌, ◌⊎◌, ℕ, ◌≤◌, ◌<◌, ◌^◌, length, map, None, OnOk, IfOk, IsTrue, false};
 ghost use Rattle.willow_outside.specs.Facts.{LinkFacts};
 ghost use Rattle.auth_entry.specs.Authorised.{AuthorisedValue};
 ghost use Rattle.ns_cell.specs.Passes.{PassValue, IsPassOf};
@@ -10,10 +10,11 @@ ghost use Rattle.sync_hello.specs.Checked.{hello_refusal};
 ghost use Rattle.sync_core.specs.SyncRules.{IsVersion};
 ghost use Rattle.auth_entry.specs.Rows.{entry_row};
 ghost use Rattle.sync_link.specs.Plans.{own_hello, planned};
+ghost use Rattle.sync_link.specs.Asking.{AsksOnce};
 ghost use Rattle.sync_link.specs.SessionPromises.{KeepsSessionPromises};
-ghost use Rattle.sync_link.specs.Run.{Runs};
+ghost use Rattle.sync_link.specs.Run.{ReadsInTime, Runs};
 ghost use Rattle.sync_link.specs.Settling.{IsOpening};
-ghost use Rattle.sync_link.specs.UnderWay.{Start, IsCounted, IsReady, IsUnderWay, GoesOnOrEnds, Opens, brought, now_of};
+ghost use Rattle.sync_link.specs.UnderWay.{Start, EndsInTime, IsBy, IsCounted, IsReady, IsUnderWay, GoesOnOrEnds, Opens, brought, now_of};
 
 use crate::intake::Tally;
 use crate::opening::{begin_side, known_plan, known_rows};
@@ -36,9 +37,11 @@ use willow_path::NamespaceKey;
 const PIECE: usize = 65_536;
 
 /// Runs a session with the side at the other end of the link: the two greet each other, and then they exchange their rows in
-/// the area that both may read, in the highest version that both speak. The side takes a snapshot of the cell first and
-/// answers from it alone. Rows that it is sent are checked and offered to the cell as they come, those of each list by
-/// themselves, and stay there whatever the end is. No turn of the cell is held while the link is read or written.
+/// the area that both may read, in the highest version that both speak. The side takes a snapshot of the cell first, in a turn
+/// of its own, and answers from what it offers of that alone. Rows that it is sent are checked and offered to the cell as they
+/// come, those of each list by themselves, and stay there whatever the end is. No turn of the cell is held while the link is
+/// read or written. A session that is done reads nothing behind the piece of the link in which the last farewell came. The
+/// signer is asked for one signature at most, the side's proof; where it fails, that is what is answered.
 pub fn run_session<R: Wait + Threads + Sync, S: Scheme, C: Checker<S>, K: Signer, L: Link>(
     rt: &R,
     alloc: Global,
@@ -57,9 +60,12 @@ pub fn run_session<R: Wait + Threads + Sync, S: Scheme, C: Checker<S>, K: Signer
     requires signs { 1 ≤ K.left signer.old }
     ensures runs { Runs (planned S.rules cell.now.namespace plan.now nonce) (K.gives signer.old) pass.old pass.new (L.facts link.old) (L.facts link.new) (K.faults signer.old) (K.faults signer.new) result }
     ensures promises { KeepsSessionPromises (planned S.rules cell.now.namespace plan.now nonce) (K.gives signer.old) pass.old pass.new (L.facts link.old) (L.facts link.new) (K.faults signer.old) (K.faults signer.new) result }
+    ensures reads { ReadsInTime (L.most link.old) (planned S.rules cell.now.namespace plan.now nonce) (K.gives signer.old) pass.old pass.new (L.facts link.old) (L.facts link.new) (K.faults signer.old) (K.faults signer.new) result }
     ensures pass { IsPassOf cell.now pass.new }
     ensures namespace { C.judged_in checker.new ≡ C.judged_in checker.old }
     ensures gives { K.gives signer.new ≡ K.gives signer.old }
+    ensures asks { (signer.new ≡ signer.old) ⊎ K.asks signer.old signer.new }
+    ensures most { L.most link.new ≡ L.most link.old }
 {
     known_plan(plan, nonce);
     let snapshot = match cell.snapshot(rt, pass) {
@@ -73,7 +79,7 @@ pub fn run_session<R: Wait + Threads + Sync, S: Scheme, C: Checker<S>, K: Signer
         Err(end) => return Err(end),
     };
     match talk(rt, alloc, cell, pass, checker, signer, link, &mut session) {
-        Ok(()) => report(opened, pass, &session),
+        Ok(()) => report(opened, pass, session),
         Err(end) => Err(end),
     }
 }
@@ -90,6 +96,7 @@ fn open_session<S: Scheme, L: Link>(
     requires passes { hello_refusal S.rules namespace (own_hello plan.now nonce) ≡ None }
     requires rows { IsOpening namespace (map entry_row snapshot) }
     ensures counted { IfOk result (λ session. IsCounted session) }
+    ensures most { L.most link.new ≡ L.most link.old }
     ensures opens { (start : Start) (pass : PassValue AuthorisedValue)
         → (brought start) ≡ planned S.rules namespace plan.now nonce → start.link ≡ L.facts link.old
         → IsReady start (map entry_row snapshot) pass → Opens start pass (L.facts link.new) result }
@@ -128,7 +135,9 @@ fn talk<R: Wait + Threads + Sync, S: Scheme, C: Checker<S>, K: Signer, L: Link>(
     ensures pass { IsPassOf cell.now pass.new }
     ensures namespace { C.judged_in checker.new ≡ C.judged_in checker.old }
     ensures gives { K.gives signer.new ≡ K.gives signer.old }
-    ensures goes_on { (start : Start) → start.rules ≡ S.rules → start.namespace ≡ cell.now.namespace → start.gives ≡ K.gives signer.old → 1 ≤ start.left
+    ensures most { L.most link.new ≡ L.most link.old }
+    ensures asks { AsksOnce K.asks session.old.speaker.signature signer.old signer.new }
+    ensures goes_on { (start : Start) → IsBy start S.rules cell.now.namespace (K.gives signer.old) (L.most link.old)
         → IsUnderWay start (now_of S.rules session.old pass.old (L.facts link.old) (K.left signer.old) (K.faults signer.old))
         → GoesOnOrEnds start (now_of S.rules session.new pass.new (L.facts link.new) (K.left signer.new) (K.faults signer.new)) result }
     ensures over { OnOk result (IsOver (ending_of session.new.speaker.stand)) }
@@ -164,13 +173,13 @@ fn is_open<S: Scheme>(session: &Session<S>) -> bool
 fn report<S: Scheme>(
     opened: u32,
     pass: &Pass<AuthorisedEntry<S>>,
-    session: &Session<S>,
+    session: Session<S>,
 ) -> Result<SessionReport, SessionEnd>
-    requires over { IsOver (ending_of session.now.speaker.stand) }
-    requires few { session.now.tally.stored < 2 ^ 32 }
+    requires over { IsOver (ending_of session.speaker.stand) }
+    requires few { session.tally.stored < 2 ^ 32 }
     ensures { (start : Start) (link : LinkFacts) (left faults : ℕ) → opened ≡ length start.log
-        → IsUnderWay start (now_of S.rules session.now pass.now link left faults)
-        → Runs (brought start) start.gives start.pass pass.now start.link link start.faults faults result }
+        → IsUnderWay start (now_of S.rules session pass.now link left faults)
+        → EndsInTime start pass.now link faults result }
 {
     match session.speaker.standing() {
         Standing::More => unreachable!(),
@@ -185,15 +194,15 @@ fn report<S: Scheme>(
 fn done<S: Scheme>(
     opened: u32,
     pass: &Pass<AuthorisedEntry<S>>,
-    session: &Session<S>,
+    session: Session<S>,
 ) -> Result<SessionReport, SessionEnd>
-    requires over { ending_of session.now.speaker.stand ≡ Done }
-    requires few { session.now.tally.stored < 2 ^ 32 }
+    requires over { ending_of session.speaker.stand ≡ Done }
+    requires few { session.tally.stored < 2 ^ 32 }
     ensures { (start : Start) (link : LinkFacts) (left faults : ℕ) → opened ≡ length start.log
-        → IsUnderWay start (now_of S.rules session.now pass.now link left faults)
-        → Runs (brought start) start.gives start.pass pass.now start.link link start.faults faults result }
+        → IsUnderWay start (now_of S.rules session pass.now link left faults)
+        → EndsInTime start pass.now link faults result }
 {
-    let tally = &session.tally;
+    let tally = session.tally;
     if tally.missed > 0 {
         return Err(SessionEnd::LogFull {
             missed: tally.missed,
@@ -209,5 +218,6 @@ fn done<S: Scheme>(
         first: tally.first,
         sent,
         read,
+        area: session.speaker.into_area(),
     })
 }

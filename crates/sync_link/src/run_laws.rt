@@ -6,15 +6,15 @@ ghost use Rattle.willow_entry.specs.Row.{RowValue, AreLive, HasCovering, join};
 ghost use Rattle.ns_state.specs.declared.live_log.TheConstants.{LOG_LIMIT};
 ghost use Rattle.session_end.specs.declared.end.SessionEnd.TheVariants.{NoMemory};
 ghost use Rattle.session_rules.specs.Rounds.{IsFront};
-ghost use Rattle.sync_link.specs.Sessions.{Party, AreSameInCommon, box_with, version_with};
+ghost use Rattle.sync_link.specs.Sessions.{Party, AreSameInCommon, box_with};
 ghost use Rattle.sync_link.specs.Settling.{IsOpening};
 ghost use Rattle.sync_link.specs.Kept.{log_rows};
 ghost use Rattle.sync_link.specs.Run.{IsSilent};
-ghost use Rattle.sync_link.specs.Ran.{Ran, side, opening_of, store_of, LiesAbove, BringSame, HasProved, AreAlike, TellsGranted, CanMeetAs, IsOther, IsAuthorisedRow, AreAuthorised, AreApartAs, most_counted, own_common, other_common, HasOther, SignsWell, IsFaultless, IsDone};
+ghost use Rattle.sync_link.specs.Ran.{Ran, side, opening_of, store_of, LiesAbove, BringSame, HasProved, AreAlike, TellsGranted, CanMeetAs, IsOther, IsAuthorisedRow, AreAuthorised, AreToldApart, most_counted, own_common, other_common, HasOther, SignsWell, IsFaultless, IsDone};
 ghost use Rattle.sync_link.specs.declared.plan.SessionReport.{SessionReport};
 
 /// Two sessions that bring the same scheme, namespace, role and hello, and the same signature if both wrote more than the hello,
-/// whose stores have the same rows in the area that both sides may read, and that read the same bytes: they do alike. Rows
+/// whose stores offer the same rows in the area that both sides may read, and that read the same bytes: they do alike. Rows
 /// elsewhere, the links and the logs change nothing of what is written, of the rows that come and of how a session ends that
 /// did not fail.
 pub fn runs_alike()
@@ -50,8 +50,8 @@ pub fn stores_open()
 {}
 
 /// Where a session answers Ok that read what such another side writes, at most so many counted items were sent and read: 3,
-/// or thrice the rows that both have in the area that both may read, and none where there is no such area. The log that its
-/// pass has seen covers all that the other has there, if its rows are authorised and the fingerprints of their exchange tell
+/// or thrice the rows that both offer in the area that both may read, and none where there is no such area. The log that its
+/// pass has seen covers all that the other offers there, if its rows are authorised and the fingerprints of their exchange tell
 /// rows apart.
 pub fn runs_cover()
     ensures counted { (p : List ℕ → Party) (ran : Ran p) (report : SessionReport) (q : Party) (others : List RowValue)
@@ -59,18 +59,18 @@ pub fn runs_cover()
         → report.sent + report.read ≤ most_counted (box_with (side ran) q.hello) (length (own_common ran q)) (length (other_common ran q others)) }
     ensures covers { (p : List ℕ → Party) (ran : Ran p) (report : SessionReport) (q : Party) (others : List RowValue)
         → ran.answer ≡ Ok report → IsOther ran q others → AreAuthorised ran others
-        → AreApartAs (version_with (side ran) q.hello) (side ran).role (box_with (side ran) q.hello) (opening_of ran) others
+        → AreToldApart ran q others
         → All (HasCovering (log_rows ran.after.seen)) (other_common ran q others) }
 {}
 
 /// Whatever a session answers, the store behind it covers its opening store. Where it answers Ok that read what such another
-/// side writes, and with the premises of covering, the store lies at or above the join of the opening store with the other's
-/// rows in the area that both may read.
+/// side writes, and with the premises of covering, the store lies at or above the join of the opening store with the rows that
+/// the other offers in the area that both may read.
 pub fn runs_join()
     ensures keeps { (p : List ℕ → Party) (ran : Ran p) → LiesAbove (store_of ran) (opening_of ran) }
     ensures above { (p : List ℕ → Party) (ran : Ran p) (report : SessionReport) (q : Party) (others : List RowValue)
         → ran.answer ≡ Ok report → IsOther ran q others → AreAuthorised ran others
-        → AreApartAs (version_with (side ran) q.hello) (side ran).role (box_with (side ran) q.hello) (opening_of ran) others
+        → AreToldApart ran q others
         → LiesAbove (store_of ran) (join (opening_of ran) (other_common ran q others)) }
 {}
 

@@ -1,5 +1,6 @@
 //! Writing to a link.
 
+ghost use Rattle.std.specs.Prelude.{◌≡◌};
 ghost use Rattle.willow_outside.specs.Counts.{CountsFault};
 ghost use Rattle.willow_outside.specs.Told.{ExtendsAll};
 ghost use Rattle.sync_link.specs.UnderWay.{ReadsNothing};
@@ -12,6 +13,7 @@ pub(crate) fn send<L: Link>(link: &mut L, bytes: &[u8]) -> Result<(), Fault>
     ensures held { ExtendsAll (L.facts link.old).held (L.facts link.new).held bytes.now result }
     ensures cause { CountsFault (L.facts link.old).write_faults (L.facts link.new).write_faults result }
     ensures rest { ReadsNothing (L.facts link.old) (L.facts link.new) }
+    ensures most { L.most link.new ≡ L.most link.old }
 {
     let mut at = 0;
     while at < bytes.len() {

@@ -1,23 +1,25 @@
 //! The side of a session that is fed with the bytes of the other, in whatever pieces they come.
 
-ghost use Rattle.std.specs.Prelude.{◌≡◌, ◌++◌, ◌≤◌, map, IfOk, IfSome, IsErrOf, OnErr, OnOk};
+ghost use Rattle.std.specs.Prelude.{◌≡◌, ◌++◌, map, IfOk, IfSome, OnErr, OnOk};
 ghost use Rattle.mc_cap.specs.Signature.{IsSignature};
 ghost use Rattle.sync_hello.specs.HelloForm.{HasSpelling};
 ghost use Rattle.session_rules.specs.Reading.{ending_of};
+ghost use Rattle.sync_link.specs.Asking.{AsksOnce, CountsSign, IsUnasked};
 ghost use Rattle.sync_link.specs.Fed.{CountsOn, GoesWell, begun, fed_in, first_bytes, standing_as};
 ghost use Rattle.sync_link.specs.Signing.{SignsTo};
 ghost use Rattle.sync_link.specs.Sound.{AreSound};
 ghost use Rattle.sync_link.specs.Standing.{Feeds};
 ghost use Rattle.sync_link.specs.Held.{IsHeld, heard_fed, heard_side};
-ghost use Rattle.sync_link.specs.Talking.{AsksOnce, FailsSign, Keeps, SignsBy, SpeaksSome};
+ghost use Rattle.sync_link.specs.Talking.{Keeps, SignsBy, SpeaksSome};
 ghost use Rattle.sync_link.specs.Taking.{listed};
 
-use crate::due::{Cause, Due};
+use crate::due::{Cause, Due, Exchange};
 use crate::ear::{Ear, hear_on, shut};
 use crate::lists::Lists;
 use crate::standing::{Standing, Stop};
 use crate::take_all::is_open;
 use crate::talker::Talker;
+use area_interest::Interest;
 use block_store::Snapshot;
 use scheme_core::{Signer, Verify};
 use spelling::NoMemory;
@@ -26,10 +28,12 @@ use std::marker::Model;
 use sync_core::Stage;
 use sync_hello::Hello;
 use sync_msg::Role;
+use willow_area::Area;
 use willow_entry::Row;
 use willow_path::NamespaceKey;
 
-// A side of a session. A contract sees what it brings, how it stands, and how many counted items it said and read.
+// A side of a session. A contract sees what it brings, how it stands, how many counted items it said and read, and the area that
+// both may read, once an exchange has begun.
 #[derive(Drop)]
 pub(crate) struct Speaker<R: Row, S: Verify> {
     talker: Talker<R, S>,
@@ -55,13 +59,14 @@ impl<R: Row, S: Verify> Speaker<R, S> {
         namespace: NamespaceKey,
         role: Role,
         hello: Hello,
+        interest: Interest,
         snapshot: Snapshot<R>,
         out: &mut Vec<u8>,
     ) -> Result<Speaker<R, S>, NoMemory>
         requires own { HasSpelling hello }
         requires speaks { SpeaksSome hello }
         requires rows { AreSound (map R.value snapshot) }
-        ensures begun { IfOk result (λ speaker. speaker ≡ begun namespace role hello (map R.value snapshot)) }
+        ensures begun { IfOk result (λ speaker. speaker ≡ begun namespace role hello interest (map R.value snapshot)) }
         ensures says { OnOk result (out.new.items ≡ out.old.items ++ first_bytes role hello) }
         ensures err { OnErr result (out.new.items ≡ out.old.items) }
     {
@@ -73,6 +78,7 @@ impl<R: Row, S: Verify> Speaker<R, S> {
                 namespace,
                 role,
                 hello,
+                interest,
                 signature: None,
                 snapshot,
             },
@@ -85,8 +91,8 @@ impl<R: Row, S: Verify> Speaker<R, S> {
     }
 
     // Takes a piece of the other side's bytes: appends what is said to it to `out`, and the rows that come to `lists`,
-    // with the lists that are announced. `SignFault` comes only where the side is not signed yet and the signer failed or
-    // had nothing left. After an error `out` and `lists` are as they were, and the side reads no more: it stands as behind
+    // with the lists that are announced. The signer is asked once at most, and only where the side is not signed yet.
+    // `SignFault` comes only where it failed then or had nothing left. After an error `out` and `lists` are as they were, and the side reads no more: it stands as behind
     // what is no message.
     #[tactic(auto, using(crate::proofs::HearingOn::closed_feeds_on, crate::proofs::HearingOn::held_shut))]
     pub(crate) fn feed<K: Signer>(
@@ -100,10 +106,10 @@ impl<R: Row, S: Verify> Speaker<R, S> {
         ensures counts { OnOk result (CountsOn (fed_in S.rules self.old) (fed_in S.rules self.new) piece.now) }
         ensures signs { OnOk result (SignsBy (K.gives signer.old) self.old.role self.old.hello self.old.signature self.new.signature) }
         ensures greets { OnOk result (SignsTo (K.gives signer.old) (fed_in S.rules self.old).side (fed_in S.rules self.new).side piece.now) }
-        ensures asks { OnOk result (AsksOnce self.new.signature (K.left signer.old) (K.left signer.new)) }
+        ensures unasked { OnOk result (IsUnasked self.old.signature self.new.signature signer.old signer.new) }
+        ensures asks { AsksOnce K.asks self.old.signature signer.old signer.new }
         ensures gives { K.gives signer.new ≡ K.gives signer.old }
-        ensures faults { K.faults signer.old ≤ K.faults signer.new }
-        ensures failed { IsErrOf result Stop.SignFault → FailsSign self.old.signature (K.left signer.old) (K.faults signer.old) (K.faults signer.new) }
+        ensures faults { CountsSign self.old.signature (K.left signer.old) (K.faults signer.old) (K.faults signer.new) result }
         ensures err_out { OnErr result (out.new.items ≡ out.old.items) }
         ensures err_rows { OnErr result (lists.new.rows.items ≡ lists.old.rows.items) }
         ensures err_stands { OnErr result (GoesWell self.new.stand → ⊥) }
@@ -145,6 +151,29 @@ impl<R: Row, S: Verify> Speaker<R, S> {
             Some(signature) => {
                 let _bytes = signature.as_slice();
             }
+        }
+    }
+
+    // The area that both sides may read, if there is one and the exchange has begun.
+    pub(crate) fn into_area(self) -> Option<Area>
+        ensures { result ≡ self.area }
+    {
+        let Speaker { talker: _, ear } = self;
+        let Ear {
+            due,
+            at: _,
+            held: _,
+        } = ear;
+        match due {
+            Due::Items(exchange) => {
+                let Exchange {
+                    core: _,
+                    reader: _,
+                    area,
+                } = exchange;
+                area
+            }
+            Due::Hello | Due::Proof(_) | Due::Nothing(_) => None,
         }
     }
 
@@ -190,10 +219,10 @@ fn hear_whole<R: Row, S: Verify, K: Signer>(
     ensures held { OnOk result (IsHeld S.rules R.value talker.new ear.new.due ear.new.at ear.new.held.items) }
     ensures greets { OnOk result (SignsTo (K.gives signer.old) (heard_side S.rules R.value talker.old ear.old) (heard_side S.rules R.value talker.new ear.new) piece.now) }
     ensures gives { K.gives signer.new ≡ K.gives signer.old }
-    ensures faults { K.faults signer.old ≤ K.faults signer.new }
     ensures signs { OnOk result (SignsBy (K.gives signer.old) talker.old.role talker.old.hello talker.old.signature talker.new.signature) }
-    ensures asks { OnOk result (AsksOnce talker.new.signature (K.left signer.old) (K.left signer.new)) }
-    ensures failed { IsErrOf result Stop.SignFault → FailsSign talker.old.signature (K.left signer.old) (K.faults signer.old) (K.faults signer.new) }
+    ensures unasked { OnOk result (IsUnasked talker.old.signature talker.new.signature signer.old signer.new) }
+    ensures asks { AsksOnce K.asks talker.old.signature signer.old signer.new }
+    ensures faults { CountsSign talker.old.signature (K.left signer.old) (K.faults signer.old) (K.faults signer.new) result }
     ensures err_out { OnErr result (out.new.items ≡ out.old.items) }
     ensures err_rows { OnErr result (lists.new.rows.items ≡ lists.old.rows.items) }
 {

@@ -4,10 +4,11 @@ ghost use Rattle.std.specs.Prelude.{◌≡◌, ℕ, ◌+◌, ◌<◌, ◌≤◌,
 ghost use Rattle.cap_codec.specs.Rows.{row_of};
 ghost use Rattle.sync_hello.specs.HelloForm.{HasSpelling};
 ghost use Rattle.sync_core.specs.Place.{stage_of};
+ghost use Rattle.sync_link.specs.Asking.{AsksOnce, CountsSign, IsUnasked};
 ghost use Rattle.sync_link.specs.Held.{CountsStep, fed_with};
 ghost use Rattle.sync_link.specs.Sound.{AreSound, IsSound};
 ghost use Rattle.sync_link.specs.Signing.{SignsNext, SignsStep};
-ghost use Rattle.sync_link.specs.Talking.{AsksOnce, FailsSign, IsSigned, Keeps, SignsBy, SpeaksSome, UnsignedIf};
+ghost use Rattle.sync_link.specs.Talking.{IsSigned, Keeps, SignsBy, SpeaksSome, UnsignedIf};
 ghost use Rattle.sync_link.specs.Taking.{ComesHello, ComesItem, ComesProof, Fits, Holds, IsOpen, TakesOne, due_after, due_behind, read_by, taken_after, taken_behind, taken_of, waiting_side};
 ghost use Rattle.sync_link.specs.declared.due.Due.TheVariants as dues;
 
@@ -61,12 +62,12 @@ fn take_hello<R: Row, S: Verify, K: Signer>(
     requires unsigned { talker.old.signature ≡ None }
     ensures keeps { Keeps talker.old talker.new }
     ensures gives { K.gives signer.new ≡ K.gives signer.old }
-    ensures faults { K.faults signer.old ≤ K.faults signer.new }
     ensures comes { IfOk result (λ came. ComesHello S.rules talker.old talker.new bytes.now out.old.items out.new.items came) }
     ensures greets { IfOk result (λ came. SignsNext (K.gives signer.old) talker.old talker.new (due_after dues.Hello came)) }
     ensures signs { OnOk result (SignsBy (K.gives signer.old) talker.old.role talker.old.hello talker.old.signature talker.new.signature) }
-    ensures asks { OnOk result (AsksOnce talker.new.signature (K.left signer.old) (K.left signer.new)) }
-    ensures failed { IsErrOf result Stop.SignFault → FailsSign talker.old.signature (K.left signer.old) (K.faults signer.old) (K.faults signer.new) }
+    ensures unasked { OnOk result (IsUnasked talker.old.signature talker.new.signature signer.old signer.new) }
+    ensures asks { AsksOnce K.asks talker.old.signature signer.old signer.new }
+    ensures faults { CountsSign talker.old.signature (K.left signer.old) (K.faults signer.old) (K.faults signer.new) result }
 {
     match find_hello(talker.alloc, bytes)? {
         HelloStep::More => Ok(Came::More),
@@ -94,12 +95,12 @@ fn take_proof<R: Row, S: Verify, K: Signer>(
     requires unsigned { UnsignedIf talker.old.role talker.old.signature }
     ensures keeps { Keeps talker.old talker.new }
     ensures gives { K.gives signer.new ≡ K.gives signer.old }
-    ensures faults { K.faults signer.old ≤ K.faults signer.new }
     ensures comes { IfOk result (λ came. ComesProof S.rules R.value talker.old talker.new other.now bytes.now out.old.items out.new.items came) }
     ensures greets { OnOk result (IsSigned (K.gives signer.old) talker.old talker.new other.now) }
     ensures signs { OnOk result (SignsBy (K.gives signer.old) talker.old.role talker.old.hello talker.old.signature talker.new.signature) }
-    ensures asks { OnOk result (AsksOnce talker.new.signature (K.left signer.old) (K.left signer.new)) }
-    ensures failed { IsErrOf result Stop.SignFault → FailsSign talker.old.signature (K.left signer.old) (K.faults signer.old) (K.faults signer.new) }
+    ensures unasked { OnOk result (IsUnasked talker.old.signature talker.new.signature signer.old signer.new) }
+    ensures asks { AsksOnce K.asks talker.old.signature signer.old signer.new }
+    ensures faults { CountsSign talker.old.signature (K.left signer.old) (K.faults signer.old) (K.faults signer.new) result }
 {
     match read_proof(talker.alloc, bytes)? {
         ProofStep::More => Ok(Came::More),
@@ -154,7 +155,6 @@ pub(crate) fn take<R: Row, S: Verify, K: Signer>(
     requires few { read_by due.old + length bytes.now < 2 ^ 64 }
     ensures keeps { Keeps talker.old talker.new }
     ensures gives { K.gives signer.new ≡ K.gives signer.old }
-    ensures faults { K.faults signer.old ≤ K.faults signer.new }
     ensures steps { IfOk result (λ taken. (at : ℕ) → TakesOne S.rules R.value talker.old due.old talker.new due.new at bytes.now taken out.old.items out.new.items lists.old lists.new) }
     ensures counts { IfOk result (λ taken. (at : ℕ) → CountsStep (fed_with S.rules R.value talker.old due.old) (fed_with S.rules R.value talker.new due.new) at bytes.now taken) }
     ensures fits { OnOk result (Fits talker.old.role talker.new.signature due.new) }
@@ -162,8 +162,9 @@ pub(crate) fn take<R: Row, S: Verify, K: Signer>(
     ensures holds { IfOk result (λ taken. taken ≡ None → Holds S.rules R.value talker.new due.new bytes.now) }
     ensures greets { IfOk result (λ taken. (at : ℕ) → SignsStep (K.gives signer.old) (waiting_side S.rules R.value talker.old due.old) (waiting_side S.rules R.value talker.new due.new) at bytes.now taken) }
     ensures signs { OnOk result (SignsBy (K.gives signer.old) talker.old.role talker.old.hello talker.old.signature talker.new.signature) }
-    ensures asks { OnOk result (AsksOnce talker.new.signature (K.left signer.old) (K.left signer.new)) }
-    ensures failed { IsErrOf result Stop.SignFault → FailsSign talker.old.signature (K.left signer.old) (K.faults signer.old) (K.faults signer.new) }
+    ensures unasked { OnOk result (IsUnasked talker.old.signature talker.new.signature signer.old signer.new) }
+    ensures asks { AsksOnce K.asks talker.old.signature signer.old signer.new }
+    ensures faults { CountsSign talker.old.signature (K.left signer.old) (K.faults signer.old) (K.faults signer.new) result }
 {
     match due {
         Due::Hello => {

@@ -1,11 +1,12 @@
 //! All whole messages of a session, taken from the front of the bytes.
 
-ghost use Rattle.std.specs.Prelude.{◌≡◌, ◌+◌, ◌<◌, ◌≤◌, ◌^◌, ℕ, [], IsTrue, drop, length, map, not, IfOk, IsErrOf, OnOk};
+ghost use Rattle.std.specs.Prelude.{◌≡◌, ◌+◌, ◌<◌, ◌^◌, ℕ, [], IsTrue, drop, length, map, not, IfOk, OnOk};
 ghost use Rattle.cap_codec.specs.Rows.{row_of};
 ghost use Rattle.sync_hello.specs.HelloForm.{HasSpelling};
+ghost use Rattle.sync_link.specs.Asking.{AsksOnce, CountsSign, IsUnasked};
 ghost use Rattle.sync_link.specs.Sound.{AreSound};
 ghost use Rattle.sync_link.specs.Signing.{SignsTo};
-ghost use Rattle.sync_link.specs.Talking.{AsksOnce, FailsSign, Keeps, SignsBy, SpeaksSome};
+ghost use Rattle.sync_link.specs.Talking.{Keeps, SignsBy, SpeaksSome};
 ghost use Rattle.sync_link.specs.Taking.{Fits, IsOpen, read_by, waiting_side};
 ghost use Rattle.sync_link.specs.TakingAll.{TakesAll};
 
@@ -37,10 +38,10 @@ pub(crate) fn take_all<R: Row, S: Verify, K: Signer>(
     ensures takes { IfOk result (λ taken. TakesAll S.rules R.value talker.old talker.new due.old due.new bytes.now taken out.old.items out.new.items (map row_of lists.old.rows.items) (map row_of lists.new.rows.items)) }
     ensures greets { IfOk result (λ taken. (at : ℕ) → SignsTo (K.gives signer.old) (waiting_side S.rules R.value talker.old due.old at []) (waiting_side S.rules R.value talker.new due.new (at + taken) (drop taken bytes.now)) bytes.now) }
     ensures gives { K.gives signer.new ≡ K.gives signer.old }
-    ensures faults { K.faults signer.old ≤ K.faults signer.new }
     ensures signs { OnOk result (SignsBy (K.gives signer.old) talker.old.role talker.old.hello talker.old.signature talker.new.signature) }
-    ensures asks { OnOk result (AsksOnce talker.new.signature (K.left signer.old) (K.left signer.new)) }
-    ensures failed { IsErrOf result Stop.SignFault → FailsSign talker.old.signature (K.left signer.old) (K.faults signer.old) (K.faults signer.new) }
+    ensures unasked { OnOk result (IsUnasked talker.old.signature talker.new.signature signer.old signer.new) }
+    ensures asks { AsksOnce K.asks talker.old.signature signer.old signer.new }
+    ensures faults { CountsSign talker.old.signature (K.left signer.old) (K.faults signer.old) (K.faults signer.new) result }
 {
     let mut taken = 0;
     while is_open(due) {

@@ -1,6 +1,6 @@
-use Rattle.std.proofs.Common.{sym, subst, arith}
+use Rattle.std.proofs.Common.{arith}
 use Rattle.std.proofs.lemmas.Result.{IfOk-weaker}
-use Rattle.mesh_core.proofs.Runs.{begun, goes_on, IsDone, done, are_run, are_live, only_reached, cover_reached, hold_all, agree}
+use Rattle.mesh_core.proofs.Runs.{begun, goes_on, done, done_alike, are_run, are_live, only_reached, cover_reached, hold_all, agree}
 use Rattle.mesh_core.proofs.run.run_events.Goals as goal
 
 pub loop-event-init : goal.loop-event-init
@@ -16,34 +16,34 @@ pub returns-clause-run : goal.returns-clause-run
 returns-clause-run c =
     let a = c.args in
     let over = done a.version a.nodes a.events.now c.loop-event.event-index c.loop-event.mesh c.loop-event.invariant (omega (arith, c.loop-event-test.false)) in
-    IfOk-weaker c.snapshots.result _ _ (λ v is. are_run a.version a.nodes a.events.now v.items (subst (IsDone a.version a.nodes a.events.now) (sym is) over)) c.snapshots.ensures
+    IfOk-weaker c.snapshots.result _ _ (λ v is. are_run a.version a.nodes a.events.now v.items (done_alike a.version a.nodes a.events.now c.loop-event.mesh v.items over is)) c.snapshots.ensures
 
 pub returns-clause-live : goal.returns-clause-live
 returns-clause-live c =
     let a = c.args in
     let over = done a.version a.nodes a.events.now c.loop-event.event-index c.loop-event.mesh c.loop-event.invariant (omega (arith, c.loop-event-test.false)) in
-    IfOk-weaker c.snapshots.result _ _ (λ v is. are_live a.version a.nodes a.events.now v.items (subst (IsDone a.version a.nodes a.events.now) (sym is) over)) c.snapshots.ensures
+    IfOk-weaker c.snapshots.result _ _ (λ v is. are_live a.version a.nodes a.events.now v.items (done_alike a.version a.nodes a.events.now c.loop-event.mesh v.items over is)) c.snapshots.ensures
 
 pub returns-clause-only : goal.returns-clause-only
 returns-clause-only c =
     let a = c.args in
     let over = done a.version a.nodes a.events.now c.loop-event.event-index c.loop-event.mesh c.loop-event.invariant (omega (arith, c.loop-event-test.false)) in
-    IfOk-weaker c.snapshots.result _ _ (λ v is. only_reached a.version a.nodes a.events.now v.items (subst (IsDone a.version a.nodes a.events.now) (sym is) over)) c.snapshots.ensures
+    IfOk-weaker c.snapshots.result _ _ (λ v is. only_reached a.version a.nodes a.events.now v.items (done_alike a.version a.nodes a.events.now c.loop-event.mesh v.items over is)) c.snapshots.ensures
 
 pub returns-clause-reached : goal.returns-clause-reached
 returns-clause-reached c = λ apart.
     let a = c.args in
     let over = done a.version a.nodes a.events.now c.loop-event.event-index c.loop-event.mesh c.loop-event.invariant (omega (arith, c.loop-event-test.false)) in
-    IfOk-weaker c.snapshots.result _ _ (λ v is. cover_reached a.version a.nodes a.events.now v.items (subst (IsDone a.version a.nodes a.events.now) (sym is) over) apart) c.snapshots.ensures
+    IfOk-weaker c.snapshots.result _ _ (λ v is. cover_reached a.version a.nodes a.events.now v.items (done_alike a.version a.nodes a.events.now c.loop-event.mesh v.items over is) apart) c.snapshots.ensures
 
 pub returns-clause-all : goal.returns-clause-all
 returns-clause-all c = λ apart.
     let a = c.args in
     let over = done a.version a.nodes a.events.now c.loop-event.event-index c.loop-event.mesh c.loop-event.invariant (omega (arith, c.loop-event-test.false)) in
-    IfOk-weaker c.snapshots.result _ _ (λ v is. hold_all a.version a.nodes a.events.now v.items (subst (IsDone a.version a.nodes a.events.now) (sym is) over) apart) c.snapshots.ensures
+    IfOk-weaker c.snapshots.result _ _ (λ v is. hold_all a.version a.nodes a.events.now v.items (done_alike a.version a.nodes a.events.now c.loop-event.mesh v.items over is) apart) c.snapshots.ensures
 
 pub returns-clause-agree : goal.returns-clause-agree
 returns-clause-agree c = λ apart.
     let a = c.args in
     let over = done a.version a.nodes a.events.now c.loop-event.event-index c.loop-event.mesh c.loop-event.invariant (omega (arith, c.loop-event-test.false)) in
-    IfOk-weaker c.snapshots.result _ _ (λ v is. agree a.version a.nodes a.events.now v.items (subst (IsDone a.version a.nodes a.events.now) (sym is) over) apart) c.snapshots.ensures
+    IfOk-weaker c.snapshots.result _ _ (λ v is. agree a.version a.nodes a.events.now v.items (done_alike a.version a.nodes a.events.now c.loop-event.mesh v.items over is) apart) c.snapshots.ensures

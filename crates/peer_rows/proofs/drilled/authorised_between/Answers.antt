@@ -4,7 +4,7 @@ use Rattle.std.proofs.lemmas.List.{nil_from_length}
 use Rattle.lms_core.specs.Use.{peer_rules}
 use Rattle.auth_entry.specs.Authorised.{AuthorisedValue, verdict}
 use Rattle.peer_listing.specs.Generator.{generator_namespace}
-use Rattle.peer_rows.specs.Drilled.{generated_between}
+use Rattle.peer_listing.specs.Ranges.{generated_between}
 use Rattle.peer_rows.proofs.DrilledRows.{entries_of, entry_kept, none_kept, all_kept}
 use Rattle.peer_rows.proofs.drilled.authorised_between.Goals as goal
 
@@ -27,5 +27,5 @@ returns-clause-entries g c =
     let none : into_iter_items c.loop-judged.judged-iterator ≡ [] = nil_from_length (into_iter_items c.loop-judged.judged-iterator) (omega (arith, c.in-None.ensures.steps.0)) in
     let rows = generated_between c.args.from c.args.to in
     let given : into_iter_items c.into_iter-judged-iterator.result ≡ map (verdict peer_rules generator_namespace) rows =
-    c.into_iter-judged-iterator.ensures.into_iter_gives.0 ∙ c.in_ok-verdicts.ensures.verdicts ∙ ap (λ (n : List ℕ). map (verdict peer_rules n) c.in_ok-rows.rows.items) c.requires.namespace ∙ ap (map (verdict peer_rules generator_namespace)) c.in_ok-rows.ensures in
+    c.into_iter-judged-iterator.ensures.into_iter_gives.0 ∙ c.in_ok-verdicts.ensures.verdicts ∙ ap (λ (n : List ℕ). map (verdict peer_rules n) c.in_ok-rows.rows.items) c.requires.namespace ∙ ap (map (verdict peer_rules generator_namespace)) c.in_ok-rows.ensures.rows in
     all_kept generator_namespace rows (into_iter_items c.into_iter-judged-iterator.result) (into_iter_items c.loop-judged.judged-iterator) c.loop-judged.entries.items c.loop-judged.invariant none given

@@ -6,7 +6,8 @@ use Rattle.peer_listing.specs.Generator.{generator_namespace}
 use Rattle.peer_rows.specs.RowLogs.{ArePastLog, HasTaken}
 use Rattle.auth_entry.specs.Rows.{entry_row}
 use Rattle.peer_rows.specs.Logged.{authorised_rows, stored_rows}
-use Rattle.peer_rows.specs.Drilled.{generated_between, generated_rows}
+use Rattle.peer_listing.specs.Ranges.{generated_between}
+use Rattle.peer_rows.specs.Drilled.{generated_rows}
 use Rattle.peer_rows.proofs.AuthorisedRows.{of_namespace}
 use Rattle.peer_rows.proofs.DrilledRows.{generated_on, generated_fit}
 use Rattle.peer_rows.proofs.drilled.keep.Goals as goal

@@ -14,5 +14,5 @@ returns-in_default-clause-runs g c =
     let n = c.args.cell.now.namespace in
     let own = own_hello c.args.plan.now c.args.nonce in
     let pass = c.args.pass.now in
-    let start : Start = record { rules = peer_rules; namespace = n; role = c.args.plan.now.role; hello = own; own_fits = c.known_plan.ensures peer_rules n c.requires.hello; own_passes = (passes_means peer_rules n own).0 c.requires.hello; gives = gives_of c.args.signer; log = pass.seen; pass = pass; link = g.L.Link.facts c.args.link.now; left = left_of c.args.signer; faults = 0 } in
+    let start : Start = record { rules = peer_rules; namespace = n; role = c.args.plan.now.role; hello = own; own_fits = c.known_plan.ensures peer_rules n c.requires.hello; own_passes = (passes_means peer_rules n own).0 c.requires.hello; interest = c.args.plan.now.interest; gives = gives_of c.args.signer; log = pass.seen; pass = pass; link = g.L.Link.facts c.args.link.now; most = g.L.Link.most c.args.link.now; left = left_of c.args.signer; faults = 0 } in
     no_snapshot start pass (later_self pass) refl

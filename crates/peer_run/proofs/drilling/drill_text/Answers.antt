@@ -6,6 +6,7 @@ use Rattle.peer_listing.specs.Summary.{drill_summary}
 use Rattle.peer_listing.specs.declared.summary.DrillCounts.{DrillCounts}
 use Rattle.peer_rows.specs.Drilled.{generated_rows}
 use Rattle.peer_run.specs.Exchanged.{boxed, AreMet}
+use Rattle.peer_run.specs.Offered.{no_limits}
 use Rattle.peer_run.proofs.DrilledRows.{drill_fits}
 use Rattle.peer_run.proofs.DrilledText.{drilled_framed, is_drill_text}
 use Rattle.peer_run.proofs.drilling.drill_text.Goals as goal
@@ -28,7 +29,7 @@ pub returns : goal.returns
 returns g c =
     let n = c.args.rows in
     let counts : DrillCounts = record { rows = n; left = c.len.result; right = c.len-2.result; left_after = c.len-3.result; right_after = c.len-4.result; items = c.in-Ok.exchanged.items; turns = c.len-5.result } in
-    let is = subst (λ (area : Area). AreMet (generated_rows n) (generated_rows (n / 2)) (boxed (Some area)) c.exchange.new.left c.exchange.new.right c.in-Ok.exchanged) c.full.ensures.full
+    let is = subst (λ (area : Area). AreMet (generated_rows n) (generated_rows (n / 2)) (boxed (Some area)) no_limits c.exchange.new.left c.exchange.new.right c.in-Ok.exchanged) c.full.ensures.full
     (c.in-Ok.ensures (generated_rows n) (generated_rows (n / 2)) c.in_ok-left.ensures.whole c.in_ok-left.ensures.half) in
     is_drill_text n c.in_ok-left.left c.in_ok-left.right c.exchange.new.left c.exchange.new.right c.in-Ok.exchanged c.in_ok-left.ensures.whole c.in_ok-left.ensures.half is counts c.drill_summary.new.out.items refl
     (c.len.ensures ∙ sym (length-map c.store.result.now entry_row) ∙ ap length c.store.ensures.live) (c.len-2.ensures ∙ sym (length-map c.store-2.result.now entry_row) ∙ ap length c.store-2.ensures.live) (c.len-3.ensures ∙ sym (length-map c.store-3.result.now entry_row) ∙ ap length c.store-3.ensures.live) (c.len-4.ensures ∙ sym (length-map c.store-4.result.now entry_row) ∙ ap length c.store-4.ensures.live) refl (c.len-5.ensures ∙ c.in-Ok.exchanged.turns.ok.0)

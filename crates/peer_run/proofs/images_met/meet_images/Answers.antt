@@ -27,7 +27,7 @@ write_store_image-requires g c =
     let taken = subst (λ (m : List ℕ). HasTaken entry_row (authorised_rows m c.args.right.rows.items) c.in_ok-right_log.right_log) c.requires.one_namespace c.in_ok-right_log.ensures.logs.0 in
     let is = c.in-Ok.ensures a b c.in_ok-left_log.ensures.logs.0 taken in
     subst (AllByRecursion HasFrame) (sym c.store.ensures.live)
-    (left_framed n c.args.left.rows.items c.args.right.rows.items c.args.area.now c.exchange.new.left c.in-Ok.exchanged.left c.requires.left_image c.requires.right_image is.left)
+    (left_framed n c.args.left.rows.items c.args.right.rows.items c.args.area.now c.args.limits.now c.exchange.new.left c.in-Ok.exchanged.left c.requires.left_image c.requires.right_image is.left)
 
 pub write_store_image-requires-2 : goal.write_store_image-requires-2
 write_store_image-requires-2 g c =
@@ -37,7 +37,7 @@ write_store_image-requires-2 g c =
     let taken = subst (λ (m : List ℕ). HasTaken entry_row (authorised_rows m c.args.right.rows.items) c.in_ok-right_log.right_log) c.requires.one_namespace c.in_ok-right_log.ensures.logs.0 in
     let is = c.in-Ok.ensures a b c.in_ok-left_log.ensures.logs.0 taken in
     subst (AllByRecursion HasFrame) (sym c.store-2.ensures.live)
-    (right_framed n c.args.left.rows.items c.args.right.rows.items c.args.area.now c.exchange.new.right c.in-Ok.exchanged.right c.requires.left_image c.requires.right_image is.right)
+    (right_framed n c.args.left.rows.items c.args.right.rows.items c.args.area.now c.args.limits.now c.exchange.new.right c.in-Ok.exchanged.right c.requires.left_image c.requires.right_image is.right)
 
 pub counts_of-requires-clause-right_few : goal.counts_of-requires-clause-right_few
 counts_of-requires-clause-right_few g c =
@@ -51,7 +51,7 @@ returns g c =
     let taken = subst (λ (m : List ℕ). HasTaken entry_row (authorised_rows m c.args.right.rows.items) c.in_ok-right_log.right_log) c.requires.one_namespace c.in_ok-right_log.ensures.logs.0 in
     let counted = subst (λ (m : List ℕ). AreCounts m c.args.right.rows.items c.in_ok-right_log.right_counts) c.requires.one_namespace c.in_ok-right_log.ensures.logs.1 in
     let is = c.in-Ok.ensures a b c.in_ok-left_log.ensures.logs.0 taken in
-    is_meeting n c.args.left.rows.items c.args.right.rows.items c.args.area.now c.exchange.new.left c.exchange.new.right c.in-Ok.exchanged c.in_ok-left_log.left_counts c.in_ok-right_log.right_counts
+    is_meeting n c.args.left.rows.items c.args.right.rows.items c.args.area.now c.args.limits.now c.exchange.new.left c.exchange.new.right c.in-Ok.exchanged c.in_ok-left_log.left_counts c.in_ok-right_log.right_counts
     (record { left = c.in_ok-write_store_image.field-0; right = c.in_ok-write_store_image-2.field-0; transcript = c.in_ok-transcript_of.field-0; counts = c.counts_of.result })
     c.in_ok-left_log.ensures.logs.1 counted is
     (c.in_ok-write_store_image.ensures ∙ ap (image n) c.store.ensures.live)

@@ -68,4 +68,4 @@ returns g c =
     let after : World = record others { shelf = h2; output = o1 } in
     passes (Gathers words.left words.right words.left_cap words.right_cap) _ (record others { shelf = h; output = o }) before after s end (c.in_ok-left.ensures (record others { output = o }))
     (inside_on (Agrees words.area s.left.namespace s.right.namespace s.left_cap s.right_cap) _ before after c.in_ok-area.area end c.in_ok-area.ensures
-    (inside_on (MeetsImages s.left.namespace s.left.rows.items s.right.rows.items c.in_ok-area.area) _ before after c.in_ok-met.met end c.in_ok-met.ensures (c.put_and_write.ensures others)))
+    (inside_on (MeetsImages s.left.namespace s.left.rows.items s.right.rows.items c.in_ok-area.area words.limits) _ before after c.in_ok-met.met end c.in_ok-met.ensures (c.put_and_write.ensures others)))

@@ -13,9 +13,9 @@ loop-end-preserved c =
     elim c.match-end.branch [
       | in-Ok+in_default-first w ↦
           let n = before + rows_told (Ok w.in-Ok.report) in
-          first_behind c.args.rows before at ends _ (Ok w.in-Ok.report) c.loop-end-test.true w.in-Ok.is w.in_default-first.is c.loop-end.invariant
+          first_behind c.args.rows before at ends c.end-item.result (Ok w.in-Ok.report) c.loop-end-test.true (sym c.end-item.is ∙ w.in-Ok.is) w.in_default-first.is c.loop-end.invariant
           ∙ sym (first_stops n (drop (at + 1) ends)) ∙ ap (λ (k : ℕ). first_of_links k (drop (at + 1) ends)) (sym (w.before-is ∙ w.behind-before.ensures))
       | in_default w ↦
-          first_behind c.args.rows before at ends _ (Err w.in_default.field-0) c.loop-end-test.true w.in_default.is refl c.loop-end.invariant
+          first_behind c.args.rows before at ends c.end-item.result (Err w.in_default.field-0) c.loop-end-test.true (sym c.end-item.is ∙ w.in_default.is) refl c.loop-end.invariant
           ∙ ap (λ (k : ℕ). first_of_links k (drop (at + 1) ends)) (add-zero before ∙ sym w.before-is)
     ]

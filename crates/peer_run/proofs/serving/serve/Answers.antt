@@ -29,33 +29,33 @@ returns-in_err-draws g c =
 pub attend-requires-clause-opening : goal.attend-requires-clause-opening
 attend-requires-clause-opening g c κs within =
     let w = c.args.words in
-    house_own w.image w.cap w.key w.links w.area (record untold { shelf = g.H.Shelf.facts c.args.shelf.now }) (record untold { shelf = g.H.Shelf.facts c.open_named.new.shelf }) c.in_ok-name.server (c.in_ok-name.ensures.opens untold)
+    house_own w.image w.cap w.key w.links w.area w.limits (record untold { shelf = g.H.Shelf.facts c.args.shelf.now }) (record untold { shelf = g.H.Shelf.facts c.open_named.new.shelf }) c.in_ok-name.server (c.in_ok-name.ensures.opens untold)
 
 pub attend-requires-clause-hello : goal.attend-requires-clause-hello
 attend-requires-clause-hello g c κs within =
     let w = c.args.words in
-    house_hello w.image w.cap w.key w.links w.area (record untold { shelf = g.H.Shelf.facts c.args.shelf.now }) (record untold { shelf = g.H.Shelf.facts c.open_named.new.shelf }) c.in_ok-name.server (c.in_ok-name.ensures.opens untold)
+    house_hello w.image w.cap w.key w.links w.area w.limits (record untold { shelf = g.H.Shelf.facts c.args.shelf.now }) (record untold { shelf = g.H.Shelf.facts c.open_named.new.shelf }) c.in_ok-name.server (c.in_ok-name.ensures.opens untold)
 
 pub attend-requires-clause-version : goal.attend-requires-clause-version
 attend-requires-clause-version g c κs within =
     let w = c.args.words in
-    house_version w.image w.cap w.key w.links w.area (record untold { shelf = g.H.Shelf.facts c.args.shelf.now }) (record untold { shelf = g.H.Shelf.facts c.open_named.new.shelf }) c.in_ok-name.server (c.in_ok-name.ensures.opens untold)
+    house_version w.image w.cap w.key w.links w.area w.limits (record untold { shelf = g.H.Shelf.facts c.args.shelf.now }) (record untold { shelf = g.H.Shelf.facts c.open_named.new.shelf }) c.in_ok-name.server (c.in_ok-name.ensures.opens untold)
 
 pub attend-requires-clause-sign : goal.attend-requires-clause-sign
 attend-requires-clause-sign g c κs within =
     let w = c.args.words in
-    house_signs w.image w.cap w.key w.links w.area (record untold { shelf = g.H.Shelf.facts c.args.shelf.now }) (record untold { shelf = g.H.Shelf.facts c.open_named.new.shelf }) c.in_ok-name.server (c.in_ok-name.ensures.opens untold)
+    house_signs w.image w.cap w.key w.links w.area w.limits (record untold { shelf = g.H.Shelf.facts c.args.shelf.now }) (record untold { shelf = g.H.Shelf.facts c.open_named.new.shelf }) c.in_ok-name.server (c.in_ok-name.ensures.opens untold)
 
 pub attend-requires-clause-draws : goal.attend-requires-clause-draws
 attend-requires-clause-draws g c κs within =
     let w = c.args.words in
-    let many = house_many w.image w.cap w.key w.links w.area (record untold { shelf = g.H.Shelf.facts c.args.shelf.now }) (record untold { shelf = g.H.Shelf.facts c.open_named.new.shelf }) c.in_ok-name.server (c.in_ok-name.ensures.opens untold) in
+    let many = house_many w.image w.cap w.key w.links w.area w.limits (record untold { shelf = g.H.Shelf.facts c.args.shelf.now }) (record untold { shelf = g.H.Shelf.facts c.open_named.new.shelf }) c.in_ok-name.server (c.in_ok-name.ensures.opens untold) in
     omega (arith, ap length c.deref.ensures.value, c.in_ok-draws.ensures.draws.0, many, c.in_ok-name.server.signers.ok.0)
 
 pub attend-requires-clause-few : goal.attend-requires-clause-few
 attend-requires-clause-few g c κs within =
     let w = c.args.words in
-    let many = house_many w.image w.cap w.key w.links w.area (record untold { shelf = g.H.Shelf.facts c.args.shelf.now }) (record untold { shelf = g.H.Shelf.facts c.open_named.new.shelf }) c.in_ok-name.server (c.in_ok-name.ensures.opens untold) in
+    let many = house_many w.image w.cap w.key w.links w.area w.limits (record untold { shelf = g.H.Shelf.facts c.args.shelf.now }) (record untold { shelf = g.H.Shelf.facts c.open_named.new.shelf }) c.in_ok-name.server (c.in_ok-name.ensures.opens untold) in
     omega (arith, many, c.requires.links, c.in_ok-name.server.signers.ok.0)
 
 pub returns-in_err-attended : goal.returns-in_err-attended
@@ -76,7 +76,7 @@ returns-in_err-attended g c =
 pub close_house-requires : goal.close_house-requires
 close_house-requires g c =
     let w = c.args.words in
-    house_few w.image w.cap w.key w.links w.area (record untold { shelf = g.H.Shelf.facts c.args.shelf.now }) (record untold { shelf = g.H.Shelf.facts c.open_named.new.shelf }) c.in_ok-name.server (c.in_ok-name.ensures.opens untold)
+    house_few w.image w.cap w.key w.links w.area w.limits (record untold { shelf = g.H.Shelf.facts c.args.shelf.now }) (record untold { shelf = g.H.Shelf.facts c.open_named.new.shelf }) c.in_ok-name.server (c.in_ok-name.ensures.opens untold)
 
 pub returns : goal.returns
 returns g c =

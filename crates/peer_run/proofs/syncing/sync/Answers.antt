@@ -35,29 +35,29 @@ returns-in_err-draw g c =
 pub call-requires-clause-opening : goal.call-requires-clause-opening
 call-requires-clause-opening g c κs within =
     let w = c.args.words in
-    (has_begun w.image w.cap w.key w.area (record untold { shelf = g.H.Shelf.facts c.args.shelf.now }) (record untold { shelf = g.H.Shelf.facts c.begin_named.new.shelf }) c.in_ok-name.caller (c.in_ok-name.ensures.begins untold)).front.opened.own
+    (has_begun w.image w.cap w.key w.area w.limits (record untold { shelf = g.H.Shelf.facts c.args.shelf.now }) (record untold { shelf = g.H.Shelf.facts c.begin_named.new.shelf }) c.in_ok-name.caller (c.in_ok-name.ensures.begins untold)).front.opened.own
 
 pub call-requires-clause-hello : goal.call-requires-clause-hello
 call-requires-clause-hello g c κs within =
     let w = c.args.words in
     let brings = c.in_ok-name.caller in
-    let begun = has_begun w.image w.cap w.key w.area (record untold { shelf = g.H.Shelf.facts c.args.shelf.now }) (record untold { shelf = g.H.Shelf.facts c.begin_named.new.shelf }) brings (c.in_ok-name.ensures.begins untold) in
+    let begun = has_begun w.image w.cap w.key w.area w.limits (record untold { shelf = g.H.Shelf.facts c.args.shelf.now }) (record untold { shelf = g.H.Shelf.facts c.begin_named.new.shelf }) brings (c.in_ok-name.ensures.begins untold) in
     subst (λ (n : List ℕ). hello_refusal peer_rules n (own_hello brings.plan c.nonce_of-nonce.result) ≡ None) (sym begun.front.opened.of_namespace)
-    (plan_passes Caller begun.front.given.namespace w.area begun.front.capability c.nonce_of-nonce.result brings.plan
-    (plan_asks w.image w.cap w.key w.area (record untold { shelf = g.H.Shelf.facts c.args.shelf.now }) (record untold { shelf = g.H.Shelf.facts c.begin_named.new.shelf }) brings begun) begun.front.passes)
+    (plan_passes Caller begun.front.given.namespace w.area w.limits begun.front.capability c.nonce_of-nonce.result brings.plan
+    (plan_asks w.image w.cap w.key w.area w.limits (record untold { shelf = g.H.Shelf.facts c.args.shelf.now }) (record untold { shelf = g.H.Shelf.facts c.begin_named.new.shelf }) brings begun) begun.front.passes)
 
 pub call-requires-clause-version : goal.call-requires-clause-version
 call-requires-clause-version g c κs within =
     let w = c.args.words in
     let brings = c.in_ok-name.caller in
-    let begun = has_begun w.image w.cap w.key w.area (record untold { shelf = g.H.Shelf.facts c.args.shelf.now }) (record untold { shelf = g.H.Shelf.facts c.begin_named.new.shelf }) brings (c.in_ok-name.ensures.begins untold) in
-    plan_speaks Caller w.area begun.front.capability brings.plan
-    (plan_asks w.image w.cap w.key w.area (record untold { shelf = g.H.Shelf.facts c.args.shelf.now }) (record untold { shelf = g.H.Shelf.facts c.begin_named.new.shelf }) brings begun)
+    let begun = has_begun w.image w.cap w.key w.area w.limits (record untold { shelf = g.H.Shelf.facts c.args.shelf.now }) (record untold { shelf = g.H.Shelf.facts c.begin_named.new.shelf }) brings (c.in_ok-name.ensures.begins untold) in
+    plan_speaks Caller w.area w.limits begun.front.capability brings.plan
+    (plan_asks w.image w.cap w.key w.area w.limits (record untold { shelf = g.H.Shelf.facts c.args.shelf.now }) (record untold { shelf = g.H.Shelf.facts c.begin_named.new.shelf }) brings begun)
 
 pub call-requires-clause-signs : goal.call-requires-clause-signs
 call-requires-clause-signs g c κs within =
     let w = c.args.words in
-    let begun = has_begun w.image w.cap w.key w.area (record untold { shelf = g.H.Shelf.facts c.args.shelf.now }) (record untold { shelf = g.H.Shelf.facts c.begin_named.new.shelf }) c.in_ok-name.caller (c.in_ok-name.ensures.begins untold) in
+    let begun = has_begun w.image w.cap w.key w.area w.limits (record untold { shelf = g.H.Shelf.facts c.args.shelf.now }) (record untold { shelf = g.H.Shelf.facts c.begin_named.new.shelf }) c.in_ok-name.caller (c.in_ok-name.ensures.begins untold) in
     can_sign w.key (g.H.Shelf.facts c.args.shelf.now) (g.H.Shelf.facts c.begin_named.new.shelf) c.in_ok-name.caller.signer begun.reserved
 
 pub returns-in_err-called : goal.returns-in_err-called
@@ -78,7 +78,7 @@ returns-in_err-called g c =
 pub finish-requires : goal.finish-requires
 finish-requires g c =
     let w = c.args.words in
-    let begun = has_begun w.image w.cap w.key w.area (record untold { shelf = g.H.Shelf.facts c.args.shelf.now }) (record untold { shelf = g.H.Shelf.facts c.begin_named.new.shelf }) c.in_ok-name.caller (c.in_ok-name.ensures.begins untold) in
+    let begun = has_begun w.image w.cap w.key w.area w.limits (record untold { shelf = g.H.Shelf.facts c.args.shelf.now }) (record untold { shelf = g.H.Shelf.facts c.begin_named.new.shelf }) c.in_ok-name.caller (c.in_ok-name.ensures.begins untold) in
     omega (arith, begun.front.opened.counted, held_few (g.H.Shelf.facts c.args.shelf.now).names (string_bytes w.image) begun.front.given.namespace begun.front.given.rows.items begun.front.has_image)
 
 pub returns : goal.returns

@@ -51,6 +51,6 @@ returns g c =
     let told = entries_told held (IsStrictlySortedBy-filter inner_place_cmp (is_in c.args.area.now) rows c.requires.rise)
     (g.R.Row.value c.quarter.result.now) (g.R.Row.value c.quarter-2.result.now) (g.R.Row.value c.quarter-3.result.now) (g.R.Row.value c.quarter-4.result.now)
     el ea eb ec c.entry.ensures.entry c.entry-2.ensures.entry c.entry-3.ensures.entry c.entry-4.ensures.entry c.quarter.ensures c.quarter-2.ensures c.quarter-3.ensures c.quarter-4.ensures in
-    let all : cuts_among bytes_cmp (subspaces_of held) ≡ option_to_list c.least_above.result =
-    told ∙ or_others_other (found el ea eb ec) _ (omega (arith, c.len.ensures.length, c.if-len-gt0.false, ap length points, length-map (found el ea eb ec) make)) ∙ sym (ap option_to_list c.least_above.ensures) in
+    let all : cuts_among bytes_cmp (subspaces_of held) ≡ option_to_list c.least_among.result =
+    told ∙ or_others_other (found el ea eb ec) _ (omega (arith, c.len.ensures.length, c.if-len-gt0.false, ap length points, length-map (found el ea eb ec) make)) ∙ sym (ap option_to_list c.least_among.ensures) in
     subst (λ l. IfOk c.key_points.result (λ points. points ≡ map make l)) (sym all) c.key_points.ensures

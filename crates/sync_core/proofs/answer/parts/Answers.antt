@@ -6,5 +6,5 @@ use Rattle.sync_core.proofs.answer.parts.Goals as goal
 
 pub returns-in-Err-Refused : goal.returns-in-Err-Refused
 returns-in-Err-Refused g c =
-    adds_nothing (map g.R.Row.value c.args.snapshot.now) c.args.area.now c.args.points c.args.turn.now c.requires
+    adds_nothing (map g.R.Row.value c.args.snapshot.now) c.args.area.now c.args.points c.args.turn.now c.requires.points
     (some_cause (can_cut_at c.args.area.now c.args.points) _ _ (rw c.in-Err-Refused.field-0-is at c.in-Err-Refused.ensures.answer))

@@ -5,7 +5,6 @@ use Rattle.exchange_rules.specs.Answer.{lacking}
 use Rattle.sync_msg.specs.declared.item.Item.TheVariants as items
 use Rattle.sync_core.specs.SyncRules.{sync_rules}
 use Rattle.sync_core.specs.Held.{owed_value}
-use Rattle.sync_core.specs.declared.out_item.OutItem.TheVariants as out
 use Rattle.sync_core.proofs.Telling.{adds_rows, found_length}
 use Rattle.sync_core.proofs.answer.rest.Goals as goal
 
@@ -16,10 +15,10 @@ returns g c =
     let found = lacking (sync_rules 1) rows c.args.area.now c.args.sent.now in
     let there = c.in_ok-positions.ensures.rows 1 in
     let number : c.len.result ≡ length found = omega (arith, found_length rows positions.items found there, c.len.ensures, positions.ok) in
-    let behind = λ (l : List ℕ). map (λ (at : ℕ). out.Row at) l in
+    let behind = λ (l : List ℕ). map (λ (at : ℕ). items.Row at) l in
     on_ok_weaker c.push_rows.result
     (λ h version. record {
-      items = adds_rows rows c.args.turn.now.items.items c.push_rows.new.items.items (out.Rest c.len.result) (items.Rest (length found)) positions.items found
+      items = adds_rows rows c.args.turn.now.items.items c.push_rows.new.items.items (items.Rest c.len.result) (items.Rest (length found)) positions.items found
           (h ∙ ap₂ (λ l r. l ++ behind r) c.in_ok-push.ensures.items c.deref.ensures.value) (ap (λ n. Some (items.Rest n)) number) there;
       opens = sym (append-nil (map (owed_value rows) c.args.turn.now.opens.items));
     })

@@ -11,7 +11,6 @@ use Rattle.sync_core.specs.Place.{Saying, answering}
 use Rattle.sync_core.specs.Steps.{end_heard}
 use Rattle.sync_core.specs.Held.{Tell, ask_value, item_at, owed_value}
 use Rattle.sync_core.specs.declared.ask.Ask.{Ask}
-use Rattle.sync_core.specs.declared.out_item.OutItem.{OutItem}
 use Rattle.sync_core.proofs.Lists.{told_items}
 use Rattle.sync_core.proofs.Naming.{named}
 use Rattle.sync_core.proofs.hear.end_of_turn.Goals as goal
@@ -24,7 +23,7 @@ ends_turn : (version : ℕ) (rows : List RowValue) (asked : List Ask) → 0 < le
 ends_turn version rows [] some = absurd (omega arith)
 ends_turn version rows (ask ∷ asked) some = refl
 
-tells_some : (rows : List RowValue) (outs : List OutItem) (said : List ItemValue) (last : ItemValue) → Tell rows outs (said ++ last ∷ []) → 0 < length outs
+tells_some : (rows : List RowValue) (outs : List (Item ℕ)) (said : List ItemValue) (last : ItemValue) → Tell rows outs (said ++ last ∷ []) → 0 < length outs
 tells_some rows outs said last t =
     let e : length (map (item_at rows) outs) ≡ length (map (λ (i : ItemValue). Some i) (said ++ last ∷ [])) = ap length t in
     omega (arith, e, length-map outs (item_at rows), length-map (said ++ last ∷ []) (λ (i : ItemValue). Some i), length-append said (last ∷ []))

@@ -11,7 +11,7 @@ pub returns-clause-counts : goal.returns-clause-counts
 returns-clause-counts g c =
     let old = c.args.ear.now in
     let bytes = c.hold.new.held.items in
-    let rest = c.in_ok-ear.field-0.items in
+    let rest = c.drop_front.new.held.items in
     let n = c.in_ok-taken.taken in
     let all : bytes ≡ old.held.items ++ c.args.piece.now = search rules in
     let left : rest ≡ drop n bytes = search rules in
@@ -24,7 +24,7 @@ pub returns-clause-held : goal.returns-clause-held
 returns-clause-held g c =
     let old = c.args.ear.now in
     let bytes = c.hold.new.held.items in
-    let rest = c.in_ok-ear.field-0.items in
+    let rest = c.drop_front.new.held.items in
     let n = c.in_ok-taken.taken in
     let all : bytes ≡ old.held.items ++ c.args.piece.now = search rules in
     let left : rest ≡ drop n bytes = search rules in
@@ -38,7 +38,7 @@ pub returns-clause-greets : goal.returns-clause-greets
 returns-clause-greets g c =
     let old = c.args.ear.now in
     let bytes = c.deref.result.now in
-    let rest = c.in_ok-ear.field-0.items in
+    let rest = c.drop_front.new.held.items in
     let n = c.in_ok-taken.taken in
     let all : bytes ≡ old.held.items ++ c.args.piece.now = search rules in
     signs_on_held (g.K.Signer.gives c.args.signer.now) g.S.Verify.rules g.R.Row.value c.args.talker.now old.due old.at old.held.items c.args.piece.now c.requires.holds bytes

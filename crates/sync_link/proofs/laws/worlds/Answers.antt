@@ -10,10 +10,10 @@ use Rattle.sync_link.proofs.laws.worlds.Goals as goal
 pub returns-clause-out : goal.returns-clause-out
 returns-clause-out c = λ p rows others bytes same.
     let a = session_of p rows in
-    ap (λ m. flat_map a.spelling (a.opening ++ says_of m)) (same_read (greeting p.rules p.namespace) places (own_part p) (offers_of rows) (offers_of others) bytes same)
+    ap (λ m. flat_map a.spelling (a.opening ++ says_of m)) (same_read (greeting p.rules p.namespace) places (own_part p) (offers_of p.interest rows) (offers_of p.interest others) bytes same)
 
 pub returns-clause-got : goal.returns-clause-got
-returns-clause-got c = λ p rows others bytes same. ap rows_of (same_read (greeting p.rules p.namespace) places (own_part p) (offers_of rows) (offers_of others) bytes same)
+returns-clause-got c = λ p rows others bytes same. ap rows_of (same_read (greeting p.rules p.namespace) places (own_part p) (offers_of p.interest rows) (offers_of p.interest others) bytes same)
 
 pub returns-clause-ending : goal.returns-clause-ending
-returns-clause-ending c = λ p rows others bytes same. ap (λ m. ending_of m.stand) (same_read (greeting p.rules p.namespace) places (own_part p) (offers_of rows) (offers_of others) bytes same)
+returns-clause-ending c = λ p rows others bytes same. ap (λ m. ending_of m.stand) (same_read (greeting p.rules p.namespace) places (own_part p) (offers_of p.interest rows) (offers_of p.interest others) bytes same)

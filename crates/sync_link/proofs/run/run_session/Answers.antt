@@ -1,7 +1,7 @@
 use Rattle.std.proofs.Common.{◌≡◌, ℕ, List, map, refl, ap, sym, ◌∙◌}
 use Rattle.auth_entry.specs.Rows.{entry_row}
 use Rattle.sync_link.specs.Plans.{own_hello, planned}
-use Rattle.sync_link.specs.UnderWay.{Start, IsReady, brought, now_of}
+use Rattle.sync_link.specs.UnderWay.{Start, IsBy, IsReady, brought, now_of}
 use Rattle.ns_cell.specs.Passes.{CellValue}
 use Rattle.sync_hello.proofs.Meaning.{passes_means}
 use Rattle.sync_link.proofs.LinkEnds.{stored_few}
@@ -12,7 +12,7 @@ use Rattle.sync_link.proofs.run.run_session.Goals as goal
 
 pub returns-in-Err-clause-runs : goal.returns-in-Err-clause-runs
 returns-in-Err-clause-runs g c =
-    let start : Start = record { rules = g.S.Verify.rules; namespace = c.args.cell.now.namespace; role = c.args.plan.now.role; hello = own_hello c.args.plan.now c.args.nonce; own_fits = c.known_plan.ensures g.S.Verify.rules c.args.cell.now.namespace c.requires.hello; own_passes = (passes_means g.S.Verify.rules c.args.cell.now.namespace (own_hello c.args.plan.now c.args.nonce)).0 c.requires.hello; gives = g.K.Signer.gives c.args.signer.now; log = c.snapshot.new.pass.seen; pass = c.args.pass.now; link = g.L.Link.facts c.args.link.now; left = g.K.Signer.left c.args.signer.now; faults = g.K.Signer.faults c.args.signer.now } in
+    let start : Start = record { rules = g.S.Verify.rules; namespace = c.args.cell.now.namespace; role = c.args.plan.now.role; hello = own_hello c.args.plan.now c.args.nonce; own_fits = c.known_plan.ensures g.S.Verify.rules c.args.cell.now.namespace c.requires.hello; own_passes = (passes_means g.S.Verify.rules c.args.cell.now.namespace (own_hello c.args.plan.now c.args.nonce)).0 c.requires.hello; interest = c.args.plan.now.interest; gives = g.K.Signer.gives c.args.signer.now; log = c.snapshot.new.pass.seen; pass = c.args.pass.now; link = g.L.Link.facts c.args.link.now; most = g.L.Link.most c.args.link.now; left = g.K.Signer.left c.args.signer.now; faults = g.K.Signer.faults c.args.signer.now } in
     no_snapshot start c.snapshot.new.pass c.snapshot.ensures.later c.snapshot.ensures.own
 
 pub open_session-requires-clause-rows : goal.open_session-requires-clause-rows
@@ -31,8 +31,8 @@ returns-in-Err-open_session-clause-runs g c =
     let rows = map entry_row c.in-Ok.snapshot in
     let same : c.namespace.result ≡ cell.namespace = c.namespace.ensures ∙ c.requires.namespace in
     let there : pass.cell.namespace ≡ cell.namespace = ap (λ (x : CellValue). x.namespace) (c.snapshot.ensures.later.cell ∙ c.requires.pass) in
-    let start : Start = record { rules = g.S.Verify.rules; namespace = cell.namespace; role = c.args.plan.now.role; hello = own_hello c.args.plan.now c.args.nonce; own_fits = c.known_plan.ensures g.S.Verify.rules c.args.cell.now.namespace c.requires.hello; own_passes = (passes_means g.S.Verify.rules c.args.cell.now.namespace (own_hello c.args.plan.now c.args.nonce)).0 c.requires.hello; gives = g.K.Signer.gives c.args.signer.now; log = pass.seen; pass = c.args.pass.now; link = g.L.Link.facts c.args.link.now; left = g.K.Signer.left c.args.signer.now; faults = g.K.Signer.faults c.args.signer.now } in
-    let ready : IsReady start rows pass = record { rows_are = c.in-Ok.ensures.live; opens = opening_of cell.namespace pass rows c.in-Ok.ensures.live c.snapshot.ensures.pass there c.known_rows.ensures; later = c.snapshot.ensures.later; seen = refl; own = c.snapshot.ensures.own; pass = c.snapshot.ensures.pass } in
+    let start : Start = record { rules = g.S.Verify.rules; namespace = cell.namespace; role = c.args.plan.now.role; hello = own_hello c.args.plan.now c.args.nonce; own_fits = c.known_plan.ensures g.S.Verify.rules c.args.cell.now.namespace c.requires.hello; own_passes = (passes_means g.S.Verify.rules c.args.cell.now.namespace (own_hello c.args.plan.now c.args.nonce)).0 c.requires.hello; interest = c.args.plan.now.interest; gives = g.K.Signer.gives c.args.signer.now; log = pass.seen; pass = c.args.pass.now; link = g.L.Link.facts c.args.link.now; most = g.L.Link.most c.args.link.now; left = g.K.Signer.left c.args.signer.now; faults = g.K.Signer.faults c.args.signer.now } in
+    let ready : IsReady start rows pass = record { rows_are = c.in-Ok.ensures.live; opens = opening_of cell.namespace pass rows c.in-Ok.ensures.live c.snapshot.ensures.pass there c.known_rows.ensures; later = c.snapshot.ensures.later; seen = refl; own = c.snapshot.ensures.own; turn = c.snapshot.ensures.turn; pass = c.snapshot.ensures.pass } in
     let party : brought start ≡ planned g.S.Verify.rules c.namespace.result c.args.plan.now c.args.nonce = ap (λ (n : List ℕ). planned g.S.Verify.rules n c.args.plan.now c.args.nonce) (sym same) in
     c.in-Err-open_session.ensures.opens start pass party refl ready
 
@@ -43,11 +43,12 @@ report-requires-clause-few g c κs within =
     let rows = map entry_row c.in-Ok.snapshot in
     let same : c.namespace.result ≡ cell.namespace = c.namespace.ensures ∙ c.requires.namespace in
     let there : pass.cell.namespace ≡ cell.namespace = ap (λ (x : CellValue). x.namespace) (c.snapshot.ensures.later.cell ∙ c.requires.pass) in
-    let start : Start = record { rules = g.S.Verify.rules; namespace = cell.namespace; role = c.args.plan.now.role; hello = own_hello c.args.plan.now c.args.nonce; own_fits = c.known_plan.ensures g.S.Verify.rules c.args.cell.now.namespace c.requires.hello; own_passes = (passes_means g.S.Verify.rules c.args.cell.now.namespace (own_hello c.args.plan.now c.args.nonce)).0 c.requires.hello; gives = g.K.Signer.gives c.args.signer.now; log = pass.seen; pass = c.args.pass.now; link = g.L.Link.facts c.args.link.now; left = g.K.Signer.left c.args.signer.now; faults = g.K.Signer.faults c.args.signer.now } in
-    let ready : IsReady start rows pass = record { rows_are = c.in-Ok.ensures.live; opens = opening_of cell.namespace pass rows c.in-Ok.ensures.live c.snapshot.ensures.pass there c.known_rows.ensures; later = c.snapshot.ensures.later; seen = refl; own = c.snapshot.ensures.own; pass = c.snapshot.ensures.pass } in
+    let start : Start = record { rules = g.S.Verify.rules; namespace = cell.namespace; role = c.args.plan.now.role; hello = own_hello c.args.plan.now c.args.nonce; own_fits = c.known_plan.ensures g.S.Verify.rules c.args.cell.now.namespace c.requires.hello; own_passes = (passes_means g.S.Verify.rules c.args.cell.now.namespace (own_hello c.args.plan.now c.args.nonce)).0 c.requires.hello; interest = c.args.plan.now.interest; gives = g.K.Signer.gives c.args.signer.now; log = pass.seen; pass = c.args.pass.now; link = g.L.Link.facts c.args.link.now; most = g.L.Link.most c.args.link.now; left = g.K.Signer.left c.args.signer.now; faults = g.K.Signer.faults c.args.signer.now } in
+    let ready : IsReady start rows pass = record { rows_are = c.in-Ok.ensures.live; opens = opening_of cell.namespace pass rows c.in-Ok.ensures.live c.snapshot.ensures.pass there c.known_rows.ensures; later = c.snapshot.ensures.later; seen = refl; own = c.snapshot.ensures.own; turn = c.snapshot.ensures.turn; pass = c.snapshot.ensures.pass } in
     let party : brought start ≡ planned g.S.Verify.rules c.namespace.result c.args.plan.now c.args.nonce = ap (λ (n : List ℕ). planned g.S.Verify.rules n c.args.plan.now c.args.nonce) (sym same) in
     let u = c.in-Ok-open_session.ensures.opens start pass party refl ready in
-    let v = c.in-Ok-talk.ensures.goes_on start refl refl refl c.requires.signs u in
+    let goes : IsBy start g.S.Verify.rules cell.namespace (g.K.Signer.gives c.args.signer.now) (g.L.Link.most c.open_session.new.link) = record { by_rules = refl; in_namespace = refl; gives_so = refl; at_once = sym c.open_session.ensures.most; signs = c.requires.signs } in
+    let v = c.in-Ok-talk.ensures.goes_on start goes u in
     stored_few start (now_of g.S.Verify.rules c.talk.new.session c.talk.new.pass (g.L.Link.facts c.talk.new.link) (g.K.Signer.left c.talk.new.signer) (g.K.Signer.faults c.talk.new.signer)) v
 
 pub returns-in-Ok-talk-clause-runs : goal.returns-in-Ok-talk-clause-runs
@@ -57,25 +58,27 @@ returns-in-Ok-talk-clause-runs g c =
     let rows = map entry_row c.in-Ok.snapshot in
     let same : c.namespace.result ≡ cell.namespace = c.namespace.ensures ∙ c.requires.namespace in
     let there : pass.cell.namespace ≡ cell.namespace = ap (λ (x : CellValue). x.namespace) (c.snapshot.ensures.later.cell ∙ c.requires.pass) in
-    let start : Start = record { rules = g.S.Verify.rules; namespace = cell.namespace; role = c.args.plan.now.role; hello = own_hello c.args.plan.now c.args.nonce; own_fits = c.known_plan.ensures g.S.Verify.rules c.args.cell.now.namespace c.requires.hello; own_passes = (passes_means g.S.Verify.rules c.args.cell.now.namespace (own_hello c.args.plan.now c.args.nonce)).0 c.requires.hello; gives = g.K.Signer.gives c.args.signer.now; log = pass.seen; pass = c.args.pass.now; link = g.L.Link.facts c.args.link.now; left = g.K.Signer.left c.args.signer.now; faults = g.K.Signer.faults c.args.signer.now } in
-    let ready : IsReady start rows pass = record { rows_are = c.in-Ok.ensures.live; opens = opening_of cell.namespace pass rows c.in-Ok.ensures.live c.snapshot.ensures.pass there c.known_rows.ensures; later = c.snapshot.ensures.later; seen = refl; own = c.snapshot.ensures.own; pass = c.snapshot.ensures.pass } in
+    let start : Start = record { rules = g.S.Verify.rules; namespace = cell.namespace; role = c.args.plan.now.role; hello = own_hello c.args.plan.now c.args.nonce; own_fits = c.known_plan.ensures g.S.Verify.rules c.args.cell.now.namespace c.requires.hello; own_passes = (passes_means g.S.Verify.rules c.args.cell.now.namespace (own_hello c.args.plan.now c.args.nonce)).0 c.requires.hello; interest = c.args.plan.now.interest; gives = g.K.Signer.gives c.args.signer.now; log = pass.seen; pass = c.args.pass.now; link = g.L.Link.facts c.args.link.now; most = g.L.Link.most c.args.link.now; left = g.K.Signer.left c.args.signer.now; faults = g.K.Signer.faults c.args.signer.now } in
+    let ready : IsReady start rows pass = record { rows_are = c.in-Ok.ensures.live; opens = opening_of cell.namespace pass rows c.in-Ok.ensures.live c.snapshot.ensures.pass there c.known_rows.ensures; later = c.snapshot.ensures.later; seen = refl; own = c.snapshot.ensures.own; turn = c.snapshot.ensures.turn; pass = c.snapshot.ensures.pass } in
     let party : brought start ≡ planned g.S.Verify.rules c.namespace.result c.args.plan.now c.args.nonce = ap (λ (n : List ℕ). planned g.S.Verify.rules n c.args.plan.now c.args.nonce) (sym same) in
     let u = c.in-Ok-open_session.ensures.opens start pass party refl ready in
-    let v = c.in-Ok-talk.ensures.goes_on start refl refl refl c.requires.signs u in
-    c.report.ensures start (g.L.Link.facts c.talk.new.link) (g.K.Signer.left c.talk.new.signer) (g.K.Signer.faults c.talk.new.signer) c.seen-opened.ensures.seen v
+    let goes : IsBy start g.S.Verify.rules cell.namespace (g.K.Signer.gives c.args.signer.now) (g.L.Link.most c.open_session.new.link) = record { by_rules = refl; in_namespace = refl; gives_so = refl; at_once = sym c.open_session.ensures.most; signs = c.requires.signs } in
+    let v = c.in-Ok-talk.ensures.goes_on start goes u in
+    (c.report.ensures start (g.L.Link.facts c.talk.new.link) (g.K.Signer.left c.talk.new.signer) (g.K.Signer.faults c.talk.new.signer) c.seen-opened.ensures.seen v).0
 
-pub returns-clause-runs : goal.returns-clause-runs
-returns-clause-runs g c =
+pub returns-in-Err-talk-clause-runs : goal.returns-in-Err-talk-clause-runs
+returns-in-Err-talk-clause-runs g c =
     let cell = c.args.cell.now in
     let pass = c.snapshot.new.pass in
     let rows = map entry_row c.in-Ok.snapshot in
     let same : c.namespace.result ≡ cell.namespace = c.namespace.ensures ∙ c.requires.namespace in
     let there : pass.cell.namespace ≡ cell.namespace = ap (λ (x : CellValue). x.namespace) (c.snapshot.ensures.later.cell ∙ c.requires.pass) in
-    let start : Start = record { rules = g.S.Verify.rules; namespace = cell.namespace; role = c.args.plan.now.role; hello = own_hello c.args.plan.now c.args.nonce; own_fits = c.known_plan.ensures g.S.Verify.rules c.args.cell.now.namespace c.requires.hello; own_passes = (passes_means g.S.Verify.rules c.args.cell.now.namespace (own_hello c.args.plan.now c.args.nonce)).0 c.requires.hello; gives = g.K.Signer.gives c.args.signer.now; log = pass.seen; pass = c.args.pass.now; link = g.L.Link.facts c.args.link.now; left = g.K.Signer.left c.args.signer.now; faults = g.K.Signer.faults c.args.signer.now } in
-    let ready : IsReady start rows pass = record { rows_are = c.in-Ok.ensures.live; opens = opening_of cell.namespace pass rows c.in-Ok.ensures.live c.snapshot.ensures.pass there c.known_rows.ensures; later = c.snapshot.ensures.later; seen = refl; own = c.snapshot.ensures.own; pass = c.snapshot.ensures.pass } in
+    let start : Start = record { rules = g.S.Verify.rules; namespace = cell.namespace; role = c.args.plan.now.role; hello = own_hello c.args.plan.now c.args.nonce; own_fits = c.known_plan.ensures g.S.Verify.rules c.args.cell.now.namespace c.requires.hello; own_passes = (passes_means g.S.Verify.rules c.args.cell.now.namespace (own_hello c.args.plan.now c.args.nonce)).0 c.requires.hello; interest = c.args.plan.now.interest; gives = g.K.Signer.gives c.args.signer.now; log = pass.seen; pass = c.args.pass.now; link = g.L.Link.facts c.args.link.now; most = g.L.Link.most c.args.link.now; left = g.K.Signer.left c.args.signer.now; faults = g.K.Signer.faults c.args.signer.now } in
+    let ready : IsReady start rows pass = record { rows_are = c.in-Ok.ensures.live; opens = opening_of cell.namespace pass rows c.in-Ok.ensures.live c.snapshot.ensures.pass there c.known_rows.ensures; later = c.snapshot.ensures.later; seen = refl; own = c.snapshot.ensures.own; turn = c.snapshot.ensures.turn; pass = c.snapshot.ensures.pass } in
     let party : brought start ≡ planned g.S.Verify.rules c.namespace.result c.args.plan.now c.args.nonce = ap (λ (n : List ℕ). planned g.S.Verify.rules n c.args.plan.now c.args.nonce) (sym same) in
     let u = c.in-Ok-open_session.ensures.opens start pass party refl ready in
-    c.in-Err-talk.ensures.goes_on start refl refl refl c.requires.signs u
+    let goes : IsBy start g.S.Verify.rules cell.namespace (g.K.Signer.gives c.args.signer.now) (g.L.Link.most c.open_session.new.link) = record { by_rules = refl; in_namespace = refl; gives_so = refl; at_once = sym c.open_session.ensures.most; signs = c.requires.signs } in
+    c.in-Err-talk.ensures.goes_on start goes u
 
 pub returns-in-Err-clause-promises : goal.returns-in-Err-clause-promises
 returns-in-Err-clause-promises g c = keeps_promises _ _ _ _ _ _ _ _ _
@@ -86,5 +89,51 @@ returns-in-Err-open_session-clause-promises g c = keeps_promises _ _ _ _ _ _ _ _
 pub returns-in-Ok-talk-clause-promises : goal.returns-in-Ok-talk-clause-promises
 returns-in-Ok-talk-clause-promises g c = keeps_promises _ _ _ _ _ _ _ _ _
 
-pub returns-clause-promises : goal.returns-clause-promises
-returns-clause-promises g c = keeps_promises _ _ _ _ _ _ _ _ _
+pub returns-in-Err-talk-clause-promises : goal.returns-in-Err-talk-clause-promises
+returns-in-Err-talk-clause-promises g c = keeps_promises _ _ _ _ _ _ _ _ _
+
+pub returns-in-Err-clause-reads : goal.returns-in-Err-clause-reads
+returns-in-Err-clause-reads g c =
+    let start : Start = record { rules = g.S.Verify.rules; namespace = c.args.cell.now.namespace; role = c.args.plan.now.role; hello = own_hello c.args.plan.now c.args.nonce; own_fits = c.known_plan.ensures g.S.Verify.rules c.args.cell.now.namespace c.requires.hello; own_passes = (passes_means g.S.Verify.rules c.args.cell.now.namespace (own_hello c.args.plan.now c.args.nonce)).0 c.requires.hello; interest = c.args.plan.now.interest; gives = g.K.Signer.gives c.args.signer.now; log = c.snapshot.new.pass.seen; pass = c.args.pass.now; link = g.L.Link.facts c.args.link.now; most = g.L.Link.most c.args.link.now; left = g.K.Signer.left c.args.signer.now; faults = g.K.Signer.faults c.args.signer.now } in
+    (no_snapshot start c.snapshot.new.pass c.snapshot.ensures.later c.snapshot.ensures.own, tt)
+
+pub returns-in-Err-open_session-clause-reads : goal.returns-in-Err-open_session-clause-reads
+returns-in-Err-open_session-clause-reads g c =
+    let cell = c.args.cell.now in
+    let pass = c.snapshot.new.pass in
+    let rows = map entry_row c.in-Ok.snapshot in
+    let same : c.namespace.result ≡ cell.namespace = c.namespace.ensures ∙ c.requires.namespace in
+    let there : pass.cell.namespace ≡ cell.namespace = ap (λ (x : CellValue). x.namespace) (c.snapshot.ensures.later.cell ∙ c.requires.pass) in
+    let start : Start = record { rules = g.S.Verify.rules; namespace = cell.namespace; role = c.args.plan.now.role; hello = own_hello c.args.plan.now c.args.nonce; own_fits = c.known_plan.ensures g.S.Verify.rules c.args.cell.now.namespace c.requires.hello; own_passes = (passes_means g.S.Verify.rules c.args.cell.now.namespace (own_hello c.args.plan.now c.args.nonce)).0 c.requires.hello; interest = c.args.plan.now.interest; gives = g.K.Signer.gives c.args.signer.now; log = pass.seen; pass = c.args.pass.now; link = g.L.Link.facts c.args.link.now; most = g.L.Link.most c.args.link.now; left = g.K.Signer.left c.args.signer.now; faults = g.K.Signer.faults c.args.signer.now } in
+    let ready : IsReady start rows pass = record { rows_are = c.in-Ok.ensures.live; opens = opening_of cell.namespace pass rows c.in-Ok.ensures.live c.snapshot.ensures.pass there c.known_rows.ensures; later = c.snapshot.ensures.later; seen = refl; own = c.snapshot.ensures.own; turn = c.snapshot.ensures.turn; pass = c.snapshot.ensures.pass } in
+    let party : brought start ≡ planned g.S.Verify.rules c.namespace.result c.args.plan.now c.args.nonce = ap (λ (n : List ℕ). planned g.S.Verify.rules n c.args.plan.now c.args.nonce) (sym same) in
+    (c.in-Err-open_session.ensures.opens start pass party refl ready, tt)
+
+pub returns-in-Ok-talk-clause-reads : goal.returns-in-Ok-talk-clause-reads
+returns-in-Ok-talk-clause-reads g c =
+    let cell = c.args.cell.now in
+    let pass = c.snapshot.new.pass in
+    let rows = map entry_row c.in-Ok.snapshot in
+    let same : c.namespace.result ≡ cell.namespace = c.namespace.ensures ∙ c.requires.namespace in
+    let there : pass.cell.namespace ≡ cell.namespace = ap (λ (x : CellValue). x.namespace) (c.snapshot.ensures.later.cell ∙ c.requires.pass) in
+    let start : Start = record { rules = g.S.Verify.rules; namespace = cell.namespace; role = c.args.plan.now.role; hello = own_hello c.args.plan.now c.args.nonce; own_fits = c.known_plan.ensures g.S.Verify.rules c.args.cell.now.namespace c.requires.hello; own_passes = (passes_means g.S.Verify.rules c.args.cell.now.namespace (own_hello c.args.plan.now c.args.nonce)).0 c.requires.hello; interest = c.args.plan.now.interest; gives = g.K.Signer.gives c.args.signer.now; log = pass.seen; pass = c.args.pass.now; link = g.L.Link.facts c.args.link.now; most = g.L.Link.most c.args.link.now; left = g.K.Signer.left c.args.signer.now; faults = g.K.Signer.faults c.args.signer.now } in
+    let ready : IsReady start rows pass = record { rows_are = c.in-Ok.ensures.live; opens = opening_of cell.namespace pass rows c.in-Ok.ensures.live c.snapshot.ensures.pass there c.known_rows.ensures; later = c.snapshot.ensures.later; seen = refl; own = c.snapshot.ensures.own; turn = c.snapshot.ensures.turn; pass = c.snapshot.ensures.pass } in
+    let party : brought start ≡ planned g.S.Verify.rules c.namespace.result c.args.plan.now c.args.nonce = ap (λ (n : List ℕ). planned g.S.Verify.rules n c.args.plan.now c.args.nonce) (sym same) in
+    let u = c.in-Ok-open_session.ensures.opens start pass party refl ready in
+    let goes : IsBy start g.S.Verify.rules cell.namespace (g.K.Signer.gives c.args.signer.now) (g.L.Link.most c.open_session.new.link) = record { by_rules = refl; in_namespace = refl; gives_so = refl; at_once = sym c.open_session.ensures.most; signs = c.requires.signs } in
+    let v = c.in-Ok-talk.ensures.goes_on start goes u in
+    c.report.ensures start (g.L.Link.facts c.talk.new.link) (g.K.Signer.left c.talk.new.signer) (g.K.Signer.faults c.talk.new.signer) c.seen-opened.ensures.seen v
+
+pub returns-in-Err-talk-clause-reads : goal.returns-in-Err-talk-clause-reads
+returns-in-Err-talk-clause-reads g c =
+    let cell = c.args.cell.now in
+    let pass = c.snapshot.new.pass in
+    let rows = map entry_row c.in-Ok.snapshot in
+    let same : c.namespace.result ≡ cell.namespace = c.namespace.ensures ∙ c.requires.namespace in
+    let there : pass.cell.namespace ≡ cell.namespace = ap (λ (x : CellValue). x.namespace) (c.snapshot.ensures.later.cell ∙ c.requires.pass) in
+    let start : Start = record { rules = g.S.Verify.rules; namespace = cell.namespace; role = c.args.plan.now.role; hello = own_hello c.args.plan.now c.args.nonce; own_fits = c.known_plan.ensures g.S.Verify.rules c.args.cell.now.namespace c.requires.hello; own_passes = (passes_means g.S.Verify.rules c.args.cell.now.namespace (own_hello c.args.plan.now c.args.nonce)).0 c.requires.hello; interest = c.args.plan.now.interest; gives = g.K.Signer.gives c.args.signer.now; log = pass.seen; pass = c.args.pass.now; link = g.L.Link.facts c.args.link.now; most = g.L.Link.most c.args.link.now; left = g.K.Signer.left c.args.signer.now; faults = g.K.Signer.faults c.args.signer.now } in
+    let ready : IsReady start rows pass = record { rows_are = c.in-Ok.ensures.live; opens = opening_of cell.namespace pass rows c.in-Ok.ensures.live c.snapshot.ensures.pass there c.known_rows.ensures; later = c.snapshot.ensures.later; seen = refl; own = c.snapshot.ensures.own; turn = c.snapshot.ensures.turn; pass = c.snapshot.ensures.pass } in
+    let party : brought start ≡ planned g.S.Verify.rules c.namespace.result c.args.plan.now c.args.nonce = ap (λ (n : List ℕ). planned g.S.Verify.rules n c.args.plan.now c.args.nonce) (sym same) in
+    let u = c.in-Ok-open_session.ensures.opens start pass party refl ready in
+    let goes : IsBy start g.S.Verify.rules cell.namespace (g.K.Signer.gives c.args.signer.now) (g.L.Link.most c.open_session.new.link) = record { by_rules = refl; in_namespace = refl; gives_so = refl; at_once = sym c.open_session.ensures.most; signs = c.requires.signs } in
+    (c.in-Err-talk.ensures.goes_on start goes u, tt)

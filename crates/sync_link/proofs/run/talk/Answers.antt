@@ -1,12 +1,13 @@
-use Rattle.std.proofs.Common.{refl, sym, ◌∙◌, arith}
+use Rattle.std.proofs.Common.{inl, refl, ◌∙◌, arith}
 use Rattle.std.proofs.lemmas.List.{length-take, length-append, length-drop}
 use Rattle.sync_link.specs.UnderWay.{now_of}
+use Rattle.sync_link.proofs.Asked.{asks_on, unasked_on}
 use Rattle.sync_link.proofs.LinkEnds.{unkept_room}
-use Rattle.sync_link.proofs.Talked.{Keeps, keeps_self, keeps_on}
+use Rattle.sync_link.proofs.Talked.{Keeps, is_now, keeps_self, keeps_on}
 use Rattle.sync_link.proofs.run.talk.Goals as goal
 
 pub returns-in-Err-clause-goes_on : goal.returns-in-Err-clause-goes_on
-returns-in-Err-clause-goes_on g c start a b d e u =
+returns-in-Err-clause-goes_on g c start is u =
     unkept_room start (now_of g.S.Verify.rules c.args.session.now c.args.pass.now (g.L.Link.facts c.args.link.now) (g.K.Signer.left c.args.signer.now) (g.K.Signer.faults c.args.signer.now)) u
 
 pub talking-init : goal.talking-init
@@ -15,8 +16,11 @@ talking-init g c = record {
   namespace = refl;
   counted = c.requires.counted;
   gives = refl;
+  most = refl;
+  unasked = λ unsigned. (unsigned, refl);
+  asks = inl refl;
   room = omega (arith, c.in-Ok.ensures.len, c.in-Ok.room.ok.0);
-  keeps = keeps_self g.S.Verify.rules c.args.cell.now.namespace (g.K.Signer.gives c.args.signer.now) (now_of g.S.Verify.rules c.args.session.now c.args.pass.now (g.L.Link.facts c.args.link.now) (g.K.Signer.left c.args.signer.now) (g.K.Signer.faults c.args.signer.now));
+  keeps = keeps_self g.S.Verify.rules c.args.cell.now.namespace (g.K.Signer.gives c.args.signer.now) (g.L.Link.most c.args.link.now) (now_of g.S.Verify.rules c.args.session.now c.args.pass.now (g.L.Link.facts c.args.link.now) (g.K.Signer.left c.args.signer.now) (g.K.Signer.faults c.args.signer.now));
 }
 
 pub hear_piece-requires-clause-open : goal.hear_piece-requires-clause-open
@@ -30,20 +34,29 @@ talking-preserved g c =
       namespace = c.in-Ok-hear_piece.ensures.namespace ∙ i.namespace;
       counted = c.in-Ok-hear_piece.ensures.counted;
       gives = c.in-Ok-hear_piece.ensures.gives ∙ i.gives;
+      most = c.in-Ok-hear_piece.ensures.most ∙ i.most;
+      unasked = unasked_on c.args.session.now.speaker.signature c.talking.session.speaker.signature c.hear_piece.new.session.speaker.signature c.args.signer.now c.talking.signer c.hear_piece.new.signer i.unasked c.in-Ok-hear_piece.ensures.unasked;
+      asks = asks_on g.K.Signer.asks c.args.session.now.speaker.signature c.talking.session.speaker.signature c.args.signer.now c.talking.signer c.hear_piece.new.signer i.unasked i.asks c.hear_piece.ensures.asks;
       room = simp (length-take, length-append, length-drop) (omega (arith, i.room, c.deref_mut.ensures.len, c.hear_piece.auto.room, c.talking.room.ok.0));
-      keeps = keeps_on g.S.Verify.rules c.args.cell.now.namespace (g.K.Signer.gives c.args.signer.now) (g.K.Signer.gives c.talking.signer)
+      keeps = keeps_on g.S.Verify.rules c.args.cell.now.namespace (g.K.Signer.gives c.args.signer.now) (g.K.Signer.gives c.talking.signer) (g.L.Link.most c.args.link.now) (g.L.Link.most c.talking.link)
           (now_of g.S.Verify.rules c.args.session.now c.args.pass.now (g.L.Link.facts c.args.link.now) (g.K.Signer.left c.args.signer.now) (g.K.Signer.faults c.args.signer.now))
           (now_of g.S.Verify.rules c.talking.session c.talking.pass (g.L.Link.facts c.talking.link) (g.K.Signer.left c.talking.signer) (g.K.Signer.faults c.talking.signer))
           (now_of g.S.Verify.rules c.hear_piece.new.session c.hear_piece.new.pass (g.L.Link.facts c.hear_piece.new.link) (g.K.Signer.left c.hear_piece.new.signer) (g.K.Signer.faults c.hear_piece.new.signer))
-          i.gives i.keeps c.in-Ok-hear_piece.ensures.goes_on;
+          i.gives i.most i.keeps c.in-Ok-hear_piece.ensures.goes_on;
     }
+
+pub returns-in-Err-hear_piece-clause-asks : goal.returns-in-Err-hear_piece-clause-asks
+returns-in-Err-hear_piece-clause-asks g c =
+    let i = c.talking.invariant in
+    asks_on g.K.Signer.asks c.args.session.now.speaker.signature c.talking.session.speaker.signature c.args.signer.now c.talking.signer c.hear_piece.new.signer i.unasked i.asks c.hear_piece.ensures.asks
 
 pub returns-in-Err-hear_piece-clause-goes_on : goal.returns-in-Err-hear_piece-clause-goes_on
 unfolding Keeps
-returns-in-Err-hear_piece-clause-goes_on g c start a b d e u =
+returns-in-Err-hear_piece-clause-goes_on g c start is u =
     let i = c.talking.invariant in
-    c.in-Err-hear_piece.ensures.goes_on start a b (d ∙ sym i.gives) e (i.keeps start a b d e u)
+    let now = is_now start g.S.Verify.rules c.args.cell.now.namespace (g.K.Signer.gives c.args.signer.now) (g.K.Signer.gives c.talking.signer) (g.L.Link.most c.args.link.now) (g.L.Link.most c.talking.link) i.gives i.most is in
+    c.in-Err-hear_piece.ensures.goes_on start now (i.keeps start is u)
 
 pub returns-clause-goes_on : goal.returns-clause-goes_on
 unfolding Keeps
-returns-clause-goes_on g c start a b d e u = c.talking.invariant.keeps start a b d e u
+returns-clause-goes_on g c start is u = c.talking.invariant.keeps start is u

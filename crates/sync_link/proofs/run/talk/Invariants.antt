@@ -1,5 +1,6 @@
 use Rattle.std.proofs.Common.{◌≡◌, ◌-◌, ◌^◌, length, ◌≤◌}
 use Rattle.ns_cell.specs.Passes.{IsPassOf}
+use Rattle.sync_link.specs.Asking.{AsksOnce, IsUnasked}
 use Rattle.sync_link.specs.UnderWay.{IsCounted, now_of}
 use Rattle.sync_link.proofs.Talked.{Keeps}
 use Rattle.sync_link.proofs.run.talk.Given as goal
@@ -10,8 +11,11 @@ invariant-talking g l = record {
   namespace : g.C.Checker.judged_in l.checker ≡ g.C.Checker.judged_in l.fn.checker;
   counted : IsCounted l.session;
   gives : g.K.Signer.gives l.signer ≡ g.K.Signer.gives l.fn.signer;
+  most : g.L.Link.most l.link ≡ g.L.Link.most l.fn.link;
+  unasked : IsUnasked l.fn.session.speaker.signature l.session.speaker.signature l.fn.signer l.signer;
+  asks : AsksOnce g.K.Signer.asks l.fn.session.speaker.signature l.fn.signer l.signer;
   room : 1 ≤ length l.room.items;
-  keeps : Keeps g.S.Verify.rules l.cell.namespace (g.K.Signer.gives l.fn.signer)
+  keeps : Keeps g.S.Verify.rules l.cell.namespace (g.K.Signer.gives l.fn.signer) (g.L.Link.most l.fn.link)
       (now_of g.S.Verify.rules l.fn.session l.fn.pass (g.L.Link.facts l.fn.link) (g.K.Signer.left l.fn.signer) (g.K.Signer.faults l.fn.signer))
       (now_of g.S.Verify.rules l.session l.pass (g.L.Link.facts l.link) (g.K.Signer.left l.signer) (g.K.Signer.faults l.signer));
 }

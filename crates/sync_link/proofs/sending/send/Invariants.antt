@@ -8,6 +8,7 @@ invariant-loop-at g l = record {
   in_range : l.at ≤ length l.bytes;
   given : Extends (g.L.Link.facts l.fn.link).held (g.L.Link.facts l.link).held (take l.at l.bytes);
   faults : (g.L.Link.facts l.link).write_faults ≡ (g.L.Link.facts l.fn.link).write_faults;
+  most : g.L.Link.most l.link ≡ g.L.Link.most l.fn.link;
   rest : ReadsNothing (g.L.Link.facts l.fn.link) (g.L.Link.facts l.link);
 }
 

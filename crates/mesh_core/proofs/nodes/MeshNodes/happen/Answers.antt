@@ -1,4 +1,4 @@
-use Rattle.std.proofs.Common.{List, length, sym, ap, subst}
+use Rattle.std.proofs.Common.{List, length, sym, subst}
 use Rattle.cap_codec.specs.Rows.{RawValue}
 use Rattle.mesh_core.specs.Generated.{HoldGenerated}
 use Rattle.mesh_core.specs.Given.{event_of, IsAmong}

@@ -8,6 +8,6 @@ use Rattle.sync_link.proofs.speaker.Speaker.begin.Goals as goal
 pub invariant_of-result : goal.invariant_of-result
 invariant_of-result g c =
     let a = c.args in
-    let talker : Talker g.row.R.Denot g.row.S.Denot = record { alloc = a.alloc; scheme = a.scheme; namespace = a.namespace; role = a.role; hello = a.hello; signature = None; snapshot = a.snapshot } in
+    let talker : Talker g.row.R.Denot g.row.S.Denot = record { alloc = a.alloc; scheme = a.scheme; namespace = a.namespace; role = a.role; hello = a.hello; interest = a.interest; signature = None; snapshot = a.snapshot } in
     subst (λ held. IsHeld g.S.Verify.rules g.R.Row.value talker dues.Hello 0 held) (sym c.new.ensures.items)
     (begun_held g.S.Verify.rules g.R.Row.value talker c.requires.own c.requires.speaks c.requires.rows refl)
