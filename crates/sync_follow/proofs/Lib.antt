@@ -1,0 +1,16 @@
+pub mod FedRows
+pub mod Written
+pub mod Feedings
+pub mod Grammar
+pub mod Finding
+pub mod Heard
+pub mod Feeds
+pub mod AuthorisedRows
+pub mod Offered
+pub mod TakenRows
+pub mod Courses
+pub mod Shared
+pub mod Meetings
+pub mod Followed
+pub mod SmallSession
+pub mod FollowedOnce

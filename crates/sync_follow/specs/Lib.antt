@@ -1,0 +1,13 @@
+pub mod Feeds
+pub mod Feeding
+pub mod Grammar
+pub mod Following
+pub mod Hearing
+pub mod Tallies
+pub mod Follows
+pub mod UnderWay
+pub mod FeedLaws
+pub mod BothEnds
+pub mod Followed
+pub mod SmallSession
+pub mod FollowedOnce
