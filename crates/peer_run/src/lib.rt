@@ -15,8 +15,7 @@ mod meeting;
 mod opening;
 mod preparing;
 mod run;
-mod serving;
-mod syncing;
+mod sessions;
 mod transcript;
 
 pub use run::{peer_run, run_local};
