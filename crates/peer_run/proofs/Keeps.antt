@@ -6,7 +6,8 @@ use Rattle.peer_run.proofs.Causes.{ended, usage, is_command, read_fault, write_f
 use Rattle.peer_run.proofs.Complete.{complete}
 use Rattle.peer_run.proofs.WholeJoin.{whole_join}
 use Rattle.peer_run.proofs.WholeMeeting.{whole_meeting}
-use Rattle.peer_run.proofs.WholeHost.{sync_promises, serve_promises}
+use Rattle.peer_run.proofs.WholeCall.{sync_promises}
+use Rattle.peer_run.proofs.WholeService.{serve_promises}
 use Rattle.peer_run.proofs.Reported.{counts_stand, none_passed_over, hides_none, report_stood}
 
 pub keeps : (run : Run) → RunsWords run → run.old.report.faults ≤ run.new.report.faults → KeepsPromises run
@@ -15,8 +16,8 @@ keeps run runs faults =
       runs = runs;
       joined = λ namespace is_join small. whole_join run namespace (ended run runs small) is_join;
       met = λ words is_meet small. whole_meeting run words (ended run runs small) is_meet;
-      synced = sync_promises run runs;
-      served = serve_promises run runs;
+      synced = λ words is_sync. sync_promises run words runs is_sync;
+      served = λ words is_serve. serve_promises run words runs is_serve;
       ended = ended run runs;
       usage = λ is. (usage run runs is).0;
       untouched = λ is. (usage run runs is).1;

@@ -8,10 +8,10 @@ use Rattle.peer_make.proofs.Deeds.{key_is_lawful, grant_is_lawful, delegate_is_l
 use Rattle.peer_words.specs.declared.command.Command.{Command}
 use Rattle.peer_words.specs.declared.command.Command.TheVariants as cmd
 use Rattle.peer_run.specs.Deeds.{deed_of}
-use Rattle.peer_run.specs.Hosting.{calling, serving}
 use Rattle.peer_run.specs.Locals as locals
 use Rattle.peer_run.proofs.PairDeeds.{drill_is_lawful, meet_is_lawful}
-use Rattle.peer_run.proofs.HostEnds.{host_is_lawful}
+use Rattle.peer_run.proofs.CallEnds.{sync_is_lawful}
+use Rattle.peer_run.proofs.ServeEnds.{serve_is_lawful}
 
 -- One line a command.
 pub laws_of : (c : Command) → IsLawful (deed_of c)
@@ -25,8 +25,9 @@ laws_of (cmd.Gen rows) = gen_is_lawful rows
 laws_of (cmd.Drill rows) = drill_is_lawful rows
 laws_of (cmd.Meet left right left_cap right_cap left_out right_out area newest bytes) =
     meet_is_lawful (record { left = left; right = right; left_cap = left_cap; right_cap = right_cap; left_out = left_out; right_out = right_out; area = area; limits = record { newest = newest; bytes = bytes } })
-laws_of (cmd.Sync image cap key to area newest bytes false) = host_is_lawful (calling image cap key to area (record { newest = newest; bytes = bytes }))
-laws_of (cmd.Serve image cap key at links area newest bytes false None) = host_is_lawful (serving image cap key at links area (record { newest = newest; bytes = bytes }))
+laws_of (cmd.Sync image cap key to area newest bytes false) = sync_is_lawful (record { image = image; cap = cap; key = key; to = to; area = area; limits = record { newest = newest; bytes = bytes } })
+laws_of (cmd.Serve image cap key at links area newest bytes false None) =
+    serve_is_lawful (record { image = image; cap = cap; key = key; at = at; links = links; area = area; limits = record { newest = newest; bytes = bytes } })
 laws_of command = not_built_is_lawful
 
 -- One line a command: any but those that call others stays without sessions.

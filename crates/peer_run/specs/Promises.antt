@@ -10,7 +10,7 @@ use Rattle.peer_stage.specs.declared.outcome.FollowCounts.{FollowCounts}
 use Rattle.peer_stage.specs.declared.outcome.SessionCounts.{SessionCounts}
 use Rattle.peer_stage.specs.declared.outcome.Done.{Done}
 use Rattle.peer_stage.specs.declared.outcome.Done.TheVariants as done
-use Rattle.peer_stage.specs.declared.outcome.Hosted.{Hosted}
+use Rattle.peer_stage.specs.declared.outcome.Served.{Served}
 use Rattle.peer_stage.specs.declared.outcome.Stop.{Stop}
 use Rattle.peer_stage.specs.declared.outcome.Stop.TheVariants as stop
 use Rattle.peer_report.specs.Report.{IsReportWithoutMemory, report_of}
@@ -21,7 +21,8 @@ use Rattle.peer_run.specs.Run.{Run, RunsWords, before_report}
 use Rattle.peer_run.specs.Headline.{Headline}
 use Rattle.peer_run.specs.MeetHeadline.{MeetHeadline}
 use Rattle.peer_run.specs.Ending.{HasTold}
-use Rattle.peer_run.specs.HostHeadline.{SyncHeadline, ServeHeadline}
+use Rattle.peer_run.specs.SyncHeadline.{SyncHeadline}
+use Rattle.peer_run.specs.ServeHeadline.{ServeHeadline}
 
 -- ---- 0 and 1
 
@@ -95,18 +96,14 @@ IsRefusedSession (Err (ending.Hello refusal)) = Unit {0}
 IsRefusedSession (Err (ending.Core refusal)) = Unit {0}
 IsRefusedSession session = ⊥
 
--- one of the sessions is such a one
-abbrev pub HasSession : (Result SessionCounts SessionEnd → Type 0) → Hosted → Type 0
+-- one of a server's sessions is such a one
+abbrev pub HasSession : (Result SessionCounts SessionEnd → Type 0) → Served → Type 0
 HasSession IsOne s = (session : Result SessionCounts SessionEnd) × Contains s.sessions.items session × IsOne session
 
 -- what was read of a feed behind a session is refused so, or ended too early
 abbrev pub IsRefusedFeed : Option (Result FollowCounts SessionEnd) → Type 0
 IsRefusedFeed (Some (Err end)) = IsRefusedSession (Err end)
 IsRefusedFeed followed = ⊥
-
--- one of the feeds behind the sessions is such a one
-abbrev pub HasFeed : (Option (Result FollowCounts SessionEnd) → Type 0) → Hosted → Type 0
-HasFeed IsOne s = (followed : Option (Result FollowCounts SessionEnd)) × Contains s.tails.items followed × IsOne followed
 
 -- a session is refused before it begins
 abbrev pub IsRefusedStop : Stop → Type 0
@@ -117,7 +114,8 @@ IsRefusedStop e = ⊥
 abbrev pub IsRefusedEnd : Result Done Stop → Type 0
 IsRefusedEnd (Err e) = IsRefusedStop e
 IsRefusedEnd (Ok (done.Stopped s)) = IsRefusedStop s.stop
-IsRefusedEnd (Ok (done.Hosted s)) = HasSession IsRefusedSession s ⊎ HasFeed IsRefusedFeed s
+IsRefusedEnd (Ok (done.Synced s)) = IsRefusedSession s.session ⊎ IsRefusedFeed s.followed
+IsRefusedEnd (Ok (done.Served s)) = HasSession IsRefusedSession s
 IsRefusedEnd end = ⊥
 
 -- a session left rows uncovered for which the log had no room
@@ -139,7 +137,8 @@ IsFullStop e = ⊥
 abbrev pub IsFullEnd : Result Done Stop → Type 0
 IsFullEnd (Err e) = IsFullStop e
 IsFullEnd (Ok (done.Stopped s)) = IsFullStop s.stop
-IsFullEnd (Ok (done.Hosted s)) = HasSession IsFullSession s ⊎ HasFeed IsFullFeed s
+IsFullEnd (Ok (done.Synced s)) = IsFullSession s.session ⊎ IsFullFeed s.followed
+IsFullEnd (Ok (done.Served s)) = HasSession IsFullSession s
 IsFullEnd end = ⊥
 
 -- a key file has no index left

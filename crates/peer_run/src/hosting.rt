@@ -1,6 +1,6 @@
 //! Sessions with those who come to a place.
 
-ghost use Rattle.std.specs.Prelude.{◌≡◌, ◌≤◌, ◌<◌, ◌+◌, true, List, ℕ, ◌∷◌, ◌++◌, None, Some, All, IfOk, OnErr, [], length, map, vec_len, vec_capacity};
+ghost use Rattle.std.specs.Prelude.{◌≡◌, ◌≤◌, ◌<◌, ◌+◌, List, ℕ, ◌∷◌, ◌++◌, None, Some, All, IfOk, OnErr, [], length, map, vec_len, vec_capacity};
 ghost use Rattle.log_rule.specs.Views.{AreOf};
 ghost use Rattle.lms_core.specs.Use.{peer_rules};
 ghost use Rattle.ns_cell.specs.declared.limits.TheConstants.{PASS_LIMIT};
@@ -11,7 +11,7 @@ ghost use Rattle.sync_link.specs.Plans.{own_hello, planned};
 ghost use Rattle.ns_cell.specs.Passes.{IsPassOf};
 ghost use Rattle.willow_outside.specs.declared.fault.Fault.TheVariants as fault;
 ghost use Rattle.peer_run.specs.Hall.{IsAccepted, Leaves, Listens};
-ghost use Rattle.peer_run.specs.Visiting.{Attends};
+ghost use Rattle.peer_run.specs.Hosting.{Attends};
 ghost use Rattle.peer_run.specs.Preparing.{nonce_of};
 
 use crate::calling::talk;
@@ -120,7 +120,7 @@ pub(crate) fn attend<R: Wait + Threads + Sync, D: Door>(
     requires sign { All (λ signer. 1 ≤ left_of signer) signers.items }
     requires draws { length draws.now ≡ vec_len signers }
     requires few { vec_len signers < PASS_LIMIT }
-    ensures { Attends (record { awaited = true; place = place.now }) (λ draw. planned peer_rules state.namespace plan (nonce_of draw)) signers.items draws.now state (D.facts door.old) (D.facts door.new) result }
+    ensures { Attends place.now (λ draw. planned peer_rules state.namespace plan (nonce_of draw)) signers.items draws.now state (D.facts door.old) (D.facts door.new) result }
 {
     let namespace = state.namespace();
     let (cell, passes) = NsCell::new(alloc, state, 1 + signers.len() as u32)?;
@@ -153,19 +153,8 @@ fn lists_for(
     ensures ends { IfOk result (λ r. (r.1.items ≡ []) × (guests ≤ vec_capacity r.1)) }
 {
     let passes = Vec::with_capacity(alloc, 1 + guests)?;
-    let ends = ends_for(alloc, guests)?;
+    let ends = Vec::with_capacity(alloc, guests)?;
     Ok((passes, ends))
-}
-
-/// The list that is filled with the ends of so many sessions.
-pub(crate) fn ends_for(
-    alloc: Global,
-    sessions: usize,
-) -> Result<Vec<Result<SessionReport, SessionEnd>>, NoMemory>
-    requires { sessions < PASS_LIMIT }
-    ensures { IfOk result (λ ends. (ends.items ≡ []) × (sessions ≤ vec_capacity ends)) }
-{
-    Ok(Vec::with_capacity(alloc, sessions)?)
 }
 
 // The first pass, and a guest for each of the others, with a signer and the nonce of a draw.

@@ -15,7 +15,8 @@ mod meeting;
 mod opening;
 mod preparing;
 mod run;
-mod sessions;
+mod serving;
+mod syncing;
 mod transcript;
 
 pub use run::{peer_run, run_local};

@@ -8,20 +8,20 @@ ghost use Rattle.peer_stage.specs.World.{World};
 ghost use Rattle.peer_words.specs.Words.{texts};
 ghost use Rattle.peer_words.specs.Commands.{IsWords};
 ghost use Rattle.peer_run.specs.Deeds.{deed_of};
-ghost use Rattle.peer_run.specs.Hosting.{calling, serving};
 ghost use Rattle.peer_run.specs.Run.{RunsWords};
 ghost use Rattle.peer_run.specs.Promises.{KeepsPromises};
 
 use crate::drilling::drill;
 use crate::judging::RowChecker;
 use crate::meeting::{MeetWords, meet};
-use crate::sessions::{HostWords, host};
+use crate::serving::{ServeWords, serve};
+use crate::syncing::{SyncWords, sync};
 use area_interest::Interest;
 use peer_make::{delegate, grant, make_key, write};
 use peer_report::end_run;
 use peer_rows::{generate, join, show};
 use peer_stage::{Done, Stop};
-use peer_words::{AreaWords, Command, SignerWord, Usage, read_words};
+use peer_words::{Command, Usage, read_words};
 use spelling::End;
 use std::alloc::Global;
 use std::sync::Wait;
@@ -137,53 +137,6 @@ fn is_more_than_service(follow: bool, log: &Option<String>) -> bool
     follow || log.is_some()
 }
 
-/// A link to the place is called for.
-fn calling(
-    image: String,
-    cap: String,
-    key: SignerWord,
-    to: String,
-    area: AreaWords,
-    limits: Interest,
-) -> HostWords
-    ensures { result ≡ calling image cap key to area limits }
-{
-    HostWords {
-        awaited: false,
-        image,
-        cap,
-        key,
-        place: to,
-        links: 1,
-        area,
-        limits,
-    }
-}
-
-/// So many links are waited for at the place.
-fn serving(
-    image: String,
-    cap: String,
-    key: SignerWord,
-    at: String,
-    links: u32,
-    area: AreaWords,
-    limits: Interest,
-) -> HostWords
-    ensures { result ≡ serving image cap key at links area limits }
-{
-    HostWords {
-        awaited: true,
-        image,
-        cap,
-        key,
-        place: at,
-        links,
-        area,
-        limits,
-    }
-}
-
 /// Runs a command that talks to others over links.
 fn run_afar<R: Wait + Threads + Sync, H: Shelf, D: Door, N: Noise>(
     rt: &R,
@@ -213,9 +166,15 @@ fn run_afar<R: Wait + Threads + Sync, H: Shelf, D: Door, N: Noise>(
             if follow {
                 return Err(Stop::Usage);
             }
-            let limits = Interest { newest, bytes };
-            let words = calling(image, cap, key, to, area, limits);
-            host(rt, alloc, words, shelf, door, noise)
+            let words = SyncWords {
+                image,
+                cap,
+                key,
+                to,
+                area,
+                limits: Interest { newest, bytes },
+            };
+            sync(rt, alloc, words, shelf, door, noise)
         }
         server => run_server(rt, alloc, server, shelf, door, noise),
     }
@@ -252,9 +211,16 @@ fn run_server<R: Wait + Threads + Sync, H: Shelf, D: Door, N: Noise>(
             if is_more_than_service(follow, &log) {
                 return Err(Stop::Usage);
             }
-            let limits = Interest { newest, bytes };
-            let words = serving(image, cap, key, at, links, area, limits);
-            host(rt, alloc, words, shelf, door, noise)
+            let words = ServeWords {
+                image,
+                cap,
+                key,
+                at,
+                links,
+                area,
+                limits: Interest { newest, bytes },
+            };
+            serve(rt, alloc, words, shelf, door, noise)
         }
         _ => unreachable!(),
     }

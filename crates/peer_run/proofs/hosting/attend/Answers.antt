@@ -1,11 +1,10 @@
 use Rattle.std.proofs.Common.{◌≡◌, ℕ, List, None, length, refl, ap, sym, ◌∙◌, subst, arith}
-use Rattle.std.proofs.lemmas.Result.{err_from_is_err_and}
 use Rattle.lms_core.specs.Use.{peer_rules}
 use Rattle.sync_hello.specs.Checked.{hello_refusal}
 use Rattle.sync_link.specs.Plans.{own_hello}
 use Rattle.peer_run.specs.Preparing.{nonce_of}
 use Rattle.peer_run.specs.declared.hosting.Hall.{Hall}
-use Rattle.peer_run.proofs.Guests.{attends, unvisited}
+use Rattle.peer_run.proofs.Guests.{attends}
 use Rattle.peer_run.proofs.Paired.{as_signed, all_may, partings_of_cell, unused_of_cell, all_back}
 use Rattle.peer_run.proofs.hosting.attend.Goals as goal
 
@@ -17,12 +16,6 @@ host_links-requires-after_bounds g c κs within =
     all_may hall (c.namespace-namespace.ensures ∙ sym same)
     (λ draw. subst (λ (n : List ℕ). hello_refusal peer_rules n (own_hello c.args.plan (nonce_of draw)) ≡ None) (sym same) (c.requires.hello draw)) c.requires.version
     c.in_ok-own.own c.in_ok-cell.passes.items c.in_ok-own.guests.items c.args.signers.items c.args.draws.now made.passes made.signers made.nonces c.in_ok-cell.ensures.of_cell c.requires.sign
-
--- where no visit begins for want of memory, the place was listened at
-pub returns-in_err-hosted : goal.returns-in_err-hosted
-returns-in_err-hosted g c =
-    let p = err_from_is_err_and c.from_residual-in_err-hosted.result c.from_residual-in_err-hosted.ensures.1 in
-    rw (p.1, p.2) (unvisited c.args.place.now (g.D.Door.facts c.args.door.now) (g.D.Door.facts c.listen.new.door) (g.D.Door.facts c.host_links.new.door) c.in_ok-listen.ensures c.in_err-hosted.ensures.hosts)
 
 pub leave-requires-clause-partings : goal.leave-requires-clause-partings
 leave-requires-clause-partings g c =
@@ -48,6 +41,6 @@ pub returns : goal.returns
 returns g c =
     let hall : Hall = record { namespace = c.namespace-namespace.result; cell = c.in_ok-cell.cell; plan = c.args.plan } in
     let made = c.in_ok-own.ensures in
-    attends c.args.place.now c.args.plan c.args.signers.items c.args.draws.now c.args.state hall c.in_ok-own.own c.in_ok-own.guests.items c.requires.opening _
+    attends c.args.place.now c.args.plan c.args.signers.items c.args.draws.now c.args.state hall c.in_ok-own.own c.in_ok-own.guests.items _
     (g.D.Door.facts c.args.door.now) (g.D.Door.facts c.listen.new.door) (g.D.Door.facts c.host_links.new.door) c.in_ok-hosted.hosted c.leave.result refl c.in_ok-cell.ensures.cell.1
     (made.passes ∙ c.in_ok-cell.ensures.passes) made.signers made.nonces c.in_ok-listen.ensures c.in_ok-hosted.ensures.hosts c.leave.ensures

@@ -1,6 +1,3 @@
-use Rattle.std.proofs.Common.{subst}
-use Rattle.peer_run.specs.Hosting.{Hosts}
-use Rattle.peer_run.specs.declared.sessions.HostWords.{HostWords}
 use Rattle.peer_run.proofs.Unbuilt.{following_sync, plain_sync}
 use Rattle.peer_run.proofs.run.run_afar.Goals as goal
 
@@ -10,5 +7,4 @@ returns-then-follow g c =
 
 pub returns-else-follow : goal.returns-else-follow
 returns-else-follow g c =
-    rw c.in-Sync.is (λ others. plain_sync c.in-Sync.image c.in-Sync.cap c.in-Sync.key c.in-Sync.to c.in-Sync.area c.in-Sync.newest c.in-Sync.bytes c.in-Sync.follow c.if-follow.false _ _ _
-    (subst (λ (words : HostWords). Hosts words _ _ _) c.calling-words.ensures (c.host.ensures others)))
+    rw c.in-Sync.is (λ others. plain_sync c.in-Sync.image c.in-Sync.cap c.in-Sync.key c.in-Sync.to c.in-Sync.area c.in-Sync.newest c.in-Sync.bytes c.in-Sync.follow c.if-follow.false _ _ _ (c.sync.ensures others))

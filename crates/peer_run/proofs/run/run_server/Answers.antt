@@ -1,6 +1,4 @@
-use Rattle.std.proofs.Common.{sym, subst, ◌∙◌}
-use Rattle.peer_run.specs.Hosting.{Hosts}
-use Rattle.peer_run.specs.declared.sessions.HostWords.{HostWords}
+use Rattle.std.proofs.Common.{sym, ◌∙◌}
 use Rattle.peer_run.proofs.Unbuilt.{more_serve, plain_serve}
 use Rattle.peer_run.proofs.run.run_server.Goals as goal
 
@@ -10,5 +8,4 @@ returns-then-is_more_than_service g c =
 
 pub returns : goal.returns
 returns g c =
-    rw c.in-Serve.is (λ others. plain_serve c.in-Serve.image c.in-Serve.cap c.in-Serve.key c.in-Serve.at c.in-Serve.links c.in-Serve.area c.in-Serve.newest c.in-Serve.bytes c.in-Serve.follow c.in-Serve.log (sym c.if-is_more_than_service.false ∙ c.is_more_than_service.ensures) _ _ _
-    (subst (λ (words : HostWords). Hosts words _ _ _) c.serving-words.ensures (c.host.ensures others)))
+    rw c.in-Serve.is (λ others. plain_serve c.in-Serve.image c.in-Serve.cap c.in-Serve.key c.in-Serve.at c.in-Serve.links c.in-Serve.area c.in-Serve.newest c.in-Serve.bytes c.in-Serve.follow c.in-Serve.log (sym c.if-is_more_than_service.false ∙ c.is_more_than_service.ensures) _ _ _ (c.serve.ensures others))

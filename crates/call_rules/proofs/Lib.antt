@@ -1,4 +1,0 @@
-pub mod Elements
-pub mod Told
-pub mod Parts
-pub mod Visits
