@@ -1,7 +1,7 @@
 # Completions of willow_peer for bash: the commands, the options that a command still takes, values that are fixed, and names
 # of files in place. Read it by `. docs/willow_peer.bash`, or install it as `willow_peer` among the completions of bash.
 
-# The options of each command; `watch` is not built, nor are --follow and --log.
+# The options of each command; --follow and --log are not built.
 declare -gA _willow_peer_options=(
     [join]="--namespace"
     [show]="--newest"
@@ -12,6 +12,7 @@ declare -gA _willow_peer_options=(
     [meet]="--left --right --left-cap --right-cap --left-out --right-out --subspace --under --from --until --newest --bytes"
     [sync]="--image --cap --key --to --subspace --under --from --until --newest --bytes"
     [serve]="--image --cap --key --at --links --subspace --under --from --until --newest --bytes"
+    [watch]="--image --subspace --under --from --until"
     [gen]="--rows"
     [drill]="--rows"
 )

@@ -236,7 +236,7 @@ SERVERS = [
 
 # This is a command of the grammar, but none that is built.
 NOT_BUILT = [
-    words("of-watch", "watch", "--image", "a"),
+    words("of-sync-that-follows", "sync", "--image", "a", "--cap", "c", "--key", BY_U, "--to", "host:1", "--follow", "yes"),
 ]
 
 GROUPS = {

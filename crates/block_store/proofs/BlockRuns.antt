@@ -6,7 +6,6 @@ use Rattle.std.proofs.Math.Seq.{drop-append_seam}
 use Rattle.std.proofs.lemmas.Bool.{both_ways, false≢true}
 use Rattle.std.proofs.lemmas.List.{take_all}
 use Rattle.std.proofs.lemmas.List.Elements.{filter-append, recursion_from_All}
-use Rattle.lane_sum.specs.Totals.{total_by}
 use Rattle.lane_sum.specs.declared.lanes.Lanes.{Lanes}
 use Rattle.willow_area.specs.Boxes.{Ranges, IsBox}
 use Rattle.willow_area.specs.Times.{in_times}
@@ -18,9 +17,9 @@ use Rattle.block_store.specs.Ends.{is_before_key}
 use Rattle.block_store.specs.Held.{values_of}
 use Rattle.block_store.specs.InBox.{is_in, rows_in}
 use Rattle.block_store.specs.Times.{AreWritten}
-use Rattle.block_store.specs.Fingerprint.{row_bytes}
+use Rattle.block_store.specs.Leaves.{summary_of}
 use Rattle.block_store.specs.Starts.{values_at}
-use Rattle.block_store.specs.Totals.{totals_of}
+use Rattle.block_store.specs.Summaries.{summaries_of}
 use Rattle.block_store.specs.declared.block.Piece.{Piece}
 use Rattle.block_store.specs.declared.reading.runs.Run.{Run}
 use Rattle.block_store.specs.declared.looking.spot.Spot.{Spot}
@@ -213,10 +212,15 @@ pub at_rises : {R : Type 0} {b : _} (value : R → RowValue) (pieces : List (Pie
 at_rises value [] i h up = absurd (omega arith)
 at_rises value (p ∷ pieces) i h up = subst IsRising (sym (at_is value (p ∷ pieces) i p h)) (block_rises value (p ∷ pieces) i p h up)
 
-pub total_at_is : {R : Type 0} {b : _} (value : R → RowValue) (pieces : List (Piece R b)) (i : ℕ) (x : Lanes) → i < length pieces → x ≡ get_or (totals_of value pieces) i x → x ≡ total_by row_bytes (values_at value pieces i)
-total_at_is value [] i x h e = absurd (omega arith)
-total_at_is value (p ∷ pieces) zero x h e = e ∙ ap (total_by row_bytes) (sym (append-nil (values_of value p.block.value.rows.items)))
-total_at_is value (p ∷ pieces) (suc i) x h e = total_at_is value pieces i x (omega arith) e
+-- what is kept of a block
+pub summary_at : {R : Type 0} {b : _} (value : R → RowValue) (pieces : List (Piece R b)) (i : ℕ) (p : Piece R b) (x : Lanes × List Lanes) → i < length pieces → x ≡ get_or (summaries_of value pieces) i x → x ≡ summary_of (values_of value (get_or pieces i p).block.value.rows.items)
+summary_at value [] i p x h e = absurd (omega arith)
+summary_at value (q ∷ pieces) zero p x h e = e
+summary_at value (q ∷ pieces) (suc i) p x h e = summary_at value pieces i p x (omega arith) e
+
+pub summary_at_is : {R : Type 0} {b : _} (value : R → RowValue) (pieces : List (Piece R b)) (i : ℕ) (x : Lanes × List Lanes) → i < length pieces → x ≡ get_or (summaries_of value pieces) i x → x ≡ summary_of (values_at value pieces i)
+summary_at_is value [] i x h e = absurd (omega arith)
+summary_at_is value (p ∷ pieces) i x h e = summary_at value (p ∷ pieces) i p x h e ∙ ap summary_of (sym (at_is value (p ∷ pieces) i p h))
 
 -- the values of the first blocks, then those of the next, then those behind
 pub at_more : {R : Type 0} {b : _} (value : R → RowValue) (pieces : List (Piece R b)) (i : ℕ) → i < length pieces → block_values value (take (i + 1) pieces) ≡ block_values value (take i pieces) ++ values_at value pieces i

@@ -22,3 +22,4 @@ mod BlockRuns
 mod Fewest
 mod ByTime
 mod TimeTotals
+mod Leaves

@@ -10,8 +10,9 @@ pub mod InBox
 pub mod ByTime
 pub mod BytesAt
 pub mod Fingerprint
+pub mod Leaves
 pub mod Ends
 pub mod BoxKinds
 pub mod BoxRuns
 pub mod Starts
-pub mod Totals
+pub mod Summaries

@@ -1,13 +1,12 @@
 //! A block: some of the rows, each behind an `Arc`, with what tells in short what is in it.
 
 ghost use Rattle.std.specs.Prelude.{◌≡◌, ◌<◌, ◌≤◌, length, vec_len};
-ghost use Rattle.lane_sum.specs.Totals.{total_by};
-ghost use Rattle.block_store.specs.Fingerprint.{row_bytes};
 ghost use Rattle.block_store.specs.Held.{values_of};
+ghost use Rattle.block_store.specs.Leaves.{summary_of};
 ghost use Rattle.block_store.specs.Times.{AreWritten};
 
+use crate::reading::summary::Summary;
 use counted_slot::{Counted, Fits};
-use lane_sum::Lanes;
 use std::marker::PhantomData;
 use std::sync::Arc;
 use willow_entry::Row;
@@ -15,21 +14,21 @@ use willow_entry::Row;
 // The greatest number of rows of a block.
 pub(crate) const BLOCK_ROWS: usize = 64;
 
-// What the rows of a block add up to.
+// What is kept of the rows of a block.
 #[derive(Drop)]
 pub(crate) struct Held<R: Row> {
-    pub(crate) total: Lanes,
+    pub(crate) summary: Summary,
     pub(crate) marker: PhantomData<R>,
 }
 
 impl<R: Row> Fits for Held<R> {
     type Tag = Vec<Arc<R>>;
 
-    ghost fits = { λ rows held. held.total ≡ total_by row_bytes (values_of R.value rows.items) };
+    ghost fits = { λ rows held. held.summary ≡ summary_of (values_of R.value rows.items) };
 }
 
-// From 1 to 64 rows, the earliest and the latest time at which they were written, and the cell of their total, which
-// is made at most when somebody compares.
+// From 1 to 64 rows, the earliest and the latest time at which they were written, and the cell of their summary,
+// which is made at most when somebody compares.
 #[derive(Drop)]
 pub(crate) struct Block<R: Row> {
     pub(crate) rows: Vec<Arc<R>>,

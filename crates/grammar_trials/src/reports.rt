@@ -2,9 +2,7 @@
 
 use mc_cap::{RefusedRow, RowRefusal};
 use peer_report::end_run;
-use peer_stage::{
-    Done, FeedStop, FollowCounts, Origin, Served, SessionCounts, Stop, Stopped, Synced, WatchCounts,
-};
+use peer_stage::{Done, FollowCounts, Hosted, Origin, SessionCounts, Stop, Stopped, WatchCounts};
 use session_end::SessionEnd;
 use std::alloc::Global;
 use willow_outside::SureSink;
@@ -89,10 +87,18 @@ fn follows(
     status: u8,
     lines: &str,
 ) -> Option<bool> {
-    let end = Ok(Done::Synced(Synced {
-        session: session(),
-        followed,
+    let mut sessions = Vec::new(alloc);
+    sessions.push(session()).ok()?;
+    let mut tails = Vec::new(alloc);
+    tails.push(followed).ok()?;
+    let end = Ok(Done::Hosted(Hosted {
+        awaited: false,
+        sessions,
+        tails,
+        all_came: true,
         first: refused(9),
+        left: 0,
+        kept: None,
         put,
     }));
     let own = "opened 3 closed 5 stored 2 kept 1 refused 0 sent 4 read 3\n";
@@ -155,18 +161,19 @@ fn calls_that_lost_their_feed(rt: HostRuntime) {
 // Whether the lines of a server of one link, whose feed ended so, are these.
 fn serves(
     alloc: Global,
-    (feed, left, kept): (Option<FeedStop>, u32, Option<u64>),
+    (tail, left, kept): (Option<Result<FollowCounts, SessionEnd>>, u32, Option<u64>),
     (all_came, put): (bool, bool),
     status: u8,
     lines: &str,
 ) -> Option<bool> {
     let mut sessions = Vec::new(alloc);
     sessions.push(session()).ok()?;
-    let mut feeds = Vec::new(alloc);
-    feeds.push(feed).ok()?;
-    let end = Ok(Done::Served(Served {
+    let mut tails = Vec::new(alloc);
+    tails.push(tail).ok()?;
+    let end = Ok(Done::Hosted(Hosted {
+        awaited: true,
         sessions,
-        feeds,
+        tails,
         all_came,
         first: refused(9),
         left,
@@ -228,19 +235,19 @@ fn servers_that_failed(rt: HostRuntime) {
 fn servers_of_a_stopped_feed(rt: HostRuntime) {
     for (told, whole, status, lines) in [
         (
-            (Some(FeedStop::LinkWrite), 0, None),
+            (Some(Err(SessionEnd::LinkWrite)), 0, None),
             (true, true),
             4,
             "link 1: write fault\n",
         ),
         (
-            (Some(FeedStop::LinkWrite), 2, Some(3)),
+            (Some(Err(SessionEnd::LinkWrite)), 2, Some(3)),
             (false, false),
             3,
             "link 1: write fault\nleft 2\nkept 3\nread fault\nwrite fault\n",
         ),
         (
-            (Some(FeedStop::NoMemory), 1, None),
+            (Some(Err(SessionEnd::NoMemory)), 1, None),
             (false, true),
             7,
             "link 1: no memory\nleft 1\nread fault\n",
@@ -256,13 +263,18 @@ fn servers_of_a_stopped_feed(rt: HostRuntime) {
 
 // Feeds of three links: the lines of those that were stopped have the numbers of their links.
 fn feeds(alloc: Global) -> Option<bool> {
-    let mut feeds = Vec::new(alloc);
-    for feed in [Some(FeedStop::LinkWrite), None, Some(FeedStop::NoMemory)] {
-        feeds.push(feed).ok()?;
+    let mut tails = Vec::new(alloc);
+    for tail in [
+        Some(Err(SessionEnd::LinkWrite)),
+        None,
+        Some(Err(SessionEnd::NoMemory)),
+    ] {
+        tails.push(tail).ok()?;
     }
-    let end = Ok(Done::Served(Served {
+    let end = Ok(Done::Hosted(Hosted {
+        awaited: true,
         sessions: Vec::new(alloc),
-        feeds,
+        tails,
         all_came: true,
         first: None,
         left: 0,

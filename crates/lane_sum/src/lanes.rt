@@ -1,11 +1,10 @@
 //! The total of a set of rows, in a fixed space.
 
 ghost use Rattle.std.specs.Prelude.{◌≡◌, [], ◌∷◌};
-ghost use Rattle.sha_lanes.specs.Message.{digest_of};
-ghost use Rattle.lane_sum.specs.Totals.{leaf_of, told, total, total_by, sum_of, rest_of, finish_of, word};
+ghost use Rattle.lane_sum.specs.Totals.{leaf_of, total, sum_of, rest_of, finish_of};
 
-use crate::words::{eight_bytes, hash_two, word_at};
-use sha_lanes::{Message, sha256_all};
+use crate::leaf::Leaf;
+use crate::words::eight_bytes;
 use sha2::{Digest, Sha256};
 
 /// What is known of a set of rows: their number, and for each of the four words of a digest the sum of it
@@ -44,46 +43,7 @@ impl Lanes {
         ensures leaf { result ≡ leaf_of (first.now, second.now) }
         ensures total { result ≡ total ((first.now, second.now) ∷ []) }
     {
-        Lanes::of_digest(&hash_two(first, second))
-    }
-
-    /// The total of four rows, each told as the two pieces of a message. Their leaves are hashed side by side where they
-    /// have equally many blocks.
-    pub fn four_leaves(
-        first: &Message<'_>,
-        second: &Message<'_>,
-        third: &Message<'_>,
-        fourth: &Message<'_>,
-    ) -> Lanes
-        ensures { result ≡ total_by told (first.now ∷ second.now ∷ third.now ∷ fourth.now ∷ []) }
-    {
-        let mut digests = [[0; 32]; 4];
-        sha256_all(&[*first, *second, *third, *fourth], &mut digests);
-        let [one, two, three, four] = digests;
-        let front = Lanes::of_leaf(first, &one).add(&Lanes::of_leaf(second, &two));
-        let behind = Lanes::of_leaf(third, &three).add(&Lanes::of_leaf(fourth, &four));
-        front.add(&behind)
-    }
-
-    // One row, whose leaf is this digest.
-    fn of_leaf(row: &Message<'_>, leaf: &[u8; 32]) -> Lanes
-        requires { leaf.now ≡ digest_of row.now }
-        ensures { result ≡ total_by told (row.now ∷ []) }
-    {
-        Lanes::of_digest(leaf)
-    }
-
-    // One row, and the words of its leaf.
-    fn of_digest(leaf: &[u8; 32]) -> Lanes
-        ensures { result ≡ record { count = 1; a = word 0 leaf.now; b = word 1 leaf.now; c = word 2 leaf.now; d = word 3 leaf.now } }
-    {
-        Lanes {
-            count: 1,
-            a: word_at(leaf, 0),
-            b: word_at(leaf, 1),
-            c: word_at(leaf, 2),
-            d: word_at(leaf, 3),
-        }
+        Leaf::new(first, second).total()
     }
 
     /// The total of the rows of both: field by field the sum modulo 2^64. `less` undoes it.

@@ -4,6 +4,8 @@
 
 mod lanes;
 pub mod laws;
+mod leaf;
 mod words;
 
 pub use lanes::Lanes;
+pub use leaf::Leaf;

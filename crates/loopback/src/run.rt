@@ -7,6 +7,7 @@ use std::alloc::{AllocError, Global};
 use std::collections::BTreeMap;
 use std::sync::Wait;
 use std::thread::Threads;
+use sub_hub::Hub;
 use willow_outside::{Door, MemNoise, MemShelf, MemSink, MemSource, Noise, Shelf, Sink, Source};
 
 // The author whose rows are exchanged. Anyone may sign for an open key.
@@ -139,7 +140,11 @@ fn call<R: Wait + Threads + Sync, H: Shelf, I: Source, O: Sink, E: Sink, D: Door
     door: &mut D,
     noise: &mut N,
 ) -> u8 {
-    peer_run(rt, alloc, words, shelf, input, output, report, door, noise)
+    // nobody watches
+    let mut hub = Hub::new(alloc);
+    peer_run(
+        rt, alloc, words, shelf, input, output, report, door, noise, &mut hub,
+    )
 }
 
 /// Runs the words over the side's objects and the door, with no input and without faults but the door's.

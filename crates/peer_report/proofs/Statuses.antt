@@ -1,22 +1,19 @@
 -- The status of what is done, by what was met on the way.
-use Rattle.std.proofs.Common.{◌≡◌, ◌∙◌, ℕ, Bool, true, false, ◌+◌, ◌<◌, ◌≤◌, ◌||◌, ◌==◌, if◌then◌else◌, List, ◌∷◌, length, get_or, drop, refl, sym, ap, add-one, drop-cons}
-use Rattle.std.specs.Prelude.{Option, Result, Ok}
+use Rattle.std.proofs.Common.{◌≡◌, ◌∙◌, ℕ, Bool, true, false, ◌+◌, ◌<◌, ◌≤◌, ◌||◌, ◌==◌, if◌then◌else◌, List, [], ◌∷◌, ◌++◌, map, length, get_or, drop, refl, sym, ap, add-one, drop-cons}
+use Rattle.std.specs.Prelude.{Ok}
 use Rattle.std.specs.List.{list_any}
 use Rattle.std.proofs.lemmas.List.{drop_all}
-use Rattle.session_end.specs.declared.end.SessionEnd.{SessionEnd}
-use Rattle.peer_stage.specs.Status.{status_of, statuses_met, first_met, told_order, refused_status, first_status, session_status, feed_status, stop_status}
-use Rattle.peer_stage.specs.declared.outcome.FeedStop.{FeedStop}
+use Rattle.std.proofs.lemmas.List.Folds.{list_any-append}
+use Rattle.call_rules.specs.Told.{first_met, told_order}
+use Rattle.peer_stage.specs.Status.{status_of, refused_status, first_status, stop_status}
 use Rattle.peer_stage.specs.declared.outcome.Stopped.{Stopped}
 use Rattle.peer_stage.specs.declared.outcome.Done.{Done}
 use Rattle.peer_stage.specs.declared.outcome.Done.TheVariants as done
+use Rattle.peer_stage.specs.declared.outcome.Hosted.{Hosted}
 use Rattle.peer_stage.specs.declared.outcome.JoinCounts.{JoinCounts}
 use Rattle.peer_stage.specs.declared.outcome.ShowCounts.{ShowCounts}
 use Rattle.peer_stage.specs.declared.outcome.MeetCounts.{MeetCounts}
-use Rattle.peer_stage.specs.declared.outcome.SessionCounts.{SessionCounts}
-use Rattle.peer_stage.specs.declared.outcome.Served.{Served}
 use Rattle.peer_stage.specs.declared.outcome.WatchCounts.{WatchCounts}
-use Rattle.peer_stage.proofs.Told.{served_parts, beside_parts}
-use Rattle.peer_report.specs.Report.{met_behind, others_met}
 use Rattle.peer_stage.proofs.Ends.{refused_only, first_only, none_met}
 
 pub joined_status : (d : Done) (counts : JoinCounts) (s : ℕ) → d ≡ done.Joined counts → s ≡ refused_status counts.refused → s ≡ status_of (Ok d)
@@ -37,41 +34,32 @@ made_status d is = sym none_met ∙ ap (λ (x : Done). status_of (Ok x)) (sym is
 pub stopped_status : (d : Done) (x : Stopped) (s : ℕ) → d ≡ done.Stopped x → s ≡ stop_status x.stop → s ≡ status_of (Ok d)
 stopped_status d x s is status = status ∙ ap (λ (y : Done). status_of (Ok y)) (sym is)
 
--- of a call, and of a server
-pub same_status : (d e : Done) (status : ℕ) → d ≡ e → status ≡ status_of (Ok e) → status ≡ status_of (Ok d)
-same_status d e status is given = given ∙ ap (λ (x : Done). status_of (Ok x)) (sym is)
+-- of sessions
+pub hosted_told : (d : Done) (s : Hosted) (status : ℕ) → d ≡ done.Hosted s → status ≡ status_of (Ok (done.Hosted s)) → status ≡ status_of (Ok d)
+hosted_told d s status is given = given ∙ ap (λ (x : Done). status_of (Ok x)) (sym is)
 
--- ---- the status of a server
+-- ---- the status of sessions
 
--- a session gave it
-pub by_session : (s : Served) (status : ℕ) (sessions : List (Result SessionCounts SessionEnd)) (found : Bool) → sessions ≡ s.sessions.items → found ≡ list_any (λ session. session_status session == status) sessions
-    → found ≡ true → found ≡ list_any (λ met. met == status) (statuses_met (done.Served s))
-by_session s status sessions found are is holds =
-    let here : list_any (λ session. session_status session == status) s.sessions.items ≡ true = ap (list_any (λ session. session_status session == status)) (sym are) ∙ sym is ∙ holds in
-    holds ∙ sym (served_parts s status ∙ ap (λ b. b || list_any (λ met. met == status) (others_met s)) here)
+any_of_map : {A : Type 0} (status : ℕ) (f : A → ℕ) (xs : List A) → list_any (λ met. met == status) (map f xs) ≡ list_any (λ x. f x == status) xs
+any_of_map status f [] = refl
+any_of_map status f (x ∷ xs) = ap (λ b. (f x == status) || b) (any_of_map status f xs)
 
--- no session gave it: it is by what was met beside them
-pub by_others : (s : Served) (status : ℕ) (sessions : List (Result SessionCounts SessionEnd)) (found other : Bool) → sessions ≡ s.sessions.items → found ≡ list_any (λ session. session_status session == status) sessions
-    → found ≡ false → other ≡ list_any (λ met. met == status) (others_met s) → other ≡ list_any (λ met. met == status) (statuses_met (done.Served s))
-by_others s status sessions found other are is fails beside =
-    let none : list_any (λ session. session_status session == status) s.sessions.items ≡ false = ap (list_any (λ session. session_status session == status)) (sym are) ∙ sym is ∙ fails in
-    beside ∙ sym (served_parts s status ∙ ap (λ b. b || list_any (λ met. met == status) (others_met s)) none)
+-- one of these has it, or one of the others
+any_behind : {A : Type 0} (status : ℕ) (f : A → ℕ) (xs : List A) (others : List ℕ) → list_any (λ met. met == status) (map f xs ++ others) ≡ (list_any (λ x. f x == status) xs || list_any (λ met. met == status) others)
+any_behind status f xs others = list_any-append (λ met. met == status) (map f xs) others ∙ ap (λ b. b || list_any (λ met. met == status) others) (any_of_map status f xs)
 
--- ---- what a server met beside its sessions
+-- one of these has it
+pub by_these : {A : Type 0} (status : ℕ) (f : A → ℕ) (xs ys : List A) (others : List ℕ) (found : Bool) → ys ≡ xs → found ≡ list_any (λ x. f x == status) ys → found ≡ true → found ≡ list_any (λ met. met == status) (map f xs ++ others)
+by_these status f xs ys others found are is holds =
+    let here : list_any (λ x. f x == status) xs ≡ true = ap (list_any (λ x. f x == status)) (sym are) ∙ sym is ∙ holds in
+    holds ∙ sym (any_behind status f xs others ∙ ap (λ b. b || list_any (λ met. met == status) others) here)
 
--- a feed was stopped by it
-pub by_feed : (s : Served) (status : ℕ) (feeds : List (Option FeedStop)) (found : Bool) → feeds ≡ s.feeds.items → found ≡ list_any (λ stopped. feed_status stopped == status) feeds
-    → found ≡ true → found ≡ list_any (λ met. met == status) (others_met s)
-by_feed s status feeds found are is holds =
-    let here : list_any (λ stopped. feed_status stopped == status) s.feeds.items ≡ true = ap (list_any (λ stopped. feed_status stopped == status)) (sym are) ∙ sym is ∙ holds in
-    holds ∙ sym (beside_parts s status ∙ ap (λ b. b || list_any (λ met. met == status) (met_behind s)) here)
-
--- no feed was: it is by what was met behind the links
-pub by_last : (s : Served) (status : ℕ) (feeds : List (Option FeedStop)) (found other : Bool) → feeds ≡ s.feeds.items → found ≡ list_any (λ stopped. feed_status stopped == status) feeds
-    → found ≡ false → other ≡ list_any (λ met. met == status) (met_behind s) → other ≡ list_any (λ met. met == status) (others_met s)
-by_last s status feeds found other are is fails last =
-    let none : list_any (λ stopped. feed_status stopped == status) s.feeds.items ≡ false = ap (list_any (λ stopped. feed_status stopped == status)) (sym are) ∙ sym is ∙ fails in
-    last ∙ sym (beside_parts s status ∙ ap (λ b. b || list_any (λ met. met == status) (met_behind s)) none)
+-- none of these has it: it is by the others
+pub by_others : {A : Type 0} (status : ℕ) (f : A → ℕ) (xs ys : List A) (others : List ℕ) (found other : Bool) → ys ≡ xs → found ≡ list_any (λ x. f x == status) ys → found ≡ false → other ≡ list_any (λ met. met == status) others
+    → other ≡ list_any (λ met. met == status) (map f xs ++ others)
+by_others status f xs ys others found other are is fails beside =
+    let none : list_any (λ x. f x == status) xs ≡ false = ap (list_any (λ x. f x == status)) (sym are) ∙ sym is ∙ fails in
+    beside ∙ sym (any_behind status f xs others ∙ ap (λ b. b || list_any (λ met. met == status) others) none)
 
 -- ---- in which order they are told
 

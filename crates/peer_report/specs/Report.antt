@@ -1,5 +1,5 @@
 -- The status and the report's lines for each end of a run.
-use Rattle.std.specs.Prelude.{◌≡◌, ℕ, ◌+◌, ◌==◌, nat_le, Bool, true, false, ◌&&◌, if◌then◌else◌, is_ok, is_none, ◌⊎◌, List, [], ◌∷◌, ◌++◌, map, codes, Option, Some, None, Result, Ok, Err}
+use Rattle.std.specs.Prelude.{◌≡◌, ℕ, ◌+◌, ◌==◌, nat_le, Bool, true, false, ◌&&◌, if◌then◌else◌, is_ok, ◌⊎◌, List, [], ◌∷◌, ◌++◌, map, codes, Option, Some, None, Result, Ok, Err}
 use Rattle.std.specs.Fmt.{decimal}
 use Rattle.std.specs.List.{list_all}
 use Rattle.std.specs.String.{string_bytes}
@@ -10,18 +10,15 @@ use Rattle.session_end.specs.declared.end.SessionEnd.{SessionEnd}
 use Rattle.session_end.specs.declared.end.SessionEnd.TheVariants as ending
 use Rattle.peer_text.specs.Refusals.{row_refusal_text}
 use Rattle.peer_text.specs.Sessions.{session_end_text}
-use Rattle.peer_stage.specs.Status.{status_of, feed_status, accept_status, put_status, first_status}
+use Rattle.peer_stage.specs.Status.{status_of, tail_status, accept_status, put_status, first_status}
 use Rattle.peer_stage.specs.Stages.{IsWritten, IsPartlyWritten}
 use Rattle.peer_stage.specs.declared.outcome.JoinCounts.{JoinCounts}
 use Rattle.peer_stage.specs.declared.outcome.ShowCounts.{ShowCounts}
 use Rattle.peer_stage.specs.declared.outcome.SideCounts.{SideCounts}
 use Rattle.peer_stage.specs.declared.outcome.MeetCounts.{MeetCounts}
-use Rattle.peer_stage.specs.declared.outcome.FeedStop.{FeedStop}
-use Rattle.peer_stage.specs.declared.outcome.FeedStop.TheVariants as feed
 use Rattle.peer_stage.specs.declared.outcome.FollowCounts.{FollowCounts}
 use Rattle.peer_stage.specs.declared.outcome.SessionCounts.{SessionCounts}
-use Rattle.peer_stage.specs.declared.outcome.Synced.{Synced}
-use Rattle.peer_stage.specs.declared.outcome.Served.{Served}
+use Rattle.peer_stage.specs.declared.outcome.Hosted.{Hosted}
 use Rattle.peer_stage.specs.declared.outcome.WatchCounts.{WatchCounts}
 use Rattle.mc_cap.specs.declared.refusal.RefusedRow.{RefusedRow}
 use Rattle.peer_stage.specs.declared.outcome.Origin.{Origin}
@@ -85,19 +82,10 @@ abbrev pub session_line : Result SessionCounts SessionEnd → List ℕ
 session_line (Ok counts) = counts_line counts
 session_line (Err end) = line (session_end_text end)
 
--- `followed N stored S kept K refused R` of a feed that was read whole, or how else the following ended; no line where
--- nothing was followed
-abbrev pub followed_line : Option (Result FollowCounts SessionEnd) → List ℕ
-followed_line None = []
-followed_line (Some (Ok counts)) = line (codes "followed " ++ (decimal counts.read ++ (codes " stored " ++ (decimal counts.stored ++ (codes " kept " ++ (decimal counts.kept ++ (codes " refused " ++ decimal counts.refused)))))))
-followed_line (Some (Err end)) = line (session_end_text end)
-
--- the row that is told as the first refused one: where the session and the feed behind it were done and the image put, so
--- at status 1 alone
-abbrev pub told_first : Result SessionCounts SessionEnd → Option (Result FollowCounts SessionEnd) → Bool → Option RefusedRow → Option RefusedRow
-told_first (Ok counts) None true first = first
-told_first (Ok counts) (Some (Ok feed)) true first = first
-told_first session followed put first = None
+-- `followed N stored S kept K refused R` of a feed that was read whole, or how else the following ended
+abbrev pub followed_line : Result FollowCounts SessionEnd → List ℕ
+followed_line (Ok counts) = line (codes "followed " ++ (decimal counts.read ++ (codes " stored " ++ (decimal counts.stored ++ (codes " kept " ++ (decimal counts.kept ++ (codes " refused " ++ decimal counts.refused)))))))
+followed_line (Err end) = line (session_end_text end)
 
 -- `left N`, where at least one watcher left
 abbrev pub left_line : ℕ → List ℕ
@@ -113,48 +101,46 @@ abbrev pub put_line : Bool → List ℕ
 put_line true = []
 put_line false = line (codes "write fault")
 
--- the lines of a call: how its session ended, what came of following, the first refused row, and whether the image was put
-abbrev pub synced_lines : Synced → List ℕ
-synced_lines s = session_line s.session ++ (followed_line s.followed ++ (first_line (told_first s.session s.followed s.put s.first) ++ put_line s.put))
+-- `link I: ` of a link that was waited for; of one that was called for nothing, since it is the only one
+abbrev pub link_number : Bool → ℕ → List ℕ
+link_number false number = []
+link_number true number = codes "link " ++ (decimal number ++ codes ": ")
 
--- `link I: ` and how the session of that link ended
-abbrev pub link_line : ℕ → Result SessionCounts SessionEnd → List ℕ
-link_line number session = codes "link " ++ (decimal number ++ (codes ": " ++ session_line session))
+-- that and how the session of the link ended
+abbrev pub link_line : Bool → ℕ → Result SessionCounts SessionEnd → List ℕ
+link_line awaited number session = link_number awaited number ++ session_line session
 
--- the line of each link in order, the first of this number
-abbrev pub link_lines : ℕ → List (Result SessionCounts SessionEnd) → List ℕ
-link_lines from [] = []
-link_lines from (session ∷ rest) = link_line from session ++ link_lines (from + 1) rest
+-- that and what came of following behind it, where there is something to tell
+abbrev pub tail_line : Bool → ℕ → Option (Result FollowCounts SessionEnd) → List ℕ
+tail_line awaited number None = []
+tail_line awaited number (Some followed) = link_number awaited number ++ followed_line followed
 
--- a feed that was stopped is told as a session that ended so
-abbrev pub feed_end : FeedStop → SessionEnd
-feed_end feed.LinkWrite = ending.LinkWrite
-feed_end feed.NoMemory = ending.NoMemory
+-- the line of each of a list in order, the first of this number
+abbrev pub numbered : {X : Type 0} → (ℕ → X → List ℕ) → ℕ → List X → List ℕ
+numbered line_of from [] = []
+numbered line_of from (x ∷ rest) = line_of from x ++ numbered line_of (from + 1) rest
 
--- `link I: ` and what stopped the feed of that link, where something did
-abbrev pub feed_line : ℕ → Option FeedStop → List ℕ
-feed_line number None = []
-feed_line number (Some stopped) = link_line number (Err (feed_end stopped))
+-- nothing was followed, or it came to its end
+abbrev pub is_followed : Option (Result FollowCounts SessionEnd) → Bool
+is_followed None = true
+is_followed (Some followed) = is_ok followed
 
--- that of each link in order, the first of this number
-abbrev pub feed_lines : ℕ → List (Option FeedStop) → List ℕ
-feed_lines from [] = []
-feed_lines from (stopped ∷ rest) = feed_line from stopped ++ feed_lines (from + 1) rest
-
--- the row that is told as the first refused one: where every session was done, no feed was stopped, all links came and the
+-- the row that is told as the first refused one: where every session was done, and what followed it, all links came and the
 -- image was put, so at status 1 alone
-abbrev pub served_first : Served → Option RefusedRow
-served_first s = if list_all is_ok s.sessions.items && list_all is_none s.feeds.items && s.all_came && s.put then s.first else None
+abbrev pub hosted_first : Hosted → Option RefusedRow
+hosted_first s = if list_all is_ok s.sessions.items && list_all is_followed s.tails.items && s.all_came && s.put then s.first else None
 
 -- `read fault` where not all links came
 abbrev pub accept_line : Bool → List ℕ
 accept_line true = []
 accept_line false = line (codes "read fault")
 
--- the lines of a server: one of each link, one of each feed that was stopped, the watchers that left, the first refused row,
+-- the lines of sessions over links: one of each, one of what followed each, the watchers that left, the first refused row,
 -- what the log keeps, whether all links came, and whether the image was put
-abbrev pub served_lines : Served → List ℕ
-served_lines s = link_lines 1 s.sessions.items ++ (feed_lines 1 s.feeds.items ++ (left_line s.left ++ (first_line (served_first s) ++ (kept_line s.kept ++ (accept_line s.all_came ++ put_line s.put)))))
+abbrev pub hosted_lines : Hosted → List ℕ
+hosted_lines s =
+    numbered (link_line s.awaited) 1 s.sessions.items
+    ++ (numbered (tail_line s.awaited) 1 s.tails.items ++ (left_line s.left ++ (first_line (hosted_first s) ++ (kept_line s.kept ++ (accept_line s.all_came ++ put_line s.put)))))
 
 -- the lines of a watch: its numbers, the watchers that left, and the first refused row
 abbrev pub watched_lines : WatchCounts → List ℕ
@@ -204,8 +190,7 @@ abbrev pub done_lines : Done → List ℕ
 done_lines (done.Joined counts) = rows_line counts ++ first_line counts.first
 done_lines (done.Shown counts) = shown_line counts ++ first_line counts.first
 done_lines (done.Met counts) = met_lines counts ++ first_line counts.first
-done_lines (done.Synced s) = synced_lines s
-done_lines (done.Served s) = served_lines s
+done_lines (done.Hosted s) = hosted_lines s
 done_lines (done.Stopped s) = stop_line s.stop ++ kept_line (Some s.kept)
 done_lines (done.Watched counts) = watched_lines counts
 done_lines done.Made = []
@@ -221,13 +206,13 @@ report_of (Err e) = stop_line e
 abbrev pub after_report_fault : ℕ → ℕ
 after_report_fault status = if nat_le status 1 then 4 else status
 
--- the statuses of what a server met behind its links
-abbrev pub met_behind : Served → List ℕ
+-- the statuses of what was met behind all links
+abbrev pub met_behind : Hosted → List ℕ
 met_behind s = accept_status s.all_came ∷ (put_status s.put ∷ (first_status s.first ∷ []))
 
--- the statuses of what it met beside its sessions
-abbrev pub others_met : Served → List ℕ
-others_met s = map feed_status s.feeds.items ++ met_behind s
+-- the statuses of what was met beside the sessions
+abbrev pub others_met : Hosted → List ℕ
+others_met s = map tail_status s.tails.items ++ met_behind s
 
 -- the status behind the writing of the lines: that of the end, or what a fault makes of it, or 7 for want of memory
 abbrev pub told_status : Result Done Stop → Result (Unit {0}) Stop → ℕ

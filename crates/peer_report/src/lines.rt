@@ -3,13 +3,13 @@
 ghost use Rattle.std.specs.Prelude.{◌≡◌, ◌<◌, ◌++◌, length, Some, Ok, Err, IfOk, OnOk, OnErr};
 ghost use Rattle.peer_stage.specs.declared.outcome.Done.TheVariants as done;
 ghost use Rattle.peer_stage.specs.declared.outcome.Stop.TheVariants as stop;
-ghost use Rattle.peer_report.specs.Report.{report_of, stop_line, numbers_line, rows_line, shown_line, side_line, exchange_line, met_lines, first_line, session_line, counts_line, log_text, items_line, followed_line, told_first, left_line, kept_line, put_line, synced_lines, watched_lines, name_text, refused_line, bad_input_line, not_rising_line, pruned_line};
+ghost use Rattle.peer_report.specs.Report.{report_of, stop_line, numbers_line, rows_line, shown_line, side_line, exchange_line, met_lines, first_line, session_line, counts_line, log_text, items_line, followed_line, left_line, kept_line, watched_lines, name_text, refused_line, bad_input_line, not_rising_line, pruned_line};
 
-use crate::links::{put_kept_line, served_lines};
+use crate::links::{hosted_lines, put_kept_line};
 use mc_cap::{RefusedRow, RowRefusal};
 use peer_stage::{
     Done, FollowCounts, JoinCounts, MeetCounts, Origin, SessionCounts, ShowCounts, SideCounts,
-    Stop, Stopped, Synced, WatchCounts,
+    Stop, Stopped, WatchCounts,
 };
 use peer_text::{row_refusal_text, session_end_text};
 use session_end::SessionEnd;
@@ -25,8 +25,7 @@ pub(crate) fn report_of(alloc: Global, end: &Result<Done, Stop>) -> Result<Vec<u
         Ok(Done::Joined(counts)) => joined_lines(alloc, counts),
         Ok(Done::Shown(counts)) => shown_lines(alloc, counts),
         Ok(Done::Met(counts)) => met_lines(alloc, counts),
-        Ok(Done::Synced(synced)) => synced_lines(alloc, synced),
-        Ok(Done::Served(served)) => served_lines(alloc, served),
+        Ok(Done::Hosted(hosted)) => hosted_lines(alloc, hosted),
         Ok(Done::Stopped(stopped)) => stopped_lines(alloc, stopped),
         Ok(Done::Watched(counts)) => watched_lines(alloc, counts),
         Ok(Done::Made) => Ok(Vec::new(alloc)),
@@ -137,21 +136,6 @@ fn exchange_line(alloc: Global, items: u32, turns: u64) -> Result<Vec<u8>, NoMem
     Ok(format!(in alloc; "items {items} turns {turns}\n")?.into_bytes())
 }
 
-// How the session of a call ended, what came of following, the first refused row where nothing else is told, and that
-// the image was not put.
-fn synced_lines(alloc: Global, synced: &Synced) -> Result<Vec<u8>, NoMemory>
-    ensures text { IfOk result (λ text. text.items ≡ synced_lines synced.now) }
-    ensures some { 0 < length (synced_lines synced.now) }
-{
-    let mut text = ended_line(alloc, &synced.session)?;
-    put_followed_line(alloc, &synced.followed, &mut text)?;
-    put_first_line(alloc, told_first(synced), &mut text)?;
-    if !synced.put {
-        put_bytes(&mut text, b"write fault\n")?;
-    }
-    Ok(text)
-}
-
 /// The numbers of a session, or how else it ended.
 pub(crate) fn ended_line(
     alloc: Global,
@@ -204,30 +188,22 @@ fn items_line(alloc: Global, counts: &SessionCounts) -> Result<Vec<u8>, NoMemory
     Ok(line.into_bytes())
 }
 
-// Appends the numbers of the feed that was followed, or how else the following ended.
-fn put_followed_line(
+/// The numbers of a feed that was read whole, or how else the following ended.
+pub(crate) fn followed_line(
     alloc: Global,
-    followed: &Option<Result<FollowCounts, SessionEnd>>,
-    text: &mut Vec<u8>,
-) -> Result<(), NoMemory>
-    ensures { OnOk result (text.new.items ≡ text.old.items ++ followed_line followed.now) }
+    followed: &Result<FollowCounts, SessionEnd>,
+) -> Result<Vec<u8>, NoMemory>
+    ensures { IfOk result (λ text. text.items ≡ followed_line followed.now) }
 {
     match followed {
-        None => Ok(()),
-        Some(Ok(counts)) => {
-            let line = feed_line(alloc, counts)?;
-            put_bytes(text, &line)
-        }
-        Some(Err(end)) => {
-            let line = end_line(alloc, end)?;
-            put_bytes(text, &line)
-        }
+        Ok(counts) => feed_line(alloc, counts),
+        Err(end) => end_line(alloc, end),
     }
 }
 
 // The numbers of a feed.
 fn feed_line(alloc: Global, counts: &FollowCounts) -> Result<Vec<u8>, NoMemory>
-    ensures { IfOk result (λ text. text.items ≡ followed_line (Some (Ok counts.now))) }
+    ensures { IfOk result (λ text. text.items ≡ followed_line (Ok counts.now)) }
 {
     let FollowCounts {
         read,
@@ -239,18 +215,6 @@ fn feed_line(alloc: Global, counts: &FollowCounts) -> Result<Vec<u8>, NoMemory>
         "followed {read} stored {stored} kept {kept} refused {refused}\n"
     )?;
     Ok(line.into_bytes())
-}
-
-// The row that is told as the first refused one: none, unless the session and the feed behind it were done and the image
-// put.
-fn told_first(synced: &Synced) -> Option<RefusedRow>
-    ensures { result ≡ told_first synced.now.session synced.now.followed synced.now.put synced.now.first }
-{
-    match (&synced.session, &synced.followed) {
-        (Ok(_), None) if synced.put => synced.first,
-        (Ok(_), Some(Ok(_))) if synced.put => synced.first,
-        _ => None,
-    }
 }
 
 /// Appends the line of the first refused row, where there is one.

@@ -1,44 +1,45 @@
-//! The report's lines for a server: one of each link, and what else it met.
+//! The report's lines for sessions over links: one of each link, and what else was met.
 
-ghost use Rattle.std.specs.Prelude.{◌≡◌, ◌<◌, ◌++◌, length, is_ok, is_none, IfOk, OnOk, OnErr};
+ghost use Rattle.std.specs.Prelude.{◌≡◌, ◌<◌, ◌++◌, length, is_ok, IfOk, IsSome, OnOk, OnErr};
 ghost use Rattle.std.specs.List.{list_all};
-ghost use Rattle.peer_report.specs.Report.{accept_line, feed_end, feed_line, feed_lines, kept_line, left_line, link_line, link_lines, put_line, served_first, served_lines};
+ghost use Rattle.peer_report.specs.Report.{accept_line, hosted_first, hosted_lines, is_followed, kept_line, link_line, link_number, numbered, put_line, tail_line};
 
-use crate::lines::{ended_line, put_first_line, put_left_line};
+use crate::lines::{ended_line, followed_line, put_first_line, put_left_line};
 use mc_cap::RefusedRow;
-use peer_stage::{FeedStop, Served, SessionCounts};
+use peer_stage::{FollowCounts, Hosted, SessionCounts};
 use session_end::SessionEnd;
 use spelling::{NoMemory, put_bytes};
 use std::alloc::Global;
 
-/// How the session of each link ended, the feeds that were stopped, the watchers that left, the first refused row where
+/// How the session of each link ended, what came of following behind it, the watchers that left, the first refused row where
 /// nothing else is told, what the log keeps, that not all links came, and that the image was not put.
-pub(crate) fn served_lines(alloc: Global, served: &Served) -> Result<Vec<u8>, NoMemory>
-    ensures text { IfOk result (λ text. text.items ≡ served_lines served.now) }
-    ensures some { OnErr result (0 < length (served_lines served.now)) }
+pub(crate) fn hosted_lines(alloc: Global, hosted: &Hosted) -> Result<Vec<u8>, NoMemory>
+    ensures text { IfOk result (λ text. text.items ≡ hosted_lines hosted.now) }
+    ensures some { OnErr result (0 < length (hosted_lines hosted.now)) }
 {
     let mut text = Vec::new(alloc);
-    put_link_lines(alloc, &served.sessions, &mut text)?;
-    put_feed_lines(alloc, &served.feeds, &mut text)?;
-    put_left_line(alloc, served.left, &mut text)?;
-    put_first_line(alloc, served_first(served), &mut text)?;
-    put_kept_line(alloc, served.kept, &mut text)?;
-    put_accept_line(served.all_came, &mut text)?;
-    put_put_line(served.put, &mut text)?;
+    put_link_lines(alloc, hosted.awaited, &hosted.sessions, &mut text)?;
+    put_tail_lines(alloc, hosted.awaited, &hosted.tails, &mut text)?;
+    put_left_line(alloc, hosted.left, &mut text)?;
+    put_first_line(alloc, hosted_first(hosted), &mut text)?;
+    put_kept_line(alloc, hosted.kept, &mut text)?;
+    put_accept_line(hosted.all_came, &mut text)?;
+    put_put_line(hosted.put, &mut text)?;
     Ok(text)
 }
 
-// Appends the line of each link, numbered from 1.
+// Appends the line of each link, numbered from 1 where links were waited for.
 fn put_link_lines(
     alloc: Global,
+    awaited: bool,
     sessions: &[Result<SessionCounts, SessionEnd>],
     text: &mut Vec<u8>,
 ) -> Result<(), NoMemory>
-    ensures text { OnOk result (text.new.items ≡ text.old.items ++ link_lines 1 sessions.now) }
-    ensures some { OnErr result (0 < length (link_lines 1 sessions.now)) }
+    ensures text { OnOk result (text.new.items ≡ text.old.items ++ numbered (link_line awaited) 1 sessions.now) }
+    ensures some { OnErr result (0 < length (numbered (link_line awaited) 1 sessions.now)) }
 {
     for (index, session) in sessions.iter().enumerate() {
-        put_link_line(alloc, index + 1, session, text)?;
+        put_link_line(alloc, awaited, index + 1, session, text)?;
     }
     Ok(())
 }
@@ -46,69 +47,78 @@ fn put_link_lines(
 // Appends the line of the link of this number.
 fn put_link_line(
     alloc: Global,
+    awaited: bool,
     number: usize,
     session: &Result<SessionCounts, SessionEnd>,
     text: &mut Vec<u8>,
 ) -> Result<(), NoMemory>
-    ensures { OnOk result (text.new.items ≡ text.old.items ++ link_line number session.now) }
+    ensures { OnOk result (text.new.items ≡ text.old.items ++ link_line awaited number session.now) }
 {
-    let mut line = format!(in alloc; "link {number}: ")?.into_bytes();
     let ended = ended_line(alloc, session)?;
-    put_bytes(&mut line, &ended)?;
-    put_bytes(text, &line)
+    put_link_number(alloc, awaited, number, text)?;
+    put_bytes(text, &ended)
 }
 
-// Appends a line for each feed that was stopped, by the number of its link from 1.
-fn put_feed_lines(
+// Appends the number of a link that was waited for.
+fn put_link_number(
     alloc: Global,
-    feeds: &[Option<FeedStop>],
+    awaited: bool,
+    number: usize,
     text: &mut Vec<u8>,
 ) -> Result<(), NoMemory>
-    ensures text { OnOk result (text.new.items ≡ text.old.items ++ feed_lines 1 feeds.now) }
-    ensures some { OnErr result (0 < length (feed_lines 1 feeds.now)) }
+    ensures { OnOk result (text.new.items ≡ text.old.items ++ link_number awaited number) }
 {
-    for (index, stopped) in feeds.iter().enumerate() {
-        put_feed_line(alloc, index + 1, stopped, text)?;
+    if !awaited {
+        return Ok(());
+    }
+    let number = format!(in alloc; "link {number}: ")?.into_bytes();
+    put_bytes(text, &number)
+}
+
+// Appends a line for each link where there is something to tell of what followed its session.
+fn put_tail_lines(
+    alloc: Global,
+    awaited: bool,
+    tails: &[Option<Result<FollowCounts, SessionEnd>>],
+    text: &mut Vec<u8>,
+) -> Result<(), NoMemory>
+    ensures text { OnOk result (text.new.items ≡ text.old.items ++ numbered (tail_line awaited) 1 tails.now) }
+    ensures some { OnErr result (0 < length (numbered (tail_line awaited) 1 tails.now)) }
+{
+    for (index, tail) in tails.iter().enumerate() {
+        put_tail_line(alloc, awaited, index + 1, tail, text)?;
     }
     Ok(())
 }
 
-// Appends the line of the feed of the link of this number, where it was stopped.
-fn put_feed_line(
+// Appends what came of following behind the session of the link of this number.
+fn put_tail_line(
     alloc: Global,
+    awaited: bool,
     number: usize,
-    stopped: &Option<FeedStop>,
+    tail: &Option<Result<FollowCounts, SessionEnd>>,
     text: &mut Vec<u8>,
 ) -> Result<(), NoMemory>
-    ensures text { OnOk result (text.new.items ≡ text.old.items ++ feed_line number stopped.now) }
-    ensures some { OnErr result (0 < length (feed_line number stopped.now)) }
+    ensures text { OnOk result (text.new.items ≡ text.old.items ++ tail_line awaited number tail.now) }
+    ensures some { OnErr result (IsSome tail.now) }
 {
-    match stopped {
+    match tail {
         None => Ok(()),
-        Some(stop) => {
-            let end = Err(feed_end(*stop));
-            put_link_line(alloc, number, &end, text)
+        Some(followed) => {
+            let line = followed_line(alloc, followed)?;
+            put_link_number(alloc, awaited, number, text)?;
+            put_bytes(text, &line)
         }
     }
 }
 
-// The end of a session that is told as this stop of a feed is.
-fn feed_end(stop: FeedStop) -> SessionEnd
-    ensures { result ≡ feed_end stop }
-{
-    match stop {
-        FeedStop::LinkWrite => SessionEnd::LinkWrite,
-        FeedStop::NoMemory => SessionEnd::NoMemory,
-    }
-}
-
-// The row that is told as the first refused one: none, unless every session was done, no feed was stopped, all links came
+// The row that is told as the first refused one: none, unless every session was done, and what followed it, all links came
 // and the image was put.
-fn served_first(served: &Served) -> Option<RefusedRow>
-    ensures { result ≡ served_first served.now }
+fn hosted_first(hosted: &Hosted) -> Option<RefusedRow>
+    ensures { result ≡ hosted_first hosted.now }
 {
-    if all_done(&served.sessions) && all_fed(&served.feeds) && served.all_came && served.put {
-        served.first
+    if all_done(&hosted.sessions) && all_followed(&hosted.tails) && hosted.all_came && hosted.put {
+        hosted.first
     } else {
         None
     }
@@ -121,11 +131,21 @@ fn all_done(sessions: &[Result<SessionCounts, SessionEnd>]) -> bool
     sessions.iter().all(|session| session.is_ok())
 }
 
-// Whether no feed was stopped.
-fn all_fed(feeds: &[Option<FeedStop>]) -> bool
-    ensures { result ≡ list_all is_none feeds.now }
+// Whether whatever was followed came to its end.
+fn all_followed(tails: &[Option<Result<FollowCounts, SessionEnd>>]) -> bool
+    ensures { result ≡ list_all is_followed tails.now }
 {
-    feeds.iter().all(|stopped| stopped.is_none())
+    tails.iter().all(is_followed)
+}
+
+// Whether nothing was followed, or it came to its end.
+fn is_followed(tail: &Option<Result<FollowCounts, SessionEnd>>) -> bool
+    ensures { result ≡ is_followed tail.now }
+{
+    match tail {
+        None => true,
+        Some(followed) => followed.is_ok(),
+    }
 }
 
 /// Appends how many rows the file of the log holds, where one is kept.

@@ -2,7 +2,7 @@
 
 ghost use Rattle.std.specs.Prelude.{◌≡◌, ◌≤◌, ◌==◌, ◌++◌, Some, is_some, Ok, IfSome};
 ghost use Rattle.std.specs.List.{list_any};
-ghost use Rattle.peer_stage.specs.Status.{status_of, statuses_met, first_met, told_order, stop_status, refused_status, first_status, accept_status, put_status, session_status, followed_status, feed_status, end_status};
+ghost use Rattle.peer_stage.specs.Status.{status_of, statuses_met, stop_status, refused_status, first_status, accept_status, put_status, session_status, tail_status, end_status};
 ghost use Rattle.peer_stage.specs.Stages.{WritesOutput};
 ghost use Rattle.peer_stage.specs.Faults.{CountsStep};
 ghost use Rattle.peer_stage.specs.declared.outcome.Done.TheVariants as done;
@@ -12,8 +12,7 @@ use crate::lines::report_of;
 use itoa::Buffer;
 use mc_cap::RefusedRow;
 use peer_stage::{
-    Done, FeedStop, FollowCounts, Served, SessionCounts, Stop, Stopped, Synced, write_both,
-    write_output,
+    Done, FollowCounts, Hosted, SessionCounts, Stop, Stopped, write_both, write_output,
 };
 use session_end::SessionEnd;
 use std::alloc::Global;
@@ -37,44 +36,11 @@ fn done_status(done: &Done) -> u8
         Done::Joined(counts) => refused_status(counts.refused),
         Done::Shown(counts) => refused_status(counts.refused),
         Done::Met(counts) => first_status(counts.first),
-        Done::Synced(synced) => synced_status(synced),
-        Done::Served(served) => served_status(served),
+        Done::Hosted(hosted) => hosted_status(hosted),
         Done::Stopped(stopped) => stop_status(&stopped.stop),
         Done::Watched(counts) => first_status(counts.first),
         Done::Made => 0,
     }
-}
-
-/// The status of a call: the first of 7, 3, 4, 6, 8 and 1 that its session, the following behind it, the put of the image
-/// or a refused row gave.
-fn synced_status(synced: &Synced) -> u8
-    ensures { result ≡ status_of (Ok (done.Synced synced.now)) }
-{
-    first_told(&[
-        session_status(&synced.session),
-        followed_status(&synced.followed),
-        put_status(synced.put),
-        first_status(synced.first),
-    ])
-}
-
-/// The first of 7, 3, 4, 6, 8 and 1 that was met; 0 where none was.
-fn first_told(met: &[u8]) -> u8
-    ensures { result ≡ first_met told_order met.now }
-{
-    for status in [7, 3, 4, 6, 8, 1] {
-        if was_met(met, status) {
-            return status;
-        }
-    }
-    0
-}
-
-/// Whether this status was met.
-fn was_met(met: &[u8], status: u8) -> bool
-    ensures { result ≡ list_any (λ m. m == status) met.now }
-{
-    met.iter().any(|m| *m == status)
 }
 
 /// The status of a session that was not done.
@@ -94,24 +60,24 @@ fn end_status(end: &SessionEnd) -> u8
     }
 }
 
-/// The status of a server: the first of 7, 3, 4, 6, 8 and 1 that a session, the accepting of the links, the put of the image
-/// or a refused row gave.
-fn served_status(served: &Served) -> u8
-    ensures { result ≡ status_of (Ok (done.Served served.now)) }
+/// The status of what came of sessions: the first of 7, 3, 4, 6, 8 and 1 that a session, what followed one, the accepting of
+/// the links, the put of the image or a refused row gave.
+fn hosted_status(hosted: &Hosted) -> u8
+    ensures { result ≡ status_of (Ok (done.Hosted hosted.now)) }
 {
     for status in [7, 3, 4, 6, 8, 1] {
-        if has_met(served, status) {
+        if has_met(hosted, status) {
             return status;
         }
     }
     0
 }
 
-/// Whether a server met what has this status.
-fn has_met(served: &Served, status: u8) -> bool
-    ensures { result ≡ list_any (λ met. met == status) (statuses_met (done.Served served.now)) }
+/// Whether what has this status was met.
+fn has_met(hosted: &Hosted, status: u8) -> bool
+    ensures { result ≡ list_any (λ met. met == status) (statuses_met (done.Hosted hosted.now)) }
 {
-    session_met(&served.sessions, status) || other_met(served, status)
+    session_met(&hosted.sessions, status) || other_met(hosted, status)
 }
 
 /// Whether a session ended with what has this status.
@@ -123,38 +89,27 @@ fn session_met(sessions: &[Result<SessionCounts, SessionEnd>], status: u8) -> bo
         .any(|session| session_status(session) == status)
 }
 
-/// Whether what a server met beside its sessions has this status.
-fn other_met(served: &Served, status: u8) -> bool
-    ensures { result ≡ list_any (λ met. met == status) (others_met served.now) }
+/// Whether what was met beside the sessions has this status.
+fn other_met(hosted: &Hosted, status: u8) -> bool
+    ensures { result ≡ list_any (λ met. met == status) (others_met hosted.now) }
 {
-    feed_met(&served.feeds, status) || met_behind(served, status)
+    tail_met(&hosted.tails, status) || met_behind(hosted, status)
 }
 
-/// Whether a feed was stopped by what has this status.
-fn feed_met(feeds: &[Option<FeedStop>], status: u8) -> bool
-    ensures { result ≡ list_any (λ stopped. feed_status stopped == status) feeds.now }
+/// Whether what followed a session ended with what has this status.
+fn tail_met(tails: &[Option<Result<FollowCounts, SessionEnd>>], status: u8) -> bool
+    ensures { result ≡ list_any (λ tail. tail_status tail == status) tails.now }
 {
-    feeds.iter().any(|stopped| feed_status(*stopped) == status)
+    tails.iter().any(|tail| tail_status(tail) == status)
 }
 
-/// 0 where nothing stopped the feed, 4 for a fault of its link, 7 for want of memory.
-fn feed_status(stopped: Option<FeedStop>) -> u8
-    ensures { result ≡ feed_status stopped }
+/// Whether what was met behind all links has this status.
+fn met_behind(hosted: &Hosted, status: u8) -> bool
+    ensures { result ≡ list_any (λ met. met == status) (met_behind hosted.now) }
 {
-    match stopped {
-        None => 0,
-        Some(FeedStop::LinkWrite) => 4,
-        Some(FeedStop::NoMemory) => 7,
-    }
-}
-
-/// Whether what a server met behind its links has this status.
-fn met_behind(served: &Served, status: u8) -> bool
-    ensures { result ≡ list_any (λ met. met == status) (met_behind served.now) }
-{
-    accept_status(served.all_came) == status
-        || put_status(served.put) == status
-        || first_status(served.first) == status
+    accept_status(hosted.all_came) == status
+        || put_status(hosted.put) == status
+        || first_status(hosted.first) == status
 }
 
 /// 0 where the session was done, else the status of its end.
@@ -167,11 +122,11 @@ fn session_status(session: &Result<SessionCounts, SessionEnd>) -> u8
     }
 }
 
-/// 0 where nothing was followed, or a feed was read whole; else the status of how the following ended.
-fn followed_status(followed: &Option<Result<FollowCounts, SessionEnd>>) -> u8
-    ensures { result ≡ followed_status followed.now }
+/// 0 where nothing was followed, or it came to its end; else the status of how the following ended.
+fn tail_status(tail: &Option<Result<FollowCounts, SessionEnd>>) -> u8
+    ensures { result ≡ tail_status tail.now }
 {
-    match followed {
+    match tail {
         None => 0,
         Some(Ok(_)) => 0,
         Some(Err(end)) => end_status(end),

@@ -1,5 +1,5 @@
 -- The laws of the commands over rows.
-use Rattle.std.proofs.Common.{◌≡◌, ℕ, inl, inr, List, ◌++◌, Option, Some, None, sym, ap, ◌∙◌, subst, append_assoc, arith}
+use Rattle.std.proofs.Common.{◌≡◌, ℕ, inl, inr, List, [], ◌++◌, Option, Some, None, sym, ap, ◌∙◌, subst, append_assoc, arith}
 use Rattle.std.specs.List.{flat_map}
 use Rattle.std.specs.Prelude.{Err}
 use Rattle.std.specs.Io.KnownBytes.{Consumes}
@@ -15,6 +15,7 @@ use Rattle.peer_image.proofs.Stops.{one_image}
 use Rattle.peer_image.proofs.Stops as images
 use Rattle.peer_stage.specs.World.{World}
 use Rattle.peer_stage.specs.Deed.{IsLawful}
+use Rattle.peer_stage.specs.Inputs.{HasInput}
 use Rattle.peer_stage.specs.Stages.{IsReadWhole}
 use Rattle.peer_stage.specs.Steps.{OnInput}
 use Rattle.peer_stage.specs.declared.stage.TheConstants.{INPUT_LIMIT}
@@ -24,8 +25,8 @@ use Rattle.peer_stage.specs.declared.outcome.Stop.TheVariants as stop
 use Rattle.peer_stage.proofs.Ends.{IsCondition}
 use Rattle.peer_stage.proofs.Inputs.{not_too_far, is_all}
 use Rattle.peer_stage.proofs.Owing.{Owes, then_owes, writes_owe, input_counts, input_unfailed, input_lasts, output_lasts, then_local, writes_local, lawful}
-use Rattle.peer_rows.specs.Logged.{PassesLog}
-use Rattle.peer_rows.specs.Join.{BeginNoFrames, JoinsInput, IsBadStream, IsWrongStream, IsFullStream}
+use Rattle.peer_rows.specs.Logged.{FitsLog, PassesLog}
+use Rattle.peer_rows.specs.Join.{BeginNoFrames, JoinsInput, StopsInput, IsBadStream, IsWrongStream, IsFullStream}
 use Rattle.peer_rows.specs.Show.{ShowsInput, IsBadImage, IsReadMisordered, IsReadFull}
 use Rattle.peer_rows.specs.Deeds.{CanJoin, CanShow, join_deed, show_deed, gen_deed}
 use Rattle.peer_rows.proofs.Offered.{PassesLog-longer}
@@ -48,37 +49,41 @@ front_taken (Some xs) (Some ys) had taken told is =
 front_taken (Some xs) None had taken told is = absurd is
 front_taken None left' had taken told is = absurd cc
 
-no_wrong_stream : (n : List ℕ) (i i' : SourceFacts) (at : ℕ) → CanJoin n i → IsWrongStream i i' at → ⊥
-no_wrong_stream n i i' at can bad = elim bad.cause [ inl whole ↦ ends whole | inr begin ↦ begins begin ]
-  where
-    ends : IsReadWhole INPUT_LIMIT i i' bad.bytes → ⊥
-    ends whole = never_both can.had at can.rows (subst (λ (b : List ℕ). FramesStopAt b at) (is_all i i' can.had bad.bytes can.input whole) bad.wrong) can.frames
+-- an input that has the frames of rows, for which there is room behind those had before, does not stop the reading
+module _ (i i' : SourceFacts) (bytes : List ℕ) (input : HasInput i bytes) (rows : List RawValue) (frames : AreFrames bytes rows) where
+  no_wrong_stream : (at : ℕ) → IsWrongStream i i' at → ⊥
+  no_wrong_stream at bad = elim bad.cause [ inl whole ↦ ends whole | inr begin ↦ begins begin ]
+    where
+      ends : IsReadWhole INPUT_LIMIT i i' bad.bytes → ⊥
+      ends whole = never_both bytes at rows (subst (λ (b : List ℕ). FramesStopAt b at) (is_all i i' bytes bad.bytes input whole) bad.wrong) frames
 
-    begins : BeginNoFrames bad.bytes → ⊥
-    begins begin =
-        let front = front_taken i.left i'.left can.had bad.bytes can.input.told bad.taken in
-        begin front.0 can.rows (subst (λ (b : List ℕ). AreFrames b can.rows) (sym front.1) can.frames)
+      begins : BeginNoFrames bad.bytes → ⊥
+      begins begin =
+          let front = front_taken i.left i'.left bytes bad.bytes input.told bad.taken in
+          begin front.0 rows (subst (λ (b : List ℕ). AreFrames b rows) (sym front.1) frames)
 
-no_bad_stream : (n : List ℕ) (i i' : SourceFacts) (at : ℕ) → CanJoin n i → IsBadStream n i i' at → ⊥
-no_bad_stream n i i' at can (inl long) = not_too_far i i' can.had long.0.bytes can.input long.0.too_far
-no_bad_stream n i i' at can (inr wrong) = no_wrong_stream n i i' at can wrong
+  module _ (n : List ℕ) (had : List RawValue) (fits : FitsLog n (had ++ rows)) where
+    no_bad_stream : (at : ℕ) → IsBadStream n had i i' at → ⊥
+    no_bad_stream at (inl long) = not_too_far i i' bytes long.0.bytes input long.0.too_far
+    no_bad_stream at (inr wrong) = no_wrong_stream at wrong
 
-no_full : (n : List ℕ) (i i' : SourceFacts) → CanJoin n i → IsFullStream n i i' → ⊥
-no_full n i i' can full =
-    let frames = full.not_wrong.frames in
-    let left = full.not_wrong.left in
-    let front = front_taken i.left i'.left can.had full.bytes can.input.told full.taken in
-    let parts = sym (append_assoc (flat_map frame full.rows) left front.0) ∙ ap (λ (l : List ℕ). l ++ front.0) (sym frames.parts) ∙ front.1 ∙ can.frames.spelled in
-    let more = rows_in_front full.rows can.rows (left ++ front.0) frames.fit can.frames.fit parts in
-    let passes = subst (λ (rows : List RawValue). PassesLog n rows) more.1 (PassesLog-longer n full.rows more.0 full.passes) in
-    omega (arith, passes, can.fits_log)
+    no_full : IsFullStream n had i i' → ⊥
+    no_full full =
+        let whole = full.not_wrong.frames in
+        let left = full.not_wrong.left in
+        let front = front_taken i.left i'.left bytes full.bytes input.told full.taken in
+        let parts = sym (append_assoc (flat_map frame full.rows) left front.0) ∙ ap (λ (l : List ℕ). l ++ front.0) (sym whole.parts) ∙ front.1 ∙ frames.spelled in
+        let more = rows_in_front full.rows rows (left ++ front.0) whole.fit frames.fit parts in
+        let all = append_assoc had full.rows more.0 ∙ ap (λ (l : List RawValue). had ++ l) more.1 in
+        let passes = subst (λ (l : List RawValue). PassesLog n l) all (PassesLog-longer n (had ++ full.rows) more.0 full.passes) in
+        omega (arith, passes, fits)
 
-join_stops : (n : List ℕ) (i i' : SourceFacts) (e : Stop) → CanJoin n i → IsCondition e → JoinsInput n i i' (Err e) → ⊥
-join_stops n i i' (stop.BadInput from at) can condition s = no_bad_stream n i i' at can s.0
-join_stops n i i' stop.LogFull can condition s = no_full n i i' can s
-join_stops n i i' stop.ReadFault can condition s = condition
-join_stops n i i' stop.NoMemory can condition s = condition
-join_stops n i i' e can condition s = s
+    pub input_stops : (e : Stop) → IsCondition e → StopsInput n had i i' e → ⊥
+    input_stops (stop.BadInput from at) condition s = no_bad_stream at s.0
+    input_stops stop.LogFull condition s = no_full s
+    input_stops stop.ReadFault condition s = condition
+    input_stops stop.NoMemory condition s = condition
+    input_stops e condition s = s
 
 joining_owes : (n : List ℕ) → Owes Reads Wrote (λ old. CanJoin n old.input) (λ x new. Unit {0}) (OnInput (JoinsInput n))
 joining_owes n =
@@ -88,7 +93,7 @@ joining_owes n =
       read_fault = λ old new s. s.does.1.fault;
       write_fault = λ old new s. absurd s.does;
       usage = λ old new s. s.does;
-      stops = λ old new e can condition s. join_stops n old.input new.input e can condition s.does;
+      stops = λ old new e can condition s. input_stops old.input new.input can.had can.input can.rows can.frames n [] can.fits_log e condition s.does;
       goes_on = λ old new x can s. tt;
     }
 

@@ -16,4 +16,9 @@ pub mod Listed
 pub mod PartedImages
 pub mod Generated
 pub mod DrilledRows
+pub mod Watched
 pub mod Deeds
+pub mod WatchSteps
+pub mod WatchDeeds
+pub mod WholeWatch
+pub mod Shares

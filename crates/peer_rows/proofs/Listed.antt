@@ -1,6 +1,5 @@
 -- The listing of the rows of an image in order, from what is live of their log.
 use Rattle.std.proofs.Common.{◌≡◌, ℕ, ◌≤◌, List, [], ◌∷◌, ◌++◌, map, length, Option, Some, None, refl, sym, ap, ◌∙◌, append_assoc, append-nil, arith}
-use Rattle.std.specs.Prelude.{Err}
 use Rattle.std.specs.List.{flat_map}
 use Rattle.std.proofs.lemmas.List.{length-map, flat_map_more}
 use Rattle.willow_entry.specs.Row.{RowValue}
@@ -11,10 +10,7 @@ use Rattle.ns_state.specs.Log.{StateValue}
 use Rattle.ns_state.specs.declared.live_log.TheConstants.{LOG_LIMIT}
 use Rattle.peer_image.specs.ImageReading.{raw_rows}
 use Rattle.peer_image.specs.Order.{order_refusal}
-use Rattle.peer_stage.specs.declared.outcome.Stop.{Stop}
-use Rattle.peer_stage.specs.declared.outcome.Stop.TheVariants as stop
 use Rattle.peer_rows.specs.RowLogs.{HasTaken}
-use Rattle.peer_rows.specs.Images.{LogsImage}
 use Rattle.peer_rows.proofs.AuthorisedRows.{authorised_live}
 use Rattle.peer_rows.proofs.Taken.{taken_live, taken_many}
 use Rattle.peer_listing.specs.Listing.{listing_head, listing_line}
@@ -22,7 +18,7 @@ use Rattle.peer_stage.specs.declared.outcome.JoinCounts.{JoinCounts}
 use Rattle.auth_entry.specs.Rows.{entry_row}
 use Rattle.peer_rows.specs.Logged.{authorised_rows, live_rows, AreCounts}
 use Rattle.peer_rows.specs.Show.{listing, asked_listing, AreShown}
-use Rattle.peer_rows.specs.Listed.{log_listing, rows_listing, show_counts, IsListing, ListsImage}
+use Rattle.peer_rows.specs.Listed.{log_listing, rows_listing, show_counts, IsListing}
 
 -- the lines of rows are those of what a store sees of them
 lines_same : (rows : List RawValue) → flat_map (λ (r : RowValue). listing_line r.entry) (map row_of rows) ≡ flat_map (λ (r : RawValue). listing_line r.entry) rows
@@ -76,11 +72,6 @@ rows_text n f xs rows head lines same head_is lines_are =
     ∙ ap (λ l. listing_head n (length rows) ++ l) (lines_are ∙ sym (flat-map f xs) ∙ ap (flat_map (λ (r : RowValue). listing_line r.entry)) same)
 
 -- ---- an image
-
-pub list_stops : (asked : Option ℕ) (n : List ℕ) (rows : List RawValue) (e : Stop) → LogsImage n rows (Err e) → ListsImage asked n rows (Err e)
-list_stops asked n rows stop.LogFull logs = logs
-list_stops asked n rows stop.NoMemory logs = tt
-list_stops asked n rows e logs = absurd logs
 
 pub is_listing_of : (asked : Option ℕ) (n : List ℕ) (rows : List RawValue) (log : StateValue AuthorisedValue) (counts : JoinCounts) (text : List ℕ) → order_refusal (raw_rows rows) ≡ None → length log.log ≤ LOG_LIMIT → HasTaken entry_row (authorised_rows n rows) log
     → AreCounts n rows counts → log.namespace ≡ n → text ≡ log_listing asked log.namespace (live_rows log) → IsListing asked n rows text (show_counts counts)

@@ -1,14 +1,17 @@
 -- Rows that wait, and what the log is when they are judged.
 use Rattle.std.proofs.Common.{◌≡◌, ℕ, ◌≤◌, inl, List, [], ◌∷◌, ◌++◌, length, sym, ap, subst, ◌∙◌, append_assoc, append-nil, arith}
-use Rattle.willow_entry.specs.Row.{is_covering}
+use Rattle.std.specs.Prelude.{Result, Ok, Err, OnOk}
+use Rattle.willow_entry.specs.Row.{RowValue, is_covering, new}
 use Rattle.cap_codec.specs.Rows.{RawValue}
 use Rattle.ns_state.specs.declared.live_log.TheConstants.{LOG_LIMIT}
+use Rattle.peer_stage.specs.declared.outcome.Stop.{Stop}
 use Rattle.peer_rows.specs.Logged.{authorised_rows, IsLogOf, FitsLog}
-use Rattle.peer_rows.specs.Stored.{HasTakenIn, HasJudged, LacksMemory, MayWait}
+use Rattle.peer_rows.specs.Reading.{IsLonger}
+use Rattle.peer_rows.specs.Stored.{HasTakenIn, HasJudged, JudgesAll, LacksMemory, MayWait}
 use Rattle.peer_rows.specs.declared.log.Log.{Log}
 use Rattle.peer_rows.specs.declared.intake.Intake.{Intake}
 use Rattle.peer_rows.proofs.AuthorisedRows.{authorised_parts, authorised_few}
-use Rattle.peer_rows.proofs.NewRows.{new_after-more}
+use Rattle.peer_rows.proofs.NewRows.{new-longer, new_after-more}
 use Rattle.peer_rows.proofs.Offered.{no_counts, IsLogOf-start}
 
 -- nothing is taken in yet
@@ -18,12 +21,6 @@ none_taken_in namespace intake empty none nobody = record {
   parts = sym nobody;
   is_log = IsLogOf-start namespace intake.log empty none;
   fits = omega (arith, ap (λ counts. counts.stored) none);
-}
-
-pub none_may_wait : (intake : Intake) → intake.log.counts ≡ no_counts → intake.waiting.items ≡ [] → MayWait intake
-none_may_wait intake none nobody = record {
-  few = omega (arith, ap length nobody);
-  room = omega (arith, ap (λ counts. counts.stored) none, ap length nobody);
 }
 
 module _ (namespace : List ℕ) (rows : List RawValue) (intake : Intake) (h : HasTakenIn namespace rows intake) where
@@ -67,3 +64,23 @@ judged_may_wait namespace rows intake h = record {
   few = omega (arith, ap length h.none_wait);
   room = omega (arith, h.fits, ap length h.none_wait);
 }
+
+-- ---- the log with more behind it
+
+-- rows that were judged stand behind those that were judged before
+pub judged_longer : (namespace : List ℕ) (rows : List RawValue) (intake intake' : Intake) → HasTakenIn namespace rows intake → HasJudged namespace rows intake' → IsLonger intake.log intake'.log
+judged_longer namespace rows intake intake' taken judged =
+    let more = new-longer (authorised_rows namespace taken.judged) (authorised_rows namespace intake.waiting.items) in (
+      more.0,
+      judged.is_log.taken
+          ∙ ap (λ (l : List RawValue). new (authorised_rows namespace l)) taken.parts
+          ∙ ap new (authorised_parts namespace taken.judged intake.waiting.items)
+          ∙ more.1
+          ∙ ap (λ (l : List RowValue). l ++ more.0) (sym taken.is_log.taken),
+    )
+
+-- so it is where they are judged behind this log
+pub judging_longer : (namespace : List ℕ) (rows : List RawValue) (old : Log) (intake intake' : Intake) (result : Result (Unit {0}) Stop) → intake.log ≡ old → HasTakenIn namespace rows intake → JudgesAll namespace rows intake.log intake' result
+    → OnOk result (IsLonger old intake'.log)
+judging_longer namespace rows old intake intake' (Ok tt) same taken judged = subst (λ (log : Log). IsLonger log intake'.log) same (judged_longer namespace rows intake intake' taken judged)
+judging_longer namespace rows old intake intake' (Err e) same taken judged = tt

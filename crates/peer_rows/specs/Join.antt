@@ -1,5 +1,5 @@
 -- What `join` does: the image of the live rows among the authorised rows of the input.
-use Rattle.std.specs.Prelude.{◌≡◌, ℕ, ◌≤◌, ◌⊎◌, List, ◌++◌, length, take, Result, Ok, Err}
+use Rattle.std.specs.Prelude.{◌≡◌, ℕ, ◌≤◌, ◌⊎◌, List, [], ◌++◌, length, take, Result, Ok, Err}
 use Rattle.std.specs.Io.KnownBytes.{Consumes}
 use Rattle.willow_outside.specs.Facts.{SourceFacts}
 use Rattle.willow_entry.specs.Row.{live}
@@ -50,14 +50,14 @@ pub record IsJoinRead (namespace : List ℕ) (i i' : SourceFacts) (written : Lis
   pub read : IsReadWhole INPUT_LIMIT i i' bytes
   pub join : IsJoinOf namespace bytes written counts
 
--- The bytes taken pass the limit. Below it nothing is wrong, and each row that would be stored finds room: else that is
--- told before.
-pub record IsLongStream (namespace : List ℕ) (i i' : SourceFacts) : Type 0 where
+-- The bytes taken pass the limit. Below it nothing is wrong, and each row that would be stored finds room behind the rows had
+-- before: else that is told before.
+pub record IsLongStream (namespace : List ℕ) (had : List RawValue) (i i' : SourceFacts) : Type 0 where
   pub bytes : List ℕ
   pub too_far : IsReadTooFar INPUT_LIMIT i i' bytes
   pub rows : List RawValue
   pub not_wrong : AreRightSoFar (take INPUT_LIMIT bytes) rows
-  pub fits_log : FitsLog namespace rows
+  pub fits_log : FitsLog namespace (had ++ rows)
 
 -- The bytes taken are within the limit, and stop at this place to be frames of rows.
 pub record IsWrongStream (i i' : SourceFacts) (at : ℕ) : Type 0 where
@@ -71,28 +71,32 @@ pub record IsWrongStream (i i' : SourceFacts) (at : ℕ) : Type 0 where
   pub not_early : (rows : List RawValue) → AreRightSoFar bytes rows → IsReadWhole INPUT_LIMIT i i' bytes
 
 -- the input is too long, which is told at the limit, or goes wrong at this place
-abbrev pub IsBadStream : List ℕ → SourceFacts → SourceFacts → ℕ → Type 0
-IsBadStream namespace i i' at = (IsLongStream namespace i i' × (at ≡ INPUT_LIMIT)) ⊎ IsWrongStream i i' at
+abbrev pub IsBadStream : List ℕ → List RawValue → SourceFacts → SourceFacts → ℕ → Type 0
+IsBadStream namespace had i i' at = (IsLongStream namespace had i i' × (at ≡ INPUT_LIMIT)) ⊎ IsWrongStream i i' at
 
--- Of the whole rows among the bytes taken one too many would be stored. They are within the limit, the end was not met,
--- and nothing in them is wrong: else that is told before.
-pub record IsFullStream (namespace : List ℕ) (i i' : SourceFacts) : Type 0 where
+-- Of the whole rows among the bytes taken one too many would be stored behind the rows had before. They are within the limit,
+-- the end was not met, and nothing in them is wrong: else that is told before.
+pub record IsFullStream (namespace : List ℕ) (had : List RawValue) (i i' : SourceFacts) : Type 0 where
   pub bytes : List ℕ
   pub taken : Consumes i.left i'.left bytes
   pub within : length bytes ≤ INPUT_LIMIT
   pub not_ended : i'.ends ≡ i.ends
   pub rows : List RawValue
   pub not_wrong : AreRightSoFar bytes rows
-  pub passes : PassesLog namespace rows
+  pub passes : PassesLog namespace (had ++ rows)
+
+-- why the reading of an input into a log stops, where these rows were had before
+abbrev pub StopsInput : List ℕ → List RawValue → SourceFacts → SourceFacts → Stop → Type 0
+StopsInput namespace had i i' stop.ReadFault = (bytes : List ℕ) × IsReadToFault INPUT_LIMIT i i' bytes
+StopsInput namespace had i i' (stop.BadInput origin at) = IsBadStream namespace had i i' at × IsInput origin
+StopsInput namespace had i i' stop.LogFull = IsFullStream namespace had i i'
+StopsInput namespace had i i' stop.NoMemory = IsReadSomewhat i i'
+StopsInput namespace had i i' e = ⊥
 
 -- how the reading and joining of an input ends, with the image and the numbers
 abbrev pub JoinsInput : List ℕ → SourceFacts → SourceFacts → Result (List ℕ × JoinCounts) Stop → Type 0
 JoinsInput namespace i i' (Ok x) = IsJoinRead namespace i i' x.0 x.1
-JoinsInput namespace i i' (Err stop.ReadFault) = (bytes : List ℕ) × IsReadToFault INPUT_LIMIT i i' bytes
-JoinsInput namespace i i' (Err (stop.BadInput origin at)) = IsBadStream namespace i i' at × IsInput origin
-JoinsInput namespace i i' (Err stop.LogFull) = IsFullStream namespace i i'
-JoinsInput namespace i i' (Err stop.NoMemory) = IsReadSomewhat i i'
-JoinsInput namespace i i' (Err e) = ⊥
+JoinsInput namespace i i' (Err e) = StopsInput namespace [] i i' e
 
 -- ---- the command
 

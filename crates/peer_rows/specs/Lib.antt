@@ -5,7 +5,11 @@ pub mod Parts
 pub mod Drilled
 pub mod Stored
 pub mod Join
+pub mod Reading
 pub mod Show
+pub mod Opened
+pub mod Watch
+pub mod Watching
 pub mod Listed
 pub mod Generate
 pub mod Deeds

@@ -1,5 +1,5 @@
 -- The listing of the rows of an image, by what is live of their log.
-use Rattle.std.specs.Prelude.{◌≡◌, ℕ, List, ◌++◌, length, take, Option, Some, None, Result, Ok, Err}
+use Rattle.std.specs.Prelude.{◌≡◌, ℕ, List, ◌++◌, length, take, Option, Some, None}
 use Rattle.std.specs.List.{flat_map}
 use Rattle.std.specs.Global.{Vec}
 use Rattle.willow_entry.specs.Row.{RowValue}
@@ -8,9 +8,7 @@ use Rattle.recency_index.specs.Rows.{newest_rows}
 use Rattle.peer_listing.specs.Listing.{listing_head, listing_line}
 use Rattle.peer_stage.specs.declared.outcome.JoinCounts.{JoinCounts}
 use Rattle.peer_stage.specs.declared.outcome.ShowCounts.{ShowCounts}
-use Rattle.peer_stage.specs.declared.outcome.Stop.{Stop}
-use Rattle.peer_stage.specs.declared.outcome.Stop.TheVariants as stop
-use Rattle.peer_rows.specs.Logged.{FitsLog, PassesLog}
+use Rattle.peer_rows.specs.Logged.{FitsLog}
 use Rattle.peer_rows.specs.Show.{asked_listing, AreShown}
 
 -- the listing of rows in order
@@ -31,13 +29,6 @@ pub record IsListing (asked : Option ℕ) (namespace : List ℕ) (rows : List Ra
   pub is_listing : text ≡ asked_listing asked namespace rows
   pub fits_log : FitsLog namespace rows
   pub counted : AreShown namespace rows counts
-
--- how the listing of the rows of an image ends
-abbrev pub ListsImage : Option ℕ → List ℕ → List RawValue → Result (Vec ℕ × Vec ℕ × ShowCounts) Stop → Type 0
-ListsImage asked namespace rows (Ok x) = IsListing asked namespace rows (x.0.items ++ x.1.items) x.2
-ListsImage asked namespace rows (Err stop.LogFull) = PassesLog namespace rows
-ListsImage asked namespace rows (Err stop.NoMemory) = Unit {0}
-ListsImage asked namespace rows (Err e) = ⊥
 
 -- the numbers of a listing of rows that were offered to a log
 abbrev pub show_counts : JoinCounts → ShowCounts

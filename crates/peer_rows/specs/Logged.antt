@@ -24,9 +24,13 @@ authorised_rows namespace rows = map row_of (authorised peer_rules namespace row
 abbrev pub stored_rows : List AuthorisedValue → List RowValue
 stored_rows = map entry_row
 
+-- the rows of a log, as a store sees them
+abbrev pub kept_rows : StateValue AuthorisedValue → List RowValue
+kept_rows log = values entry_row log.log
+
 -- what is live of a log, as a store sees it
 abbrev pub live_rows : StateValue AuthorisedValue → List RowValue
-live_rows log = live (values entry_row log.log)
+live_rows log = live (kept_rows log)
 
 -- ---- refused rows
 

@@ -1,21 +1,19 @@
 -- The log of the rows of a stream that is read in pieces, and the rows that wait to be judged for it.
-use Rattle.std.specs.Prelude.{◌≡◌, ◌⊎◌, ℕ, ◌+◌, ◌<◌, ◌≤◌, List, [], ◌∷◌, ◌++◌, length, map, None, Result, Ok, Err}
+use Rattle.std.specs.Prelude.{◌≡◌, ◌⊎◌, ℕ, ◌+◌, ◌^◌, ◌<◌, ◌≤◌, List, [], ◌∷◌, ◌++◌, length, map, None, Result, Ok, Err}
 use Rattle.std.specs.List.{AllByRecursion}
 use Rattle.spelling.specs.declared.ending.End.{End}
 use Rattle.spelling.specs.declared.ending.End.TheVariants as ends
-use Rattle.willow_outside.specs.Facts.{SourceFacts}
-use Rattle.cap_codec.specs.Rows.{RawValue, row_of, IsRawRow, FitsFrame, AreFrames}
+use Rattle.cap_codec.specs.Rows.{RawValue, row_of, IsRawRow, FitsFrame}
 use Rattle.cap_codec.specs.Streams.{FramesStopAt}
 use Rattle.row_stream.specs.Streams.{IsStream}
 use Rattle.row_stream.specs.Feeding.{StreamState, Finishes}
 use Rattle.row_stream.specs.declared.refusal.StreamRefusal.{StreamRefusal}
 use Rattle.row_stream.specs.declared.refusal.StreamRefusal.TheVariants.{BadFrame, FrameTooLong, CutShort}
-use Rattle.peer_stage.specs.Stages.{IsInput, IsReadWhole}
-use Rattle.peer_stage.specs.declared.stage.TheConstants.{INPUT_LIMIT}
+use Rattle.peer_stage.specs.Stages.{IsInput}
 use Rattle.peer_stage.specs.declared.outcome.Stop.{Stop}
 use Rattle.peer_stage.specs.declared.outcome.Stop.TheVariants as stop
 use Rattle.peer_rows.specs.Logged.{IsLogOf, FitsLog, PassesLog}
-use Rattle.peer_rows.specs.Join.{JoinsInput, BeginNoFrames, AreRightSoFar}
+use Rattle.peer_rows.specs.Join.{BeginNoFrames, AreRightSoFar}
 use Rattle.peer_rows.specs.declared.log.Log.{Log}
 use Rattle.peer_rows.specs.declared.intake.Intake.{Intake}
 use Rattle.peer_rows.specs.declared.intake.TheConstants.{TOGETHER}
@@ -80,14 +78,16 @@ AdmitsRow namespace rows before intake (Err e) = ⊥
 
 -- ---- pieces
 
--- these bytes were fed to the stream, and the rows that became whole were taken in
-pub record HasSeen (namespace bytes : List ℕ) (state : StreamState) (intake : Intake) : Type 0 where
+-- These bytes were fed to the stream, and the rows that became whole were taken in, behind those had before. Of these no more
+-- are than an image tells.
+pub record HasSeen (namespace : List ℕ) (had : List RawValue) (bytes : List ℕ) (state : StreamState) (intake : Intake) : Type 0 where
+  pub few : length had < 2 ^ 32
   pub seen : List RawValue
   pub fit : AllByRecursion FitsFrame seen
   pub unrefused : state.refusal ≡ None
   pub stream : IsStream IsRawRow 0 bytes (map row_of seen) state.begun None
   pub all_fed : state.at + length state.begun ≡ length bytes
-  pub taken_in : HasTakenIn namespace seen intake
+  pub taken_in : HasTakenIn namespace (had ++ seen) intake
 
 -- the bytes stop at this place to be frames of rows, and what stands there is wrong whatever comes behind
 pub record AreWrong (bytes : List ℕ) (at : ℕ) : Type 0 where
@@ -95,26 +95,26 @@ pub record AreWrong (bytes : List ℕ) (at : ℕ) : Type 0 where
   pub cause : BeginNoFrames bytes
   pub judged : (rows : List RawValue) → AreRightSoFar bytes rows → ⊥
 
--- of the whole rows of the bytes one too many would be stored, and nothing in them is wrong
-pub record IsPastLog (namespace bytes : List ℕ) : Type 0 where
+-- of the whole rows of the bytes one too many would be stored behind those had before, and nothing in them is wrong
+pub record IsPastLog (namespace : List ℕ) (had : List RawValue) (bytes : List ℕ) : Type 0 where
   pub rows : List RawValue
   pub not_wrong : AreRightSoFar bytes rows
-  pub passes : PassesLog namespace rows
+  pub passes : PassesLog namespace (had ++ rows)
 
 -- how the feeding of a piece ends, where the bytes are all with this piece
-abbrev pub FeedsPiece : List ℕ → List ℕ → StreamState → Intake → Result (Unit {0}) Stop → Type 0
-FeedsPiece namespace bytes state intake (Ok u) = HasSeen namespace bytes state intake
-FeedsPiece namespace bytes state intake (Err (stop.BadInput origin at)) = AreWrong bytes at × IsInput origin
-FeedsPiece namespace bytes state intake (Err stop.NoMemory) = Unit {0}
-FeedsPiece namespace bytes state intake (Err e) = ⊥
+abbrev pub FeedsPiece : List ℕ → List RawValue → List ℕ → StreamState → Intake → Result (Unit {0}) Stop → Type 0
+FeedsPiece namespace had bytes state intake (Ok u) = HasSeen namespace had bytes state intake
+FeedsPiece namespace had bytes state intake (Err (stop.BadInput origin at)) = AreWrong bytes at × IsInput origin
+FeedsPiece namespace had bytes state intake (Err stop.NoMemory) = Unit {0}
+FeedsPiece namespace had bytes state intake (Err e) = ⊥
 
 -- how the taking of a piece ends, where the bytes are all with this piece
-abbrev pub TakesPiece : List ℕ → List ℕ → StreamState → Intake → Result (Unit {0}) Stop → Type 0
-TakesPiece namespace bytes state intake (Ok u) = HasSeen namespace bytes state intake × MayWait intake
-TakesPiece namespace bytes state intake (Err (stop.BadInput origin at)) = AreWrong bytes at × IsInput origin
-TakesPiece namespace bytes state intake (Err stop.LogFull) = IsPastLog namespace bytes
-TakesPiece namespace bytes state intake (Err stop.NoMemory) = Unit {0}
-TakesPiece namespace bytes state intake (Err e) = ⊥
+abbrev pub TakesPiece : List ℕ → List RawValue → List ℕ → StreamState → Intake → Result (Unit {0}) Stop → Type 0
+TakesPiece namespace had bytes state intake (Ok u) = HasSeen namespace had bytes state intake × MayWait intake
+TakesPiece namespace had bytes state intake (Err (stop.BadInput origin at)) = AreWrong bytes at × IsInput origin
+TakesPiece namespace had bytes state intake (Err stop.LogFull) = IsPastLog namespace had bytes
+TakesPiece namespace had bytes state intake (Err stop.NoMemory) = Unit {0}
+TakesPiece namespace had bytes state intake (Err e) = ⊥
 
 -- the offset that a refusal tells
 abbrev pub offset_of : StreamRefusal → ℕ
@@ -132,21 +132,3 @@ EndsStream state (Err e) = ⊥
 pub record IsWholeLog (namespace : List ℕ) (rows : List RawValue) (log : Log) : Type 0 where
   pub is_log : IsLogOf namespace rows log.kept log.counts
   pub fits_log : FitsLog namespace rows
-
--- the input was read whole and is the frames of rows, whose log this is
-pub record IsLogRead (namespace : List ℕ) (i i' : SourceFacts) (log : Log) : Type 0 where
-  pub bytes : List ℕ
-  pub read : IsReadWhole INPUT_LIMIT i i' bytes
-  pub rows : List RawValue
-  pub frames : AreFrames bytes rows
-  pub whole : IsWholeLog namespace rows log
-
--- how the reading of an input into a log ends
-abbrev pub LogsInput : List ℕ → SourceFacts → SourceFacts → Result Log Stop → Type 0
-LogsInput namespace i i' (Ok log) = IsLogRead namespace i i' log
-LogsInput namespace i i' (Err e) = JoinsInput namespace i i' (Err e)
-
--- how the taking in of an input ends
-abbrev pub TakesInput : List ℕ → SourceFacts → SourceFacts → Intake → Result (Unit {0}) Stop → Type 0
-TakesInput namespace i i' intake (Ok u) = IsLogRead namespace i i' intake.log
-TakesInput namespace i i' intake (Err e) = JoinsInput namespace i i' (Err e)

@@ -3,8 +3,11 @@
 ghost use Rattle.std.specs.Prelude.{◌≡◌, ◌^◌, ◌<◌, length, IfOk};
 ghost use Rattle.spelling.specs.declared.ending.End.TheVariants as ends;
 ghost use Rattle.peer_rows.specs.Images.{ReadsImageFrom, LogsImage, log_stop};
+ghost use Rattle.peer_rows.specs.Opened.{LogsBytes, LogsRows};
 
 use crate::intake::Intake;
+use crate::log::Log;
+use crate::parts::log_in_parts;
 use auth_entry::{AuthorisedEntry, NewChecker};
 use lms_core::PeerScheme;
 use ns_state::{LiveLog, LogFull};
@@ -47,6 +50,19 @@ pub fn log_image<C: NewChecker<PeerScheme>, R: Threads + Sync>(
     ensures logs { LogsImage image.namespace image.rows.items result }
     ensures namespace { IfOk result (λ x. x.0.namespace ≡ image.namespace) }
 {
+    let log = log_rows::<C, R>(rt, alloc, image)?;
+    Ok((log.kept, log.counts))
+}
+
+// The same, as a log that goes on.
+fn log_rows<C: NewChecker<PeerScheme>, R: Threads + Sync>(
+    rt: &R,
+    alloc: Global,
+    image: Image,
+) -> Result<Log, Stop>
+    requires { length image.rows.items < 2 ^ 32 }
+    ensures { LogsRows image.namespace image.rows.items result }
+{
     let Image { namespace, rows } = image;
     let mut checker = C::begin(alloc, PeerScheme, namespace)?;
     let mut intake = Intake::new(alloc, namespace);
@@ -54,7 +70,24 @@ pub fn log_image<C: NewChecker<PeerScheme>, R: Threads + Sync>(
         intake.admit(rt, alloc, &mut checker, row)?;
     }
     intake.judge(rt, alloc, &mut checker)?;
-    Ok((intake.log.kept, intake.log.counts))
+    Ok(intake.log)
+}
+
+/// The log of the authorised rows of the image that the bytes are. What is wrong with them is told of where they came from.
+/// Where its rows are in order and find room, no list of them is made beside the log.
+pub(crate) fn log_bytes<C: NewChecker<PeerScheme>, R: Threads + Sync>(
+    rt: &R,
+    alloc: Global,
+    bytes: &[u8],
+    origin: Origin,
+) -> Result<Log, Stop>
+    ensures { LogsBytes origin bytes.now result }
+{
+    if let Some(log) = log_in_parts::<C, R>(rt, alloc, bytes)? {
+        return Ok(log);
+    }
+    let image = image_from(alloc, bytes, origin)?;
+    log_rows::<C, R>(rt, alloc, image)
 }
 
 /// How a command stops where a row met a full log, or memory was wanting.

@@ -39,8 +39,16 @@ impl Intake {
         ensures counts { result.log.counts ≡ record { rows = 0; stored = 0; kept = 0; refused = 0; first = None } }
         ensures none_wait { result.waiting.items ≡ [] }
     {
+        Intake::behind(alloc, Log::new(alloc, namespace))
+    }
+
+    /// Nothing waits behind the rows of this log.
+    pub(crate) fn behind(alloc: Global, log: Log) -> Intake
+        ensures log { result.log ≡ log }
+        ensures none_wait { result.waiting.items ≡ [] }
+    {
         Intake {
-            log: Log::new(alloc, namespace),
+            log,
             waiting: Vec::new(alloc),
         }
     }

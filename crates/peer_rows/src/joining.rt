@@ -1,31 +1,30 @@
 //! `join`: the image of the live rows among the authorised rows of the input.
 
-ghost use Rattle.std.specs.Prelude.{◌≡◌, ℕ, List, ◌+◌, ◌≤◌, ◌++◌, [], length, IfOk};
+ghost use Rattle.std.specs.Prelude.{◌≡◌, ℕ, List, ◌+◌, ◌≤◌, ◌++◌, [], length, OnOk};
 ghost use Rattle.std.specs.List.{AllByRecursion};
-ghost use Rattle.cap_codec.specs.Rows.{IsRaw};
+ghost use Rattle.cap_codec.specs.Rows.{IsRaw, RawValue};
 ghost use Rattle.peer_stage.specs.World.{World};
 ghost use Rattle.peer_stage.specs.Faults.{CountsStep};
 ghost use Rattle.peer_stage.specs.declared.outcome.Origin.TheVariants as origin;
 ghost use Rattle.peer_stage.specs.declared.outcome.Stop.TheVariants as stop;
 ghost use Rattle.peer_rows.specs.Join.{Joins};
-ghost use Rattle.peer_rows.specs.Stored.{EndsStream, FeedsPiece, HasSeen, LogsInput, MayWait, TakesInput, TakesPiece, offset_of};
+ghost use Rattle.peer_rows.specs.Reading.{HasRead, IsLonger, LogsInput, TakesInput};
+ghost use Rattle.peer_rows.specs.Stored.{EndsStream, FeedsPiece, HasSeen, TakesPiece, offset_of};
 
 use crate::imaging::write_image_of;
 use crate::intake::Intake;
 use crate::log::{Log, leave_to_exit};
+use crate::reading::Reading;
 use auth_entry::{Checker, NewChecker};
 use cap_codec::{RawRow, RawRows};
 use lms_core::PeerScheme;
 use peer_stage::{Done, INPUT_LIMIT, Stop};
 use row_stream::{RowStream, StreamRefusal};
-use spelling::{End, NoMemory};
+use spelling::End;
 use std::alloc::Global;
 use std::thread::Threads;
-use willow_outside::{Fault, Sink, Source};
+use willow_outside::{Sink, Source};
 use willow_path::NamespaceKey;
-
-/// How many bytes are asked for in one read.
-const PIECE: usize = 65_536;
 
 /// Reads row frames from the input, keeps the live rows of those that are authorised in the namespace, and
 /// writes their image. Rows of several pieces of the input wait to be judged together, by a checker of the given kind; still
@@ -62,17 +61,8 @@ fn read_log<C: NewChecker<PeerScheme>, R: Threads + Sync, I: Source>(
 {
     let mut checker = C::begin(alloc, PeerScheme, *namespace)?;
     let mut intake = Intake::new(alloc, *namespace);
-    let mut stream = RowStream::<RawRows>::new(alloc);
-    let mut piece = room(alloc)?;
-    take_input(
-        rt,
-        alloc,
-        &mut checker,
-        &mut stream,
-        &mut intake,
-        &mut piece,
-        input,
-    )?;
+    let mut reading = Reading::begin(alloc)?;
+    take_input(rt, alloc, &mut checker, &mut reading, &mut intake, input)?;
     Ok(intake.log)
 }
 
@@ -81,54 +71,27 @@ fn take_input<C: Checker<PeerScheme>, R: Threads + Sync, I: Source>(
     rt: &R,
     alloc: Global,
     checker: &mut C,
-    stream: &mut RowStream<RawRows>,
+    reading: &mut Reading,
     intake: &mut Intake,
-    piece: &mut Vec<u8>,
     input: &mut I,
 ) -> Result<(), Stop>
     requires namespace { C.judged_in checker.old ≡ intake.old.log.kept.namespace }
-    requires seen { HasSeen intake.old.log.kept.namespace [] stream.old intake.old }
-    requires waits { MayWait intake.old }
-    requires room { length piece.old.items ≡ PIECE }
+    requires read { HasRead intake.old.log.kept.namespace [] (I.facts input.old) (I.facts input.old) reading.old intake.old }
     ensures takes { TakesInput intake.old.log.kept.namespace (I.facts input.old) (I.facts input.new) intake.new result }
     ensures faults { CountsStep (I.facts input.old).faults (I.facts input.new).faults result }
     ensures ends { (I.facts input.old).ends ≤ (I.facts input.new).ends }
 {
-    let mut left = INPUT_LIMIT;
     'pieces: loop {
-        // Behind the last byte that may be taken one more tells that the input goes on.
-        piece.truncate(left.max(1) as usize);
-        match input.read(piece) {
-            Ok(0) => {
-                end_stream(stream)?;
-                intake.judge(rt, alloc, checker)?;
-                return Ok(());
-            }
-            Ok(n) => {
-                if left == 0 {
-                    return Err(Stop::bad_input(INPUT_LIMIT));
-                }
-                left -= n as u64;
-                let given = &piece[..n];
-                take_piece(rt, alloc, checker, stream, intake, given)?;
-            }
-            Err(Fault::Failed) => return Err(Stop::ReadFault),
-            Err(Fault::NoMemory) => return Err(Stop::NoMemory),
+        if !reading.next(rt, alloc, checker, intake, input)? {
+            return Ok(());
         }
     }
-}
-
-// Room for one read.
-fn room(alloc: Global) -> Result<Vec<u8>, NoMemory>
-    ensures { IfOk result (λ v. length v.items ≡ PIECE) }
-{
-    Ok(vec![in alloc; 0u8; PIECE]?)
 }
 
 // Takes a piece in. The rows that became whole wait for more where each is long to judge, unless those that wait are many or
 // one could meet a full log: so a full log is told at the piece that brings the row that is too many. Bytes that are wrong go
 // before it.
-fn take_piece<C: Checker<PeerScheme>, R: Threads + Sync>(
+pub(crate) fn take_piece<C: Checker<PeerScheme>, R: Threads + Sync>(
     rt: &R,
     alloc: Global,
     checker: &mut C,
@@ -137,10 +100,12 @@ fn take_piece<C: Checker<PeerScheme>, R: Threads + Sync>(
     piece: &[u8],
 ) -> Result<(), Stop>
     requires namespace { C.judged_in checker.old ≡ intake.old.log.kept.namespace }
-    requires seen { (namespace : List ℕ) × (bytes : List ℕ) × HasSeen namespace bytes stream.old intake.old × (length bytes + length piece.now ≤ INPUT_LIMIT) }
+    requires seen { (namespace : List ℕ) × (had : List RawValue) × (bytes : List ℕ) × HasSeen namespace had bytes stream.old intake.old
+        × (length bytes + length piece.now ≤ INPUT_LIMIT) }
     ensures namespace { C.judged_in checker.new ≡ C.judged_in checker.old }
-    ensures takes { (namespace bytes : List ℕ) → HasSeen namespace bytes stream.old intake.old
-        → TakesPiece namespace (bytes ++ piece.now) stream.new intake.new result }
+    ensures takes { (namespace : List ℕ) (had : List RawValue) (bytes : List ℕ) → HasSeen namespace had bytes stream.old intake.old
+        → TakesPiece namespace had (bytes ++ piece.now) stream.new intake.new result }
+    ensures longer { OnOk result (IsLonger intake.old.log intake.new.log) }
 {
     let before = intake.count();
     feed_piece(stream, intake, piece)?;
@@ -157,10 +122,11 @@ fn feed_piece(
     intake: &mut Intake,
     piece: &[u8],
 ) -> Result<(), Stop>
-    requires { (namespace : List ℕ) × (bytes : List ℕ) × HasSeen namespace bytes stream.old intake.old × (length bytes + length piece.now ≤ INPUT_LIMIT) }
+    requires { (namespace : List ℕ) × (had : List RawValue) × (bytes : List ℕ) × HasSeen namespace had bytes stream.old intake.old
+        × (length bytes + length piece.now ≤ INPUT_LIMIT) }
     ensures log { intake.new.log ≡ intake.old.log }
-    ensures feeds { (namespace bytes : List ℕ) → HasSeen namespace bytes stream.old intake.old
-        → FeedsPiece namespace (bytes ++ piece.now) stream.new intake.new result }
+    ensures feeds { (namespace : List ℕ) (had : List RawValue) (bytes : List ℕ) → HasSeen namespace had bytes stream.old intake.old
+        → FeedsPiece namespace had (bytes ++ piece.now) stream.new intake.new result }
 {
     let rows = match stream.feed(piece) {
         Ok(rows) => rows,
@@ -173,7 +139,7 @@ fn feed_piece(
 }
 
 // Ends the stream where the input ended.
-fn end_stream(stream: &RowStream<RawRows>) -> Result<(), Stop>
+pub(crate) fn end_stream(stream: &RowStream<RawRows>) -> Result<(), Stop>
     ensures { EndsStream stream.now result }
 {
     match stream.finish() {

@@ -1,21 +1,19 @@
 //! `show`: the listing of the authorised rows of the input's image.
 
-ghost use Rattle.std.specs.Prelude.{◌≡◌, ◌≤◌, ◌<◌, ◌^◌, ◌++◌, List, None, length, IfOk};
+ghost use Rattle.std.specs.Prelude.{◌≡◌, ◌≤◌, ◌++◌, List, None, IfOk};
 ghost use Rattle.cap_codec.specs.Rows.{RawValue};
 ghost use Rattle.peer_stage.specs.World.{World};
 ghost use Rattle.peer_stage.specs.Faults.{CountsStep};
 ghost use Rattle.peer_image.specs.ImageReading.{raw_rows};
 ghost use Rattle.peer_image.specs.Order.{order_refusal};
 ghost use Rattle.peer_rows.specs.Show.{Shows, ShowsInput, ShowsBytes};
-ghost use Rattle.peer_rows.specs.Listed.{IsListing, ListsImage, show_counts};
+ghost use Rattle.peer_rows.specs.Listed.{IsListing, show_counts};
 ghost use Rattle.peer_rows.specs.Logged.{IsLogOf};
 
-use crate::images::{EntryLog, image_from, log_image};
+use crate::images::{EntryLog, log_bytes};
 use crate::listing::list_log;
-use crate::parts::log_in_parts;
 use auth_entry::NewChecker;
 use lms_core::PeerScheme;
-use peer_image::Image;
 use peer_stage::{Done, INPUT_LIMIT, JoinCounts, Origin, ShowCounts, Stop, read_input, write_both};
 use spelling::NoMemory;
 use std::alloc::Global;
@@ -58,8 +56,7 @@ fn show_input<C: NewChecker<PeerScheme>, R: Threads + Sync, I: Source>(
     show_bytes::<C, R>(rt, alloc, newest, &bytes)
 }
 
-// The head and the lines of the listing of an image, and the numbers. Where its rows are in order and find room, no list of
-// them is made beside the log.
+// The head and the lines of the listing of an image, and the numbers.
 fn show_bytes<C: NewChecker<PeerScheme>, R: Threads + Sync>(
     rt: &R,
     alloc: Global,
@@ -68,26 +65,8 @@ fn show_bytes<C: NewChecker<PeerScheme>, R: Threads + Sync>(
 ) -> Result<(Vec<u8>, Vec<u8>, ShowCounts), Stop>
     ensures { ShowsBytes newest bytes.now result }
 {
-    if let Some(log) = log_in_parts::<C, R>(rt, alloc, bytes)? {
-        return Ok(list_rows(alloc, newest, log.kept, &log.counts)?);
-    }
-    let image = image_from(alloc, bytes, Origin::Input)?;
-    list_image::<C, R>(rt, alloc, newest, image)
-}
-
-// The head and the lines of the listing of the rows of an image, and their numbers.
-fn list_image<C: NewChecker<PeerScheme>, R: Threads + Sync>(
-    rt: &R,
-    alloc: Global,
-    newest: Option<u32>,
-    image: Image,
-) -> Result<(Vec<u8>, Vec<u8>, ShowCounts), Stop>
-    requires few { length image.rows.items < 2 ^ 32 }
-    requires in_order { order_refusal (raw_rows image.rows.items) ≡ None }
-    ensures { ListsImage newest image.namespace image.rows.items result }
-{
-    let (log, counts) = log_image::<C, R>(rt, alloc, image)?;
-    Ok(list_rows(alloc, newest, log, &counts)?)
+    let log = log_bytes::<C, R>(rt, alloc, bytes, Origin::Input)?;
+    Ok(list_rows(alloc, newest, log.kept, &log.counts)?)
 }
 
 // The head and the lines of the listing of rows in order, of which this is the log, and their numbers.

@@ -1,12 +1,15 @@
 -- The log of a cell that had one pass.
-use Rattle.std.proofs.Common.{◌≡◌, ℕ, ◌-◌, List, [], ◌∷◌, Option, sym, ap, ◌∙◌, subst, inl, inr, arith}
+use Rattle.std.proofs.Common.{◌≡◌, ℕ, ◌-◌, true, false, List, [], ◌∷◌, Option, refl, sym, ap, ◌∙◌, subst, inl, inr, arith}
 use Rattle.std.specs.List.{All, Contains}
-use Rattle.std.proofs.lemmas.List.Elements.{recursion_from_All}
+use Rattle.std.proofs.lemmas.List.Elements.{All-cons, All-nil, recursion_from_All}
+use mathlib.Core.List.{IsPrefix}
 use Rattle.willow_outside.specs.Facts.{LinkFacts, DoorFacts}
 use Rattle.willow_outside.specs.Links.{list_with}
 use Rattle.willow_entry.specs.declared.row.LogRow.{LogRow}
 use Rattle.willow_entry.proofs.Members.{member_from_contains}
+use Rattle.log_rule.specs.Views.{AreOf}
 use Rattle.log_rule.proofs.Books.{rows_of_pass-own}
+use Rattle.log_rule.proofs.Prefixes.{prefix_self, prefix_trans}
 use Rattle.lms_core.specs.Use.{peer_rules}
 use Rattle.lms_core.specs.declared.scheme.PeerScheme.{PeerScheme}
 use Rattle.auth_entry.specs.Authorised.{AuthorisedValue}
@@ -16,17 +19,20 @@ use Rattle.ns_cell.specs.Passes.{CellValue, PassValue, new_pass}
 use Rattle.auth_entry.specs.Rows.{entry_row}
 use Rattle.sync_link.specs.Plans.{planned}
 use Rattle.sync_link.specs.Run.{Answer, Runs}
+use Rattle.sync_link.specs.Sessions.{Party}
 use Rattle.sync_link.specs.declared.plan.SessionPlan.{SessionPlan}
 use Rattle.peer_make.specs.KeySigners.{gives_of}
 use Rattle.peer_make.specs.declared.key_signer.KeySigner.{KeySigner}
-use Rattle.peer_run.specs.Calling.{IsCalled, IsConnected}
+use Rattle.peer_run.specs.Calling.{IsConnected}
+use Rattle.peer_run.specs.Preparing.{nonce_of}
+use Rattle.peer_run.specs.Visiting.{Way, Visit, IsVisit, IsAlone, AreAttended}
 
 module _ {R : Type 0} (pass : PassValue R) (log : List (LogRow R)) (closed : IsClosed (pass ∷ []) log) where
   only : (other : PassValue R) → Contains (pass ∷ []) other → pass ≡ other
   only other here = elim (member_from_contains (pass ∷ []) other here) [ inl same ↦ same | inr none ↦ absurd none ]
 
-  each : All (λ (row : LogRow R). row.pass ≡ pass.number) log
-  each k d within =
+  pub alone_each : All (λ (row : LogRow R). row.pass ≡ pass.number) log
+  alone_each k d within =
       let known = closed.known k d within in
       sym known.2 ∙ sym (ap (λ (p : PassValue R). p.number) (only known.0 known.1))
 
@@ -36,33 +42,81 @@ module _ {R : Type 0} (pass : PassValue R) (log : List (LogRow R)) (closed : IsC
 
   -- all rows are its own
   pub alone_own : pass.own ≡ log
-  alone_own = sym (closed.own 0 pass (omega arith)) ∙ rows_of_pass-own pass.number log (recursion_from_All (λ (row : LogRow R). row.pass ≡ pass.number) log each)
+  alone_own = sym (closed.own 0 pass (omega arith)) ∙ rows_of_pass-own pass.number log (recursion_from_All (λ (row : LogRow R). row.pass ≡ pass.number) log alone_each)
 
 -- ---- a session over a link, of the only pass
 
-module _ (place : List ℕ) (plan : SessionPlan PeerScheme) (nonce : List ℕ) (signer : KeySigner) (opening : StateValue AuthorisedValue) (cell : CellValue) (of_namespace : cell.namespace ≡ opening.namespace) where
-  pub called_alone : (old between new : DoorFacts) (handed_out link : LinkFacts) (before after : PassValue AuthorisedValue) (answer : Answer) (state : StateValue AuthorisedValue)
-      → IsConnected place old between handed_out → before ≡ new_pass cell opening.log 0
-      → Runs (planned peer_rules cell.namespace plan nonce) (gives_of signer) before after handed_out link 0 0 answer
-      → new.back ≡ list_with link between.back → new.out ≡ between.out - 1 → new.asked ≡ between.asked
-      → IsClosed (after ∷ []) state.log → IsLog entry_row cell.namespace state.log → state.namespace ≡ cell.namespace
-      → IsCalled place (planned peer_rules opening.namespace plan nonce) signer opening old new (record { end = answer; state = state })
-  called_alone old between new handed_out link before after answer state connected first ran back out asked closed is_log same =
+module _ (place : List ℕ) (plan : SessionPlan PeerScheme) (signer : KeySigner) (draw : List ℕ) (opening : StateValue AuthorisedValue) (of_first : AreOf 0 opening.log) (cell : CellValue) (of_namespace : cell.namespace ≡ opening.namespace)
+    (old between new : DoorFacts) (handed_out link : LinkFacts) (before after : PassValue AuthorisedValue) (nonce : List ℕ) (answer : Answer) (state : StateValue AuthorisedValue)
+    (connected : IsConnected place old between handed_out) (first : before ≡ new_pass cell opening.log 0) (is_nonce : nonce ≡ nonce_of draw)
+    (ran : Runs (planned peer_rules cell.namespace plan nonce) (gives_of signer) before after handed_out link 0 0 answer)
+    (closed : IsClosed (after ∷ []) state.log) where
+  abbrev way : Way
+  way = record { awaited = false; place = place }
+
+  abbrev brings : List ℕ → List ℕ → Party
+  brings draw = planned peer_rules opening.namespace plan (nonce_of draw)
+
+  number : after.number ≡ 0
+  number = ran.later.number ∙ ap (λ (p : PassValue AuthorisedValue). p.number) first
+
+  seen : after.seen ≡ state.log
+  seen = alone_seen after state.log closed
+
+  each : All (λ (row : LogRow AuthorisedValue). row.pass ≡ 0) state.log
+  each = subst (λ (n : ℕ). All (λ (row : LogRow AuthorisedValue). row.pass ≡ n) state.log) number (alone_each after state.log closed)
+
+  abbrev visit : Visit
+  visit = record { handed_out = handed_out; link = link; before = before; after = after; answer = answer }
+
+  runs_so : Runs (brings draw) (gives_of signer) before after handed_out link 0 0 answer
+  runs_so =
+      subst (λ (n : List ℕ). Runs (planned peer_rules n plan (nonce_of draw)) (gives_of signer) before after handed_out link 0 0 answer) of_namespace
+      (subst (λ (n : List ℕ). Runs (planned peer_rules cell.namespace plan n) (gives_of signer) before after handed_out link 0 0 answer) is_nonce ran)
+
+  is_visit : IsVisit opening.log state.log brings 0 signer draw visit
+  is_visit =
       record {
-        handed_out = handed_out;
-        link = link;
         fresh = connected.fresh;
-        is_back = record {
+        begun = (ap (λ (p : PassValue AuthorisedValue). p.seen) first, ap (λ (p : PassValue AuthorisedValue). p.own) first ∙ sym (rows_of_pass-own 0 opening.log of_first));
+        unturned = ap (λ (p : PassValue AuthorisedValue). p.turns) first;
+        ran = runs_so;
+        front = subst (λ (l : List (LogRow AuthorisedValue)). IsPrefix l state.log) (sym seen) (prefix_self state.log);
+        own = alone_own after state.log closed ∙ sym (rows_of_pass-own 0 state.log (recursion_from_All (λ (row : LogRow AuthorisedValue). row.pass ≡ 0) state.log each));
+      }
+
+  is_alone : IsAlone opening.log state.log visit
+  is_alone = record { began = ap (λ (p : PassValue AuthorisedValue). p.own) first; seen = seen; own = alone_own after state.log closed }
+
+  front : IsPrefix opening.log state.log
+  front =
+      subst (λ (l : List (LogRow AuthorisedValue)). IsPrefix l state.log) (ap (λ (p : PassValue AuthorisedValue). p.seen) first)
+      (subst (λ (l : List (LogRow AuthorisedValue)). IsPrefix before.seen l) seen (prefix_trans before.seen ran.log after.seen ran.opening.0 ran.opening.1))
+
+  called_alone : new.back ≡ list_with link between.back → new.out ≡ between.out - 1 → new.asked ≡ between.asked → new.accepts ≡ between.accepts → new.faults ≡ between.faults
+      → IsLog entry_row cell.namespace state.log → state.namespace ≡ cell.namespace → AreAttended way brings (signer ∷ []) (draw ∷ []) opening old new (answer ∷ []) true state
+  called_alone back out asked accepts faults is_log same =
+      record {
+        visits = visit ∷ [];
+        are_visits = (is_visit, tt);
+        shared = record { front = front; of_first = of_first; opening_own = λ awaited. absurd cc; numbered = λ k d within. let none = each k d within in omega (arith, none) };
+        called = λ call. record { came = refl; one = refl; alone = All-cons (IsAlone opening.log state.log) visit [] is_alone (All-nil (IsAlone opening.log state.log)) };
+        is_log = subst (λ (n : List ℕ). IsLog entry_row n state.log) of_namespace is_log;
+        of_namespace = same ∙ of_namespace;
+        ends = refl;
+        back = record {
           asked = asked ∙ connected.asked;
           out = omega (arith, out, connected.out);
           back = back ∙ ap (λ (told : Option (List LinkFacts)). list_with link told) connected.back;
         };
-        before = before;
-        after = after;
-        begun = (ap (λ (p : PassValue AuthorisedValue). p.seen) first, ap (λ (p : PassValue AuthorisedValue). p.own) first);
-        unturned = ap (λ (p : PassValue AuthorisedValue). p.turns) first;
-        ran = subst (λ (n : List ℕ). Runs (planned peer_rules n plan nonce) (gives_of signer) before after handed_out link 0 0 answer) of_namespace ran;
-        closed = (alone_seen after state.log closed, alone_own after state.log closed);
-        is_log = subst (λ (n : List ℕ). IsLog entry_row n state.log) of_namespace is_log;
-        of_namespace = same ∙ of_namespace;
+        accepts = (refl, faults ∙ connected.faults, accepts ∙ connected.accepts);
       }
+
+  -- of the one signer, the one draw and the one answer
+  pub called_so : (signers : List KeySigner) (draws : List (List ℕ)) (answers : List Answer) → signers ≡ signer ∷ [] → draws ≡ draw ∷ [] → answers ≡ answer ∷ []
+      → new.back ≡ list_with link between.back → new.out ≡ between.out - 1 → new.asked ≡ between.asked → new.accepts ≡ between.accepts → new.faults ≡ between.faults
+      → IsLog entry_row cell.namespace state.log → state.namespace ≡ cell.namespace → AreAttended way brings signers draws opening old new answers true state
+  called_so signers draws answers one_signer one_draw one_answer back out asked accepts faults is_log same =
+      subst (λ (s : List KeySigner). AreAttended way brings s draws opening old new answers true state) (sym one_signer)
+      (subst (λ (d : List (List ℕ)). AreAttended way brings (signer ∷ []) d opening old new answers true state) (sym one_draw)
+      (subst (λ (a : List Answer). AreAttended way brings (signer ∷ []) (draw ∷ []) opening old new a true state) (sym one_answer) (called_alone back out asked accepts faults is_log same)))

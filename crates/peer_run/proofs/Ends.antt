@@ -7,19 +7,16 @@ use Rattle.session_end.specs.declared.end.SessionEnd.{SessionEnd}
 use Rattle.session_end.specs.declared.end.SessionEnd.TheVariants as ending
 use Rattle.peer_stage.specs.declared.outcome.FollowCounts.{FollowCounts}
 use Rattle.peer_stage.specs.declared.outcome.SessionCounts.{SessionCounts}
-use Rattle.peer_stage.specs.declared.outcome.Served.{Served}
-use Rattle.peer_stage.specs.declared.outcome.Synced.{Synced}
+use Rattle.peer_stage.specs.declared.outcome.Hosted.{Hosted}
 use Rattle.peer_stage.specs.declared.outcome.Done.{Done}
 use Rattle.peer_stage.specs.declared.outcome.Done.TheVariants as done
 use Rattle.peer_stage.specs.declared.outcome.Stopped.{Stopped}
 use Rattle.peer_stage.specs.declared.outcome.Stop.{Stop}
 use Rattle.peer_stage.specs.declared.outcome.Stop.TheVariants as stop
-use Rattle.peer_stage.specs.Status.{status_of, stop_status, session_status, followed_status}
-use Rattle.peer_stage.proofs.Ends.{IsLocal, done_small, synced_known, served_known}
-use Rattle.peer_stage.proofs.Told.{synced_from}
+use Rattle.peer_stage.specs.Status.{status_of, stop_status, session_status, tail_status}
+use Rattle.peer_stage.proofs.Ends.{IsLocal, above_gave, done_small, hosted_known}
 use Rattle.peer_report.specs.Report.{Reports, after_report_fault}
 use Rattle.peer_run.specs.Promises.{IsRefusedMaking, IsEnd, IsBadStop, IsBadEnd, IsRefusedSession, IsRefusedFeed, IsRefusedStop, IsRefusedEnd, IsFullSession, IsFullFeed, IsFullStop, IsFullEnd, IsSpentStop, IsSpentEnd}
-use Rattle.peer_run.proofs.ServedStatus.{session_gave}
 use Rattle.peer_run.proofs.SignedAll.{IsSigned, IsSignedFeed, SignsAll, SignsEnd}
 
 -- ---- what a status tells of the end
@@ -58,15 +55,14 @@ is_end (Err e) small = is_refusal e small
 
 -- ---- what is done, with sessions or without
 
-by_done : (P : Done → Type 0) → ((d : Done) → IsLocal d → P d) → ((s : Synced) → P (done.Synced s)) → ((s : Served) → P (done.Served s)) → ((s : Stopped) → P (done.Stopped s)) → (d : Done) → P d
-by_done P local call serve stopped (done.Joined counts) = local (done.Joined counts) tt
-by_done P local call serve stopped (done.Shown counts) = local (done.Shown counts) tt
-by_done P local call serve stopped (done.Met counts) = local (done.Met counts) tt
-by_done P local call serve stopped (done.Synced s) = call s
-by_done P local call serve stopped (done.Served s) = serve s
-by_done P local call serve stopped (done.Stopped s) = stopped s
-by_done P local call serve stopped (done.Watched counts) = local (done.Watched counts) tt
-by_done P local call serve stopped done.Made = local done.Made tt
+by_done : (P : Done → Type 0) → ((d : Done) → IsLocal d → P d) → ((s : Hosted) → P (done.Hosted s)) → ((s : Stopped) → P (done.Stopped s)) → (d : Done) → P d
+by_done P local host stopped (done.Joined counts) = local (done.Joined counts) tt
+by_done P local host stopped (done.Shown counts) = local (done.Shown counts) tt
+by_done P local host stopped (done.Met counts) = local (done.Met counts) tt
+by_done P local host stopped (done.Hosted s) = host s
+by_done P local host stopped (done.Stopped s) = stopped s
+by_done P local host stopped (done.Watched counts) = local (done.Watched counts) tt
+by_done P local host stopped done.Made = local done.Made tt
 
 -- of a session, by its own status
 six_session : (session : Result SessionCounts SessionEnd) → IsSigned session → session_status session ≡ 6 → IsRefusedSession session
@@ -84,32 +80,26 @@ eight_session (Err end) is = absurd (omega (arith, is))
 eight_session (Ok counts) is = absurd (omega (arith, is))
 
 -- of a feed behind a session
-six_feed : (followed : Option (Result FollowCounts SessionEnd)) → IsSignedFeed followed → followed_status followed ≡ 6 → IsRefusedFeed followed
+six_feed : (followed : Option (Result FollowCounts SessionEnd)) → IsSignedFeed followed → tail_status followed ≡ 6 → IsRefusedFeed followed
 six_feed (Some (Err end)) signs is = six_session (Err end) (λ same. let fault : end ≡ ending.SignFault = cc in signs (ap (λ (e : SessionEnd). Some (Err e)) fault)) is
 six_feed (Some (Ok counts)) signs is = absurd (omega (arith, is))
 six_feed None signs is = absurd (omega (arith, is))
 
-eight_feed : (followed : Option (Result FollowCounts SessionEnd)) → followed_status followed ≡ 8 → IsFullFeed followed
+eight_feed : (followed : Option (Result FollowCounts SessionEnd)) → tail_status followed ≡ 8 → IsFullFeed followed
 eight_feed (Some (Err end)) is = eight_session (Err end) is
 eight_feed (Some (Ok counts)) is = absurd (omega (arith, is))
 eight_feed None is = absurd (omega (arith, is))
 
-refused_call : (s : Synced) → SignsAll (done.Synced s) → status_of (Ok (done.Synced s)) ≡ 6 → IsRefusedEnd (Ok (done.Synced s))
-refused_call s signs is = elim (synced_from s 6 is (omega arith)) [ inl own ↦ inl (six_session s.session signs.0 own) | inr feed ↦ inr (six_feed s.followed signs.1 feed) ]
-
-full_call : (s : Synced) → status_of (Ok (done.Synced s)) ≡ 8 → IsFullEnd (Ok (done.Synced s))
-full_call s is = elim (synced_from s 8 is (omega arith)) [ inl own ↦ inl (eight_session s.session own) | inr feed ↦ inr (eight_feed s.followed feed) ]
-
-refused_server : (s : Served) → SignsAll (done.Served s) → status_of (Ok (done.Served s)) ≡ 6 → IsRefusedEnd (Ok (done.Served s))
-refused_server s signs is = elim (session_gave s 6 is (omega arith)) [
-  | inl session ↦ (session.0, session.1, six_session session.0 (signs session.0 session.1) session.2)
-  | inr fed ↦ absurd (omega (arith, fed.0))
+refused_host : (s : Hosted) → SignsAll (done.Hosted s) → status_of (Ok (done.Hosted s)) ≡ 6 → IsRefusedEnd (Ok (done.Hosted s))
+refused_host s signs is = elim (above_gave s 6 is (omega arith)) [
+  | inl session ↦ inl (session.0, session.1, six_session session.0 (signs.0 session.0 session.1) session.2)
+  | inr feed ↦ inr (feed.0, feed.1, six_feed feed.0 (signs.1 feed.0 feed.1) feed.2)
 ]
 
-full_server : (s : Served) → status_of (Ok (done.Served s)) ≡ 8 → IsFullEnd (Ok (done.Served s))
-full_server s is = elim (session_gave s 8 is (omega arith)) [
-  | inl session ↦ (session.0, session.1, eight_session session.0 session.2)
-  | inr fed ↦ absurd (omega (arith, fed.0))
+full_host : (s : Hosted) → status_of (Ok (done.Hosted s)) ≡ 8 → IsFullEnd (Ok (done.Hosted s))
+full_host s is = elim (above_gave s 8 is (omega arith)) [
+  | inl session ↦ inl (session.0, session.1, eight_session session.0 session.2)
+  | inr feed ↦ inr (feed.0, feed.1, eight_feed feed.0 feed.2)
 ]
 
 -- the stops of each status
@@ -136,23 +126,23 @@ spent_stop e is = absurd (omega (arith, is))
 -- the ends of each status
 pub bad_end : (end : Result Done Stop) → status_of end ≡ 5 → IsBadEnd end
 bad_end (Ok d) is =
-    by_done (λ x. status_of (Ok x) ≡ 5 → IsBadEnd (Ok x)) (λ x local e. absurd (omega (arith, done_small x local, e))) (λ s e. absurd ((synced_known s).no_input e)) (λ s e. absurd ((served_known s).no_input e))
+    by_done (λ x. status_of (Ok x) ≡ 5 → IsBadEnd (Ok x)) (λ x local e. absurd (omega (arith, done_small x local, e))) (λ s e. absurd ((hosted_known s).no_input e))
     (λ s e. bad_stop s.stop e) d is
 bad_end (Err e) is = bad_stop e is
 
 pub refused_end : (end : Result Done Stop) → SignsEnd end → status_of end ≡ 6 → IsRefusedEnd end
 refused_end (Ok d) signs is =
     by_done (λ x. SignsAll x → status_of (Ok x) ≡ 6 → IsRefusedEnd (Ok x)) (λ x local signed e. absurd (omega (arith, done_small x local, e)))
-    refused_call refused_server (λ s signed e. refused_stop s.stop e) d signs is
+    refused_host (λ s signed e. refused_stop s.stop e) d signs is
 refused_end (Err e) signs is = refused_stop e is
 
 pub full_end : (end : Result Done Stop) → status_of end ≡ 8 → IsFullEnd end
 full_end (Ok d) is =
-    by_done (λ x. status_of (Ok x) ≡ 8 → IsFullEnd (Ok x)) (λ x local e. absurd (omega (arith, done_small x local, e))) full_call full_server (λ s e. full_stop s.stop e) d is
+    by_done (λ x. status_of (Ok x) ≡ 8 → IsFullEnd (Ok x)) (λ x local e. absurd (omega (arith, done_small x local, e))) full_host (λ s e. full_stop s.stop e) d is
 full_end (Err e) is = full_stop e is
 
 pub spent_end : (end : Result Done Stop) → status_of end ≡ 9 → IsSpentEnd end
 spent_end (Ok d) is =
-    by_done (λ x. status_of (Ok x) ≡ 9 → IsSpentEnd (Ok x)) (λ x local e. absurd (omega (arith, done_small x local, e))) (λ s e. absurd (omega (arith, (synced_known s).small, e)))
-    (λ s e. absurd (omega (arith, (served_known s).small, e))) (λ s e. spent_stop s.stop e) d is
+    by_done (λ x. status_of (Ok x) ≡ 9 → IsSpentEnd (Ok x)) (λ x local e. absurd (omega (arith, done_small x local, e))) (λ s e. absurd (omega (arith, (hosted_known s).small, e)))
+    (λ s e. spent_stop s.stop e) d is
 spent_end (Err e) is = spent_stop e is

@@ -4,7 +4,7 @@ use Rattle.spelling.specs.Answers.{or_else}
 use Rattle.mc_cap.specs.declared.refusal.RefusedRow.{RefusedRow}
 use Rattle.sync_link.specs.Run.{Answer}
 use Rattle.peer_run.specs.Closing.{refused_after}
-use Rattle.peer_run.specs.Serve.{first_of_links, refused_in, rows_told}
+use Rattle.peer_run.specs.Telling.{first_of_links, refused_in, rows_told}
 
 -- a sum that stops there is the same where one of its numbers has stopped there
 stops_once : (a b most : ℕ) → min (min a most + b) most ≡ min (a + b) most

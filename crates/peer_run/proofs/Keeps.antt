@@ -5,9 +5,9 @@ use Rattle.peer_run.specs.Promises.{KeepsPromises}
 use Rattle.peer_run.proofs.Causes.{ended, usage, is_command, read_fault, write_fault, bad_input, refused, log_full, key_spent, statuses}
 use Rattle.peer_run.proofs.Complete.{complete}
 use Rattle.peer_run.proofs.WholeJoin.{whole_join}
+use Rattle.peer_run.proofs.WholeWatch.{whole_watch}
 use Rattle.peer_run.proofs.WholeMeeting.{whole_meeting}
-use Rattle.peer_run.proofs.WholeCall.{sync_promises}
-use Rattle.peer_run.proofs.WholeService.{serve_promises}
+use Rattle.peer_run.proofs.WholeHost.{sync_promises, serve_promises}
 use Rattle.peer_run.proofs.Reported.{counts_stand, none_passed_over, hides_none, report_stood}
 
 pub keeps : (run : Run) → RunsWords run → run.old.report.faults ≤ run.new.report.faults → KeepsPromises run
@@ -15,9 +15,10 @@ keeps run runs faults =
     record {
       runs = runs;
       joined = λ namespace is_join small. whole_join run namespace (ended run runs small) is_join;
+      watched = λ image area is_watch small. whole_watch run image area (ended run runs small) is_watch;
       met = λ words is_meet small. whole_meeting run words (ended run runs small) is_meet;
-      synced = λ words is_sync. sync_promises run words runs is_sync;
-      served = λ words is_serve. serve_promises run words runs is_serve;
+      synced = sync_promises run runs;
+      served = serve_promises run runs;
       ended = ended run runs;
       usage = λ is. (usage run runs is).0;
       untouched = λ is. (usage run runs is).1;

@@ -4,14 +4,15 @@ use Rattle.peer_stage.specs.Deed.{IsLawful}
 use Rattle.peer_stage.specs.declared.outcome.Done.TheVariants as done
 use Rattle.peer_stage.proofs.Owing.{StaysLocal, then_local, writes_local, not_built_is_lawful}
 use Rattle.peer_rows.proofs.Deeds.{join_is_lawful, show_is_lawful, gen_is_lawful}
+use Rattle.peer_rows.proofs.WatchDeeds.{watch_is_lawful, watches_local}
 use Rattle.peer_make.proofs.Deeds.{key_is_lawful, grant_is_lawful, delegate_is_lawful, write_is_lawful}
 use Rattle.peer_words.specs.declared.command.Command.{Command}
 use Rattle.peer_words.specs.declared.command.Command.TheVariants as cmd
 use Rattle.peer_run.specs.Deeds.{deed_of}
+use Rattle.peer_run.specs.Hosting.{calling_words, serving_words}
 use Rattle.peer_run.specs.Locals as locals
 use Rattle.peer_run.proofs.PairDeeds.{drill_is_lawful, meet_is_lawful}
-use Rattle.peer_run.proofs.CallEnds.{sync_is_lawful}
-use Rattle.peer_run.proofs.ServeEnds.{serve_is_lawful}
+use Rattle.peer_run.proofs.HostEnds.{host_is_lawful}
 
 -- One line a command.
 pub laws_of : (c : Command) → IsLawful (deed_of c)
@@ -25,9 +26,9 @@ laws_of (cmd.Gen rows) = gen_is_lawful rows
 laws_of (cmd.Drill rows) = drill_is_lawful rows
 laws_of (cmd.Meet left right left_cap right_cap left_out right_out area newest bytes) =
     meet_is_lawful (record { left = left; right = right; left_cap = left_cap; right_cap = right_cap; left_out = left_out; right_out = right_out; area = area; limits = record { newest = newest; bytes = bytes } })
-laws_of (cmd.Sync image cap key to area newest bytes false) = sync_is_lawful (record { image = image; cap = cap; key = key; to = to; area = area; limits = record { newest = newest; bytes = bytes } })
-laws_of (cmd.Serve image cap key at links area newest bytes false None) =
-    serve_is_lawful (record { image = image; cap = cap; key = key; at = at; links = links; area = area; limits = record { newest = newest; bytes = bytes } })
+laws_of (cmd.Sync image cap key to area newest bytes false) = host_is_lawful (calling_words image cap key to area (record { newest = newest; bytes = bytes }))
+laws_of (cmd.Serve image cap key at links area newest bytes false None) = host_is_lawful (serving_words image cap key at links area (record { newest = newest; bytes = bytes }))
+laws_of (cmd.Watch image area) = watch_is_lawful image area
 laws_of command = not_built_is_lawful
 
 -- One line a command: any but those that call others stays without sessions.
@@ -44,4 +45,4 @@ stays_local (cmd.Meet left right left_cap right_cap left_out right_out area newe
     then_local _ _ (λ s. then_local _ _ (λ agreed. then_local _ _ (λ met. then_local _ _ (λ one. then_local _ _ (λ other. writes_local met.transcript.items (done.Met met.counts) tt)))))
 stays_local (cmd.Sync image grant key to area newest bytes follow) is = absurd is
 stays_local (cmd.Serve image grant key at links area newest bytes follow log) is = absurd is
-stays_local c is = λ old new d m. absurd m
+stays_local (cmd.Watch image area) is = watches_local image area

@@ -1,5 +1,5 @@
 -- The log of a closed cell, of which some passes never stored a row.
-use Rattle.std.proofs.Common.{◌≡◌, ℕ, zero, suc, ◌+◌, ◌≤◌, ◌⊎◌, inl, inr, eqb, List, [], ◌∷◌, get_or, refl, ◌∙◌, subst, arith, eq-eqb}
+use Rattle.std.proofs.Common.{◌≡◌, ℕ, zero, suc, ◌+◌, ◌≤◌, ◌⊎◌, inl, inr, eqb, List, [], ◌∷◌, length, get_or, refl, ◌∙◌, subst, arith, eq-eqb}
 use Rattle.std.specs.List.{All, AllByRecursion}
 use Rattle.std.proofs.lemmas.List.Elements.{All-contains, All-from_recursion, Contains-get_or}
 use Rattle.willow_entry.specs.declared.row.LogRow.{LogRow}
@@ -18,6 +18,12 @@ tails x y xs ys e = cc
 
 pub never_empty : {X : Type 0} (x : X) (xs : List X) → x ∷ xs ≡ [] → ⊥
 never_empty x xs e = absurd cc
+
+-- a list of one item
+pub only_item : {X : Type 0} (xs : List X) (d : X) → length xs ≡ 1 → xs ≡ get_or xs 0 d ∷ []
+only_item [] d is = absurd (omega (arith, is))
+only_item (x ∷ []) d is = refl
+only_item (x ∷ (y ∷ ys)) d is = absurd (omega (arith, is))
 
 module _ {R : Type 0} where
   -- where a number has no rows in a log, no row there has the number

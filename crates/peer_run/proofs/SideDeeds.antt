@@ -4,14 +4,9 @@ use Rattle.std.specs.Prelude.{Result, Err}
 use Rattle.std.specs.declared.string.String.{String}
 use Rattle.std.specs.declared.alloc.Global.{Global}
 use Rattle.willow_outside.specs.Counts.{Rose}
-use Rattle.willow_outside.specs.Facts.{ShelfFacts}
 use Rattle.peer_words.specs.declared.command.AreaWords.{AreaWords}
-use Rattle.peer_words.specs.declared.command.SignerWord.{SignerWord}
-use Rattle.peer_words.specs.declared.command.SignerWord.TheVariants.{OpenKey, LmsFile}
 use Rattle.peer_rows.specs.Images.{ReadsImageFrom}
-use Rattle.peer_make.specs.Deeds.{SignerRose}
 use Rattle.peer_make.specs.Reading.{ReadsCapabilityFrom}
-use Rattle.peer_make.specs.Signing.{StopsSigning}
 use Rattle.peer_stage.specs.World.{World}
 use Rattle.peer_stage.specs.Shelves.{GetsBytes}
 use Rattle.peer_stage.specs.Steps.{Inside, OnShelf}
@@ -103,17 +98,6 @@ preparing_keeps_door image cap area =
     then_keeps _ _ (inside_keeps (OpensLog i.namespace i.rows.items)) (λ opening.
     then_keeps _ _ (capability_keeps cap) (λ c.
     then_keeps _ _ (inside_keeps (Greets i.namespace area c no_nonce)) (λ h. inside_keeps (Yields (record { opening = opening; hello = h }))))))
-
--- ---- what signs, and the link
-
--- what a signer calls is the shelf
-pub signer_rises : (key : SignerWord) (before now : ℕ) → SignerRose key before now → Rose before now
-signer_rises (OpenKey key) before now rose = absurd rose
-signer_rises (LmsFile name) before now rose = rose
-
-pub no_usage : (key : SignerWord) (h h' : ShelfFacts) → StopsSigning key h h' stop.Usage → ⊥
-no_usage (OpenKey key) h h' s = s
-no_usage (LmsFile name) h h' s = s
 
 -- a count that was 0 as the link was handed out, and rose in the session, rose from 0
 pub from_none : (before now : ℕ) → before ≡ 0 → Rose before now → Rose 0 now

@@ -17,6 +17,7 @@ use Rattle.sync_hello.specs.declared.version.TheConstants.{HIGHEST_VERSION}
 use Rattle.sync_core.specs.Flat.{TurnValue}
 use Rattle.sync_pair.specs.Meeting.{meeting, turn_bytes}
 use Rattle.sync_pair.specs.Stores.{AreStores, IsStoreOf}
+use Rattle.sync_pair.proofs.Alone.{say_alone}
 use Rattle.peer_image.specs.Image.{image}
 use Rattle.peer_image.specs.ImageReading.{raw_rows}
 use Rattle.peer_image.specs.Order.{order_refusal}
@@ -39,7 +40,8 @@ use Rattle.peer_words.proofs.OneCommand.{at_most_one}
 use Rattle.peer_run.specs.Deeds.{deed_of}
 use Rattle.peer_run.specs.ImagesMet.{IsMeeting, AreMetCounts, image_turns}
 use Rattle.peer_run.specs.Meet.{Gathers, Meets, Puts, agreed_area, meeting_refusal}
-use Rattle.peer_run.specs.MeetHeadline.{IsWholeMeeting, HaveMet, Stores, stores_of, turns_of}
+use Rattle.peer_run.proofs.Offers.{offer_stores}
+use Rattle.peer_run.specs.MeetHeadline.{IsWholeMeeting, HaveMet, Stores, left_offer, right_offer, stores_of, turns_of}
 use Rattle.peer_run.specs.Offered.{offer}
 use Rattle.peer_run.specs.PairDeeds.{Given, AreGiven, HasImage, HoldsCapability}
 use Rattle.peer_run.specs.Promises.{HasEnded, IsEnd}
@@ -48,7 +50,6 @@ use Rattle.peer_run.specs.Transcript.{transcript}
 use Rattle.peer_run.specs.declared.images_met.Met.{Met}
 use Rattle.peer_run.specs.declared.meeting.MeetWords.{MeetWords}
 use Rattle.peer_run.specs.declared.meeting.Sides.{Sides}
-use Rattle.peer_run.proofs.Alone.{say_alone}
 use Rattle.peer_run.proofs.BothPass.{agreed}
 use Rattle.peer_rows.proofs.AuthorisedRows.{authorised_live, of_namespace}
 use Rattle.peer_run.proofs.Gathered.{WereGot, gathered}
@@ -209,7 +210,7 @@ module _ (words : MeetWords) (run : Run) (d : Done) (c : HasCome words run.old (
         converged = λ tell. put ∙ ap₂ (λ (a b : List RowValue). names_with (image n a) (image n b)) (left_converges n stores are_stores tell) (right_converges n stores are_stores tell);
         written = subst (λ (text : List ℕ). IsWritten run.old.output run.new.output text) told c.written;
         alike = meet_alike stores;
-        alone = say_alone n stores are_stores;
+        alone = say_alone HIGHEST_VERSION n (left_offer stores) (right_offer stores) stores.area (offer_stores n stores.limits stores.area stores.left stores.right are_stores);
       }
 
   whole : IsWritten run.old.report run.new.report (report_of (Ok d)) → run.status ≡ status_of (Ok d) → IsWholeMeeting words run

@@ -1,5 +1,5 @@
 -- What one visit of a server is: a session over its link, with the pass, the signer and the nonce of its guest.
-use Rattle.std.specs.Prelude.{◌≡◌, ◌≤◌, ℕ, Bool, true, false, List, ◌∷◌, ◌++◌, map, Option, Some, None, Result, Ok, Err}
+use Rattle.std.specs.Prelude.{◌≡◌, ◌≤◌, ℕ, ◌+◌, Bool, true, false, List, ◌∷◌, ◌++◌, length, map, All, Option, Some, None, Result, Ok, Err}
 use Rattle.willow_outside.specs.Counts.{HasRisen}
 use Rattle.willow_outside.specs.Facts.{LinkFacts, DoorFacts}
 use Rattle.willow_outside.specs.Links.{list_with}
@@ -8,22 +8,39 @@ use Rattle.willow_outside.specs.declared.fault.Fault.TheVariants as fault
 use Rattle.link_host.specs.declared.hosting.Hosted.{Hosted}
 use Rattle.auth_entry.specs.Authorised.{AuthorisedValue}
 use Rattle.lms_core.specs.Use.{peer_rules}
-use Rattle.ns_state.specs.Log.{IsLog}
+use Rattle.lms_core.specs.declared.scheme.PeerScheme.{PeerScheme}
+use Rattle.ns_state.specs.Log.{StateValue, IsLog}
 use Rattle.ns_cell.specs.Closed.{IsClosed}
-use Rattle.ns_cell.specs.Passes.{PassValue, IsPassOf}
+use Rattle.ns_cell.specs.Passes.{PassValue, IsPassOf, new_passes}
 use Rattle.sync_hello.specs.Checked.{hello_refusal}
 use Rattle.sync_core.specs.SyncRules.{IsVersion}
 use Rattle.auth_entry.specs.Rows.{entry_row}
 use Rattle.sync_link.specs.Plans.{own_hello, planned}
 use Rattle.sync_link.specs.Run.{Runs}
+use Rattle.sync_link.specs.declared.plan.SessionPlan.{SessionPlan}
 use Rattle.peer_make.specs.KeySigners.{gives_of, left_of}
+use Rattle.peer_make.specs.declared.key_signer.KeySigner.{KeySigner}
 use Rattle.peer_stage.specs.declared.outcome.Stop.{Stop}
 use Rattle.peer_stage.specs.declared.outcome.Stop.TheVariants as stop
 use Rattle.peer_run.specs.Calling.{IsUnasked}
+use Rattle.peer_run.specs.Preparing.{nonce_of}
 use Rattle.peer_run.specs.declared.hosting.Attended.{Attended}
 use Rattle.peer_run.specs.declared.hosting.Guest.{Guest}
 use Rattle.peer_run.specs.declared.hosting.Hall.{Hall}
 use Rattle.peer_run.specs.declared.hosting.Parting.{Parting}
+use Rattle.peer_run.specs.declared.hosting.Room.{Room}
+
+-- The hall has this plan, and a cell of this log with one pass more than there are signers. The own pass is the first of these,
+-- and each guest has the next one, a signer, and the nonce of a draw, in order.
+pub record IsRoom (state : StateValue AuthorisedValue) (plan : SessionPlan PeerScheme) (signers : List KeySigner) (draws : List (List ℕ)) (room : Room) : Type 0 where
+  pub plan_is : room.hall.plan ≡ plan
+  pub own_namespace : room.hall.namespace ≡ room.hall.cell.namespace
+  pub of_namespace : room.hall.cell.namespace ≡ state.namespace
+  pub as_many : room.hall.cell.passes ≡ 1 + length signers
+  pub passes_are : room.own ∷ map (λ (guest : Guest). guest.pass) room.guests.items ≡ new_passes room.hall.cell state.log 0 (1 + length signers)
+  pub of_cell : All (IsPassOf room.hall.cell) (room.own ∷ map (λ (guest : Guest). guest.pass) room.guests.items)
+  pub signers_are : map (λ (guest : Guest). guest.signer) room.guests.items ≡ signers
+  pub nonces_are : map (λ (guest : Guest). guest.nonce) room.guests.items ≡ map nonce_of draws
 
 -- The guest may begin a session: its pass is of the cell, nothing is against the hello that it says, of a version that is
 -- spoken, and it can sign.

@@ -1,108 +1,151 @@
--- Sessions with those who come to a place: each over a link that is accepted for it, all over one log, and every link given
--- back behind them.
-use Rattle.std.specs.Prelude.{◌≡◌, ◌⊎◌, ℕ, ◌+◌, ◌<◌, ◌≤◌, Bool, true, false, List, [], ◌∷◌, map, length, All, Result, Ok, Err}
-use mathlib.Core.List.{IsPrefix}
-use Rattle.willow_outside.specs.Counts.{HasRisen}
+-- What `sync` and `serve` do, part by part: sessions of an image over links, and the image of what is live behind them.
+use Rattle.std.specs.Prelude.{◌≡◌, ℕ, ◌≤◌, ◌⊎◌, Bool, true, false, ◌&&◌, List, [], length, Contains, Ok, Err}
+use Rattle.std.specs.String.{string_bytes}
+use Rattle.std.specs.declared.string.String.{String}
+use Rattle.std.specs.declared.alloc.Global.{Global}
+use Rattle.spelling.specs.Answers.{or_else}
+use Rattle.willow_outside.specs.Counts.{Rose}
 use Rattle.willow_outside.specs.Facts.{LinkFacts, DoorFacts}
-use Rattle.willow_outside.specs.Links.{IsFresh, list_with}
-use Rattle.link_host.specs.Hosted.{counted_on, list_with_all}
-use Rattle.willow_entry.specs.declared.row.LogRow.{LogRow}
-use Rattle.auth_entry.specs.Authorised.{AuthorisedValue}
-use Rattle.log_rule.specs.Views.{rows_of_pass}
-use Rattle.ns_state.specs.Log.{StateValue, IsLog}
-use Rattle.ns_cell.specs.Passes.{PassValue}
-use Rattle.auth_entry.specs.Rows.{entry_row}
-use Rattle.sync_link.specs.Ran.{Ran}
-use Rattle.sync_link.specs.Run.{Answer, Runs}
+use Rattle.link_host.specs.Hosted.{list_with_all}
+use Rattle.area_interest.specs.declared.interest.Interest.{Interest}
+use Rattle.lms_core.specs.Use.{peer_rules}
+use Rattle.sync_msg.specs.declared.role.Role.{Role}
+use Rattle.sync_msg.specs.declared.role.Role.TheVariants.{Caller, Answerer}
+use Rattle.sync_link.specs.Plans.{planned}
 use Rattle.sync_link.specs.Sessions.{Party}
-use Rattle.peer_make.specs.KeySigners.{gives_of}
+use Rattle.call_rules.specs.Parts.{Rules, Part, Behind}
+use Rattle.peer_words.specs.declared.command.AreaWords.{AreaWords}
+use Rattle.peer_words.specs.declared.command.SignerWord.{SignerWord}
+use Rattle.peer_make.specs.KeySigners.{HandsSigners}
+use Rattle.peer_make.specs.Making.{DrawsAll}
 use Rattle.peer_make.specs.declared.key_signer.KeySigner.{KeySigner}
+use Rattle.peer_stage.specs.Shelves.{PutsBytes}
+use Rattle.peer_stage.specs.Status.{stop_status}
+use Rattle.peer_stage.specs.Steps.{Step, Then, Inside, OnShelf, OnNoise}
+use Rattle.peer_stage.specs.World.{World, NeverFall, Unfailed}
+use Rattle.peer_stage.specs.declared.outcome.Done.{Done}
 use Rattle.peer_stage.specs.declared.outcome.Stop.{Stop}
 use Rattle.peer_stage.specs.declared.outcome.Stop.TheVariants as stop
-use Rattle.peer_run.specs.Calling.{IsUnasked}
-use Rattle.peer_run.specs.declared.hosting.Attended.{Attended}
+use Rattle.peer_run.specs.Closing.{image_of, put_answer}
+use Rattle.peer_run.specs.Meet.{Yields}
+use Rattle.peer_run.specs.Preparing.{Prepares, nonce_of, plan_of}
+use Rattle.peer_run.specs.Telling.{Told, AreNotForWant, TellsHosted, none_told, first_of_links, statuses}
+use Rattle.peer_run.specs.Visiting.{Way, AreAttended, StopsAttending}
+use Rattle.peer_run.specs.declared.sessions.House as house
+use Rattle.peer_run.specs.declared.sessions.HostWords.{HostWords}
 
--- ---- the session of one link
+-- ---- the words
 
--- the link as it was handed out and as it came back, the pass of the session before it and behind it, and what it answered
-pub record Visit : Type 0 where
-  pub handed_out : LinkFacts
-  pub link : LinkFacts
-  pub before : PassValue AuthorisedValue
-  pub after : PassValue AuthorisedValue
-  pub answer : Answer
+-- one is called for, from the place of the words
+abbrev pub calling_words : String Global → String Global → SignerWord → String Global → AreaWords → Interest → HostWords
+calling_words image cap key to area limits = record { awaited = false; image = image; cap = cap; key = key; place = to; links = 1; area = area; limits = limits }
 
--- One session was run over the link, of a side that brings this. Its pass had seen the opening log, and had had no turn and no
--- rows of its own; what it has seen behind it is a front of the log behind all sessions, in which its own list are the rows of its number.
-pub record IsVisit (opening log : List (LogRow AuthorisedValue)) (number : ℕ) (p : List ℕ → Party) (signer : KeySigner) (visit : Visit) : Type 0 where
-  pub fresh : IsFresh visit.handed_out
-  pub begun : (visit.before.seen ≡ opening) × (visit.before.own ≡ [])
-  pub unturned : visit.before.turns ≡ []
-  pub ran : Runs p (gives_of signer) visit.before visit.after visit.handed_out visit.link 0 0 visit.answer
-  pub front : IsPrefix visit.after.seen log
-  pub own : visit.after.own ≡ rows_of_pass number log
+-- so many are waited for at the place of the words
+abbrev pub serving_words : String Global → String Global → SignerWord → String Global → ℕ → AreaWords → Interest → HostWords
+serving_words image cap key at links area limits = record { awaited = true; image = image; cap = cap; key = key; place = at; links = links; area = area; limits = limits }
 
--- it as a session of a side
-abbrev pub ran_of : {opening log : List (LogRow AuthorisedValue)} {number : ℕ} {p : List ℕ → Party} {signer : KeySigner} {visit : Visit} → IsVisit opening log number p signer visit → Ran p
-ran_of {opening} {log} {number} {p} {signer} {visit} is = record {
-  gives = gives_of signer;
-  before = visit.before;
-  after = visit.after;
-  link = visit.handed_out;
-  link' = visit.link;
-  faults = 0;
-  faults' = 0;
-  answer = visit.answer;
-  did = is.ran;
-}
+abbrev pub way_of : HostWords → Way
+way_of words = record { awaited = words.awaited; place = string_bytes words.place }
 
--- ---- those of all links
+-- who calls for a link, and who waits for links
+abbrev pub own_role : Bool → Role
+own_role false = Caller
+own_role true = Answerer
 
--- One such session a link, numbered from this number on, each with the next signer and the next draw.
-abbrev pub AreVisits : List (LogRow AuthorisedValue) → List (LogRow AuthorisedValue) → (List ℕ → List ℕ → Party) → ℕ → List KeySigner → List (List ℕ) → List Visit → Type 0
-AreVisits opening log p number signers draws [] = Unit {0}
-AreVisits opening log p number (signer ∷ signers) (draw ∷ draws) (visit ∷ visits) = IsVisit opening log number (p draw) signer visit × AreVisits opening log p (number + 1) signers draws visits
-AreVisits opening log p number signers draws visits = ⊥
+-- ---- causes
 
--- The log behind so many sessions began with the opening one; each row behind that is of one of them, by its number from 1.
-pub record IsShared (opening log : List (LogRow AuthorisedValue)) (sessions : ℕ) : Type 0 where
-  pub front : IsPrefix opening log
-  pub opening_own : rows_of_pass 0 log ≡ opening
-  pub numbered : All (λ (row : LogRow AuthorisedValue). row.pass ≤ sessions) log
-
--- ---- the door
-
--- the place was asked for once, and these links were handed out and are back, in order
-pub record AreBack (place : List ℕ) (old new : DoorFacts) (links : List LinkFacts) : Type 0 where
-  pub asked : new.asked ≡ list_with place old.asked
-  pub out : new.out ≡ old.out
+-- among the links that are back there is one of which this count rose
+pub record HasFailedAmong (count : LinkFacts → ℕ) (old new : DoorFacts) : Type 0 where
+  pub links : List LinkFacts
   pub back : new.back ≡ list_with_all links old.back
+  pub link : LinkFacts
+  pub among : Contains links link
+  pub rose : Rose 0 (count link)
 
--- As many links came as were asked for, or fewer, since accepting one failed. One accept was made for each that came, and
--- one more where not all came.
-abbrev pub Accepts : ℕ → ℕ → Bool → DoorFacts → DoorFacts → Type 0
-Accepts links came true old new = (came ≡ links) × (new.faults ≡ old.faults) × (new.accepts ≡ counted_on came old.accepts)
-Accepts links came false old new = (came < links) × HasRisen old.faults new.faults × (new.accepts ≡ counted_on (came + 1) old.accepts)
+-- a count of the shelf's reads, of the noise or of the door rose, or that of the reads of a link
+abbrev pub HostReads : World → World → Type 0
+HostReads old new =
+    Rose old.shelf.read_faults new.shelf.read_faults ⊎ (Rose old.noise.faults new.noise.faults ⊎ (Rose old.door.faults new.door.faults ⊎ HasFailedAmong (λ link. link.read_faults) old.door new.door))
 
--- Those who came to the place were attended: by a side that brings this, by its draw and its signature, and began with the
--- log of a state; each over a link of its own, up to as many as there are signers.
-pub record AreAttended (place : List ℕ) (p : List ℕ → List ℕ → Party) (signers : List KeySigner) (draws : List (List ℕ)) (opening : StateValue AuthorisedValue) (old new : DoorFacts) (x : Attended) : Type 0 where
-  pub visits : List Visit
-  pub are_visits : AreVisits opening.log x.state.log p 1 signers draws visits
-  pub shared : IsShared opening.log x.state.log (length visits)
-  pub is_log : IsLog entry_row opening.namespace x.state.log
-  pub of_namespace : x.state.namespace ≡ opening.namespace
-  pub ends : x.ends.items ≡ map (λ (visit : Visit). visit.answer) visits
-  pub back : AreBack place old new (map (λ (visit : Visit). visit.link) visits)
-  pub accepts : Accepts (length signers) (length visits) x.all_came old new
+-- a count of the shelf's writes rose, or that of the writes of a link
+abbrev pub HostWrites : World → World → Type 0
+HostWrites old new = Rose old.shelf.write_faults new.shelf.write_faults ⊎ HasFailedAmong (λ link. link.write_faults) old.door new.door
 
--- nothing was asked, or the place was and all that was handed out is back
-abbrev pub IsAskedAtMost : List ℕ → DoorFacts → DoorFacts → Type 0
-IsAskedAtMost place old new = IsUnasked old new ⊎ ((new.asked ≡ list_with place old.asked) × (new.out ≡ old.out))
+-- at most so many links are back
+pub record IsBackAtMost (most : ℕ) (old new : DoorFacts) : Type 0 where
+  pub links : List LinkFacts
+  pub back : new.back ≡ list_with_all links old.back
+  pub few : length links ≤ most
 
--- how those who come to a place are attended; where memory is wanting, no fault of the door was met
-abbrev pub Attends : List ℕ → (List ℕ → List ℕ → Party) → List KeySigner → List (List ℕ) → StateValue AuthorisedValue → DoorFacts → DoorFacts → Result Attended Stop → Type 0
-Attends place p signers draws opening old new (Ok x) = AreAttended place p signers draws opening old new x
-Attends place p signers draws opening old new (Err stop.ReadFault) = IsUnasked old new × HasRisen old.faults new.faults
-Attends place p signers draws opening old new (Err stop.NoMemory) = IsAskedAtMost place old new × (new.faults ≡ old.faults)
-Attends place p signers draws opening old new (Err e) = ⊥
+-- no count falls, and the links that are back stay there
+pub record GoesOn (old new : World) : Type 0 where
+  pub counts : NeverFall old new
+  pub links : List LinkFacts
+  pub back : new.door.back ≡ list_with_all links old.door.back
+
+abbrev pub host_rules : Rules World Told Stop
+host_rules = record { goes_on = GoesOn; unfailed = Unfailed; reads = HostReads; writes = HostWrites; met = statuses; stop = stop_status }
+
+-- ---- the sessions
+
+-- Sessions were run over the links of a way, before which none was told.
+pub record HasAttended (way : Way) (p : List ℕ → List ℕ → Party) (signers : List KeySigner) (draws : List (List ℕ)) (rows : ℕ) (old : World) (told : Told) (new : World) (t : Told) : Type 0 where
+  pub none_yet : told.answers ≡ []
+  pub all_came_yet : told.all_came ≡ true
+  pub does : AreAttended way p signers draws told.state old.door new.door t.answers t.all_came t.state
+  pub first_is : t.first ≡ or_else told.first (first_of_links rows t.answers)
+  pub put_is : t.put ≡ told.put
+  pub others : new ≡ record old { door = new.door }
+
+-- Sessions are run over the links of a way, behind an image of so many rows.
+abbrev pub RunsSessions : Way → (List ℕ → List ℕ → Party) → List KeySigner → List (List ℕ) → ℕ → Part World Told Stop
+RunsSessions way p signers draws rows old told new (Ok t) = HasAttended way p signers draws rows old told new t
+RunsSessions way p signers draws rows old told new (Err e) = StopsAttending way old.door new.door e × (new ≡ record old { door = new.door })
+
+-- ---- the image
+
+-- what is told of a put, behind what was told
+abbrev pub with_put : Told → Bool → Told
+with_put told put = record { answers = told.answers; all_came = told.all_came; first = told.first; put = told.put && put; state = told.state }
+
+-- The image was put, or writing it failed, which is told; memory was wanting in none of the sessions.
+pub record HasPut (name : List ℕ) (old : World) (told : Told) (new : World) (t : Told) : Type 0 where
+  pub wanted_none : AreNotForWant told.answers
+  pub put : Bool
+  pub told_is : t ≡ with_put told put
+  pub does : OnShelf (PutsBytes name (image_of told.state)) old new (put_answer put)
+
+-- The image of what is live is put. For want of memory, in a session or behind them, none was put.
+abbrev pub PutsImage : List ℕ → Part World Told Stop
+PutsImage name old told new (Ok t) = HasPut name old told new t
+PutsImage name old told new (Err stop.NoMemory) = OnShelf (PutsBytes name (image_of told.state)) old new (Err stop.NoMemory)
+PutsImage name old told new (Err e) = ⊥
+
+-- ---- as a command
+
+abbrev pub HostsLinks : Way → (List ℕ → List ℕ → Party) → List KeySigner → List (List ℕ) → ℕ → List ℕ → Part World Told Stop
+HostsLinks way p signers draws rows name = Behind (RunsSessions way p signers draws rows) (PutsImage name)
+
+-- it ends with what tells what is told, or with the stop
+abbrev pub Tells : Part World Told Stop → Told → (Told → Done → Type 0) → Step Done
+Tells part start tells old new (Ok d) = (t : Told) × part old start new (Ok t) × tells t d
+Tells part start tells old new (Err e) = part old start new (Err e)
+
+-- It gets what a side of this role brings, and reserves as many signers as links are to come.
+abbrev pub OpensHouse : Role → String Global → String Global → SignerWord → ℕ → AreaWords → Interest → Step house.House
+OpensHouse role image cap key links area limits =
+    Then (Prepares image cap area) (λ r.
+    Then (OnShelf (HandsSigners key links)) (λ signers.
+    Inside (Yields (record { opening = r.opening; plan = plan_of role r.hello limits; signers = signers }))))
+
+-- the side of a session, by its draw
+abbrev pub plans_of : house.House → List ℕ → List ℕ → Party
+plans_of s draw = planned peer_rules s.opening.state.namespace s.plan (nonce_of draw)
+
+-- It gets the image and the capability, and reserves what signs and draws, for each link that is to come. It runs a session over
+-- each, and puts the image of what is live behind all of them.
+abbrev pub DoesHost : HostWords → Step Done
+DoesHost words =
+    Then (OpensHouse (own_role words.awaited) words.image words.cap words.key words.links words.area words.limits) (λ s.
+    Then (OnNoise (DrawsAll words.links)) (λ draws.
+    Tells (HostsLinks (way_of words) (plans_of s) s.signers.items draws.items s.opening.rows (string_bytes words.image)) (none_told s.opening.state s.opening.first) (TellsHosted words.awaited)))

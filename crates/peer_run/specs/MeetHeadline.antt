@@ -8,13 +8,13 @@ use Rattle.willow_area.specs.Boxes.{Ranges}
 use Rattle.area_interest.specs.declared.interest.Interest.{Interest}
 use Rattle.willow_entry.specs.Row.{RowValue, join}
 use Rattle.willow_outside.specs.Names.{name_put}
-use Rattle.exchange_rules.specs.AnyPeer.{caller, answerer}
-use Rattle.exchange_rules.specs.Items.{to_left, to_right, caller_turns, answerer_turns}
+use Rattle.exchange_rules.specs.Items.{to_left, to_right}
 use Rattle.exchange_rules.specs.Exchange.{Apart}
 use Rattle.sync_hello.specs.declared.version.TheConstants.{HIGHEST_VERSION}
 use Rattle.sync_core.specs.Flat.{TurnValue}
 use Rattle.sync_core.specs.Place.{rows_of_area}
 use Rattle.sync_core.specs.SyncRules.{sync_rules}
+use Rattle.sync_pair.specs.Alone.{SayAlone}
 use Rattle.sync_pair.specs.Meeting.{meeting, turn_bytes}
 use Rattle.peer_image.specs.Image.{image}
 use Rattle.peer_report.specs.Report.{met_lines, first_line}
@@ -66,13 +66,6 @@ turns_of s = meeting HIGHEST_VERSION (left_offer s) (right_offer s) s.area
 abbrev pub said : Stores → List ℕ
 said s = transcript (map (turn_bytes HIGHEST_VERSION) (turns_of s))
 
--- those of the left side, and those of the right one, each of which the other reads
-abbrev pub left_turns : Stores → List TurnValue
-left_turns s = caller_turns (turns_of s)
-
-abbrev pub right_turns : Stores → List TurnValue
-right_turns s = answerer_turns (turns_of s)
-
 -- what each side has then: its rows joined with those that it was sent
 abbrev pub left_behind : Stores → List RowValue
 left_behind s = join s.left (to_left (turns_of s))
@@ -90,11 +83,6 @@ pub record HaveSameInArea (s t : Stores) : Type 0 where
   pub area : s.area ≡ t.area
   pub left : rows_of_area s.area (left_offer s) ≡ rows_of_area t.area (left_offer t)
   pub right : rows_of_area s.area (right_offer s) ≡ rows_of_area t.area (right_offer t)
-
--- Each side by itself: what it says is what a side says that has only the rows that it offers in the area, and reads these turns.
-pub record SayAlone (s : Stores) : Type 0 where
-  pub left : left_turns s ≡ caller (sync_rules HIGHEST_VERSION) (rows_of_area s.area (left_offer s)) s.area (right_turns s)
-  pub right : right_turns s ≡ answerer (sync_rules HIGHEST_VERSION) (rows_of_area s.area (right_offer s)) s.area (left_turns s)
 
 -- they say the same, and the same rows are sent to either side
 pub record MeetAlike (s t : Stores) : Type 0 where
@@ -120,7 +108,7 @@ pub record HaveMet (words : MeetWords) (run : Run) (n : List ℕ) (s : Stores) :
   -- the rows that are offered in the area alone decide what is said and sent, whatever the sides hold besides
   pub alike : (others : Stores) → HaveSameInArea s others → MeetAlike s others
   -- and so it is with each side by itself: what it says is a function of the rows that it offers there and of what it reads
-  pub alone : SayAlone s
+  pub alone : SayAlone HIGHEST_VERSION (left_offer s) (right_offer s) s.area
 
 -- a run in which what stood under the names of the words met, and its numbers were reported
 pub record IsWholeMeeting (words : MeetWords) (run : Run) : Type 0 where

@@ -2,8 +2,8 @@
 use Rattle.std.specs.Prelude.{ℕ, List, take, replicate}
 use Rattle.std.specs.declared.string.String.{String}
 use Rattle.std.specs.declared.alloc.Global.{Global}
-use Rattle.area_interest.specs.declared.interest.Interest.{Interest}
 use Rattle.lms_core.specs.declared.scheme.PeerScheme.{PeerScheme}
+use Rattle.area_interest.specs.declared.interest.Interest.{Interest}
 use Rattle.sync_msg.specs.declared.role.Role.{Role}
 use Rattle.sync_hello.specs.declared.hello.Hello.{Hello}
 use Rattle.sync_link.specs.declared.plan.SessionPlan.{SessionPlan}

@@ -10,7 +10,7 @@ use Rattle.peer_stage.specs.declared.outcome.FollowCounts.{FollowCounts}
 use Rattle.peer_stage.specs.declared.outcome.SessionCounts.{SessionCounts}
 use Rattle.peer_stage.specs.declared.outcome.Done.{Done}
 use Rattle.peer_stage.specs.declared.outcome.Done.TheVariants as done
-use Rattle.peer_stage.specs.declared.outcome.Served.{Served}
+use Rattle.peer_stage.specs.declared.outcome.Hosted.{Hosted}
 use Rattle.peer_stage.specs.declared.outcome.Stop.{Stop}
 use Rattle.peer_stage.specs.declared.outcome.Stop.TheVariants as stop
 use Rattle.peer_report.specs.Report.{IsReportWithoutMemory, report_of}
@@ -20,9 +20,9 @@ use Rattle.peer_run.specs.Deeds.{deed_of}
 use Rattle.peer_run.specs.Run.{Run, RunsWords, before_report}
 use Rattle.peer_run.specs.Headline.{Headline}
 use Rattle.peer_run.specs.MeetHeadline.{MeetHeadline}
+use Rattle.peer_run.specs.WatchHeadline.{WatchHeadline}
 use Rattle.peer_run.specs.Ending.{HasTold}
-use Rattle.peer_run.specs.SyncHeadline.{SyncHeadline}
-use Rattle.peer_run.specs.ServeHeadline.{ServeHeadline}
+use Rattle.peer_run.specs.HostHeadline.{SyncHeadline, ServeHeadline}
 
 -- ---- 0 and 1
 
@@ -96,14 +96,18 @@ IsRefusedSession (Err (ending.Hello refusal)) = Unit {0}
 IsRefusedSession (Err (ending.Core refusal)) = Unit {0}
 IsRefusedSession session = ⊥
 
--- one of a server's sessions is such a one
-abbrev pub HasSession : (Result SessionCounts SessionEnd → Type 0) → Served → Type 0
+-- one of the sessions is such a one
+abbrev pub HasSession : (Result SessionCounts SessionEnd → Type 0) → Hosted → Type 0
 HasSession IsOne s = (session : Result SessionCounts SessionEnd) × Contains s.sessions.items session × IsOne session
 
 -- what was read of a feed behind a session is refused so, or ended too early
 abbrev pub IsRefusedFeed : Option (Result FollowCounts SessionEnd) → Type 0
 IsRefusedFeed (Some (Err end)) = IsRefusedSession (Err end)
 IsRefusedFeed followed = ⊥
+
+-- one of the feeds behind the sessions is such a one
+abbrev pub HasFeed : (Option (Result FollowCounts SessionEnd) → Type 0) → Hosted → Type 0
+HasFeed IsOne s = (followed : Option (Result FollowCounts SessionEnd)) × Contains s.tails.items followed × IsOne followed
 
 -- a session is refused before it begins
 abbrev pub IsRefusedStop : Stop → Type 0
@@ -114,8 +118,7 @@ IsRefusedStop e = ⊥
 abbrev pub IsRefusedEnd : Result Done Stop → Type 0
 IsRefusedEnd (Err e) = IsRefusedStop e
 IsRefusedEnd (Ok (done.Stopped s)) = IsRefusedStop s.stop
-IsRefusedEnd (Ok (done.Synced s)) = IsRefusedSession s.session ⊎ IsRefusedFeed s.followed
-IsRefusedEnd (Ok (done.Served s)) = HasSession IsRefusedSession s
+IsRefusedEnd (Ok (done.Hosted s)) = HasSession IsRefusedSession s ⊎ HasFeed IsRefusedFeed s
 IsRefusedEnd end = ⊥
 
 -- a session left rows uncovered for which the log had no room
@@ -137,8 +140,7 @@ IsFullStop e = ⊥
 abbrev pub IsFullEnd : Result Done Stop → Type 0
 IsFullEnd (Err e) = IsFullStop e
 IsFullEnd (Ok (done.Stopped s)) = IsFullStop s.stop
-IsFullEnd (Ok (done.Synced s)) = IsFullSession s.session ⊎ IsFullFeed s.followed
-IsFullEnd (Ok (done.Served s)) = HasSession IsFullSession s
+IsFullEnd (Ok (done.Hosted s)) = HasSession IsFullSession s ⊎ HasFeed IsFullFeed s
 IsFullEnd end = ⊥
 
 -- a key file has no index left
@@ -196,6 +198,8 @@ pub record KeepsPromises (run : Run) : Type 0 where
   pub runs : RunsWords run
   -- a join leaves the join of all authorised entries
   pub joined : Headline run
+  -- a watch leaves the image of both, and those who watch hear of what is new of the input
+  pub watched : WatchHeadline run
   -- a meeting leaves each side the join of its rows with those sent to it, which the rows in the area alone decide
   pub met : MeetHeadline run
   -- a call stores what came and is authorised, over the link that the door has back

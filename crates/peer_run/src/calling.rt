@@ -1,18 +1,21 @@
 //! A session with the one at a place.
 
-ghost use Rattle.std.specs.Prelude.{◌≡◌, ◌≤◌, None};
+ghost use Rattle.std.specs.Prelude.{◌≡◌, ◌≤◌, ℕ, List, [], ◌∷◌, All, None, false, length, vec_len};
 ghost use Rattle.log_rule.specs.Views.{AreOf};
 ghost use Rattle.lms_core.specs.Use.{peer_rules};
-ghost use Rattle.peer_stage.specs.Faults.{CountsStep};
 ghost use Rattle.peer_make.specs.KeySigners.{gives_of, left_of};
 ghost use Rattle.sync_hello.specs.Checked.{hello_refusal};
 ghost use Rattle.sync_core.specs.SyncRules.{IsVersion};
 ghost use Rattle.ns_cell.specs.Passes.{IsPassOf};
 ghost use Rattle.sync_link.specs.Plans.{own_hello, planned};
 ghost use Rattle.sync_link.specs.Run.{Runs};
-ghost use Rattle.peer_run.specs.Calling.{Calls, Connects};
+ghost use Rattle.peer_run.specs.Calling.{Connects};
+ghost use Rattle.peer_run.specs.Preparing.{nonce_of};
+ghost use Rattle.peer_run.specs.Visiting.{Attends};
 
+use crate::hosting::{Attended, ends_for};
 use crate::judging::RowChecker;
+use crate::preparing::nonce_of;
 use auth_entry::{AuthorisedEntry, NewChecker};
 use lms_core::PeerScheme;
 use ns_cell::{NsCell, Pass};
@@ -26,34 +29,30 @@ use sync_link::{SessionEnd, SessionPlan, SessionReport, known_plan, run_session}
 use willow_outside::{Door, Fault, Link};
 use willow_path::NamespaceKey;
 
-/// How a session ended, and the log behind it.
-#[derive(Drop)]
-pub(crate) struct Called {
-    pub(crate) end: Result<SessionReport, SessionEnd>,
-    pub(crate) state: NsState<AuthorisedEntry<PeerScheme>>,
-}
-
 /// Connects to the place, runs one session over the link and gives the link back, however the session ended. The rows that
 /// come are stored in the log.
 pub(crate) fn call<R: Wait + Threads + Sync, D: Door>(
     rt: &R,
     alloc: Global,
     state: NsState<AuthorisedEntry<PeerScheme>>,
-    plan: &SessionPlan<PeerScheme>,
+    plan: SessionPlan<PeerScheme>,
     place: &str,
-    signer: KeySigner,
-    nonce: [u8; 16],
+    signers: Vec<KeySigner>,
+    draws: &[[u8; 32]],
     door: &mut D,
-) -> Result<Called, Stop>
+) -> Result<Attended, Stop>
     requires opening { AreOf 0 state.log }
-    requires hello { hello_refusal peer_rules state.namespace (own_hello plan.now nonce) ≡ None }
-    requires version { IsVersion plan.now.version }
-    requires signs { 1 ≤ left_of signer }
-    ensures calls { Calls place.now (planned peer_rules state.namespace plan.now nonce) signer state (D.facts door.old) (D.facts door.new) result }
-    ensures faults { CountsStep (D.facts door.old).faults (D.facts door.new).faults result }
+    requires hello { (draw : List ℕ) → hello_refusal peer_rules state.namespace (own_hello plan (nonce_of draw)) ≡ None }
+    requires version { IsVersion plan.version }
+    requires sign { All (λ signer. 1 ≤ left_of signer) signers.items }
+    requires draws { length draws.now ≡ vec_len signers }
+    requires one { vec_len signers ≡ 1 }
+    ensures { Attends (record { awaited = false; place = place.now }) (λ draw. planned peer_rules state.namespace plan (nonce_of draw)) signers.items draws.now state (D.facts door.old) (D.facts door.new) result }
 {
     let namespace = state.namespace();
     let (cell, mut passes) = NsCell::new(alloc, state, 1)?;
+    let (signer, nonce) = only_of(signers, draws);
+    let mut ends = ends_for(alloc, 1)?;
     let mut link = connect(door, place)?;
     let end = talk(
         rt,
@@ -61,16 +60,32 @@ pub(crate) fn call<R: Wait + Threads + Sync, D: Door>(
         namespace,
         &cell,
         &mut passes[0],
-        plan,
+        &plan,
         signer,
         nonce,
         &mut link,
     );
     door.give_back(link);
-    Ok(Called {
-        end,
+    ends.push_reserved(end);
+    Ok(Attended {
+        ends,
+        all_came: true,
         state: cell.close(rt, passes),
     })
+}
+
+// The one signer, and the nonce of the one draw.
+fn only_of(signers: Vec<KeySigner>, draws: &[[u8; 32]]) -> (KeySigner, [u8; 16])
+    requires signers { vec_len signers ≡ 1 }
+    requires draws { length draws.now ≡ 1 }
+    ensures signer { signers.items ≡ result.0 ∷ [] }
+    ensures nonce { (draw : List ℕ) × (draws.now ≡ draw ∷ []) × (result.1 ≡ nonce_of draw) }
+{
+    let mut signers = signers.into_iter();
+    let Some(signer) = signers.next() else {
+        unreachable!()
+    };
+    (signer, nonce_of(&draws[0]))
 }
 
 /// Runs one session over the link, in which the rows of a list that come with a piece are judged together.
@@ -113,8 +128,7 @@ pub(crate) fn talk<R: Wait + Threads + Sync, L: Link>(
 
 // A link to the place.
 fn connect<D: Door>(door: &mut D, place: &str) -> Result<D::L, Stop>
-    ensures connects { Connects D.L.facts place.now (D.facts door.old) (D.facts door.new) result }
-    ensures faults { CountsStep (D.facts door.old).faults (D.facts door.new).faults result }
+    ensures { Connects D.L.facts place.now (D.facts door.old) (D.facts door.new) result }
 {
     match door.connect(place) {
         Ok(link) => Ok(link),

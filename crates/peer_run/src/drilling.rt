@@ -4,7 +4,7 @@ ghost use Rattle.std.specs.Prelude.{◌≡◌, ◌≤◌, IfOk};
 ghost use Rattle.peer_stage.specs.World.{World};
 ghost use Rattle.peer_run.specs.Drill.{Drills, drill_text};
 
-use crate::exchanging::exchange;
+use crate::exchanging::{exchange, hash_logs};
 use crate::judging::RowChecker;
 use area_interest::Interest;
 use ns_state::LogFull;
@@ -46,6 +46,7 @@ fn drill_text<R: Threads + Sync>(rt: &R, alloc: Global, rows: u32) -> Result<Vec
         newest: None,
         bytes: None,
     };
+    hash_logs(rt, alloc, &left, &right);
     let exchanged = match exchange(alloc, &mut left, &mut right, &full, &limits) {
         Ok(exchanged) => exchanged,
         Err(End::Refused(LogFull { front: _ })) => unreachable!(),

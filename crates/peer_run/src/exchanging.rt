@@ -19,6 +19,8 @@ use ns_state::LogFull;
 use peer_rows::{EntryLog, offer_rows};
 use spelling::{End, NoMemory};
 use std::alloc::Global;
+use std::thread::Threads;
+use store_threads::hash_both;
 use sync_hello::HIGHEST_VERSION;
 use sync_pair::{PairRun, meet_rows};
 use willow_area::Area;
@@ -37,6 +39,16 @@ pub(crate) struct Exchanged {
     pub(crate) items: u32,
     pub(crate) left: Came,
     pub(crate) right: Came,
+}
+
+/// Hashes the live rows of two logs in threads, where they are many, for the exchange that comes next.
+pub(crate) fn hash_logs<R: Threads + Sync>(
+    rt: &R,
+    alloc: Global,
+    left: &EntryLog,
+    right: &EntryLog,
+) {
+    hash_both(rt, alloc, left.store(), right.store());
 }
 
 /// Lets two logs exchange what they offer of their rows over the area that both sides may read, in the version that this program

@@ -1,6 +1,6 @@
 //! Sessions with those who come to a place.
 
-ghost use Rattle.std.specs.Prelude.{◌≡◌, ◌≤◌, ◌<◌, ◌+◌, List, ℕ, ◌∷◌, ◌++◌, None, Some, All, IfOk, OnErr, [], length, map, vec_len, vec_capacity};
+ghost use Rattle.std.specs.Prelude.{◌≡◌, ◌≤◌, ◌<◌, ◌+◌, true, List, ℕ, ◌∷◌, ◌++◌, None, Some, All, IfOk, OnErr, [], length, map, vec_len, vec_capacity};
 ghost use Rattle.log_rule.specs.Views.{AreOf};
 ghost use Rattle.lms_core.specs.Use.{peer_rules};
 ghost use Rattle.ns_cell.specs.declared.limits.TheConstants.{PASS_LIMIT};
@@ -10,8 +10,8 @@ ghost use Rattle.sync_core.specs.SyncRules.{IsVersion};
 ghost use Rattle.sync_link.specs.Plans.{own_hello, planned};
 ghost use Rattle.ns_cell.specs.Passes.{IsPassOf};
 ghost use Rattle.willow_outside.specs.declared.fault.Fault.TheVariants as fault;
-ghost use Rattle.peer_run.specs.Hall.{IsAccepted, Leaves, Listens};
-ghost use Rattle.peer_run.specs.Hosting.{Attends};
+ghost use Rattle.peer_run.specs.Hall.{IsAccepted, IsRoom, Leaves, Listens};
+ghost use Rattle.peer_run.specs.Visiting.{Attends};
 ghost use Rattle.peer_run.specs.Preparing.{nonce_of};
 
 use crate::calling::talk;
@@ -45,6 +45,17 @@ struct Guest {
     pass: Pass<AuthorisedEntry<PeerScheme>>,
     signer: KeySigner,
     nonce: [u8; 16],
+}
+
+/// What stands ready before the first link: what all sessions share, the pass that stays behind, a guest for each session, and
+/// the lists that are filled behind all visits. So nothing that came is lost for want of their memory.
+#[derive(Drop)]
+struct Room {
+    hall: Hall,
+    own: Pass<AuthorisedEntry<PeerScheme>>,
+    guests: Vec<Guest>,
+    passes: Vec<Pass<AuthorisedEntry<PeerScheme>>>,
+    ends: Vec<Result<SessionReport, SessionEnd>>,
 }
 
 /// What a session hands on: its pass, and how it ended.
@@ -120,24 +131,54 @@ pub(crate) fn attend<R: Wait + Threads + Sync, D: Door>(
     requires sign { All (λ signer. 1 ≤ left_of signer) signers.items }
     requires draws { length draws.now ≡ vec_len signers }
     requires few { vec_len signers < PASS_LIMIT }
-    ensures { Attends place.now (λ draw. planned peer_rules state.namespace plan (nonce_of draw)) signers.items draws.now state (D.facts door.old) (D.facts door.new) result }
+    ensures { Attends (record { awaited = true; place = place.now }) (λ draw. planned peer_rules state.namespace plan (nonce_of draw)) signers.items draws.now state (D.facts door.old) (D.facts door.new) result }
+{
+    let room = room_for(alloc, state, plan, signers, draws)?;
+    listen(door, place)?;
+    let Room {
+        hall,
+        own,
+        guests,
+        passes,
+        ends,
+    } = room;
+    let hosted = host_links(rt, alloc, &hall, guests, door)?;
+    leave(rt, hall, own, hosted, passes, ends)
+}
+
+// The room of a plan, with a guest for each signer.
+fn room_for(
+    alloc: Global,
+    state: NsState<AuthorisedEntry<PeerScheme>>,
+    plan: SessionPlan<PeerScheme>,
+    signers: Vec<KeySigner>,
+    draws: &[[u8; 32]],
+) -> Result<Room, NoMemory>
+    requires opening { AreOf 0 state.log }
+    requires draws { length draws.now ≡ vec_len signers }
+    requires few { vec_len signers < PASS_LIMIT }
+    ensures room { IfOk result (IsRoom state plan signers.items draws.now) }
+    ensures passes { IfOk result (λ room. (room.passes.items ≡ []) × (vec_len room.guests < vec_capacity room.passes)) }
+    ensures ends { IfOk result (λ room. (room.ends.items ≡ []) × (vec_len room.guests ≤ vec_capacity room.ends)) }
 {
     let namespace = state.namespace();
     let (cell, passes) = NsCell::new(alloc, state, 1 + signers.len() as u32)?;
     let (own, guests) = guests_of(alloc, passes, signers, draws)?;
     let (passes, ends) = lists_for(alloc, guests.len())?;
-    listen(door, place)?;
-    let hall = Hall {
-        namespace,
-        cell,
-        plan,
-    };
-    let hosted = host_links(rt, alloc, &hall, guests, door)?;
-    leave(rt, hall, own, hosted, passes, ends)
+    Ok(Room {
+        hall: Hall {
+            namespace,
+            cell,
+            plan,
+        },
+        own,
+        guests,
+        passes,
+        ends,
+    })
 }
 
-// The lists that are filled behind all visits, for so many guests. They are made before the first accept, so that nothing that
-// came is lost for want of their memory.
+// The lists that are filled behind all visits, for so many guests.
 fn lists_for(
     alloc: Global,
     guests: usize,
@@ -153,8 +194,19 @@ fn lists_for(
     ensures ends { IfOk result (λ r. (r.1.items ≡ []) × (guests ≤ vec_capacity r.1)) }
 {
     let passes = Vec::with_capacity(alloc, 1 + guests)?;
-    let ends = Vec::with_capacity(alloc, guests)?;
+    let ends = ends_for(alloc, guests)?;
     Ok((passes, ends))
+}
+
+/// The list that is filled with the ends of so many sessions.
+pub(crate) fn ends_for(
+    alloc: Global,
+    sessions: usize,
+) -> Result<Vec<Result<SessionReport, SessionEnd>>, NoMemory>
+    requires { sessions < PASS_LIMIT }
+    ensures { IfOk result (λ ends. (ends.items ≡ []) × (sessions ≤ vec_capacity ends)) }
+{
+    Ok(Vec::with_capacity(alloc, sessions)?)
 }
 
 // The first pass, and a guest for each of the others, with a signer and the nonce of a draw.

@@ -3,7 +3,7 @@
 ghost use Rattle.std.specs.Prelude.{◌≡◌, ◌^◌, ◌<◌, ◌≤◌, IfSome};
 ghost use Rattle.peer_run.specs.ImagesMet.{IsImageOfRows, MeetsImages, first_of_both, meet_counts, side_counts};
 
-use crate::exchanging::{Came, Exchanged, exchange};
+use crate::exchanging::{Came, Exchanged, exchange, hash_logs};
 use crate::judging::RowChecker;
 use crate::transcript::transcript_of;
 use area_interest::Interest;
@@ -42,6 +42,7 @@ pub(crate) fn meet_images<R: Threads + Sync>(
     let namespace = left.namespace;
     let (mut left_log, left_counts) = log_image::<RowChecker, R>(rt, alloc, left)?;
     let (mut right_log, right_counts) = log_image::<RowChecker, R>(rt, alloc, right)?;
+    hash_logs(rt, alloc, &left_log, &right_log);
     let exchanged = match exchange(alloc, &mut left_log, &mut right_log, area, limits) {
         Ok(exchanged) => exchanged,
         Err(end) => return Err(log_stop(end)),

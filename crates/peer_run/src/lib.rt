@@ -14,9 +14,10 @@ mod judging;
 mod meeting;
 mod opening;
 mod preparing;
+mod program;
 mod run;
-mod serving;
-mod syncing;
+mod sessions;
 mod transcript;
 
+pub use program::run_program;
 pub use run::{peer_run, run_local};

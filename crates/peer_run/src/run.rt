@@ -2,33 +2,34 @@
 
 ghost use Rattle.std.specs.Prelude.{◌≡◌, ℕ, List, ◌≤◌, ◌↔◌, ◌||◌, IsTrue, is_some};
 ghost use Rattle.peer_run.specs.Locals.{IsLocal, IsMaker, IsServer};
-ghost use Rattle.sub_hub.specs.Hubs.{HubValue};
+ghost use Rattle.sub_hub.specs.Seen.{hub_seen};
 ghost use Rattle.willow_outside.specs.Facts.{BayFacts};
 ghost use Rattle.peer_stage.specs.World.{World};
 ghost use Rattle.peer_words.specs.Words.{texts};
 ghost use Rattle.peer_words.specs.Commands.{IsWords};
 ghost use Rattle.peer_run.specs.Deeds.{deed_of};
+ghost use Rattle.peer_run.specs.Hosting.{calling_words, serving_words};
 ghost use Rattle.peer_run.specs.Run.{RunsWords};
 ghost use Rattle.peer_run.specs.Promises.{KeepsPromises};
 
 use crate::drilling::drill;
 use crate::judging::RowChecker;
 use crate::meeting::{MeetWords, meet};
-use crate::serving::{ServeWords, serve};
-use crate::syncing::{SyncWords, sync};
+use crate::sessions::{HostWords, host};
 use area_interest::Interest;
 use peer_make::{delegate, grant, make_key, write};
 use peer_report::end_run;
-use peer_rows::{generate, join, show};
+use peer_rows::{generate, join, show, watch};
 use peer_stage::{Done, Stop};
-use peer_words::{Command, Usage, read_words};
+use peer_words::{AreaWords, Command, SignerWord, Usage, read_words};
 use spelling::End;
 use std::alloc::Global;
 use std::sync::Wait;
 use std::thread::Threads;
+use sub_hub::Hub;
 use willow_outside::{Door, Noise, Shelf, Sink, Source};
 
-/// Runs a command that calls nobody over the objects that it calls. A command that is not built yet is no command.
+/// Runs a command that calls nobody over the objects that it calls.
 fn run_command<R: Threads + Sync, H: Shelf, I: Source, O: Sink, N: Noise>(
     rt: &R,
     alloc: Global,
@@ -37,12 +38,13 @@ fn run_command<R: Threads + Sync, H: Shelf, I: Source, O: Sink, N: Noise>(
     input: &mut I,
     output: &mut O,
     noise: &mut N,
+    hub: &mut Hub,
 ) -> Result<Done, Stop>
     requires words { (words : List (List ℕ)) × IsWords words command }
     requires local { IsLocal command }
     ensures { (others : World) → (deed_of command).meets
-        (record others { shelf = H.facts shelf.old; input = I.facts input.old; output = O.facts output.old; noise = N.facts noise.old })
-        (record others { shelf = H.facts shelf.new; input = I.facts input.new; output = O.facts output.new; noise = N.facts noise.new }) result }
+        (record others { shelf = H.facts shelf.old; input = I.facts input.old; output = O.facts output.old; noise = N.facts noise.old; hub = hub_seen (λ w. told (w.vtable, w.value)) hub.old })
+        (record others { shelf = H.facts shelf.new; input = I.facts input.new; output = O.facts output.new; noise = N.facts noise.new; hub = hub_seen (λ w. told (w.vtable, w.value)) hub.new }) result }
 {
     match command {
         Command::Join { namespace } => {
@@ -51,7 +53,7 @@ fn run_command<R: Threads + Sync, H: Shelf, I: Source, O: Sink, N: Noise>(
         Command::Show { newest } => {
             show::<RowChecker, R, I, O>(rt, alloc, newest, input, output)
         }
-        Command::Gen { rows } => generate(alloc, rows, output),
+        Command::Gen { rows } => generate(rt, alloc, rows, output),
         Command::Drill { rows } => drill(rt, alloc, rows, output),
         Command::Meet {
             left,
@@ -77,7 +79,9 @@ fn run_command<R: Threads + Sync, H: Shelf, I: Source, O: Sink, N: Noise>(
             meet(rt, alloc, words, shelf, output)
         }
         Command::Sync { .. } | Command::Serve { .. } => unreachable!(),
-        Command::Watch { .. } => Err(Stop::Usage),
+        Command::Watch { image, area } => {
+            watch::<RowChecker, R, H, I>(rt, alloc, image, &area, shelf, input, hub)
+        }
         made => run_maker(rt, alloc, made, shelf, input, output, noise),
     }
 }
@@ -137,6 +141,53 @@ fn is_more_than_service(follow: bool, log: &Option<String>) -> bool
     follow || log.is_some()
 }
 
+/// A link to the place is called for.
+fn calling_words(
+    image: String,
+    cap: String,
+    key: SignerWord,
+    to: String,
+    area: AreaWords,
+    limits: Interest,
+) -> HostWords
+    ensures { result ≡ calling_words image cap key to area limits }
+{
+    HostWords {
+        awaited: false,
+        image,
+        cap,
+        key,
+        place: to,
+        links: 1,
+        area,
+        limits,
+    }
+}
+
+/// So many links are waited for at the place.
+fn serving_words(
+    image: String,
+    cap: String,
+    key: SignerWord,
+    at: String,
+    links: u32,
+    area: AreaWords,
+    limits: Interest,
+) -> HostWords
+    ensures { result ≡ serving_words image cap key at links area limits }
+{
+    HostWords {
+        awaited: true,
+        image,
+        cap,
+        key,
+        place: at,
+        links,
+        area,
+        limits,
+    }
+}
+
 /// Runs a command that talks to others over links.
 fn run_afar<R: Wait + Threads + Sync, H: Shelf, D: Door, N: Noise>(
     rt: &R,
@@ -166,15 +217,9 @@ fn run_afar<R: Wait + Threads + Sync, H: Shelf, D: Door, N: Noise>(
             if follow {
                 return Err(Stop::Usage);
             }
-            let words = SyncWords {
-                image,
-                cap,
-                key,
-                to,
-                area,
-                limits: Interest { newest, bytes },
-            };
-            sync(rt, alloc, words, shelf, door, noise)
+            let limits = Interest { newest, bytes };
+            let words = calling_words(image, cap, key, to, area, limits);
+            host(rt, alloc, words, shelf, door, noise)
         }
         server => run_server(rt, alloc, server, shelf, door, noise),
     }
@@ -211,16 +256,9 @@ fn run_server<R: Wait + Threads + Sync, H: Shelf, D: Door, N: Noise>(
             if is_more_than_service(follow, &log) {
                 return Err(Stop::Usage);
             }
-            let words = ServeWords {
-                image,
-                cap,
-                key,
-                at,
-                links,
-                area,
-                limits: Interest { newest, bytes },
-            };
-            serve(rt, alloc, words, shelf, door, noise)
+            let limits = Interest { newest, bytes };
+            let words = serving_words(image, cap, key, at, links, area, limits);
+            host(rt, alloc, words, shelf, door, noise)
         }
         _ => unreachable!(),
     }
@@ -237,17 +275,18 @@ pub fn run_local<R: Threads + Sync, H: Shelf, I: Source, O: Sink, E: Sink, N: No
     output: &mut O,
     report: &mut E,
     noise: &mut N,
+    hub: &mut Hub,
 ) -> u8
     requires words { (words : List (List ℕ)) × IsWords words command }
     requires local { IsLocal command }
     ensures promises { (words : List (List ℕ)) (others : World) → IsWords words command → KeepsPromises (record {
       words = words;
-      old = record others { shelf = H.facts shelf.old; input = I.facts input.old; output = O.facts output.old; report = E.facts report.old; noise = N.facts noise.old };
-      new = record others { shelf = H.facts shelf.new; input = I.facts input.new; output = O.facts output.new; report = E.facts report.new; noise = N.facts noise.new };
+      old = record others { shelf = H.facts shelf.old; input = I.facts input.old; output = O.facts output.old; report = E.facts report.old; noise = N.facts noise.old; hub = hub_seen (λ w. told (w.vtable, w.value)) hub.old };
+      new = record others { shelf = H.facts shelf.new; input = I.facts input.new; output = O.facts output.new; report = E.facts report.new; noise = N.facts noise.new; hub = hub_seen (λ w. told (w.vtable, w.value)) hub.new };
       status = result;
     }) }
 {
-    let end = run_command(rt, alloc, command, shelf, input, output, noise);
+    let end = run_command(rt, alloc, command, shelf, input, output, noise, hub);
     end_run(alloc, &end, report)
 }
 
@@ -257,7 +296,10 @@ pub fn run_local<R: Threads + Sync, H: Shelf, I: Source, O: Sink, E: Sink, N: No
 /// a session is refused, before it begins or in it; 7 for want of memory; 8 where a row met a full log; 9 for a key
 /// file without an index left. The report gets the lines of that end. What a command does not call stays as it was.
 ///
-/// No command has a hub or a bay yet: whichever there are, each is the same behind the run.
+/// Those who watch in the hub are told by `watch` alone: it begins the hub at the log of the image, with the area of the words,
+/// and its front is the length of the log behind a run with 0 or 1. By any other command the hub stays as it was.
+///
+/// No command has a bay yet: whichever there is, it is the same behind the run.
 ///
 /// In `sync` it waits for the one that it calls, and in `serve` for those who come. Of every other command it answers what `run_local` answers.
 pub fn peer_run<R: Wait + Threads + Sync, H: Shelf, I: Source, O: Sink, E: Sink, D: Door, N: Noise>(
@@ -270,8 +312,9 @@ pub fn peer_run<R: Wait + Threads + Sync, H: Shelf, I: Source, O: Sink, E: Sink,
     report: &mut E,
     door: &mut D,
     noise: &mut N,
+    hub: &mut Hub,
 ) -> u8
-    ensures promises { (hub : HubValue) (bay : BayFacts) → KeepsPromises (record {
+    ensures promises { (bay : BayFacts) → KeepsPromises (record {
       words = texts words.now;
       old = record {
         shelf = H.facts shelf.old;
@@ -280,7 +323,7 @@ pub fn peer_run<R: Wait + Threads + Sync, H: Shelf, I: Source, O: Sink, E: Sink,
         report = E.facts report.old;
         door = D.facts door.old;
         noise = N.facts noise.old;
-        hub = hub;
+        hub = hub_seen (λ w. told (w.vtable, w.value)) hub.old;
         bay = bay;
       };
       new = record {
@@ -290,7 +333,7 @@ pub fn peer_run<R: Wait + Threads + Sync, H: Shelf, I: Source, O: Sink, E: Sink,
         report = E.facts report.new;
         door = D.facts door.new;
         noise = N.facts noise.new;
-        hub = hub;
+        hub = hub_seen (λ w. told (w.vtable, w.value)) hub.new;
         bay = bay;
       };
       status = result;
@@ -299,7 +342,7 @@ pub fn peer_run<R: Wait + Threads + Sync, H: Shelf, I: Source, O: Sink, E: Sink,
     match read_words(alloc, words) {
         Ok(command) => {
             if is_local(&command) {
-                run_local(rt, alloc, command, shelf, input, output, report, noise)
+                run_local(rt, alloc, command, shelf, input, output, report, noise, hub)
             } else {
                 let end = run_afar(rt, alloc, command, shelf, door, noise);
                 end_run(alloc, &end, report)

@@ -1,11 +1,9 @@
 -- The status of each end of a command.
 use Rattle.std.specs.Prelude.{ℕ, ◌==◌, Bool, true, false, if◌then◌else◌, List, [], ◌∷◌, ◌++◌, map, Option, Some, None, Result, Ok, Err}
-use Rattle.std.specs.List.{list_any}
+use Rattle.call_rules.specs.Told.{first_met, told_order}
 use Rattle.mc_cap.specs.declared.refusal.RefusedRow.{RefusedRow}
 use Rattle.session_end.specs.declared.end.SessionEnd.{SessionEnd}
 use Rattle.session_end.specs.declared.end.SessionEnd.TheVariants as ending
-use Rattle.peer_stage.specs.declared.outcome.FeedStop.{FeedStop}
-use Rattle.peer_stage.specs.declared.outcome.FeedStop.TheVariants as feed
 use Rattle.peer_stage.specs.declared.outcome.FollowCounts.{FollowCounts}
 use Rattle.peer_stage.specs.declared.outcome.SessionCounts.{SessionCounts}
 use Rattle.peer_stage.specs.declared.outcome.Done.{Done}
@@ -42,17 +40,11 @@ abbrev pub session_status : Result SessionCounts SessionEnd → ℕ
 session_status (Ok counts) = 0
 session_status (Err end) = end_status end
 
--- the same of a feed that was followed, and 0 where none was
-abbrev pub followed_status : Option (Result FollowCounts SessionEnd) → ℕ
-followed_status None = 0
-followed_status (Some (Ok counts)) = 0
-followed_status (Some (Err end)) = end_status end
-
--- of a feed that was to be written: 4 for a fault of its link, 7 for want of memory, 0 where nothing stopped it
-abbrev pub feed_status : Option FeedStop → ℕ
-feed_status None = 0
-feed_status (Some feed.LinkWrite) = 4
-feed_status (Some feed.NoMemory) = 7
+-- the same of what followed a session on its link, and 0 where nothing did
+abbrev pub tail_status : Option (Result FollowCounts SessionEnd) → ℕ
+tail_status None = 0
+tail_status (Some (Ok counts)) = 0
+tail_status (Some (Err end)) = end_status end
 
 -- 4 where the image was not put, else 0
 abbrev pub put_status : Bool → ℕ
@@ -70,20 +62,10 @@ abbrev pub statuses_met : Done → List ℕ
 statuses_met (done.Joined counts) = refused_status counts.refused ∷ []
 statuses_met (done.Shown counts) = refused_status counts.refused ∷ []
 statuses_met (done.Met counts) = first_status counts.first ∷ []
-statuses_met (done.Synced s) = session_status s.session ∷ (followed_status s.followed ∷ (put_status s.put ∷ (first_status s.first ∷ [])))
-statuses_met (done.Served s) = map session_status s.sessions.items ++ (map feed_status s.feeds.items ++ (accept_status s.all_came ∷ (put_status s.put ∷ (first_status s.first ∷ []))))
+statuses_met (done.Hosted s) = map session_status s.sessions.items ++ (map tail_status s.tails.items ++ (accept_status s.all_came ∷ (put_status s.put ∷ (first_status s.first ∷ []))))
 statuses_met (done.Stopped s) = []
 statuses_met (done.Watched counts) = first_status counts.first ∷ []
 statuses_met done.Made = []
-
--- the first of these statuses that was met, 0 where none was
-unfoldable pub first_met : List ℕ → List ℕ → ℕ
-first_met [] met = 0
-first_met (status ∷ later) met = if list_any (λ m. m == status) met then status else first_met later met
-
--- in which order statuses are told that were met on the way
-abbrev pub told_order : List ℕ
-told_order = 7 ∷ 3 ∷ 4 ∷ 6 ∷ 8 ∷ 1 ∷ []
 
 -- ---- stops
 

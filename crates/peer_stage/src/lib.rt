@@ -10,8 +10,8 @@ mod stage;
 
 pub use laws::input_limit;
 pub use outcome::{
-    Done, FeedStop, FollowCounts, JoinCounts, MeetCounts, Origin, Served, SessionCounts,
-    ShowCounts, SideCounts, Stop, Stopped, Synced, WatchCounts,
+    Done, FollowCounts, Hosted, JoinCounts, MeetCounts, Origin, SessionCounts, ShowCounts,
+    SideCounts, Stop, Stopped, WatchCounts,
 };
 pub use shelf::{get_bytes, put_bytes};
 pub use stage::{INPUT_LIMIT, read_input, write_both, write_output};

@@ -114,44 +114,22 @@ pub struct WatchCounts {
     pub left: u32,
 }
 
-/// What came of a call: how its session ended, which stops nothing, what came of following behind it, and whether the
-/// image was put behind both.
-#[derive(Clone, Copy)]
-pub struct Synced {
-    /// The numbers of the session, or how else it ended.
-    pub session: Result<SessionCounts, SessionEnd>,
-    /// The numbers of the feed that was read behind the session, or how else the following ended; None where nothing
-    /// was followed.
-    pub followed: Option<Result<FollowCounts, SessionEnd>>,
-    /// The first row that is not authorised, counted over the image, then the rows that came in the session, and then
-    /// those of the feed; None where there is none.
-    pub first: Option<RefusedRow>,
-    /// Whether the image was put; where it was not, writing failed.
-    pub put: bool,
-}
-
-/// Why a feed was not written whole.
-#[derive(Clone, Copy)]
-pub enum FeedStop {
-    /// Writing to the link failed.
-    LinkWrite,
-    /// No memory was found.
-    NoMemory,
-}
-
-/// What came of a server: how the session of each link ended, which stops nothing, nor does what stopped the feed behind
-/// it, whether all links came, and whether the image was put behind them.
+/// What came of sessions over links: how that of each link ended, which stops nothing, nor does what followed it on its
+/// link, whether all links came, and whether the image was put behind them.
 #[derive(Drop)]
-pub struct Served {
-    /// How the session of each link ended, in the order in which the links came.
+pub struct Hosted {
+    /// Whether links were waited for, as a server does: then what is told of each has its number. Else one was called for.
+    pub awaited: bool,
+    /// How the session of each link ended, in the order in which the links came: its numbers, or how else.
     pub sessions: Vec<Result<SessionCounts, SessionEnd>>,
-    /// What stopped the feed behind the session of each link, in the same order: None where it was written whole, or the
-    /// link got none. Empty where no link of the server gets one.
-    pub feeds: Vec<Option<FeedStop>>,
+    /// What came of following behind the session of each link, in the same order: the numbers of a feed that was read
+    /// whole, or how else the following ended; None where nothing was followed, or a feed was written whole. Empty where
+    /// no link is followed.
+    pub tails: Vec<Option<Result<FollowCounts, SessionEnd>>>,
     /// Whether as many links came as were asked for; where not, accepting one failed.
     pub all_came: bool,
     /// The first row that is not authorised, counted over the image, then the file of the log, and then the rows that
-    /// came, link by link; None where there is none.
+    /// came, link by link, those of a session before those of the feed behind it; None where there is none.
     pub first: Option<RefusedRow>,
     /// Watchers that left in the run.
     pub left: u32,
@@ -171,8 +149,8 @@ pub struct Stopped {
 }
 
 /// What a command did that came to its end, or has more to tell than why it stopped. What it met on the way gives the
-/// status: the rows that were left out, in a call or a server how the sessions and what is behind them ended and whether
-/// the image was put, and in a server whether all links came.
+/// status: the rows that were left out, and where there are sessions how these and what is behind them ended, whether all
+/// links came, and whether the image was put.
 #[derive(Drop)]
 pub enum Done {
     /// Rows were joined.
@@ -181,10 +159,8 @@ pub enum Done {
     Shown(ShowCounts),
     /// Two stores met.
     Met(MeetCounts),
-    /// A session was run, and the image put or tried to be put.
-    Synced(Synced),
-    /// Links were served, and the image put or tried to be put.
-    Served(Served),
+    /// Sessions were run over links, and the image put or tried to be put.
+    Hosted(Hosted),
     /// The server stopped, with a log open.
     Stopped(Stopped),
     /// The rows of the input were told as they came, and the image was put.

@@ -7,6 +7,7 @@ use crate::endings::{Ended, ending_of};
 use peer_listing::GENERATED_ROWS;
 use peer_rows::generate;
 use std::alloc::Global;
+use std::thread::Threads;
 use willow_outside::MemSink;
 
 // The frames of the generator's first three rows.
@@ -20,19 +21,19 @@ const ROW_2: &str =
     "00000100004f4f4f4f4f4f4f4f4f4f4f4f4f4f4f4f4f4f4f4f4f4f4f4f4f4f4f4f4f4f4f4f00555555555555555555555555555555555555555555555555555555555555550202020000010000060a24181e40020000000000000002000000000000000200000000000000020000000000000002000000000000000203004f4f4f4f4f4f4f4f4f4f4f4f4f4f4f4f4f4f4f4f4f4f4f4f4f4f4f4f4f4f4f4f00555555555555555555555555555555555555555555555555555555555555550200201c3b64dbc5e23ab17c2090b868d10d05e1d6c66719edd284ec60e96e2f209760000020b8f7f13cedabf7ed7de772b86bc1c3529b00c946773f206632f69beceb739aea";
 
 // How the making of so many rows ends, where it writes these bytes.
-fn ends_with(alloc: Global, rows: u32, wanted: &[u8]) -> Option<Ended>
+fn ends_with(rt: &(impl Threads + Sync), alloc: Global, rows: u32, wanted: &[u8]) -> Option<Ended>
     requires { rows ≤ GENERATED_ROWS }
 {
     let mut output = MemSink::new(alloc, Vec::new(alloc), Vec::new(alloc), 100);
-    let end = ending_of(generate(alloc, rows, &mut output));
+    let end = ending_of(generate(rt, alloc, rows, &mut output));
     (output.held() == wanted).then_some(end)
 }
 
 // The same of these texts' bytes.
-fn generates(alloc: Global, rows: u32, texts: &[&str]) -> Option<Ended>
+fn generates(rt: &(impl Threads + Sync), alloc: Global, rows: u32, texts: &[&str]) -> Option<Ended>
     requires { rows ≤ GENERATED_ROWS }
 {
-    ends_with(alloc, rows, &joined(alloc, texts)?)
+    ends_with(rt, alloc, rows, &joined(alloc, texts)?)
 }
 
 static THREE: [&str; 3] = [ROW_0, ROW_1, ROW_2];
@@ -40,6 +41,9 @@ static THREE: [&str; 3] = [ROW_0, ROW_1, ROW_2];
 #[test]
 fn rows_generated(rt: HostRuntime) {
     let alloc = rt.alloc();
-    let ends = [generates(alloc, 0, &[]), generates(alloc, 3, &THREE)];
+    let ends = [
+        generates(&rt, alloc, 0, &[]),
+        generates(&rt, alloc, 3, &THREE),
+    ];
     assert!(rt; ends == [Some(Ended::Made); 2]);
 }

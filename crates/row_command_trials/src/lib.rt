@@ -1,5 +1,5 @@
 //! Tries the commands over rows; it has tests alone.
-//! What comes of `join`, `show` and `generate` is compared with images, listings and frames that were made elsewhere.
+//! What comes of `join`, `show`, `generate` and `watch` is compared with images, listings and frames that were made elsewhere.
 #![tactic(auto)]
 
 #[cfg(test)]
@@ -13,4 +13,8 @@ mod halves;
 #[cfg(test)]
 mod images;
 #[cfg(test)]
+mod listener;
+#[cfg(test)]
 mod pieces;
+#[cfg(test)]
+mod watching;

@@ -5,6 +5,7 @@ use peer_run::peer_run;
 use std::alloc::Global;
 use std::sync::Wait;
 use std::thread::Threads;
+use sub_hub::Hub;
 use willow_outside::{Door, Noise, Shelf, Sink, Source};
 
 /// The status of a run. It has no clause, and knows nothing of the objects: so what a run promises is not looked through again
@@ -20,7 +21,11 @@ fn status_of<R: Wait + Threads + Sync, H: Shelf, I: Source, O: Sink, E: Sink, D:
     door: &mut D,
     noise: &mut N,
 ) -> u8 {
-    peer_run(rt, alloc, words, shelf, input, output, report, door, noise)
+    // nobody watches
+    let mut hub = Hub::new(alloc);
+    peer_run(
+        rt, alloc, words, shelf, input, output, report, door, noise, &mut hub,
+    )
 }
 
 /// The status of the run of the words.

@@ -1,7 +1,7 @@
 //! Totals and fingerprints against values made elsewhere.
 
 use hex::FromHex;
-use lane_sum::Lanes;
+use lane_sum::{Lanes, Leaf};
 use sha_lanes::Message;
 use std::test::Fail;
 
@@ -72,9 +72,21 @@ const BELOW_ZERO: Lanes = Lanes {
 
 #[test]
 fn leaves(rt: HostRuntime) {
-    assert_eq!(rt; Lanes::leaf(b"entry one", b"token one"), ONE);
-    assert_eq!(rt; Lanes::leaf(b"entry two", b"token two"), TWO);
+    assert_eq!(rt; Leaf::new(b"entry one", b"token one").total(), ONE);
+    assert_eq!(rt; Leaf::new(b"entry two", b"token two").total(), TWO);
     assert_eq!(rt; Lanes::leaf(b"", b""), EMPTY);
+}
+
+// The totals of four rows.
+fn totals_of(leaves: &[Leaf; 4]) -> [Lanes; 4] {
+    let [one, two, three, four] = leaves;
+    [one.total(), two.total(), three.total(), four.total()]
+}
+
+// What four totals add up to.
+fn sum_of(totals: &[Lanes; 4]) -> Lanes {
+    let [one, two, three, four] = totals;
+    one.add(two).add(&three.add(four))
 }
 
 #[test]
@@ -95,8 +107,10 @@ fn four_leaves(rt: HostRuntime) {
         front: b"a row that is longer than a block has room for",
         rest: b"and a token behind it",
     };
-    assert_eq!(rt; Lanes::four_leaves(&one, &two, &none, &one), SHORT);
-    assert_eq!(rt; Lanes::four_leaves(&one, &long, &two, &none), MIXED);
+    let short = totals_of(&Leaf::four(&one, &two, &none, &one));
+    let mixed = totals_of(&Leaf::four(&one, &long, &two, &none));
+    assert_eq!(rt; (short[1], short[2], sum_of(&short)), (TWO, EMPTY, SHORT));
+    assert_eq!(rt; (mixed[2], mixed[3], sum_of(&mixed)), (TWO, EMPTY, MIXED));
 }
 
 #[test]

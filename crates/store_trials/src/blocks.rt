@@ -1,4 +1,4 @@
-//! Rows that stand in more than one block: what goes at once, what is shared, and how many are read.
+//! Rows that stand in more than one block: what goes at once, what is shared, and how often rows are read.
 
 ghost use Rattle.std.specs.Prelude.{◌≡◌};
 
@@ -8,9 +8,11 @@ use block_store::{BlockStore, Snapshot};
 use std::alloc::Global;
 use std::marker::Brand;
 use std::sync::Arc;
-use std::sync::atomic::{AtomicU64, Ordering};
+use std::sync::atomic::{AtomicU64, AtomicUsize, Ordering};
 use std::sync::ledger::{Blank, Ledger};
+use std::thread::Threads;
 use step_count::Steps;
+use store_threads::hash_both;
 use willow_entry::{BareRow, Entry, Placed, Row};
 use willow_path::NoMemory;
 
@@ -31,11 +33,12 @@ fn row(alloc: Global, parts: &[u8], rank: Rank) -> Option<BareRow> {
     row_of(alloc, 1, path_of_bytes(alloc, parts)?, rank, 0)
 }
 
-// The row of the first subspace at a path whose second component has two bytes.
+// The row of the first subspace at a path whose second component has two bytes. Every other one is late.
 fn deep_row(alloc: Global, number: u16) -> Option<BareRow> {
     let mut path = path_of_bytes(alloc, b"a")?;
     path.push(&number.to_be_bytes()).ok()?;
-    row_of(alloc, 1, path, EARLY, 0)
+    let rank = if number % 2 == 0 { EARLY } else { LATE };
+    row_of(alloc, 1, path, rank, 0)
 }
 
 // Offers 130 rows below one path; None where one of them pruned or was kept out.
@@ -106,21 +109,28 @@ fn counting(row: BareRow, calls: &Arc<Calls>) -> Option<CountedRow> {
     Some(CountedRow { row, calls })
 }
 
-// Offers a thousand rows below one path.
-fn fill(alloc: Global, store: &mut BlockStore<CountedRow>, calls: &Arc<Calls>) -> Option<()> {
-    for i in 0..1000u16 {
+// Offers so many rows below one path.
+fn fill(
+    alloc: Global,
+    store: &mut BlockStore<CountedRow>,
+    calls: &Arc<Calls>,
+    rows: u16,
+) -> Option<()> {
+    for i in 0..rows {
         let _placed = offer(store, counting(deep_row(alloc, i)?, calls)?)?;
     }
     Some(())
 }
 
-// How often rows are copied for a snapshot and for sharing it, and then for a row that is offered beside it, and how
-// often a row's bytes are read for a fingerprint of all rows.
+// How often rows are copied, and their bytes read, for a snapshot and for sharing it, and then copied for a row that is
+// offered beside it. How often a row's bytes are read for a fingerprint of all rows, and for one of every other row.
 #[derive(Clone, Copy)]
 pub(crate) struct Counts {
     pub(crate) copies_to_share: u64,
+    pub(crate) reads_to_share: u64,
     pub(crate) copies_to_ingest: u64,
-    pub(crate) reads: u64,
+    pub(crate) reads_of_all: u64,
+    pub(crate) reads_of_half: u64,
 }
 
 // The counts for a thousand rows.
@@ -133,17 +143,23 @@ fn copies(calls: &Calls) -> u64 {
     calls.copies.load(Ordering::SeqCst)
 }
 
-// How often a row's bytes are read for a fingerprint of all rows.
-fn reads<L: Ledger>(
+// How often a row's bytes were read so far.
+fn reads(calls: &Calls) -> u64 {
+    calls.reads.load(Ordering::SeqCst)
+}
+
+// How often a row's bytes are read for a fingerprint of the rows that were written before a time, or of all.
+fn reads_before<L: Ledger>(
     alloc: Global,
     calls: &Calls,
     rows: &Snapshot<CountedRow>,
+    end: Option<u64>,
     steps: &mut Steps<L>,
 ) -> Option<u64> {
-    let area = area_box(alloc, Some(1), b"", 0, None)?;
-    let before = calls.reads.load(Ordering::SeqCst);
+    let area = area_box(alloc, Some(1), b"", 0, end)?;
+    let before = reads(calls);
     let _fingerprint = rows.fingerprint(&area, steps);
-    Some(calls.reads.load(Ordering::SeqCst).saturating_sub(before))
+    Some(reads(calls).saturating_sub(before))
 }
 
 // The counts for a shared snapshot of the store's rows.
@@ -154,24 +170,27 @@ fn counted_beside<L: Ledger>(
     shared: &Snapshot<CountedRow>,
     steps: &mut Steps<L>,
 ) -> Option<Counts> {
-    let copies_to_share = copies(calls);
+    let (copies_to_share, reads_to_share) = (copies(calls), reads(calls));
     let _placed = offer(store, counting(row(alloc, b"b", EARLY)?, calls)?)?;
     let copies_to_ingest = copies(calls);
     Some(Counts {
         copies_to_share,
+        reads_to_share,
         copies_to_ingest,
-        reads: reads(alloc, calls, shared, steps)?,
+        reads_of_all: reads_before(alloc, calls, shared, None, steps)?,
+        reads_of_half: reads_before(alloc, calls, shared, Some(LATE.time), steps)?,
     })
 }
 
-// The counts for a snapshot of the store's rows, which is shared.
+// The counts for a snapshot of the store's rows, which are hashed before, and which is shared.
 fn counted_in<L: Ledger>(
     alloc: Global,
     calls: &Arc<Calls>,
     store: &mut BlockStore<CountedRow>,
     steps: &mut Steps<L>,
 ) -> Option<Counts> {
-    fill(alloc, store, calls)?;
+    fill(alloc, store, calls, 1000)?;
+    store.hash_rows(&AtomicUsize::new(0));
     let snapshot = store.snapshot().ok()?;
     let shared = snapshot.share().ok()?;
     counted_beside(alloc, calls, store, &shared, steps)
@@ -195,4 +214,20 @@ fn counted<L: Ledger>(alloc: Global, blank: Blank) -> Option<Counts>
     let mut steps = Steps::<L>::new(blank);
     let calls = no_calls(alloc)?;
     counted_in(alloc, &calls, &mut BlockStore::new(alloc), &mut steps)
+}
+
+// How often rows of two stores of so many rows are read until both are hashed ahead, and until both have a snapshot.
+pub(crate) fn reads_ahead<T: Threads + Sync>(
+    rt: &T,
+    alloc: Global,
+    rows: u16,
+) -> Option<(u64, u64)> {
+    let calls = no_calls(alloc)?;
+    let (mut left, mut right) = (BlockStore::new(alloc), BlockStore::new(alloc));
+    fill(alloc, &mut left, &calls, rows)?;
+    fill(alloc, &mut right, &calls, rows)?;
+    hash_both(rt, alloc, &left, &right);
+    let ahead = reads(&calls);
+    let _snapshots = (left.snapshot().ok()?, right.snapshot().ok()?);
+    Some((ahead, reads(&calls)))
 }

@@ -1,6 +1,6 @@
 //! Tables of what the stores answer.
 
-use crate::blocks::{Counts, calls_of_thousand, pruned_below};
+use crate::blocks::{Counts, calls_of_thousand, pruned_below, reads_ahead};
 use crate::boxes::{Place, fingerprint, found, is_walked, rows_are_shared, shared};
 use crate::lists::{List, Outcome, outcome_in_both};
 use crate::pairs::{Made, offer_both};
@@ -156,15 +156,27 @@ fn a_row_prunes_over_blocks(rt: HostRuntime) {
     assert!(rt; pruned_below(rt.alloc()) == Some((PRUNES_ALL, 1, 130)));
 }
 
-// Whether no row is copied for a snapshot, at most a block for a row beside it, and few are read for a fingerprint.
-fn are_shared(calls: Option<Counts>) -> Option<bool> {
-    let calls = calls?;
-    Some(calls.copies_to_share == 0 && calls.copies_to_ingest <= 128 && calls.reads <= 192)
+// Whether no row is copied for a snapshot, and at most a block for a row beside it.
+fn are_shared(calls: &Counts) -> bool {
+    calls.copies_to_share == 0 && calls.copies_to_ingest <= 128
+}
+
+// Whether each row is read once for two snapshots, and none for a fingerprint of all rows or of a part of each block's.
+fn are_read_once(calls: &Counts) -> bool {
+    calls.reads_to_share == 1000 && calls.reads_of_all == 0 && calls.reads_of_half == 0
 }
 
 #[test]
-fn rows_are_shared_and_read_by_block(rt: HostRuntime) {
-    assert!(rt; are_shared(calls_of_thousand(rt.alloc())) == Some(true));
+fn rows_are_shared_and_read_once(rt: HostRuntime) {
+    let calls = calls_of_thousand(rt.alloc());
+    assert!(rt; calls.is_some_and(|c| are_shared(&c) && are_read_once(&c)));
+}
+
+// Of two stores of 2,100 rows each row is read once, and that ahead where there is more than one processor.
+#[test]
+fn two_stores_are_hashed_ahead(rt: HostRuntime) {
+    let reads = reads_ahead(&rt, rt.alloc(), 2100);
+    assert!(rt; reads == Some((4200, 4200)) || reads == Some((0, 4200)));
 }
 
 // An area, how many of the four rows are in its box, and their positions.

@@ -14,17 +14,17 @@ use Rattle.sync_link.specs.Greetings.{greeting}
 use Rattle.sync_link.specs.Places.{has_finished, offers_of, places}
 use Rattle.sync_link.specs.Sessions.{Party, SessionStage, SessionMessage, SessionCause, own_part, session_of}
 use Rattle.sync_link.specs.Signing.{SignsFor, anyone}
-use Rattle.sync_link.specs.Standing.{Side, MayBe, Feeds, party_of, within}
-use Rattle.sync_link.specs.Due.{stand_in, stand_of}
-use Rattle.sync_link.specs.Fed.{Fed, KeepsArea, AgreesOn, GoesWell, HasRead, MeetsIn, TalksOn}
-use Rattle.sync_link.specs.Held.{area_agreed, fed_with}
+use Rattle.sync_link.specs.Standing.{Side, MayBe, ReadsPiece, party_of, within}
+use Rattle.sync_link.specs.Awaited.{stand_in, stand_of}
+use Rattle.sync_link.specs.Progress.{Progress, KeepsArea, AgreesOn, GoesWell, HasRead, MeetsIn, TalksOn}
+use Rattle.sync_link.specs.Held.{area_agreed, progress_with}
 use Rattle.sync_link.specs.Taking.{Holds, waiting_side}
 use Rattle.sync_link.specs.Talking.{AreOffered, BeginsExchange, BeginsOffered, area_between, box_between, first_with}
-use Rattle.sync_link.specs.declared.due.Cause.TheVariants as causes
-use Rattle.sync_link.specs.declared.due.Due.{Due}
-use Rattle.sync_link.specs.declared.due.Due.TheVariants as dues
-use Rattle.sync_link.specs.declared.due.Exchange.{Exchange}
-use Rattle.sync_link.specs.declared.talker.Talker.{Talker}
+use Rattle.sync_link.specs.declared.side.awaited.Cause.TheVariants as causes
+use Rattle.sync_link.specs.declared.side.awaited.Awaited.{Awaited}
+use Rattle.sync_link.specs.declared.side.awaited.Awaited.TheVariants as awaited
+use Rattle.sync_link.specs.declared.side.awaited.Exchange.{Exchange}
+use Rattle.sync_link.specs.declared.side.participant.Participant.{Participant}
 use Rattle.sync_link.proofs.Greeted.{hello_longer, waits_hello}
 use Rattle.sync_link.proofs.Signed.{held_signs, signs_before, signs_behind}
 
@@ -59,26 +59,26 @@ talks_in place at held = by_test (has_finished place.doing)
     by_test false = tt
 
 -- wherever the message that is due begins, and whatever is held of it
-pub talks_still : {R : Type 0} (due : Due R) (at then_at : ℕ) (held then_held : List ℕ) → TalksOn (stand_of due at held) → TalksOn (stand_of due then_at then_held)
-talks_still dues.Hello at then_at held then_held talks = absurd talks
-talks_still (dues.Proof other) at then_at held then_held talks = absurd talks
-talks_still (dues.Items exchange) at then_at held then_held talks = talks_in exchange.core then_at then_held
-talks_still (dues.Nothing causes.Bad) at then_at held then_held talks = absurd talks
-talks_still (dues.Nothing (causes.Hello cause)) at then_at held then_held talks = absurd talks
-talks_still (dues.Nothing (causes.Core cause)) at then_at held then_held talks = absurd talks
+pub talks_still : {R : Type 0} (due : Awaited R) (at then_at : ℕ) (held then_held : List ℕ) → TalksOn (stand_of due at held) → TalksOn (stand_of due then_at then_held)
+talks_still awaited.Hello at then_at held then_held talks = absurd talks
+talks_still (awaited.Proof other) at then_at held then_held talks = absurd talks
+talks_still (awaited.Items exchange) at then_at held then_held talks = talks_in exchange.core then_at then_held
+talks_still (awaited.Nothing causes.Bad) at then_at held then_held talks = absurd talks
+talks_still (awaited.Nothing (causes.Hello cause)) at then_at held then_held talks = absurd talks
+talks_still (awaited.Nothing (causes.Core cause)) at then_at held then_held talks = absurd talks
 
 -- ---- as an exchange begins
 
-pub begun_offered : {R S E : Type 0} (value : R → RowValue) (talker : Talker R S) (other : Hello) (rows : List RowValue) (area : Option Area) (result : Result (Exchange R) E) (out_old out_new : List ℕ)
-    → AreOffered talker.interest (box_between talker.role talker.hello other) (map value talker.snapshot) rows → area ≡ area_between talker.role talker.hello other
-    → IfOk result (λ exchange. BeginsExchange (first_with talker other rows) exchange out_old out_new) → IfOk result (λ exchange. exchange.area ≡ area)
-    → IfOk result (λ exchange. BeginsOffered value talker other exchange out_old out_new)
-begun_offered value talker other rows area (Ok exchange) out_old out_new offered both begins kept = record { rows = rows; offered = offered; begins = begins; area = kept ∙ both }
-begun_offered value talker other rows area (Err e) out_old out_new offered both begins kept = tt
+pub begun_offered : {R S E : Type 0} (value : R → RowValue) (participant : Participant R S) (other : Hello) (rows : List RowValue) (area : Option Area) (result : Result (Exchange R) E) (out_old out_new : List ℕ)
+    → AreOffered participant.interest (box_between participant.role participant.hello other) (map value participant.snapshot) rows → area ≡ area_between participant.role participant.hello other
+    → IfOk result (λ exchange. BeginsExchange (first_with participant other rows) exchange out_old out_new) → IfOk result (λ exchange. exchange.area ≡ area)
+    → IfOk result (λ exchange. BeginsOffered value participant other exchange out_old out_new)
+begun_offered value participant other rows area (Ok exchange) out_old out_new offered both begins kept = record { rows = rows; offered = offered; begins = begins; area = kept ∙ both }
+begun_offered value participant other rows area (Err e) out_old out_new offered both begins kept = tt
 
 -- ---- one piece behind another
 
-pub agrees_append : (a b c : Fed) (bytes more out_a out_b : List ℕ) (rows_a rows_b : List RowValue) (signature : List ℕ) → Feeds a.side b.side bytes out_a out_b rows_a rows_b → MayBe b.side.signature signature
+pub agrees_append : (a b c : Progress) (bytes more out_a out_b : List ℕ) (rows_a rows_b : List RowValue) (signature : List ℕ) → ReadsPiece a.side b.side bytes out_a out_b rows_a rows_b → MayBe b.side.signature signature
     → KeepsArea a b bytes signature → KeepsArea b c more signature → KeepsArea a c (bytes ++ more) signature
 agrees_append a b c bytes more out_a out_b rows_a rows_b signature f may first second talks = by_second (second talks)
   where
@@ -94,8 +94,8 @@ agrees_append a b c bytes more out_a out_b rows_a rows_b signature f may first s
     )
 
 -- behind the bytes that are held
-pub agrees_behind : {R S : Type 0} (rules : Rules) (value : R → RowValue) (old : Talker R S) (due : Due R) (at : ℕ) (held piece : List ℕ) (new : Fed) (signature : List ℕ) → Holds rules value old due held
-    → KeepsArea (fed_with rules value old due at []) new (held ++ piece) signature → KeepsArea (fed_with rules value old due at held) new piece signature
+pub agrees_behind : {R S : Type 0} (rules : Rules) (value : R → RowValue) (old : Participant R S) (due : Awaited R) (at : ℕ) (held piece : List ℕ) (new : Progress) (signature : List ℕ) → Holds rules value old due held
+    → KeepsArea (progress_with rules value old due at []) new (held ++ piece) signature → KeepsArea (progress_with rules value old due at held) new piece signature
 agrees_behind rules value old due at held piece new signature holds agrees talks = by_either (agrees talks)
   where
     by_either : (TalksOn (stand_of due at []) × (new.area ≡ area_agreed due)) ⊎ MeetsIn (waiting_side rules value old due at []) (held ++ piece) signature new.area
@@ -107,7 +107,7 @@ agrees_behind rules value old due at held piece new signature holds agrees talks
 
 -- ---- behind all that was read
 
-module _ (old new : Fed) (bytes piece written : List ℕ) (taken : List RowValue) (signature : List ℕ) where
+module _ (old new : Progress) (bytes piece written : List ℕ) (taken : List RowValue) (signature : List ℕ) where
   abbrev p : Party
   p = party_of old.side signature
 

@@ -13,7 +13,8 @@ use Rattle.session_rules.proofs.Worlds.{same_read}
 use Rattle.sync_link.specs.Greetings.{greeting}
 use Rattle.sync_link.specs.Places.{offers_of, places}
 use Rattle.sync_link.specs.Sessions.{Party, SessionCause, AreSameInCommon, own_part, session_of, out, got, ending}
-use Rattle.sync_link.specs.Run.{Answer, AreAllOf, IsAllOf, Ends}
+use Rattle.row_intake.specs.Answers.{AreAllOf, IsAllOf}
+use Rattle.sync_link.specs.Run.{Answer, Ends}
 use Rattle.sync_link.specs.Ran.{Ran, side, opening_of, BringSame, HasProved, IsUnfailed, IsDone, EndAlike, AreAlike}
 use Rattle.sync_link.proofs.Resigned.{got_resigned, ending_resigned, quiet_resigned}
 

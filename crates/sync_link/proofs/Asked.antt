@@ -1,9 +1,9 @@
 -- A side that asks its signer, step by step.
-use Rattle.std.proofs.Common.{◌≡◌, inl, inr, ℕ, List, Option, Err, ◌∙◌, ap, sym, subst}
+use Rattle.std.proofs.Common.{◌≡◌, inl, inr, ℕ, Bool, List, Option, Ok, Err, ◌∙◌, ap, sym, subst}
 use Rattle.willow_outside.specs.Counts.{HasRisen}
-use Rattle.sync_link.specs.Asking.{AsksOnce, CanFail, CountsSign, FailsSign, IsUnasked}
-use Rattle.sync_link.specs.declared.standing.Stop.{Stop}
-use Rattle.sync_link.specs.declared.standing.Stop.TheVariants as stops
+use Rattle.sync_link.specs.Asking.{AsksOnce, CanFail, CountsSign, FailsSign, IsUnasked, SignsOnce}
+use Rattle.sync_link.specs.declared.side.standing.Stop.{Stop}
+use Rattle.sync_link.specs.declared.side.standing.Stop.TheVariants as stops
 
 module _ {K : Type 0} where
   pub unasked_on : (made old new : Option (List ℕ)) (first now next : K) → IsUnasked made old first now → IsUnasked old new now next → IsUnasked made new first next
@@ -31,3 +31,26 @@ module _ {K : Type 0} where
       → (stop : Stop) → CountsSign {A = A} old (left now) (faults now) (faults next) (Err stop) → CountsSign {A = B} made (left first) (faults first) (faults next) (Err stop)
   counts_on A B left faults made old first now next unasked same stops.SignFault h = fails_on left faults made old first now next unasked h
   counts_on A B left faults made old first now next unasked same stops.NoMemory h = h ∙ same
+
+  -- ---- all that a call asks of the signer, behind one that went well
+
+  module _ {gives : K → List ℕ → List ℕ → Bool} {asks : K → K → Type 0} {left faults : K → ℕ} {A B C : Type 0} where
+    pub signing_on : {made old new : Option (List ℕ)} {first now next : K} {a : A} {b : B} (c : C) → SignsOnce gives asks left faults made old first now (Ok a) → SignsOnce gives asks left faults old new now next (Ok b) → SignsOnce gives asks left faults made new first next (Ok c)
+    signing_on {made} {old} {new} {first} {now} {next} c before later = record {
+      asked = record {
+        gives_same = later.asked.gives_same ∙ before.asked.gives_same;
+        unasked = unasked_on made old new first now next before.asked.unasked later.asked.unasked;
+        once = asks_on asks made old first now next before.asked.unasked before.asked.once later.asked.once;
+      };
+      counts = later.counts ∙ before.counts;
+    }
+
+    pub signing_fails : {made old new : Option (List ℕ)} {first now next : K} {a : A} (stop : Stop) → SignsOnce gives asks left faults made old first now (Ok a) → SignsOnce {A = B} gives asks left faults old new now next (Err stop) → SignsOnce {A = C} gives asks left faults made new first next (Err stop)
+    signing_fails {made} {old} {new} {first} {now} {next} stop before later = record {
+      asked = record {
+        gives_same = later.asked.gives_same ∙ before.asked.gives_same;
+        unasked = tt;
+        once = asks_on asks made old first now next before.asked.unasked before.asked.once later.asked.once;
+      };
+      counts = counts_on B C left faults made old first now next before.asked.unasked before.counts stop later.counts;
+    }

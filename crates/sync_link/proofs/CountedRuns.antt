@@ -31,7 +31,7 @@ use Rattle.sync_link.specs.Greetings.{Agreement}
 use Rattle.sync_link.specs.Places.{of_interest}
 use Rattle.sync_link.specs.Sessions.{Party, SessionStage, SessionMessage, SessionCause, session_of, said, out, ending, box_with, offered_to, version_with}
 use Rattle.sync_link.specs.Settling.{IsOpening, Accepts, CanMeet, turns_between}
-use Rattle.sync_link.specs.Fed.{heard, counted, noting}
+use Rattle.sync_link.specs.Progress.{heard, counted, noting}
 use Rattle.sync_link.specs.Run.{Reports}
 use Rattle.sync_link.specs.Ran.{Ran, side, opening_of, IsDone, IsOther, most_counted, own_offered, other_offered, own_common, other_common}
 use Rattle.sync_link.specs.declared.plan.SessionReport.{SessionReport}

@@ -27,7 +27,7 @@ use Rattle.session_rules.proofs.Talking.{talking}
 use Rattle.sync_link.specs.Greetings.{Agreement, greeting}
 use Rattle.sync_link.specs.Places.{offers_of, places}
 use Rattle.sync_link.specs.Sessions.{Party, SessionStage, SessionMessage, SessionCause, own_part, session_of, said}
-use Rattle.sync_link.specs.Fed.{heard, counted, noted, noting}
+use Rattle.sync_link.specs.Progress.{heard, counted, noted, noting}
 use Rattle.sync_link.proofs.ReadOn.{counted-append}
 
 read_as : {A M : Type 0} (f : A → M) (sees : List ℕ → Seen A) (bytes : List ℕ) (x : A) → IsReadAs sees bytes x → IsReadAs (λ all. seen_as f (sees all)) bytes (f x)

@@ -16,7 +16,7 @@ use Rattle.session_rules.specs.Session.{Opening, Proving, Talking, Hello as Hell
 use Rattle.sync_link.specs.Greetings.{greeting}
 use Rattle.sync_link.specs.Places.{offers_of, places}
 use Rattle.sync_link.specs.Sessions.{Party, SessionStage, SessionMessage, SessionCause, own_part, session_of}
-use Rattle.sync_link.specs.Standing.{Side, Feeds, party_of}
+use Rattle.sync_link.specs.Standing.{Side, ReadsPiece, party_of}
 use Rattle.sync_link.proofs.Reaching.{chosen, may_chosen}
 
 -- the rows of a step
@@ -90,7 +90,7 @@ module _ (p : Party) (rows : List RowValue) where
   session_few q bytes = read_few (session_of p rows) step_few q bytes
 
 -- a piece brings no more rows than it has bytes
-pub came_few : (old new : Side) (piece out_old out_new : List ℕ) (came : List RawValue) → Feeds old new piece out_old out_new [] (map row_of came) → length came ≤ length piece
+pub came_few : (old new : Side) (piece out_old out_new : List ℕ) (came : List RawValue) → ReadsPiece old new piece out_old out_new [] (map row_of came) → length came ≤ length piece
 came_few old new piece out_old out_new came f =
     let s = chosen new.signature in
     let r = f.reads s (may_chosen new.signature) in

@@ -27,12 +27,13 @@ use Rattle.sync_core.proofs.Lawful.{deciding, disjoint, can_cut_rows}
 use Rattle.sync_link.specs.Greetings.{Agreement}
 use Rattle.sync_link.specs.Sessions.{Party, agreement_with, box_with, version_with}
 use Rattle.sync_link.specs.Settling.{IsOpening, CanMeet, AreApartIn}
-use Rattle.auth_entry.specs.Rows.{authorised_rows}
+use Rattle.auth_entry.specs.Rows.{entry_row, authorised_rows}
 use Rattle.sync_link.specs.Kept.{log_rows}
-use Rattle.sync_link.specs.Run.{Covers}
+use Rattle.row_intake.specs.Answers.{Covers}
 use Rattle.sync_link.specs.Ran.{Ran, side, opening_of, store_of, LiesAbove, IsDone, IsOther, IsAuthorisedRow, AreAuthorised, AreApartAs, AreToldApart, own_offered, other_offered, other_common}
 use Rattle.sync_link.specs.declared.plan.SessionReport.{SessionReport}
-use Rattle.sync_link.proofs.CoveredRows.{rows_behind}
+use Rattle.row_intake.proofs.CoveredRows.{rows_behind}
+use Rattle.sync_link.proofs.Owing.{member_map}
 use Rattle.sync_link.proofs.Grants.{in_rows}
 use Rattle.sync_link.proofs.Offering.{offered_among, opening_offered}
 use Rattle.sync_link.proofs.Settled.{rises}
@@ -61,11 +62,6 @@ module _ (rules : Rules) (namespace : List ℕ) where
   raw_of (raw ∷ rows) r (inl e) = (raw, inl refl, e)
   raw_of (raw ∷ rows) r (inr m) = let found = raw_of rows r m in (found.0, inr found.1, found.2)
 
-  member_map : (rows : List RawValue) (raw : RawValue) → Member rows raw → Member (map row_of rows) (row_of raw)
-  member_map [] raw m = absurd m
-  member_map (other ∷ rows) raw (inl e) = inl (ap row_of e)
-  member_map (other ∷ rows) raw (inr m) = inr (member_map rows raw m)
-
   -- an authorised row among some is among those of them that are authorised
   kept : (rows : List RawValue) → All IsRaw rows → (r : RowValue) → IsAuthorisedRow rules namespace r → Contains (map row_of rows) r → Contains (authorised_rows rules namespace rows) r
   kept rows raws r one c =
@@ -73,7 +69,7 @@ module _ (rules : Rules) (namespace : List ℕ) where
       let fits = All-contains IsRaw rows found.0 raws (contains_from_member rows found.0 found.1) in
       let same : found.0 ≡ one.raw = one_raw found.0 one.raw fits one.fits (found.2 ∙ sym one.read_out) in
       let is : is_authorised rules namespace found.0 ≡ true = ap (is_authorised rules namespace) same ∙ is_one one.raw one.authorised in
-      let m = member_map (authorised rules namespace rows) found.0 (member_filter (is_authorised rules namespace) rows found.0 found.1 is) in
+      let m = member_map row_of (authorised rules namespace rows) found.0 (member_filter (is_authorised rules namespace) rows found.0 found.1 is) in
       contains_from_member (authorised_rows rules namespace rows) r (subst (Member (authorised_rows rules namespace rows)) found.2 m)
 
 -- ---- what comes of the exchange
@@ -138,7 +134,7 @@ module _ (p : List ℕ → Party) (ran : Ran p) (q : Party) (others : List RowVa
   own_covered r within =
       let c = offered_among party.interest (box_with party q.hello) rows r within in
       let front = ran.did.opening.1 in
-      subst (λ l. HasCovering l r) (sym (rows_behind ran.did.log ran.after.seen front)) (covers_live_front (log_rows ran.did.log) (log_rows front.0) r c)
+      subst (λ l. HasCovering l r) (sym (rows_behind entry_row ran.did.log ran.after.seen front)) (covers_live_front (log_rows ran.did.log) (log_rows front.0) r c)
 
   mine_opens : IsOpening party.namespace mine
   mine_opens = opening_offered party.namespace party.interest (box_with party q.hello) rows (own_opens p ran q others other done)
@@ -212,7 +208,7 @@ runs_keep p ran k d within =
     let r = get_or rows k d in
     let front = ran.did.opening.1 in
     live_above (log_rows ran.after.seen) r
-    (subst (λ l. HasCovering l r) (sym (rows_behind ran.did.log ran.after.seen front)) (covers_live_front (log_rows ran.did.log) (log_rows front.0) r (All-contains_itself rows k d within)))
+    (subst (λ l. HasCovering l r) (sym (rows_behind entry_row ran.did.log ran.after.seen front)) (covers_live_front (log_rows ran.did.log) (log_rows front.0) r (All-contains_itself rows k d within)))
 
 module _ (p : List ℕ → Party) (ran : Ran p) (report : SessionReport) (q : Party) (others : List RowValue) (ok : ran.answer ≡ Ok report) (other : IsOther ran q others) (leave : AreAuthorised ran others)
     (apart : AreToldApart ran q others) where

@@ -23,7 +23,8 @@ use Rattle.sync_link.specs.Sessions.{Party, SessionCause, SessionMessage, own_pa
 use Rattle.sync_link.specs.Granting.{message_due}
 use Rattle.sync_link.specs.Settling.{IsOpening, Accepts}
 use Rattle.sync_link.specs.Talking.{own_message}
-use Rattle.sync_link.specs.Run.{Answer, IsAllOf, Ends, CountsReads, CountsWrites, CountsEnds, CountsSigns, IsProofOf}
+use Rattle.row_intake.specs.Answers.{IsAllOf, CountsReads, CountsWrites, CountsEnds}
+use Rattle.sync_link.specs.Run.{Answer, Ends, CountsSigns, IsProofOf}
 use Rattle.sync_link.specs.Ran.{Ran, side, opening_of, IsDone, AreBothRoles, HasOther, SignsWell, IsFaultless}
 use Rattle.sync_link.proofs.Greeted.{Quiet, Proved, told}
 use Rattle.sync_link.proofs.GreetedRuns.{not_quiet}

@@ -28,23 +28,25 @@ use Rattle.sync_link.specs.Readers.{item_seen}
 use Rattle.sync_link.specs.Places.{awaits_row, has_finished, places}
 use Rattle.sync_link.specs.Sessions.{Party, SessionStage, SessionMessage, SessionCause, session_of}
 use Rattle.sync_link.specs.Standing.{Reads, within}
-use Rattle.sync_link.specs.Found.{IsFound, GoWrong, is_due}
-use Rattle.sync_link.specs.Due.{stand_of}
+use Rattle.row_intake.specs.Found.{IsFound, GoWrong}
+use Rattle.sync_link.specs.Found.{is_due}
+use Rattle.sync_link.specs.Awaited.{stand_of}
 use Rattle.sync_link.specs.Hearing.{RefusesItem}
 use Rattle.sync_link.specs.Taking.{AreDueIn, IsExchange, Fits, TakesItem, ComesItem, Holds, IsSilent, Steps, read_by, taken_behind, taken_of, waiting_side}
 use Rattle.sync_link.specs.Taking.{due_behind as after_item}
-use Rattle.sync_link.specs.declared.take.ItemCame.{ItemCame}
-use Rattle.sync_link.specs.declared.take.ItemCame.TheVariants as items
+use Rattle.sync_link.specs.declared.side.take.ItemTaken.{ItemTaken}
+use Rattle.sync_link.specs.declared.side.take.ItemTaken.TheVariants as items
 use Rattle.sync_msg.specs.declared.role.Role.{Role}
-use Rattle.sync_link.specs.declared.due.Cause.TheVariants as causes
-use Rattle.sync_link.specs.declared.due.Due.TheVariants as dues
-use Rattle.sync_link.specs.declared.due.Exchange.{Exchange}
-use Rattle.sync_link.specs.declared.talker.Talker.{Talker}
+use Rattle.sync_link.specs.declared.side.awaited.Cause.TheVariants as causes
+use Rattle.sync_link.specs.declared.side.awaited.Awaited.TheVariants as awaited
+use Rattle.sync_link.specs.declared.side.awaited.Exchange.{Exchange}
+use Rattle.sync_link.specs.declared.side.participant.Participant.{Participant}
 use Rattle.sync_core.proofs.Cases.{AreCases, by_cases, heard_as, same_some, same_ok, not_err, unless_ok}
 use Rattle.sync_link.proofs.Heard.{reading_on, version_heard}
 use Rattle.sync_link.proofs.Speaking.{spoken_as, version_spoken}
 use Rattle.sync_link.proofs.Sound.{all_within, heard_alike, says_all_alike}
-use Rattle.sync_link.proofs.Moves.{some_taken, broken_silent, part_reads, part_silent, wrong_reads, found_reads, feeds, feeds_quiet}
+use Rattle.row_intake.proofs.Moves.{some_taken}
+use Rattle.sync_link.proofs.Moves.{broken_silent, part_reads, part_silent, wrong_reads, found_reads, reads_piece, piece_read_quiet}
 use Rattle.sync_link.proofs.Greeting.{items_said, party_with}
 
 -- ---- how many rows are due
@@ -147,16 +149,16 @@ awaits_due due (Refused cause) h = ap is_due h
 
 -- ---- an item
 
-module _ {R S : Type 0} (rules : Rules) (value : R → RowValue) (talker : Talker R S) (old new : Exchange R) (at : ℕ) (is : IsExchange old) (waits : stage_of old.core.doing ≡ stage.Reading)
+module _ {R S : Type 0} (rules : Rules) (value : R → RowValue) (participant : Participant R S) (old new : Exchange R) (at : ℕ) (is : IsExchange old) (waits : stage_of old.core.doing ≡ stage.Reading)
     (bytes out_old out_new : List ℕ) (rows_old rows_new : List RowValue) where
   abbrev party : List ℕ → Party
-  party signature = record { rules = rules; namespace = talker.namespace; role = talker.role; hello = talker.hello; interest = talker.interest; signature = signature }
+  party signature = record { rules = rules; namespace = participant.namespace; role = participant.role; hello = participant.hello; interest = participant.interest; signature = signature }
 
   abbrev own_rows : List RowValue
-  own_rows = map value talker.snapshot
+  own_rows = map value participant.snapshot
 
   abbrev from : Stand SessionStage SessionCause
-  from = stand_of (dues.Items old) at []
+  from = stand_of (awaited.Items old) at []
 
   abbrev talks : SessionStage
   talks = Talking (within old.core)
@@ -170,46 +172,46 @@ module _ {R S : Type 0} (rules : Rules) (value : R → RowValue) (talker : Talke
   same_sees : item_seen old.reader.version (is_due old.reader.due) ≡ sees
   same_sees = ap₂ item_seen is.version (awaits_due old.reader.due old.core.doing is.due)
 
-  stands_on : (held : List ℕ) → stand_of (dues.Items old) at held ≡ Waits talks at held
+  stands_on : (held : List ℕ) → stand_of (awaited.Items old) at held ≡ Waits talks at held
   stands_on held = ap (λ b. cond b Over (Waits talks at held)) (reading_on old.core.doing waits)
 
   reads_from : (signature read : List ℕ) (to : Stand SessionStage SessionCause) (written : List ℕ) (taken : List RowValue) → Reads (party signature) own_rows (Waits talks at []) read to written taken → Reads (party signature) own_rows from read to written taken
   reads_from signature read to written taken h = subst (λ q. Reads (party signature) own_rows q read to written taken) (sym stands) h
 
-  pub item_part : ArePart (item_seen old.reader.version (is_due old.reader.due)) [] bytes → (signature : List ℕ) → Reads (party signature) own_rows from bytes (stand_of (dues.Items old) at bytes) [] []
+  pub item_part : ArePart (item_seen old.reader.version (is_due old.reader.due)) [] bytes → (signature : List ℕ) → Reads (party signature) own_rows from bytes (stand_of (awaited.Items old) at bytes) [] []
   item_part part signature =
       subst (λ q. Reads (party signature) own_rows from bytes q [] []) (sym (stands_on bytes))
       (reads_from signature bytes (Waits talks at bytes) [] [] (part_reads (party signature) own_rows talks session.Item sees refl at bytes (subst (λ look. ArePart look [] bytes) same_sees part)))
 
-  pub item_silent : ArePart (item_seen old.reader.version (is_due old.reader.due)) [] bytes → (signature : List ℕ) → IsSilent (party signature) own_rows from bytes (stand_of (dues.Items old) at bytes)
+  pub item_silent : ArePart (item_seen old.reader.version (is_due old.reader.due)) [] bytes → (signature : List ℕ) → IsSilent (party signature) own_rows from bytes (stand_of (awaited.Items old) at bytes)
   item_silent part signature =
       subst (λ q. IsSilent (party signature) own_rows from bytes q) (sym (stands_on bytes))
       (subst (λ q. IsSilent (party signature) own_rows q bytes (Waits talks at bytes)) (sym stands) (part_silent (party signature) own_rows talks session.Item sees refl at bytes (subst (λ look. ArePart look [] bytes) same_sees part)))
 
   pub item_more : ArePart (item_seen old.reader.version (is_due old.reader.due)) [] bytes → new ≡ old → out_new ≡ out_old → rows_new ≡ rows_old
-      → Steps (waiting_side rules value talker (dues.Items old)) (waiting_side rules value talker (dues.Items new)) at bytes None out_old out_new rows_old rows_new
+      → Steps (waiting_side rules value participant (awaited.Items old)) (waiting_side rules value participant (awaited.Items new)) at bytes None out_old out_new rows_old rows_new
   item_more part same silent none =
-      feeds_quiet rules value talker talker from (stand_of (dues.Items new) at bytes) bytes out_old out_new rows_old rows_new refl silent [] (none ∙ sym (append-nil rows_old))
-      (λ signature. subst (λ x. Reads (party signature) own_rows from bytes (stand_of (dues.Items x) at bytes) [] []) (sym same) (item_part part signature))
+      piece_read_quiet rules value participant participant from (stand_of (awaited.Items new) at bytes) bytes out_old out_new rows_old rows_new refl silent [] (none ∙ sym (append-nil rows_old))
+      (λ signature. subst (λ x. Reads (party signature) own_rows from bytes (stand_of (awaited.Items x) at bytes) [] []) (sym same) (item_part part signature))
 
   pub item_bad : GoWrong (item_seen old.reader.version (is_due old.reader.due)) [] bytes → out_new ≡ out_old → rows_new ≡ rows_old
-      → Steps (waiting_side rules value talker (dues.Items old)) (waiting_side rules value talker (dues.Nothing causes.Bad)) at bytes None out_old out_new rows_old rows_new
+      → Steps (waiting_side rules value participant (awaited.Items old)) (waiting_side rules value participant (awaited.Nothing causes.Bad)) at bytes None out_old out_new rows_old rows_new
   item_bad wrong silent none =
-      feeds_quiet rules value talker talker from (reading.Broken at) bytes out_old out_new rows_old rows_new refl silent [] (none ∙ sym (append-nil rows_old))
+      piece_read_quiet rules value participant participant from (reading.Broken at) bytes out_old out_new rows_old rows_new refl silent [] (none ∙ sym (append-nil rows_old))
       (λ signature. reads_from signature bytes (reading.Broken at) [] [] (wrong_reads (party signature) own_rows talks session.Item sees refl at bytes (subst (λ look. GoWrong look [] bytes) same_sees wrong)))
 
   abbrev step_of : List ℕ → ItemValue → ℕ → Move SessionStage SessionMessage RowValue SessionCause
   step_of signature item now = stepped now ((session_of (party signature) own_rows).step talks (session.Item item))
 
   pub item_refused : (item : ItemValue) (n : ℕ) (cause : CoreRefusal) → IsFound (item_seen old.reader.version (is_due old.reader.due)) bytes item n → RefusesItem old.core item cause out_old out_new rows_old rows_new
-      → Steps (waiting_side rules value talker (dues.Items old)) (waiting_side rules value talker (dues.Nothing (causes.Core cause))) at bytes (Some n) out_old out_new rows_old rows_new
+      → Steps (waiting_side rules value participant (awaited.Items old)) (waiting_side rules value participant (awaited.Nothing (causes.Core cause))) at bytes (Some n) out_old out_new rows_old rows_new
   item_refused item n cause found h =
       let found_here = subst (λ look. IsFound look bytes item n) same_sees found in
       let refused : heard (within old.core) item ≡ Err cause = heard_alike old.core item is.sound ∙ ap all_within h.refused in (
         some_taken sees bytes item n found_here,
         (
           found_here.within,
-          feeds_quiet rules value talker talker from (reading.Refused (InTalk cause)) (take n bytes) out_old out_new rows_old rows_new refl h.silent [] (h.none ∙ sym (append-nil rows_old))
+          piece_read_quiet rules value participant participant from (reading.Refused (InTalk cause)) (take n bytes) out_old out_new rows_old rows_new refl h.silent [] (h.none ∙ sym (append-nil rows_old))
               (λ signature.
               let step : step_of signature item (at + n) ≡ reading.stay (reading.Refused (InTalk cause)) = ap (λ r. stepped (at + n) (item_read (item_heard places item r))) refused in
               reads_from signature (take n bytes) (reading.Refused (InTalk cause)) [] []
@@ -236,7 +238,7 @@ module _ {R S : Type 0} (rules : Rules) (value : R → RowValue) (talker : Talke
   on_rows now false items last rows = refl
 
   pub item_taken : (n : ℕ) → TakesItem old new bytes n out_old out_new rows_old rows_new
-      → Steps (waiting_side rules value talker (dues.Items old)) (waiting_side rules value talker (dues.Items new)) at bytes (Some n) out_old out_new rows_old rows_new
+      → Steps (waiting_side rules value participant (awaited.Items old)) (waiting_side rules value participant (awaited.Items new)) at bytes (Some n) out_old out_new rows_old rows_new
   item_taken n t =
       let item = t.item in
       let found = subst (λ look. IsFound look bytes item n) same_sees t.found in
@@ -245,13 +247,13 @@ module _ {R S : Type 0} (rules : Rules) (value : R → RowValue) (talker : Talke
       let last = (says_all next).1 in
       let rows = option_to_list (row_in item) in
       let now = at + n in
-      let to = stand_of (dues.Items new) now [] in
+      let to = stand_of (awaited.Items new) now [] in
       let heard_here : heard (within old.core) item ≡ Ok (within next) = heard_alike old.core item is.sound ∙ ap all_within t.hears.heard_to in
       let spoken = spoken_as (within next) ∙ says_all_alike next in (
         some_taken sees bytes item n found,
         (
           found.within,
-          feeds rules value talker talker from to (take n bytes) out_old out_new rows_old rows_new refl (λ s h. h) (flat_map item_spelling items) rows t.hears.says.bytes t.hears.takes
+          reads_piece rules value participant participant from to (take n bytes) out_old out_new rows_old rows_new refl (λ s h. h) (flat_map item_spelling items) rows t.hears.says.bytes t.hears.takes
               (λ signature may.
               let p = party signature in
               let step : step_of signature item now ≡ on now (has_finished last.doing) items last rows =
@@ -276,21 +278,21 @@ module _ {R S : Type 0} (rules : Rules) (value : R → RowValue) (talker : Talke
 
 -- ---- whatever came
 
-module _ {R S : Type 0} (rules : Rules) (value : R → RowValue) (talker : Talker R S) (old new : Exchange R) (is : IsExchange old) (waits : stage_of old.core.doing ≡ stage.Reading) (bytes out_old out_new : List ℕ) (rows_old rows_new : List RowValue) where
-  pub item_steps : (came : ItemCame) → ComesItem old new bytes out_old out_new rows_old rows_new came → (at : ℕ)
-      → Steps (waiting_side rules value talker (dues.Items old)) (waiting_side rules value talker (after_item (dues.Items new) came)) at bytes (taken_behind came) out_old out_new rows_old rows_new
-  item_steps items.More h at = item_more rules value talker old new at is waits bytes out_old out_new rows_old rows_new h.0 h.1.0 h.1.1.0 h.1.1.1
-  item_steps items.Bad h at = item_bad rules value talker old new at is waits bytes out_old out_new rows_old rows_new h.0 h.1.0 h.1.1
-  item_steps (items.Taken taken) h at = item_taken rules value talker old new at is waits bytes out_old out_new rows_old rows_new taken h
-  item_steps (items.Refused cause taken) h at = item_refused rules value talker old new at is waits bytes out_old out_new rows_old rows_new h.0 taken cause h.1.0 h.1.1
+module _ {R S : Type 0} (rules : Rules) (value : R → RowValue) (participant : Participant R S) (old new : Exchange R) (is : IsExchange old) (waits : stage_of old.core.doing ≡ stage.Reading) (bytes out_old out_new : List ℕ) (rows_old rows_new : List RowValue) where
+  pub item_steps : (came : ItemTaken) → ComesItem old new bytes out_old out_new rows_old rows_new came → (at : ℕ)
+      → Steps (waiting_side rules value participant (awaited.Items old)) (waiting_side rules value participant (after_item (awaited.Items new) came)) at bytes (taken_behind came) out_old out_new rows_old rows_new
+  item_steps items.More h at = item_more rules value participant old new at is waits bytes out_old out_new rows_old rows_new h.0 h.1.0 h.1.1.0 h.1.1.1
+  item_steps items.Bad h at = item_bad rules value participant old new at is waits bytes out_old out_new rows_old rows_new h.0 h.1.0 h.1.1
+  item_steps (items.Taken taken) h at = item_taken rules value participant old new at is waits bytes out_old out_new rows_old rows_new taken h
+  item_steps (items.Refused cause taken) h at = item_refused rules value participant old new at is waits bytes out_old out_new rows_old rows_new h.0 taken cause h.1.0 h.1.1
 
-  pub item_fits : (role : Role) (came : ItemCame) → ComesItem old new bytes out_old out_new rows_old rows_new came → Fits role talker.signature (after_item (dues.Items new) came)
+  pub item_fits : (role : Role) (came : ItemTaken) → ComesItem old new bytes out_old out_new rows_old rows_new came → Fits role participant.signature (after_item (awaited.Items new) came)
   item_fits role items.More h = subst (λ x. IsExchange x) (sym h.1.0) is
   item_fits role items.Bad h = tt
-  item_fits role (items.Taken taken) h = taken_on rules value talker old new 0 is waits bytes out_old out_new rows_old rows_new taken h
+  item_fits role (items.Taken taken) h = taken_on rules value participant old new 0 is waits bytes out_old out_new rows_old rows_new taken h
   item_fits role (items.Refused cause taken) h = tt
 
-  pub item_reads_on : (came : ItemCame) → ComesItem old new bytes out_old out_new rows_old rows_new came → read_by (after_item (dues.Items new) came) ≤ read_by (dues.Items old) + taken_of (taken_behind came)
+  pub item_reads_on : (came : ItemTaken) → ComesItem old new bytes out_old out_new rows_old rows_new came → read_by (after_item (awaited.Items new) came) ≤ read_by (awaited.Items old) + taken_of (taken_behind came)
   item_reads_on items.More h = omega (arith, ap (λ x. x.reader.taken) h.1.0)
   item_reads_on items.Bad h = omega arith
   item_reads_on (items.Taken taken) h = omega (arith, ap (λ r. r.taken) h.reader)
@@ -299,10 +301,10 @@ module _ {R S : Type 0} (rules : Rules) (value : R → RowValue) (talker : Talke
   none_taken : (n : ℕ) → Some n ≡ None → ⊥
   none_taken n e = cc
 
-  pub item_holds : (came : ItemCame) → ComesItem old new bytes out_old out_new rows_old rows_new came → taken_behind came ≡ None → Holds rules value talker (after_item (dues.Items new) came) bytes
+  pub item_holds : (came : ItemTaken) → ComesItem old new bytes out_old out_new rows_old rows_new came → taken_behind came ≡ None → Holds rules value participant (after_item (awaited.Items new) came) bytes
   item_holds items.More h none at signature =
-      subst (λ x. IsSilent (party_with rules talker.namespace talker.role talker.hello talker.interest signature) (map value talker.snapshot) (stand_of (dues.Items x) at []) bytes (stand_of (dues.Items x) at bytes))
-      (sym h.1.0) (item_silent rules value talker old new at is waits bytes out_old out_new rows_old rows_new h.0 signature)
-  item_holds items.Bad h none at signature = broken_silent (party_with rules talker.namespace talker.role talker.hello talker.interest signature) (map value talker.snapshot) at bytes
+      subst (λ x. IsSilent (party_with rules participant.namespace participant.role participant.hello participant.interest signature) (map value participant.snapshot) (stand_of (awaited.Items x) at []) bytes (stand_of (awaited.Items x) at bytes))
+      (sym h.1.0) (item_silent rules value participant old new at is waits bytes out_old out_new rows_old rows_new h.0 signature)
+  item_holds items.Bad h none at signature = broken_silent (party_with rules participant.namespace participant.role participant.hello participant.interest signature) (map value participant.snapshot) at bytes
   item_holds (items.Taken taken) h none at signature = absurd (none_taken taken none)
   item_holds (items.Refused cause taken) h none at signature = absurd (none_taken taken none)

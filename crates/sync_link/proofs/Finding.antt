@@ -1,5 +1,5 @@
 -- What readers find at the front of bytes, told byte by byte.
-use Rattle.std.proofs.Common.{◌≡◌, ◌⊎◌, inl, inr, ℕ, zero, suc, ◌-◌, ◌≤◌, List, [], ◌∷◌, ◌++◌, length, take, append_assoc, append-nil, Option, Some, None, Result, Ok, Err, refl, sym, ap, ◌∙◌, subst, arith}
+use Rattle.std.proofs.Common.{◌≡◌, ℕ, zero, suc, ◌-◌, ◌≤◌, List, [], ◌++◌, length, take, append-nil, Option, Some, None, Result, Ok, Err, refl, sym, ap, ◌∙◌, subst, arith}
 use Rattle.spelling.specs.Front.{Front}
 use Rattle.spelling.specs.Front as front
 use Rattle.spelling.specs.Form.{AreBytes}
@@ -11,7 +11,7 @@ use Rattle.spelling.specs.Spelling.{text_spelling, IsText}
 use Rattle.spelling.specs.declared.ending.End.{End}
 use Rattle.spelling.specs.declared.ending.End.TheVariants as ends
 use Rattle.spelling.specs.declared.ending.NoMemory.{NoMemory}
-use Rattle.spelling.proofs.Joining.{Reads, part_before, whole_not_wrong}
+use Rattle.spelling.proofs.Joining.{whole_not_wrong}
 use Rattle.spelling.proofs.Lists.{All-left, take_front}
 use Rattle.cap_codec.specs.Reading.{signature_at, raw_at}
 use Rattle.cap_codec.specs.Rows.{RawValue, IsRawRow, raw_spelling, row_of}
@@ -35,43 +35,16 @@ use Rattle.sync_hello.specs.HelloSteps.{BeginsHello, ReadsHello}
 use Rattle.sync_hello.specs.declared.read.HelloStep.{HelloStep}
 use Rattle.sync_hello.specs.declared.read.HelloStep.TheVariants as hellos
 use Rattle.sync_hello.proofs.HelloReads.{draft-reads, draft_reader}
-use Rattle.session_rules.specs.Machine.{Seen, Whole, Part, Wrong}
+use Rattle.session_rules.specs.Machine.{Whole, Part}
 use Rattle.session_rules.specs.Messages.{IsReadAs, ArePart}
 use Rattle.sync_core.proofs.Cases.{same_some}
-use Rattle.sync_link.specs.Readers.{all_seen, all_read, judged_whole, hello_drafted, hello_seen, proof_seen, row_spelled, row_seen, head_seen, item_seen}
-use Rattle.sync_link.specs.Found.{IsFound, GoWrong, is_due, FindsHello, FindsItem}
-use Rattle.sync_link.proofs.Seen.{part_front, judged_part, judged_back, read_back}
-use Rattle.sync_link.proofs.Spellings.{all_front, hello_as, hello_back, proof_as, proof_back, head_as, row_as}
-
--- ---- any reader
-
-module _ {M : Type 0} (sees : List ℕ → Seen M) where
-  -- bytes that are of no message go wrong at one of them
-  module _ (bytes : List ℕ) (none_whole : (held rest : List ℕ) (m : M) → bytes ≡ held ++ rest → sees held ≡ Whole m → ⊥) (no_part : sees bytes ≡ Part → ⊥) where
-    wrong_by : (held rest : List ℕ) → bytes ≡ held ++ rest → sees held ≡ Part → GoWrong sees held rest
-    wrong_by held [] e part = no_part (ap sees (e ∙ append-nil held) ∙ part)
-    wrong_by held (byte ∷ rest) e part =
-        let now = held ++ byte ∷ [] in
-        let joined : bytes ≡ now ++ rest = e ∙ sym (append_assoc held (byte ∷ []) rest) in
-        by_seen (wrong_by now rest joined) (sees now) refl joined
-      where
-        by_seen : (sees (held ++ byte ∷ []) ≡ Part → GoWrong sees (held ++ byte ∷ []) rest) → (s : Seen M) → sees (held ++ byte ∷ []) ≡ s → bytes ≡ (held ++ byte ∷ []) ++ rest
-            → (sees (held ++ byte ∷ []) ≡ Wrong) ⊎ ((sees (held ++ byte ∷ []) ≡ Part) × GoWrong sees (held ++ byte ∷ []) rest)
-        by_seen later (Whole m) is joined = absurd (none_whole (held ++ byte ∷ []) rest m joined is)
-        by_seen later Part is joined = inr (is, later is)
-        by_seen later Wrong is joined = inl is
-
-    pub all_wrong : sees [] ≡ Part → GoWrong sees [] bytes
-    all_wrong empty = wrong_by [] bytes refl empty
-
--- bytes that are a part are one from the first on
-pub parts_by : {A M : Type 0} {at : List ℕ → Front A} {spell : A → List ℕ} {fits : A → Type 0} → Reads at spell fits → (sees : List ℕ → Seen M) → ((held : List ℕ) → at held ≡ front.Part → sees held ≡ Part)
-    → (held rest : List ℕ) → at (held ++ rest) ≡ front.Part → ArePart sees held rest
-parts_by reads sees is held [] part = tt
-parts_by {at = at} reads sees is held (byte ∷ rest) part =
-    let now = held ++ byte ∷ [] in
-    let whole : at (now ++ rest) ≡ front.Part = ap at (append_assoc held (byte ∷ []) rest) ∙ part in
-    (is now (part_before reads now rest whole), parts_by reads sees is now rest whole)
+use Rattle.row_intake.specs.Readers.{all_seen, all_read, judged_whole}
+use Rattle.sync_link.specs.Readers.{hello_drafted, hello_seen, proof_seen, row_spelled, row_seen, head_seen, item_seen}
+use Rattle.row_intake.specs.Found.{IsFound, GoWrong}
+use Rattle.sync_link.specs.Found.{is_due, FindsHello, FindsItem}
+use Rattle.row_intake.proofs.Seen.{part_front, judged_part, judged_back, read_back}
+use Rattle.row_intake.proofs.Fronts.{all_front, all_wrong, parts_by}
+use Rattle.sync_link.proofs.Spellings.{hello_as, hello_back, proof_as, proof_back, head_as, row_as}
 
 -- ---- hellos
 

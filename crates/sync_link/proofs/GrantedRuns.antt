@@ -12,7 +12,8 @@ use Rattle.session_rules.proofs.Growing.{front_self, front_is}
 use Rattle.sync_link.specs.Sessions.{Party, said, told_rows, out}
 use Rattle.sync_link.specs.Granting.{IsGranted, GrantsRow}
 use Rattle.sync_link.specs.Settling.{IsOpening}
-use Rattle.sync_link.specs.Run.{Answer, IsAllOf, IsSilent}
+use Rattle.row_intake.specs.Answers.{IsAllOf}
+use Rattle.sync_link.specs.Run.{Answer, IsSilent}
 use Rattle.sync_link.specs.Ran.{Ran, side, opening_of, TellsGranted}
 use Rattle.sync_link.proofs.Grants.{item_granted, row_told}
 use Rattle.sync_link.proofs.Spellings.{hello_as}

@@ -36,19 +36,20 @@ use Rattle.sync_link.specs.Readers.{hello_seen, proof_seen}
 use Rattle.sync_link.specs.Greetings.{Agreement, side_of, role_of, greeting}
 use Rattle.sync_link.specs.Places.{has_finished, offers_of, places}
 use Rattle.sync_link.specs.Sessions.{Party, SessionStage, SessionMessage, SessionCause, own_part, agreement_with, box_with, rows_with, session_of, version_with}
-use Rattle.sync_link.specs.Standing.{MayBe, Feeds, within}
-use Rattle.sync_link.specs.Found.{IsFound, GoWrong}
-use Rattle.sync_link.specs.Due.{stand_in, stand_of}
+use Rattle.sync_link.specs.Standing.{MayBe, ReadsPiece, within}
+use Rattle.row_intake.specs.Found.{IsFound, GoWrong}
+use Rattle.sync_link.specs.Awaited.{stand_in, stand_of}
 use Rattle.sync_link.specs.Talking.{AreOffered, HearsHello, HearsProof, AcceptsProof, BeginsExchange, Keeps, SpeaksSome, UnsignedIf, Writes, box_between, first_with, proof_cause, said_to_hello, said_to_proof, side_with, version_between}
 use Rattle.sync_link.specs.Taking.{AreDueIn, IsExchange, Fits, ComesHello, ComesProof, Holds, Steps, due_after, read_by, taken_after, taken_of, waiting_side}
-use Rattle.sync_link.specs.declared.take.Came.{Came}
-use Rattle.sync_link.specs.declared.take.Came.TheVariants as came
-use Rattle.sync_link.specs.declared.due.Cause.TheVariants as causes
-use Rattle.sync_link.specs.declared.due.Due.{Due}
-use Rattle.sync_link.specs.declared.due.Due.TheVariants as dues
-use Rattle.sync_link.specs.declared.due.Exchange.{Exchange}
-use Rattle.sync_link.specs.declared.talker.Talker.{Talker}
-use Rattle.sync_link.proofs.Moves.{some_taken, broken_silent, part_reads, part_silent, wrong_reads, found_reads, feeds, feeds_quiet, or_none, may_be, same_written}
+use Rattle.sync_link.specs.declared.side.take.GreetingTaken.{GreetingTaken}
+use Rattle.sync_link.specs.declared.side.take.GreetingTaken.TheVariants as came
+use Rattle.sync_link.specs.declared.side.awaited.Cause.TheVariants as causes
+use Rattle.sync_link.specs.declared.side.awaited.Awaited.{Awaited}
+use Rattle.sync_link.specs.declared.side.awaited.Awaited.TheVariants as awaited
+use Rattle.sync_link.specs.declared.side.awaited.Exchange.{Exchange}
+use Rattle.sync_link.specs.declared.side.participant.Participant.{Participant}
+use Rattle.row_intake.proofs.Moves.{some_taken}
+use Rattle.sync_link.proofs.Moves.{broken_silent, part_reads, part_silent, wrong_reads, found_reads, reads_piece, piece_read_quiet, or_none, may_be, same_written}
 use Rattle.sync_link.proofs.Settled.{filter_twice}
 use Rattle.sync_link.proofs.Sound.{says_all_alike}
 use Rattle.sync_link.proofs.Speaking.{spoken_as, version_spoken}
@@ -137,68 +138,68 @@ none_due version Answerer box rows = subst (λ s. AreDueIn 0 s.1.doing) (sym (sa
 
 -- ---- a hello
 
-module _ {R S : Type 0} (rules : Rules) (value : R → RowValue) (old new : Talker R S) (keeps : Keeps old new) (at : ℕ) (bytes out_old out_new : List ℕ) (list : List RowValue) where
+module _ {R S : Type 0} (rules : Rules) (value : R → RowValue) (old new : Participant R S) (keeps : Keeps old new) (at : ℕ) (bytes out_old out_new : List ℕ) (list : List RowValue) where
   abbrev party : List ℕ → Party
   party signature = record { rules = rules; namespace = old.namespace; role = old.role; hello = old.hello; interest = old.interest; signature = signature }
 
   abbrev own_rows : List RowValue
   own_rows = map value old.snapshot
 
-  abbrev FeedsTo : Due R → ℕ → List ℕ → Stand SessionStage SessionCause → List ℕ → Type 0
-  FeedsTo due now held from taken = Feeds (side_with rules value old from) (waiting_side rules value new due now held) taken out_old out_new list list
+  abbrev FeedsTo : Awaited R → ℕ → List ℕ → Stand SessionStage SessionCause → List ℕ → Type 0
+  FeedsTo due now held from taken = ReadsPiece (side_with rules value old from) (waiting_side rules value new due now held) taken out_old out_new list list
 
   no_rows : list ≡ list ++ []
   no_rows = sym (append-nil list)
 
   hello_refused : (other : Hello) (n : ℕ) (cause : HelloRefusal) → IsFound hello_seen bytes other n → hello_refusal rules old.namespace other ≡ Some cause → new ≡ old → out_new ≡ out_old
-      → FeedsTo (dues.Nothing (causes.Hello cause)) (at + n) [] (Waits Opening at []) (take n bytes)
+      → FeedsTo (awaited.Nothing (causes.Hello cause)) (at + n) [] (Waits Opening at []) (take n bytes)
   hello_refused other n cause found is same silent =
-      feeds_quiet rules value old new (Waits Opening at []) (reading.Refused (InGreeting cause)) (take n bytes) out_old out_new list list same silent [] no_rows
+      piece_read_quiet rules value old new (Waits Opening at []) (reading.Refused (InGreeting cause)) (take n bytes) out_old out_new list list same silent [] no_rows
       (λ signature.
       let step = ap (λ o. stepped (at + n) (hello_read (own_part (party signature)) other o)) is in
       found_reads (party signature) own_rows Opening session.Hello hello_seen refl at bytes other n (reading.Refused (InGreeting cause)) [] [] found (ap (λ m. m.stand) step) (ap (λ m. flat_map (session_of (party signature) own_rows).spelling m.says) step) (ap (λ m. m.rows) step))
 
   hello_passes : (other : Hello) (n : ℕ) → IsFound hello_seen bytes other n → hello_refusal rules old.namespace other ≡ None → old.signature ≡ None → Writes new.signature (said_to_hello old.role old.hello) out_old out_new
-      → FeedsTo (dues.Proof other) (at + n) [] (Waits Opening at []) (take n bytes)
+      → FeedsTo (awaited.Proof other) (at + n) [] (Waits Opening at []) (take n bytes)
   hello_passes other n found is unsigned writes =
       let spoken = said_to_hello old.role old.hello in
       let written = spoken (or_none new.signature) in
-      feeds rules value old new (Waits Opening at []) (Waits (Proving other) (at + n) []) (take n bytes) out_old out_new list list keeps (λ s h. subst (λ o. MayBe o s) (sym unsigned) tt) written [] (writes (or_none new.signature) (may_be new.signature)) no_rows
+      reads_piece rules value old new (Waits Opening at []) (Waits (Proving other) (at + n) []) (take n bytes) out_old out_new list list keeps (λ s h. subst (λ o. MayBe o s) (sym unsigned) tt) written [] (writes (or_none new.signature) (may_be new.signature)) no_rows
       (λ signature h.
       let p = party signature in
       let step = ap (λ o. stepped (at + n) (hello_read (own_part p) other o)) is in
       found_reads p own_rows Opening session.Hello hello_seen refl at bytes other n (Waits (Proving other) (at + n) []) written [] found
       (ap (λ m. m.stand) step) (ap (λ m. flat_map (session_of p own_rows).spelling m.says) step ∙ hello_said p ∙ same_written new.signature spoken out_old out_new writes signature h) (ap (λ m. m.rows) step))
 
-  hello_by : (other : Hello) (n : ℕ) (due : Due R) → IsFound hello_seen bytes other n → old.signature ≡ None → (o : Option HelloRefusal) → hello_refusal rules old.namespace other ≡ o → HearsHello old new other due out_old out_new o
+  hello_by : (other : Hello) (n : ℕ) (due : Awaited R) → IsFound hello_seen bytes other n → old.signature ≡ None → (o : Option HelloRefusal) → hello_refusal rules old.namespace other ≡ o → HearsHello old new other due out_old out_new o
       → FeedsTo due (at + n) [] (Waits Opening at []) (take n bytes)
   hello_by other n due found unsigned (Some cause) is h =
       subst (λ d. FeedsTo d (at + n) [] (Waits Opening at []) (take n bytes)) (sym h.0) (hello_refused other n cause found is h.1 h.2)
   hello_by other n due found unsigned None is h =
       subst (λ d. FeedsTo d (at + n) [] (Waits Opening at []) (take n bytes)) (sym h.0) (hello_passes other n found is unsigned h.1.0)
 
-  pub hello_next : (other : Hello) (n : ℕ) (due : Due R) → IsFound hello_seen bytes other n → old.signature ≡ None → HearsHello old new other due out_old out_new (hello_refusal rules old.namespace other)
-      → Steps (waiting_side rules value old dues.Hello) (waiting_side rules value new due) at bytes (Some n) out_old out_new list list
+  pub hello_next : (other : Hello) (n : ℕ) (due : Awaited R) → IsFound hello_seen bytes other n → old.signature ≡ None → HearsHello old new other due out_old out_new (hello_refusal rules old.namespace other)
+      → Steps (waiting_side rules value old awaited.Hello) (waiting_side rules value new due) at bytes (Some n) out_old out_new list list
   hello_next other n due found unsigned h = (some_taken hello_seen bytes other n found, (found.within, hello_by other n due found unsigned (hello_refusal rules old.namespace other) refl h))
 
-  pub hello_more : ArePart hello_seen [] bytes → new ≡ old → out_new ≡ out_old → Steps (waiting_side rules value old dues.Hello) (waiting_side rules value new dues.Hello) at bytes None out_old out_new list list
+  pub hello_more : ArePart hello_seen [] bytes → new ≡ old → out_new ≡ out_old → Steps (waiting_side rules value old awaited.Hello) (waiting_side rules value new awaited.Hello) at bytes None out_old out_new list list
   hello_more part same silent =
-      feeds_quiet rules value old new (Waits Opening at []) (Waits Opening at bytes) bytes out_old out_new list list same silent [] no_rows (λ s. part_reads (party s) own_rows Opening session.Hello hello_seen refl at bytes part)
+      piece_read_quiet rules value old new (Waits Opening at []) (Waits Opening at bytes) bytes out_old out_new list list same silent [] no_rows (λ s. part_reads (party s) own_rows Opening session.Hello hello_seen refl at bytes part)
 
-  pub hello_bad : GoWrong hello_seen [] bytes → new ≡ old → out_new ≡ out_old → Steps (waiting_side rules value old dues.Hello) (waiting_side rules value new (dues.Nothing causes.Bad)) at bytes None out_old out_new list list
+  pub hello_bad : GoWrong hello_seen [] bytes → new ≡ old → out_new ≡ out_old → Steps (waiting_side rules value old awaited.Hello) (waiting_side rules value new (awaited.Nothing causes.Bad)) at bytes None out_old out_new list list
   hello_bad wrong same silent =
-      feeds_quiet rules value old new (Waits Opening at []) (reading.Broken at) bytes out_old out_new list list same silent [] no_rows (λ s. wrong_reads (party s) own_rows Opening session.Hello hello_seen refl at bytes wrong)
+      piece_read_quiet rules value old new (Waits Opening at []) (reading.Broken at) bytes out_old out_new list list same silent [] no_rows (λ s. wrong_reads (party s) own_rows Opening session.Hello hello_seen refl at bytes wrong)
 
   -- ---- a proof
 
   module _ (other : Hello) where
-    pub proof_more : ArePart proof_seen [] bytes → new ≡ old → out_new ≡ out_old → Steps (waiting_side rules value old (dues.Proof other)) (waiting_side rules value new (dues.Proof other)) at bytes None out_old out_new list list
+    pub proof_more : ArePart proof_seen [] bytes → new ≡ old → out_new ≡ out_old → Steps (waiting_side rules value old (awaited.Proof other)) (waiting_side rules value new (awaited.Proof other)) at bytes None out_old out_new list list
     proof_more part same silent =
-        feeds_quiet rules value old new (Waits (Proving other) at []) (Waits (Proving other) at bytes) bytes out_old out_new list list same silent [] no_rows (λ s. part_reads (party s) own_rows (Proving other) session.Proof proof_seen refl at bytes part)
+        piece_read_quiet rules value old new (Waits (Proving other) at []) (Waits (Proving other) at bytes) bytes out_old out_new list list same silent [] no_rows (λ s. part_reads (party s) own_rows (Proving other) session.Proof proof_seen refl at bytes part)
 
-    pub proof_bad : GoWrong proof_seen [] bytes → new ≡ old → out_new ≡ out_old → Steps (waiting_side rules value old (dues.Proof other)) (waiting_side rules value new (dues.Nothing causes.Bad)) at bytes None out_old out_new list list
+    pub proof_bad : GoWrong proof_seen [] bytes → new ≡ old → out_new ≡ out_old → Steps (waiting_side rules value old (awaited.Proof other)) (waiting_side rules value new (awaited.Nothing causes.Bad)) at bytes None out_old out_new list list
     proof_bad wrong same silent =
-        feeds_quiet rules value old new (Waits (Proving other) at []) (reading.Broken at) bytes out_old out_new list list same silent [] no_rows (λ s. wrong_reads (party s) own_rows (Proving other) session.Proof proof_seen refl at bytes wrong)
+        piece_read_quiet rules value old new (Waits (Proving other) at []) (reading.Broken at) bytes out_old out_new list list same silent [] no_rows (λ s. wrong_reads (party s) own_rows (Proving other) session.Proof proof_seen refl at bytes wrong)
 
     abbrev step_of : Party → List ℕ → ℕ → Move SessionStage SessionMessage RowValue SessionCause
     step_of p proof now = stepped now ((session_of p own_rows).step (Proving other) (session.Proof proof))
@@ -209,9 +210,9 @@ module _ {R S : Type 0} (rules : Rules) (value : R → RowValue) (old new : Talk
         ap (λ c. stepped now (proof_read (own_part (party signature)) (exchange_with (greeting rules old.namespace) places (own_part (party signature)) (offers_of old.interest own_rows) other) c)) (refused_by rules old.namespace old.role old.hello other signature proof ∙ is)
 
     proof_refused : (proof : List ℕ) (n : ℕ) (cause : HelloRefusal) → IsFound proof_seen bytes proof n → proof_cause rules old.role old.hello other proof ≡ Some cause → new ≡ old → out_new ≡ out_old
-        → FeedsTo (dues.Nothing (causes.Hello cause)) (at + n) [] (Waits (Proving other) at []) (take n bytes)
+        → FeedsTo (awaited.Nothing (causes.Hello cause)) (at + n) [] (Waits (Proving other) at []) (take n bytes)
     proof_refused proof n cause found is same silent =
-        feeds_quiet rules value old new (Waits (Proving other) at []) (reading.Refused (InGreeting cause)) (take n bytes) out_old out_new list list same silent [] no_rows
+        piece_read_quiet rules value old new (Waits (Proving other) at []) (reading.Refused (InGreeting cause)) (take n bytes) out_old out_new list list same silent [] no_rows
         (λ signature.
         let step = judged signature proof (at + n) (Some cause) is in
         found_reads (party signature) own_rows (Proving other) session.Proof proof_seen refl at bytes proof n (reading.Refused (InGreeting cause)) [] [] found (ap (λ m. m.stand) step)
@@ -228,12 +229,12 @@ module _ {R S : Type 0} (rules : Rules) (value : R → RowValue) (old new : Talk
     spoken_first : (shown : List RowValue) → AreOffered old.interest (box_between old.role old.hello other) own_rows shown → (signature : List ℕ) → talk.spoken places (begun (party signature)) ≡ ((says_all (first shown)).0, within (says_all (first shown)).1)
     spoken_first shown are signature = begun_spoken rules old.namespace old.role old.hello other old.interest own_rows shown are signature
 
-    accepted_to : (shown : List RowValue) (exchange : Exchange R) (now : ℕ) → exchange.core ≡ (says_all (first shown)).1 → Waits (Talking (within (says_all (first shown)).1)) now [] ≡ stand_of (dues.Items exchange) now []
+    accepted_to : (shown : List RowValue) (exchange : Exchange R) (now : ℕ) → exchange.core ≡ (says_all (first shown)).1 → Waits (Talking (within (says_all (first shown)).1)) now [] ≡ stand_of (awaited.Items exchange) now []
     accepted_to shown exchange now is =
         ap (λ b. cond b Over (Waits (Talking (within (says_all (first shown)).1)) now [])) (sym (first_goes_on (version_between old.role old.hello other) old.role (box_between old.role old.hello other) shown))
         ∙ ap (λ place. stand_in place now []) (sym is)
 
-    proof_accepted : (proof : List ℕ) (n : ℕ) (due : Due R) → IsFound proof_seen bytes proof n → proof_cause rules old.role old.hello other proof ≡ None → AcceptsProof value old new other due out_old out_new
+    proof_accepted : (proof : List ℕ) (n : ℕ) (due : Awaited R) → IsFound proof_seen bytes proof n → proof_cause rules old.role old.hello other proof ≡ None → AcceptsProof value old new other due out_old out_new
         → FeedsTo due (at + n) [] (Waits (Proving other) at []) (take n bytes)
     proof_accepted proof n due found is h =
         let spoken = said_to_proof old.role in
@@ -241,11 +242,11 @@ module _ {R S : Type 0} (rules : Rules) (value : R → RowValue) (old new : Talk
         let begins = h.over.begins in
         let items = flat_map item_spelling (says_all (first shown)).0 in
         let written = spoken (or_none new.signature) ++ items in
-        let to = stand_of (dues.Items h.exchange) (at + n) [] in
+        let to = stand_of (awaited.Items h.exchange) (at + n) [] in
         let wrote : out_new ≡ out_old ++ written =
         begins.said ∙ ap (λ l. l ++ items) (h.proved (or_none new.signature) (may_be new.signature)) ∙ append_assoc out_old (spoken (or_none new.signature)) items in
         subst (λ d. FeedsTo d (at + n) [] (Waits (Proving other) at []) (take n bytes)) (sym h.due_is)
-        (feeds rules value old new (Waits (Proving other) at []) to (take n bytes) out_old out_new list list keeps h.once written [] wrote no_rows
+        (reads_piece rules value old new (Waits (Proving other) at []) to (take n bytes) out_old out_new list list keeps h.once written [] wrote no_rows
         (λ signature may.
         let p = party signature in
         let step = judged signature proof (at + n) None is in
@@ -258,60 +259,60 @@ module _ {R S : Type 0} (rules : Rules) (value : R → RowValue) (old new : Talk
         (items_said p own_rows (talk.spoken places (begun p)).0 ∙ ap (λ s. flat_map item_spelling s.0) first_said))
         (ap (λ m. m.rows) step)))
 
-    proof_by : (proof : List ℕ) (n : ℕ) (due : Due R) → IsFound proof_seen bytes proof n → (o : Option HelloRefusal) → proof_cause rules old.role old.hello other proof ≡ o → HearsProof value old new other due out_old out_new o
+    proof_by : (proof : List ℕ) (n : ℕ) (due : Awaited R) → IsFound proof_seen bytes proof n → (o : Option HelloRefusal) → proof_cause rules old.role old.hello other proof ≡ o → HearsProof value old new other due out_old out_new o
         → FeedsTo due (at + n) [] (Waits (Proving other) at []) (take n bytes)
     proof_by proof n due found (Some cause) is h =
         subst (λ d. FeedsTo d (at + n) [] (Waits (Proving other) at []) (take n bytes)) (sym h.0) (proof_refused proof n cause found is h.1 h.2)
     proof_by proof n due found None is h = proof_accepted proof n due found is h
 
-    pub proof_next : (proof : List ℕ) (n : ℕ) (due : Due R) → IsFound proof_seen bytes proof n → HearsProof value old new other due out_old out_new (proof_cause rules old.role old.hello other proof)
-        → Steps (waiting_side rules value old (dues.Proof other)) (waiting_side rules value new due) at bytes (Some n) out_old out_new list list
+    pub proof_next : (proof : List ℕ) (n : ℕ) (due : Awaited R) → IsFound proof_seen bytes proof n → HearsProof value old new other due out_old out_new (proof_cause rules old.role old.hello other proof)
+        → Steps (waiting_side rules value old (awaited.Proof other)) (waiting_side rules value new due) at bytes (Some n) out_old out_new list list
     proof_next proof n due found h = (some_taken proof_seen bytes proof n found, (found.within, proof_by proof n due found (proof_cause rules old.role old.hello other proof) refl h))
 
 -- ---- whatever came
 
-module _ {R S : Type 0} (rules : Rules) (value : R → RowValue) (old new : Talker R S) (keeps : Keeps old new) (bytes out_old out_new : List ℕ) (list : List RowValue) where
+module _ {R S : Type 0} (rules : Rules) (value : R → RowValue) (old new : Participant R S) (keeps : Keeps old new) (bytes out_old out_new : List ℕ) (list : List RowValue) where
   none_taken : (n : ℕ) → Some n ≡ None → ⊥
   none_taken n e = cc
 
-  abbrev party_at : Talker R S → List ℕ → Party
-  party_at talker signature = record { rules = rules; namespace = talker.namespace; role = talker.role; hello = talker.hello; interest = talker.interest; signature = signature }
+  abbrev party_at : Participant R S → List ℕ → Party
+  party_at participant signature = record { rules = rules; namespace = participant.namespace; role = participant.role; hello = participant.hello; interest = participant.interest; signature = signature }
 
-  bad_holds : Holds rules value new (dues.Nothing causes.Bad) bytes
+  bad_holds : Holds rules value new (awaited.Nothing causes.Bad) bytes
   bad_holds at signature = broken_silent (party_at new signature) (map value new.snapshot) at bytes
 
-  pub hello_steps : old.signature ≡ None → (came : Came R) → ComesHello rules old new bytes out_old out_new came → (at : ℕ)
-      → Steps (waiting_side rules value old dues.Hello) (waiting_side rules value new (due_after dues.Hello came)) at bytes (taken_after came) out_old out_new list list
+  pub hello_steps : old.signature ≡ None → (came : GreetingTaken R) → ComesHello rules old new bytes out_old out_new came → (at : ℕ)
+      → Steps (waiting_side rules value old awaited.Hello) (waiting_side rules value new (due_after awaited.Hello came)) at bytes (taken_after came) out_old out_new list list
   hello_steps unsigned came.More h at = hello_more rules value old new keeps at bytes out_old out_new list h.0 h.1.0 h.1.1
   hello_steps unsigned came.Bad h at = hello_bad rules value old new keeps at bytes out_old out_new list h.0 h.1.0 h.1.1
   hello_steps unsigned (came.Next due n) h at = hello_next rules value old new keeps at bytes out_old out_new list h.0 n due h.1.0 unsigned h.1.1.1
 
-  heard_fits : (other : Hello) (due : Due R) → IsHello other → (o : Option HelloRefusal) → (o ≡ None → SpeaksSome other) → HearsHello old new other due out_old out_new o → Fits old.role new.signature due
+  heard_fits : (other : Hello) (due : Awaited R) → IsHello other → (o : Option HelloRefusal) → (o ≡ None → SpeaksSome other) → HearsHello old new other due out_old out_new o → Fits old.role new.signature due
   heard_fits other due fits (Some cause) speaks h = subst (λ d. Fits old.role new.signature d) (sym h.0) tt
   heard_fits other due fits None speaks h = subst (λ d. Fits old.role new.signature d) (sym h.0) (fits.short, (speaks refl, h.1.1))
 
-  pub hello_fits : old.signature ≡ None → (came : Came R) → ComesHello rules old new bytes out_old out_new came → Fits old.role new.signature (due_after dues.Hello came)
+  pub hello_fits : old.signature ≡ None → (came : GreetingTaken R) → ComesHello rules old new bytes out_old out_new came → Fits old.role new.signature (due_after awaited.Hello came)
   hello_fits unsigned came.More h = ap (λ t. t.signature) h.1.0 ∙ unsigned
   hello_fits unsigned came.Bad h = tt
   hello_fits unsigned (came.Next due n) h = heard_fits h.0 due h.1.1.0 (hello_refusal rules old.namespace h.0) (λ none. (passes rules old.namespace h.0 none).speaks) h.1.1.1
 
-  heard_read : (other : Hello) (due : Due R) (n : ℕ) (o : Option HelloRefusal) → HearsHello old new other due out_old out_new o → read_by due ≤ n
+  heard_read : (other : Hello) (due : Awaited R) (n : ℕ) (o : Option HelloRefusal) → HearsHello old new other due out_old out_new o → read_by due ≤ n
   heard_read other due n (Some cause) h = subst (λ d. read_by d ≤ n) (sym h.0) (omega arith)
   heard_read other due n None h = subst (λ d. read_by d ≤ n) (sym h.0) (omega arith)
 
-  pub hello_read_by : (came : Came R) → ComesHello rules old new bytes out_old out_new came → read_by (due_after dues.Hello came) ≤ 0 + taken_of (taken_after came)
+  pub hello_read_by : (came : GreetingTaken R) → ComesHello rules old new bytes out_old out_new came → read_by (due_after awaited.Hello came) ≤ 0 + taken_of (taken_after came)
   hello_read_by came.More h = omega arith
   hello_read_by came.Bad h = omega arith
   hello_read_by (came.Next due n) h = heard_read h.0 due (0 + n) (hello_refusal rules old.namespace h.0) h.1.1.1
 
-  pub hello_holds : (came : Came R) → ComesHello rules old new bytes out_old out_new came → taken_after came ≡ None → Holds rules value new (due_after dues.Hello came) bytes
+  pub hello_holds : (came : GreetingTaken R) → ComesHello rules old new bytes out_old out_new came → taken_after came ≡ None → Holds rules value new (due_after awaited.Hello came) bytes
   hello_holds came.More h none at signature = part_silent (party_at new signature) (map value new.snapshot) Opening session.Hello hello_seen refl at bytes h.0
   hello_holds came.Bad h none at signature = bad_holds at signature
   hello_holds (came.Next due n) h none at signature = absurd (none_taken n none)
 
   module _ (other : Hello) where
-    pub proof_steps : (came : Came R) → ComesProof rules value old new other bytes out_old out_new came → (at : ℕ)
-        → Steps (waiting_side rules value old (dues.Proof other)) (waiting_side rules value new (due_after (dues.Proof other) came)) at bytes (taken_after came) out_old out_new list list
+    pub proof_steps : (came : GreetingTaken R) → ComesProof rules value old new other bytes out_old out_new came → (at : ℕ)
+        → Steps (waiting_side rules value old (awaited.Proof other)) (waiting_side rules value new (due_after (awaited.Proof other) came)) at bytes (taken_after came) out_old out_new list list
     proof_steps came.More h at = proof_more rules value old new keeps at bytes out_old out_new list other h.0 h.1.0 h.1.1
     proof_steps came.Bad h at = proof_bad rules value old new keeps at bytes out_old out_new list other h.0 h.1.0 h.1.1
     proof_steps (came.Next due n) h at = proof_next rules value old new keeps at bytes out_old out_new list other h.0 n due h.1.0 h.1.1
@@ -324,25 +325,25 @@ module _ {R S : Type 0} (rules : Rules) (value : R → RowValue) (old new : Talk
       version = ap (λ r. r.version) b.reader ∙ sym (ap (λ p. p.version) b.core ∙ version_spoken (first_with old other shown));
     }
 
-    proved_fits : (due : Due R) (o : Option HelloRefusal) → HearsProof value old new other due out_old out_new o → Fits old.role new.signature due
+    proved_fits : (due : Awaited R) (o : Option HelloRefusal) → HearsProof value old new other due out_old out_new o → Fits old.role new.signature due
     proved_fits due (Some cause) h = subst (λ d. Fits old.role new.signature d) (sym h.0) tt
     proved_fits due None h = subst (λ d. Fits old.role new.signature d) (sym h.due_is) (begun_fits h.over.rows h.exchange h.between h.over.begins)
 
-    pub proof_fits : Fits {R = R} old.role old.signature (dues.Proof other) → (came : Came R) → ComesProof rules value old new other bytes out_old out_new came → Fits old.role new.signature (due_after (dues.Proof other) came)
+    pub proof_fits : Fits {R = R} old.role old.signature (awaited.Proof other) → (came : GreetingTaken R) → ComesProof rules value old new other bytes out_old out_new came → Fits old.role new.signature (due_after (awaited.Proof other) came)
     proof_fits fits came.More h = (fits.0, (fits.1.0, subst (λ s. UnsignedIf old.role s) (sym (ap (λ t. t.signature) h.1.0)) fits.1.1))
     proof_fits fits came.Bad h = tt
     proof_fits fits (came.Next due n) h = proved_fits due (proof_cause rules old.role old.hello other h.0) h.1.1
 
-    proved_read : (due : Due R) (n : ℕ) (o : Option HelloRefusal) → HearsProof value old new other due out_old out_new o → read_by due ≤ n
+    proved_read : (due : Awaited R) (n : ℕ) (o : Option HelloRefusal) → HearsProof value old new other due out_old out_new o → read_by due ≤ n
     proved_read due n (Some cause) h = subst (λ d. read_by d ≤ n) (sym h.0) (omega arith)
     proved_read due n None h = subst (λ d. read_by d ≤ n) (sym h.due_is) (omega (arith, ap (λ r. r.taken) h.over.begins.reader))
 
-    pub proof_read_by : (came : Came R) → ComesProof rules value old new other bytes out_old out_new came → read_by (due_after (dues.Proof other) came) ≤ 0 + taken_of (taken_after came)
+    pub proof_read_by : (came : GreetingTaken R) → ComesProof rules value old new other bytes out_old out_new came → read_by (due_after (awaited.Proof other) came) ≤ 0 + taken_of (taken_after came)
     proof_read_by came.More h = omega arith
     proof_read_by came.Bad h = omega arith
     proof_read_by (came.Next due n) h = proved_read due (0 + n) (proof_cause rules old.role old.hello other h.0) h.1.1
 
-    pub proof_holds : (came : Came R) → ComesProof rules value old new other bytes out_old out_new came → taken_after came ≡ None → Holds rules value new (due_after (dues.Proof other) came) bytes
+    pub proof_holds : (came : GreetingTaken R) → ComesProof rules value old new other bytes out_old out_new came → taken_after came ≡ None → Holds rules value new (due_after (awaited.Proof other) came) bytes
     proof_holds came.More h none at signature = part_silent (party_at new signature) (map value new.snapshot) (Proving other) session.Proof proof_seen refl at bytes h.0
     proof_holds came.Bad h none at signature = bad_holds at signature
     proof_holds (came.Next due n) h none at signature = absurd (none_taken n none)

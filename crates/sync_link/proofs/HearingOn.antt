@@ -10,24 +10,24 @@ use Rattle.session_rules.specs.Reading as reading
 use Rattle.session_rules.proofs.Runs.{run_append}
 use Rattle.sync_link.specs.Sessions.{session_of}
 use Rattle.sync_link.specs.Sound.{AreSound}
-use Rattle.sync_link.specs.Standing.{Side, Feeds, party_of}
-use Rattle.sync_link.specs.Due.{stand_of}
-use Rattle.sync_link.specs.Fed.{CountsOn, counted, noting}
-use Rattle.sync_link.specs.Held.{IsHeld, fed_with, read_of, sent_of}
+use Rattle.sync_link.specs.Standing.{Side, ReadsPiece, party_of}
+use Rattle.sync_link.specs.Awaited.{stand_of}
+use Rattle.sync_link.specs.Progress.{CountsOn, counted, noting}
+use Rattle.sync_link.specs.Held.{IsHeld, progress_with, read_of, sent_of}
 use Rattle.sync_link.specs.Talking.{Keeps, SpeaksSome}
 use Rattle.sync_link.specs.Taking.{Fits, Holds, IsOpen, waiting_side}
 use Rattle.sync_link.specs.TakingAll.{TakesAll}
-use Rattle.sync_link.specs.declared.due.Cause.TheVariants as causes
-use Rattle.sync_link.specs.declared.due.Due.{Due}
-use Rattle.sync_link.specs.declared.due.Due.TheVariants as dues
-use Rattle.sync_link.specs.declared.talker.Talker.{Talker}
+use Rattle.sync_link.specs.declared.side.awaited.Cause.TheVariants as causes
+use Rattle.sync_link.specs.declared.side.awaited.Awaited.{Awaited}
+use Rattle.sync_link.specs.declared.side.awaited.Awaited.TheVariants as awaited
+use Rattle.sync_link.specs.declared.side.participant.Participant.{Participant}
 use Rattle.sync_link.proofs.Agreeing.{agrees_behind}
-use Rattle.sync_link.proofs.Feeding.{closed_stays, feeds_behind, feeds_into, idle_silent}
+use Rattle.sync_link.proofs.PieceReads.{closed_stays, piece_read_behind, piece_read_into, idle_silent}
 use Rattle.sync_link.proofs.Moves.{broken_silent}
 use Rattle.sync_link.proofs.Tally.{same_on}
 
-module _ {R S : Type 0} (rules : Rules) (value : R → RowValue) (old new : Talker R S) (due next : Due R) (at then_at : ℕ) (held piece bytes rest : List ℕ) (taken : ℕ) (out_old out_new : List ℕ) (rows_old rows_new : List RowValue) where
-  counts_behind : Holds rules value old due held → CountsOn (fed_with rules value old due at []) (fed_with rules value new next then_at rest) (held ++ piece) → CountsOn (fed_with rules value old due at held) (fed_with rules value new next then_at rest) piece
+module _ {R S : Type 0} (rules : Rules) (value : R → RowValue) (old new : Participant R S) (due next : Awaited R) (at then_at : ℕ) (held piece bytes rest : List ℕ) (taken : ℕ) (out_old out_new : List ℕ) (rows_old rows_new : List RowValue) where
+  counts_behind : Holds rules value old due held → CountsOn (progress_with rules value old due at []) (progress_with rules value new next then_at rest) (held ++ piece) → CountsOn (progress_with rules value old due at held) (progress_with rules value new next then_at rest) piece
   counts_behind holds counts well signature may =
       let here = session_of (party_of (waiting_side rules value old due at []) signature) (map value old.snapshot) in
       let silent = holds at signature in
@@ -37,24 +37,24 @@ module _ {R S : Type 0} (rules : Rules) (value : R → RowValue) (old new : Talk
       record {
         sent = k.sent ∙ ap (λ m. sent_of due + counted m.says) all;
         read = k.read ∙ ap (λ m. read_of due + counted m.rows) noted_all;
-        agreed = agrees_behind rules value old due at held piece (fed_with rules value new next then_at rest) signature holds k.agreed;
+        agreed = agrees_behind rules value old due at held piece (progress_with rules value new next then_at rest) signature holds k.agreed;
       }
 
   module _ (is : IsHeld rules value old due at held) (all : bytes ≡ held ++ piece) (there : then_at ≡ at + taken) (left : rest ≡ drop taken bytes)
       (takes : TakesAll rules value old new due next bytes taken out_old out_new rows_old rows_new) where
-    pub feeds_on : Feeds (waiting_side rules value old due at held) (waiting_side rules value new next then_at rest) piece out_old out_new rows_old rows_new
-    feeds_on =
-        feeds_behind rules value old new due next at then_at held piece rest out_old out_new rows_old rows_new is.holds
-        (subst (λ l. Feeds (waiting_side rules value old due at []) (waiting_side rules value new next then_at rest) l out_old out_new rows_old rows_new) all
-        (subst (λ l. Feeds (waiting_side rules value old due at []) (waiting_side rules value new next then_at l) bytes out_old out_new rows_old rows_new) (sym left)
-        (subst (λ n. Feeds (waiting_side rules value old due at []) (waiting_side rules value new next n (drop taken bytes)) bytes out_old out_new rows_old rows_new) (sym there) (takes.feeds at))))
+    pub piece_read_on : ReadsPiece (waiting_side rules value old due at held) (waiting_side rules value new next then_at rest) piece out_old out_new rows_old rows_new
+    piece_read_on =
+        piece_read_behind rules value old new due next at then_at held piece rest out_old out_new rows_old rows_new is.holds
+        (subst (λ l. ReadsPiece (waiting_side rules value old due at []) (waiting_side rules value new next then_at rest) l out_old out_new rows_old rows_new) all
+        (subst (λ l. ReadsPiece (waiting_side rules value old due at []) (waiting_side rules value new next then_at l) bytes out_old out_new rows_old rows_new) (sym left)
+        (subst (λ n. ReadsPiece (waiting_side rules value old due at []) (waiting_side rules value new next n (drop taken bytes)) bytes out_old out_new rows_old rows_new) (sym there) (takes.reads_piece at))))
 
-    pub counts_on : CountsOn (fed_with rules value old due at held) (fed_with rules value new next then_at rest) piece
+    pub counts_on : CountsOn (progress_with rules value old due at held) (progress_with rules value new next then_at rest) piece
     counts_on =
         counts_behind is.holds
-        (subst (λ l. CountsOn (fed_with rules value old due at []) (fed_with rules value new next then_at rest) l) all
-        (subst (λ l. CountsOn (fed_with rules value old due at []) (fed_with rules value new next then_at l) bytes) (sym left)
-        (subst (λ n. CountsOn (fed_with rules value old due at []) (fed_with rules value new next n (drop taken bytes)) bytes) (sym there) (takes.counts at))))
+        (subst (λ l. CountsOn (progress_with rules value old due at []) (progress_with rules value new next then_at rest) l) all
+        (subst (λ l. CountsOn (progress_with rules value old due at []) (progress_with rules value new next then_at l) bytes) (sym left)
+        (subst (λ n. CountsOn (progress_with rules value old due at []) (progress_with rules value new next n (drop taken bytes)) bytes) (sym there) (takes.counts at))))
 
     pub held_on : Keeps old new → at + length bytes < 2 ^ 64 → IsHeld rules value new next then_at rest
     held_on keeps few =
@@ -72,24 +72,24 @@ module _ {R S : Type 0} (rules : Rules) (value : R → RowValue) (old new : Talk
 
 -- ---- what is handed over
 
-pub feeds_handed : (a b : Side) (piece said out_old out_new : List ℕ) (came rows_old rows_new : List RawValue)
-    → Feeds a b piece [] said [] (map row_of came) → out_new ≡ out_old ++ said → rows_new ≡ rows_old ++ came → Feeds a b piece out_old out_new (map row_of rows_old) (map row_of rows_new)
-feeds_handed a b piece said out_old out_new came rows_old rows_new f wrote got =
-    feeds_into a b piece said out_old out_new (map row_of came) (map row_of rows_old) (map row_of rows_new) f wrote (ap (map row_of) got ∙ map-append row_of rows_old came)
+pub piece_read_handed : (a b : Side) (piece said out_old out_new : List ℕ) (came rows_old rows_new : List RawValue)
+    → ReadsPiece a b piece [] said [] (map row_of came) → out_new ≡ out_old ++ said → rows_new ≡ rows_old ++ came → ReadsPiece a b piece out_old out_new (map row_of rows_old) (map row_of rows_new)
+piece_read_handed a b piece said out_old out_new came rows_old rows_new f wrote got =
+    piece_read_into a b piece said out_old out_new (map row_of came) (map row_of rows_old) (map row_of rows_new) f wrote (ap (map row_of) got ∙ map-append row_of rows_old came)
 
 -- ---- behind an end
 
-module _ {R S : Type 0} (rules : Rules) (value : R → RowValue) (talker : Talker R S) (due : Due R) (at : ℕ) (held piece out : List ℕ) (rows : List RowValue) (is : IsHeld rules value talker due at held) (closed : IsOpen due → ⊥) where
-  pub closed_feeds_on : Feeds (waiting_side rules value talker due at held) (waiting_side rules value talker due at held) piece out out rows rows
-  closed_feeds_on = closed_stays rules value talker talker.role talker.signature due is.fits closed at held piece out rows
+module _ {R S : Type 0} (rules : Rules) (value : R → RowValue) (participant : Participant R S) (due : Awaited R) (at : ℕ) (held piece out : List ℕ) (rows : List RowValue) (is : IsHeld rules value participant due at held) (closed : IsOpen due → ⊥) where
+  pub closed_reads_on : ReadsPiece (waiting_side rules value participant due at held) (waiting_side rules value participant due at held) piece out out rows rows
+  closed_reads_on = closed_stays rules value participant participant.role participant.signature due is.fits closed at held piece out rows
 
-  pub closed_counts_on : CountsOn (fed_with rules value talker due at held) (fed_with rules value talker due at held) piece
+  pub closed_counts_on : CountsOn (progress_with rules value participant due at held) (progress_with rules value participant due at held) piece
   closed_counts_on = λ well signature may.
-      let silent = idle_silent rules value talker talker.role talker.signature due is.fits closed at held piece signature in
+      let silent = idle_silent rules value participant participant.role participant.signature due is.fits closed at held piece signature in
       record { sent = same_on (sent_of due) _ (ap (λ m. counted m.says) silent.0); read = same_on (read_of due) _ (ap (λ m. counted m.rows) silent.1); agreed = λ talks. inl (talks, refl) }
 
 -- what reads no more
-pub held_shut : {R S : Type 0} (rules : Rules) (value : R → RowValue) (old new : Talker R S) (due : Due R) (at then_at : ℕ) (held : List ℕ) → IsHeld rules value old due at held → Keeps old new → then_at < 2 ^ 64 → IsHeld rules value new (dues.Nothing causes.Bad) then_at []
+pub held_shut : {R S : Type 0} (rules : Rules) (value : R → RowValue) (old new : Participant R S) (due : Awaited R) (at then_at : ℕ) (held : List ℕ) → IsHeld rules value old due at held → Keeps old new → then_at < 2 ^ 64 → IsHeld rules value new (awaited.Nothing causes.Bad) then_at []
 held_shut rules value old new due at then_at held is keeps few = record {
   own = subst HasSpelling (sym (ap (λ t. t.hello) keeps)) is.own;
   speaks = subst SpeaksSome (sym (ap (λ t. t.hello) keeps)) is.speaks;
@@ -97,5 +97,5 @@ held_shut rules value old new due at then_at held is keeps few = record {
   fits = tt;
   few = omega arith;
   counted = omega (arith, few);
-  holds = λ now signature. broken_silent (party_of (waiting_side rules value new (dues.Nothing causes.Bad) now []) signature) (map value new.snapshot) now [];
+  holds = λ now signature. broken_silent (party_of (waiting_side rules value new (awaited.Nothing causes.Bad) now []) signature) (map value new.snapshot) now [];
 }

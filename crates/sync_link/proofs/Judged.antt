@@ -1,18 +1,12 @@
 -- Lists of rows that are judged one after the other.
-use Rattle.std.proofs.Common.{◌≡◌, ℕ, List, ◌++◌, refl, sym, ap, ◌∙◌, subst, take, drop, append_assoc}
-use Rattle.std.proofs.lemmas.List.{take-append-drop}
+use Rattle.std.proofs.Common.{◌≡◌, ℕ, List, ◌++◌, refl, sym, ap, ◌∙◌, subst, append_assoc}
 use Rattle.scheme_core.specs.Rules.{Rules}
 use Rattle.cap_codec.specs.Rows.{RawValue}
 use Rattle.auth_entry.specs.Authorised.{AuthorisedValue}
 use Rattle.ns_cell.specs.Passes.{PassValue}
 use Rattle.sync_link.specs.Tallies.{HasGrown, IsTally}
-use Rattle.sync_link.specs.declared.intake.Tally.{Tally}
-use Rattle.sync_link.proofs.Tallying.{grown_more}
-use Rattle.sync_link.proofs.TakenRows.{later_self}
-
--- a list is taken off the front
-pub whole_list : (n : ℕ) (rows list rest : List RawValue) → list ≡ take n rows → rest ≡ drop n rows → rows ≡ list ++ rest
-whole_list n rows list rest front back = sym (take-append-drop n rows) ∙ ap (λ l. l ++ drop n rows) (sym front) ∙ ap (λ l. list ++ l) (sym back)
+use Rattle.row_intake.specs.declared.tally.Tally.{Tally}
+use Rattle.sync_link.proofs.Offered.{grown_on, later_self}
 
 module _ (rules : Rules) (n : List ℕ) where
   -- Of the rows the first are taken and these wait, whatever rows came before.
@@ -31,7 +25,7 @@ module _ (rules : Rules) (n : List ℕ) where
     unfolding HasJudged
     judges_grown start before t =
         let k = so_far start before t in
-        subst (λ l. HasGrown rules n start l pass') (sym k.1) (grown_more rules n start k.0 waiting pass' pass' k.2.grew (later_self pass') refl)
+        subst (λ l. HasGrown rules n start l pass') (sym k.1) (grown_on rules n start k.0 waiting pass' pass' k.2.has_grown (later_self pass') refl)
 
     module _ (list rest : List RawValue) (whole : waiting ≡ list ++ rest) (pass'' : PassValue AuthorisedValue) (tally'' : Tally) where
       joined_on : (all judged : List RawValue) → all ≡ judged ++ waiting → all ≡ (judged ++ list) ++ rest
@@ -49,7 +43,7 @@ module _ (rules : Rules) (n : List ℕ) where
       unfolding HasJudged
       judges_fails next start before t =
           let k = so_far start before t in
-          subst (λ l. HasGrown rules n start l pass'') (sym (joined_on (before ++ rows) k.0 k.1)) (grown_more rules n start (k.0 ++ list) rest pass'' pass'' (next start k.0 k.2) (later_self pass'') refl)
+          subst (λ l. HasGrown rules n start l pass'') (sym (joined_on (before ++ rows) k.0 k.1)) (grown_on rules n start (k.0 ++ list) rest pass'' pass'' (next start k.0 k.2) (later_self pass'') refl)
 
     -- all that waits is taken
     pub judges_all : (pass'' : PassValue AuthorisedValue) (tally'' : Tally) → ((start : PassValue AuthorisedValue) (before : List RawValue) → IsTally rules n start before pass' tally' → IsTally rules n start (before ++ waiting) pass'' tally'')

@@ -1,4 +1,3 @@
-pub mod Seen
 pub mod Spellings
 pub mod Own
 pub mod Grants
@@ -17,16 +16,16 @@ pub mod Moves
 pub mod Offering
 pub mod Greeting
 pub mod Exchanged
-pub mod Feeding
+pub mod PieceReads
 pub mod Asked
 pub mod Agreeing
 pub mod ReadOn
-pub mod PartsOf
-pub mod CoveredRows
-pub mod Tallying
+pub mod AuthorisedRows
+pub mod Offered
 pub mod Counting
 pub mod Greeted
 pub mod Tally
+pub mod Owing
 pub mod Taken
 pub mod Staying
 pub mod Signed
@@ -34,6 +33,7 @@ pub mod HearingOn
 pub mod TakenRows
 pub mod Judged
 pub mod Reaching
+pub mod AskedFor
 pub mod Outcomes
 pub mod PieceTaken
 pub mod LinkEnds

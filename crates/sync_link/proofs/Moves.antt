@@ -1,23 +1,23 @@
 -- What a session makes of bytes of which it is known what they are.
-use Rattle.std.proofs.Common.{◌≡◌, inl, inr, ℕ, ◌+◌, ◌<◌, List, [], ◌∷◌, ◌++◌, take, flat_map, append-nil, Option, Some, None, refl, sym, ap, ap₂, ◌∙◌, subst, arith}
-use Rattle.std.proofs.lemmas.List.{length-take-le, append_cancel_left}
+use Rattle.std.proofs.Common.{◌≡◌, inl, inr, ℕ, ◌+◌, List, [], ◌∷◌, ◌++◌, take, flat_map, append-nil, Option, Some, None, refl, sym, ap, ap₂, ◌∙◌, subst}
+use Rattle.std.proofs.lemmas.List.{append_cancel_left}
 use Rattle.std.proofs.lemmas.List.Concat.{flat_map-append}
 use Rattle.scheme_core.specs.Rules.{Rules}
 use Rattle.willow_entry.specs.Row.{RowValue}
 use Rattle.session_rules.specs.Machine.{Seen, Machine}
 use Rattle.session_rules.specs.Messages.{ArePart}
-use Rattle.session_rules.specs.Reading.{Stand, Waits, Broken, Move, stay, then, stepped, judged, move, run, read}
+use Rattle.session_rules.specs.Reading.{Stand, Waits, Broken, Move, stay, stepped, move, read}
 use Rattle.session_rules.specs.Session.{seen_as}
-use Rattle.session_rules.proofs.Growing.{judged_part, read_part}
+use Rattle.session_rules.proofs.Growing.{read_part}
 use Rattle.session_rules.proofs.Runs.{run_append, run_idle}
-use Rattle.session_rules.proofs.Spelled.{read_due}
 use Rattle.sync_link.specs.Sessions.{Party, SessionStage, SessionMessage, SessionCause, session_of}
-use Rattle.sync_link.specs.Standing.{Side, MayBe, Reads, Feeds, party_of}
-use Rattle.sync_link.specs.Found.{IsFound, GoWrong}
-use Rattle.sync_link.specs.Fed.{noting}
+use Rattle.sync_link.specs.Standing.{Side, MayBe, Reads, ReadsPiece, party_of}
+use Rattle.row_intake.specs.Found.{IsFound, GoWrong}
+use Rattle.row_intake.proofs.Moves.{read_found, read_wrong}
+use Rattle.sync_link.specs.Progress.{noting}
 use Rattle.sync_link.specs.Talking.{Keeps, Once, Writes, side_with}
 use Rattle.sync_link.specs.Taking.{IsSilent}
-use Rattle.sync_link.specs.declared.talker.Talker.{Talker}
+use Rattle.sync_link.specs.declared.side.participant.Participant.{Participant}
 
 -- ---- messages of a kind
 
@@ -39,9 +39,6 @@ found_as f sees bytes x n found = record {
     part = λ held due e some more. ap (seen_as f) (found.reads.part held due e some more);
   };
 }
-
-pub some_taken : {M : Type 0} (sees : List ℕ → Seen M) (bytes : List ℕ) (m : M) (n : ℕ) → IsFound sees bytes m n → 0 < n
-some_taken sees bytes m n found = omega (arith, found.reads.some_bytes, length-take-le n bytes found.within)
 
 -- ---- moves
 
@@ -71,23 +68,8 @@ module _ (p : Party) (rows : List RowValue) where
   pub broken_silent : (at : ℕ) (bytes : List ℕ) → IsSilent p rows (Broken at) bytes (Broken at)
   broken_silent at bytes = (run_idle (move here) (Broken at) (λ b. refl) bytes, run_idle (move (noting here)) (Broken at) (λ b. refl) bytes)
 
-  broken : (s : SessionStage) (at : ℕ) (held bytes : List ℕ) → GoWrong (here.sees s) held bytes → read here (Waits s at held) bytes ≡ stay (Broken at)
-  unfolding run
-  broken s at held [] h = absurd h
-  broken s at held (byte ∷ bytes) (inl e) =
-      ap (λ seen. then (judged here s at (held ++ byte ∷ []) seen) (read here (judged here s at (held ++ byte ∷ []) seen).stand bytes)) e
-      ∙ run_idle (move here) (Broken at) (λ b. refl) bytes
-  broken s at held (byte ∷ bytes) (inr h) =
-      ap (λ m. then m (read here m.stand bytes)) (judged_part here s at (held ++ byte ∷ []) (here.sees s (held ++ byte ∷ [])) h.0)
-      ∙ broken s at (held ++ byte ∷ []) bytes h.1
-
   reads_wrong : (s : SessionStage) (at : ℕ) (bytes : List ℕ) → GoWrong (here.sees s) [] bytes → Reads p rows (Waits s at []) bytes (Broken at) [] []
-  reads_wrong s at bytes h = by_move (Waits s at []) bytes (stay (Broken at)) (Broken at) [] [] (broken s at [] bytes h) refl refl refl
-
-  pub found_moves : (s : SessionStage) (at : ℕ) (bytes : List ℕ) (m : SessionMessage) (n : ℕ) → IsFound (here.sees s) bytes m n → read here (Waits s at []) (take n bytes) ≡ stepped (at + n) (here.step s m)
-  found_moves s at bytes m n found =
-      read_due here s at m (take n bytes) found.reads [] (take n bytes) refl found.reads.some_bytes
-      ∙ ap (λ k. stepped (at + k) (here.step s m)) (length-take-le n bytes found.within)
+  reads_wrong s at bytes h = by_move (Waits s at []) bytes (stay (Broken at)) (Broken at) [] [] (read_wrong here s at [] bytes h) refl refl refl
 
   -- bytes behind bytes
   pub reads_append : (q : Stand SessionStage SessionCause) (bytes : List ℕ) (next : Stand SessionStage SessionCause) (written : List ℕ) (taken : List RowValue) (more : List ℕ) (last : Stand SessionStage SessionCause) (then_written : List ℕ) (then_taken : List RowValue)
@@ -123,21 +105,21 @@ module _ (p : Party) (rows : List RowValue) where
         → Reads p rows (Waits s at []) (take n bytes) to written taken
     found_reads at bytes x n to written taken found stands writes takes =
         by_move (Waits s at []) (take n bytes) (stepped (at + n) (here.step s (f x))) to written taken
-        (found_moves s at bytes (f x) n (subst (λ look. IsFound look bytes (f x) n) (sym is) (found_as f sees bytes x n found))) stands writes takes
+        (read_found here s at bytes (f x) n (subst (λ look. IsFound look bytes (f x) n) (sym is) (found_as f sees bytes x n found))) stands writes takes
 
 -- ---- a side in memory
 
-module _ {R S : Type 0} (rules : Rules) (value : R → RowValue) (old new : Talker R S) (from to : Stand SessionStage SessionCause) (bytes out_old out_new : List ℕ) (rows_old rows_new : List RowValue) where
+module _ {R S : Type 0} (rules : Rules) (value : R → RowValue) (old new : Participant R S) (from to : Stand SessionStage SessionCause) (bytes out_old out_new : List ℕ) (rows_old rows_new : List RowValue) where
   abbrev before : Side
   before = side_with rules value old from
 
   abbrev behind : Side
   behind = side_with rules value new to
 
-  pub feeds : Keeps old new → Once old.signature new.signature → (written : List ℕ) (taken : List RowValue) → out_new ≡ out_old ++ written → rows_new ≡ rows_old ++ taken
+  pub reads_piece : Keeps old new → Once old.signature new.signature → (written : List ℕ) (taken : List RowValue) → out_new ≡ out_old ++ written → rows_new ≡ rows_old ++ taken
       → ((signature : List ℕ) → MayBe new.signature signature → Reads (party_of before signature) before.rows from bytes to written taken)
-      → Feeds before behind bytes out_old out_new rows_old rows_new
-  feeds keeps once written taken wrote got reads = record {
+      → ReadsPiece before behind bytes out_old out_new rows_old rows_new
+  reads_piece keeps once written taken wrote got reads = record {
     written = written;
     taken = taken;
     wrote = wrote;
@@ -148,11 +130,11 @@ module _ {R S : Type 0} (rules : Rules) (value : R → RowValue) (old new : Talk
   }
 
   -- where nothing is said
-  pub feeds_quiet : new ≡ old → out_new ≡ out_old → (taken : List RowValue) → rows_new ≡ rows_old ++ taken
-      → ((signature : List ℕ) → Reads (party_of before signature) before.rows from bytes to [] taken) → Feeds before behind bytes out_old out_new rows_old rows_new
-  feeds_quiet same silent taken got reads =
+  pub piece_read_quiet : new ≡ old → out_new ≡ out_old → (taken : List RowValue) → rows_new ≡ rows_old ++ taken
+      → ((signature : List ℕ) → Reads (party_of before signature) before.rows from bytes to [] taken) → ReadsPiece before behind bytes out_old out_new rows_old rows_new
+  piece_read_quiet same silent taken got reads =
       let made = ap (λ t. t.signature) same in
-      feeds (same ∙ ap (λ s. record old { signature = s }) (sym made)) (λ s h. subst (λ o. MayBe o s) made h) [] taken (silent ∙ sym (append-nil out_old)) got (λ s h. reads s)
+      reads_piece (same ∙ ap (λ s. record old { signature = s }) (sym made)) (λ s h. subst (λ o. MayBe o s) made h) [] taken (silent ∙ sym (append-nil out_old)) got (λ s h. reads s)
 
 -- the signature that was made, or any
 abbrev pub or_none : Option (List ℕ) → List ℕ

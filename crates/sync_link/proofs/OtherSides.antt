@@ -9,7 +9,8 @@ use Rattle.session_rules.specs.Rounds.{IsOver, Meet}
 use Rattle.session_rules.proofs.Growing.{same_over}
 use Rattle.sync_link.specs.Sessions.{Party, SessionCause, session_of, out, got, ending}
 use Rattle.sync_link.specs.Settling.{IsOpening, CanMeet, AreDone, turns_between}
-use Rattle.sync_link.specs.Run.{Answer, AreAllOf, IsAllOf, Ends}
+use Rattle.row_intake.specs.Answers.{AreAllOf, IsAllOf}
+use Rattle.sync_link.specs.Run.{Answer, Ends}
 use Rattle.sync_link.specs.Ran.{Ran, side, opening_of, IsDone, HearsFrom}
 use Rattle.sync_link.proofs.Settled.{settled}
 

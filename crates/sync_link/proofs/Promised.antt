@@ -10,6 +10,7 @@ use Rattle.sync_link.specs.Ran.{Ran}
 use Rattle.sync_link.specs.SessionPromises.{SessionPromises, KeepsSessionPromises}
 use Rattle.sync_link.proofs.AlikeRuns.{runs_alike}
 use Rattle.sync_link.proofs.GrantedRuns.{runs_granted}
+use Rattle.sync_link.proofs.CountedRuns.{runs_counted}
 use Rattle.sync_link.proofs.CoveringRuns.{runs_keep, runs_join}
 
 -- the log with which it began is the whole one that its pass found, where memory was not wanting
@@ -25,6 +26,7 @@ promised {p} ran = record {
   fresh = fresh_of ran;
   keeps = runs_keep p ran;
   above = λ report q others ok other leave apart. runs_join p ran report q others ok other leave apart;
+  bound = λ report q others ok other. runs_counted p ran report q others ok other;
   alike = λ q other bring signed heard same. runs_alike p q ran other bring signed heard same;
   granted = runs_granted p ran;
 }

@@ -1,5 +1,5 @@
 -- What the side of a session has come to, piece by piece.
-use Rattle.std.proofs.Common.{◌≡◌, ◌⊎◌, inl, inr, true, ℕ, List, [], ◌∷◌, ◌++◌, map, flat_map, All, Option, None, Some, refl, sym, ap, ◌∙◌, subst, append_assoc, append-nil, arith}
+use Rattle.std.proofs.Common.{◌≡◌, ◌⊎◌, inl, inr, true, ℕ, List, [], ◌∷◌, ◌++◌, map, flat_map, All, Contains, Option, None, Some, refl, sym, ap, ◌∙◌, subst, append_assoc, append-nil, arith}
 use Rattle.std.specs.Prelude.{IfSome}
 use Rattle.std.proofs.lemmas.List.{map-append, append_cancel_left}
 use Rattle.std.proofs.lemmas.List.Elements.{All-append}
@@ -14,6 +14,7 @@ use Rattle.session_rules.specs.Reading.{Stand, Waits, Move, move, read, start as
 use Rattle.session_rules.specs.Rounds.{IsFront}
 use Rattle.session_rules.specs.Greeting.{HasHello}
 use Rattle.session_rules.specs.Session as session
+use Rattle.session_rules.specs.Session.{Proof}
 use Rattle.session_rules.proofs.Growing.{front_by}
 use Rattle.session_rules.proofs.Runs.{run_append}
 use Rattle.sync_link.specs.Greetings.{greeting}
@@ -21,12 +22,13 @@ use Rattle.sync_link.specs.Places.{offers_of, places}
 use Rattle.sync_link.specs.Sessions.{SessionStage, SessionMessage, SessionCause, own_part, session_of}
 use Rattle.sync_link.specs.Sessions as sessions
 use Rattle.sync_link.specs.Talking.{own_message}
-use Rattle.sync_link.specs.Standing.{Side, MayBe, Feeds, party_of}
-use Rattle.sync_link.specs.Fed.{Fed, CountsOn, HasRead, HaveRead}
+use Rattle.sync_link.specs.Standing.{Side, MayBe, ReadsPiece, party_of}
+use Rattle.sync_link.specs.Progress.{Progress, CountsOn, HasRead, HaveRead}
 use Rattle.sync_link.specs.Kept.{log_rows}
-use Rattle.sync_link.specs.Signing.{SignsFor, SignsTo}
+use Rattle.sync_link.specs.Signing.{SaysProof, SignsFor, SignsTo}
 use Rattle.sync_link.specs.Run.{IsProofOf}
 use Rattle.sync_link.specs.UnderWay.{Start, brought, Reached}
+use Rattle.sync_link.proofs.Owing.{owes_grows, owes_now}
 use Rattle.sync_link.proofs.ReadOn.{reads_on}
 use Rattle.sync_link.proofs.Greeted.{Quiet, Proved, told, waits_hello, hello_longer}
 
@@ -88,7 +90,7 @@ module _ (start : Start) where
 
   -- ---- what was read
 
-  module _ (side : Fed) (bytes written : List ℕ) (raws : List RawValue) (r : Reached start side bytes written raws) where
+  module _ (side : Progress) (bytes written : List ℕ) (raws : List RawValue) (r : Reached start side bytes written raws) where
     -- of the session that has this signature
     pub has_read : (signature : List ℕ) → MayBe side.side.signature signature → HasRead (brought start signature) rows side bytes written (map row_of raws)
     has_read signature may = subst (λ (x : Side). HasRead (party_of x signature) x.rows side bytes written (map row_of raws)) r.side_is (r.read signature may)
@@ -138,10 +140,11 @@ module _ (start : Start) where
           fits = fits;
         }
 
-    pub reached_on : (new : Fed) (piece said : List ℕ) (came : List RawValue) → AreBytes piece → All IsRaw came
-        → (f : Feeds side.side new.side piece [] said [] (map row_of came)) → CountsOn side new piece → SignsTo start.gives side.side new.side piece → IfSome new.side.signature IsSignature
+    pub reached_on : (new : Progress) (piece said : List ℕ) (came : List RawValue) → AreBytes piece → All IsRaw came
+        → (f : ReadsPiece side.side new.side piece [] said [] (map row_of came)) → CountsOn side new piece → SignsTo start.gives side.side new.side piece → IfSome new.side.signature IsSignature
+        → ((signature : List ℕ) → new.side.signature ≡ Some signature → (side.side.signature ≡ Some signature) ⊎ SaysProof side.side piece signature)
         → Reached start new (bytes ++ piece) (written ++ said) (raws ++ came)
-    reached_on new piece said came are_bytes are f counts signs fits =
+    reached_on new piece said came are_bytes are f counts signs fits due =
         let on = reads_on side new bytes piece written [] said (map row_of raws) [] (map row_of came) r.read f counts in
         let rows_on : map row_of raws ++ f.taken ≡ map row_of (raws ++ came) = ap (λ l. map row_of raws ++ l) (sym f.got) ∙ sym (map-append row_of raws came) in
         record {
@@ -150,8 +153,16 @@ module _ (start : Start) where
           read = subst (λ l. HaveRead new (bytes ++ piece) (written ++ said) l) rows_on (subst (λ l. HaveRead new (bytes ++ piece) (written ++ l) (map row_of raws ++ f.taken)) (sym f.wrote) on);
           read_out = All-append IsRaw raws came r.read_out are;
           signed = λ signature e. by_case signature e (signs signature e);
+          owes = λ signature e. by_due signature e (due signature e);
         }
       where
+        by_due : (signature : List ℕ) → new.side.signature ≡ Some signature → (side.side.signature ≡ Some signature) ⊎ SaysProof side.side piece signature → Contains (sessions.said (brought start signature) rows (bytes ++ piece)) (Proof signature)
+        by_due signature e (inl old) = owes_grows (brought start signature) rows bytes piece (r.owes signature old)
+        by_due signature e (inr says) =
+            let may = f.signed_once signature (subst (λ o. MayBe o signature) (sym e) refl) in
+            owes_now (brought start signature) rows bytes piece side.side.stand (has_read signature may).stands
+            (subst (λ (x : Side). Contains (read (session_of (party_of x signature) x.rows) side.side.stand piece).says (Proof signature)) r.side_is says)
+
         by_case : (signature : List ℕ) → new.side.signature ≡ Some signature → (side.side.signature ≡ Some signature) ⊎ SignsFor start.gives side.side piece signature → IsProofOf (brought start signature) start.gives (bytes ++ piece)
         by_case signature e (inl old) =
             let p = r.signed signature old in

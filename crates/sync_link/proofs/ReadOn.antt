@@ -15,8 +15,8 @@ use Rattle.session_rules.specs.Reading as reading
 use Rattle.session_rules.specs.Session.{Hello as HelloMessage, Proof, Item}
 use Rattle.session_rules.proofs.Runs.{run_append, run_idle}
 use Rattle.sync_link.specs.Sessions.{Party, SessionStage, SessionMessage, SessionCause, session_of, said}
-use Rattle.sync_link.specs.Standing.{Reads, Feeds, party_of}
-use Rattle.sync_link.specs.Fed.{Fed, AgreesOn, GoesWell, CountsOn, TalksOn, HasRead, HaveRead, begun, counted, fed_in, first_bytes, heard, noted, noting}
+use Rattle.sync_link.specs.Standing.{Reads, ReadsPiece, party_of}
+use Rattle.sync_link.specs.Progress.{Progress, AgreesOn, GoesWell, CountsOn, TalksOn, HasRead, HaveRead, begun, counted, progress_in, first_bytes, heard, noted, noting}
 use Rattle.sync_link.proofs.Agreeing.{agreed_on, talks_well}
 
 -- ---- the messages that are read
@@ -67,7 +67,7 @@ module _ (p : Party) (rows : List RowValue) where
   went_well (Broken at) bytes h = subst (λ m. GoesWell m.stand) (run_idle (move here) (Broken at) (λ b. refl) bytes) h
   went_well (Refused e) bytes h = subst (λ m. GoesWell m.stand) (run_idle (move here) (Refused e) (λ b. refl) bytes) h
 
-  module _ (old new : Fed) (bytes piece written more : List ℕ) (taken came : List RowValue) where
+  module _ (old new : Progress) (bytes piece written more : List ℕ) (taken came : List RowValue) where
     later : Move SessionStage SessionMessage RowValue SessionCause
     later = reading.read here old.side.stand piece
 
@@ -104,8 +104,8 @@ module _ (p : Party) (rows : List RowValue) where
           agreed = agreed;
         }
 
-pub reads_on : (old new : Fed) (bytes piece written out_old out_new : List ℕ) (taken rows_old rows_new : List RowValue)
-    → HaveRead old bytes written taken → (f : Feeds old.side new.side piece out_old out_new rows_old rows_new) → CountsOn old new piece
+pub reads_on : (old new : Progress) (bytes piece written out_old out_new : List ℕ) (taken rows_old rows_new : List RowValue)
+    → HaveRead old bytes written taken → (f : ReadsPiece old.side new.side piece out_old out_new rows_old rows_new) → CountsOn old new piece
     → HaveRead new (bytes ++ piece) (written ++ f.written) (taken ++ f.taken)
 reads_on old new bytes piece written out_old out_new taken rows_old rows_new h f counts signature may =
     let p = party_of old.side signature in
@@ -114,7 +114,7 @@ reads_on old new bytes piece written out_old out_new taken rows_old rows_new h f
     (λ g. let c = counts g signature may in (c.sent, c.read))
     (λ talks. agreed_on old new bytes piece written taken signature (h signature (f.signed_once signature may)) (counts (talks_well new.side.stand talks) signature may).agreed talks))
 
-pub begun_read : (rules : Rules) (namespace : List ℕ) (role : Role) (hello : Hello) (limits : Interest) (rows : List RowValue) → HaveRead (fed_in rules (begun namespace role hello limits rows)) [] (first_bytes role hello) []
+pub begun_read : (rules : Rules) (namespace : List ℕ) (role : Role) (hello : Hello) (limits : Interest) (rows : List RowValue) → HaveRead (progress_in rules (begun namespace role hello limits rows)) [] (first_bytes role hello) []
 unfolding run
 begun_read rules namespace Caller hello limits rows signature may = record {
   stands = refl;

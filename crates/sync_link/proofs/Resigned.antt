@@ -13,7 +13,8 @@ use Rattle.session_rules.proofs.Retelling.{said_retold, same_got, same_ending}
 use Rattle.sync_link.specs.Greetings.{greeting}
 use Rattle.sync_link.specs.Places.{offers_of, places}
 use Rattle.sync_link.specs.Sessions.{Party, SessionMessage, own_part, session_of, said, out, got, ending}
-use Rattle.sync_link.specs.Run.{Answer, IsAllOf}
+use Rattle.row_intake.specs.Answers.{IsAllOf}
+use Rattle.sync_link.specs.Run.{Answer}
 use Rattle.sync_link.proofs.Greeted.{Quiet, Proved, told}
 use Rattle.sync_link.proofs.Reaching.{front_trans}
 

@@ -12,16 +12,16 @@ use Rattle.session_rules.specs.Session.{Opening, Proving, Talking, InGreeting, I
 use Rattle.session_rules.proofs.Runs.{run_append}
 use Rattle.sync_link.specs.Places.{has_finished}
 use Rattle.sync_link.specs.Sessions.{Party, SessionStage, SessionMessage, SessionCause, session_of}
-use Rattle.sync_link.specs.Standing.{Side, MayBe, Feeds, party_of, within}
-use Rattle.sync_link.specs.Due.{stand_of}
+use Rattle.sync_link.specs.Standing.{Side, MayBe, ReadsPiece, party_of, within}
+use Rattle.sync_link.specs.Awaited.{stand_of}
 use Rattle.sync_link.specs.Signing.{SignsFor, SignsNext, SignsStep, SignsTo}
 use Rattle.sync_link.specs.Talking.{HearsHello, IsSigned, own_message}
 use Rattle.sync_link.specs.Taking.{Holds, Steps, waiting_side}
 use Rattle.sync_link.specs.TakingAll.{TakesFront}
-use Rattle.sync_link.specs.declared.due.Cause.TheVariants as causes
-use Rattle.sync_link.specs.declared.due.Due.{Due}
-use Rattle.sync_link.specs.declared.due.Due.TheVariants as dues
-use Rattle.sync_link.specs.declared.talker.Talker.{Talker}
+use Rattle.sync_link.specs.declared.side.awaited.Cause.TheVariants as causes
+use Rattle.sync_link.specs.declared.side.awaited.Awaited.{Awaited}
+use Rattle.sync_link.specs.declared.side.awaited.Awaited.TheVariants as awaited
+use Rattle.sync_link.specs.declared.side.participant.Participant.{Participant}
 use Rattle.sync_link.proofs.Staying.{cut_twice, same_stage, waited}
 
 -- ---- one piece behind another
@@ -40,7 +40,7 @@ module _ (gives : List ℕ → List ℕ → Bool) where
   }
 
   abbrev pub signs_behind : (a b : Side) (piece more out_a out_b : List ℕ) (rows_a rows_b : List RowValue) (signature : List ℕ)
-      → Feeds a b piece out_a out_b rows_a rows_b → MayBe b.signature signature → SignsFor gives b more signature → SignsFor gives a (piece ++ more) signature
+      → ReadsPiece a b piece out_a out_b rows_a rows_b → MayBe b.signature signature → SignsFor gives b more signature → SignsFor gives a (piece ++ more) signature
   signs_behind a b piece more out_a out_b rows_a rows_b signature f may g =
       let here = session_of (party_of a signature) a.rows in
       record {
@@ -61,7 +61,7 @@ module _ (gives : List ℕ → List ℕ → Bool) where
   longer a b piece more signature (inl e) = inl e
   longer a b piece more signature (inr f) = inr (signs_before a piece more signature f)
 
-  pub signs_append : (a b c : Side) (piece more out_a out_b : List ℕ) (rows_a rows_b : List RowValue) → Feeds a b piece out_a out_b rows_a rows_b
+  pub signs_append : (a b c : Side) (piece more out_a out_b : List ℕ) (rows_a rows_b : List RowValue) → ReadsPiece a b piece out_a out_b rows_a rows_b
       → ((signature : List ℕ) → MayBe c.signature signature → MayBe b.signature signature) → SignsTo gives a b piece → SignsTo gives b c more → SignsTo gives a c (piece ++ more)
   signs_append a b c piece more out_a out_b rows_a rows_b f once before later signature made = by_later (later signature made)
     where
@@ -71,22 +71,22 @@ module _ (gives : List ℕ → List ℕ → Bool) where
 
 -- ---- a message
 
-module _ {R S : Type 0} (gives : List ℕ → List ℕ → Bool) (old new : Talker R S) where
-  pub signs_next : (other : Hello) (due : Due R) (out_old out_new : List ℕ) (o : Option HelloRefusal) → HearsHello old new other due out_old out_new o → IsSigned gives old new other → SignsNext gives old new due
+module _ {R S : Type 0} (gives : List ℕ → List ℕ → Bool) (old new : Participant R S) where
+  pub signs_next : (other : Hello) (due : Awaited R) (out_old out_new : List ℕ) (o : Option HelloRefusal) → HearsHello old new other due out_old out_new o → IsSigned gives old new other → SignsNext gives old new due
   signs_next other due out_old out_new (Some cause) h signed signature made = inl (sym (ap (λ t. t.signature) h.1) ∙ made)
   signs_next other due out_old out_new None h signed signature made = by_either (signed signature made)
     where
-      by_either : (old.signature ≡ Some signature) ⊎ (gives (own_message old.role old.hello other) signature ≡ true) → (old.signature ≡ Some signature) ⊎ ((hello : Hello) × ((due ≡ dues.Proof hello) × (gives (own_message old.role old.hello hello) signature ≡ true)))
+      by_either : (old.signature ≡ Some signature) ⊎ (gives (own_message old.role old.hello other) signature ≡ true) → (old.signature ≡ Some signature) ⊎ ((hello : Hello) × ((due ≡ awaited.Proof hello) × (gives (own_message old.role old.hello hello) signature ≡ true)))
       by_either (inl e) = inl e
       by_either (inr e) = inr (other, (h.0, e))
 
-  module _ (rules : Rules) (value : R → RowValue) (next : Due R) (bytes : List ℕ) where
-    hello_signs : (due : Due R) (at then_at : ℕ) (held piece out_old out_new : List ℕ) (rows_old rows_new : List RowValue) → SignsNext gives old new next
-        → Feeds (waiting_side rules value old due at []) (waiting_side rules value new next then_at held) piece out_old out_new rows_old rows_new
+  module _ (rules : Rules) (value : R → RowValue) (next : Awaited R) (bytes : List ℕ) where
+    hello_signs : (due : Awaited R) (at then_at : ℕ) (held piece out_old out_new : List ℕ) (rows_old rows_new : List RowValue) → SignsNext gives old new next
+        → ReadsPiece (waiting_side rules value old due at []) (waiting_side rules value new next then_at held) piece out_old out_new rows_old rows_new
         → SignsTo gives (waiting_side rules value old due at []) (waiting_side rules value new next then_at held) piece
     hello_signs due at then_at held piece out_old out_new rows_old rows_new h f signature made = by_either (h signature made)
       where
-        by_either : (old.signature ≡ Some signature) ⊎ ((hello : Hello) × ((next ≡ dues.Proof hello) × (gives (own_message old.role old.hello hello) signature ≡ true))) → (old.signature ≡ Some signature) ⊎ SignsFor gives (waiting_side rules value old due at []) piece signature
+        by_either : (old.signature ≡ Some signature) ⊎ ((hello : Hello) × ((next ≡ awaited.Proof hello) × (gives (own_message old.role old.hello hello) signature ≡ true))) → (old.signature ≡ Some signature) ⊎ SignsFor gives (waiting_side rules value old due at []) piece signature
         by_either (inl e) = inl e
         by_either (inr g) = inr (record {
           other = g.0;
@@ -99,32 +99,32 @@ module _ {R S : Type 0} (gives : List ℕ → List ℕ → Bool) (old new : Talk
           waits = (f.reads signature (subst (λ o. MayBe o signature) (sym made) refl)).stands ∙ ap (λ d. stand_of d then_at held) g.1.0;
         })
 
-    pub hello_greets : (due : Due R) (o : Option ℕ) (out_old out_new : List ℕ) (rows_old rows_new : List RowValue) → SignsNext gives old new next
+    pub hello_greets : (due : Awaited R) (o : Option ℕ) (out_old out_new : List ℕ) (rows_old rows_new : List RowValue) → SignsNext gives old new next
         → ((at : ℕ) → Steps (waiting_side rules value old due) (waiting_side rules value new next) at bytes o out_old out_new rows_old rows_new)
         → (at : ℕ) → SignsStep gives (waiting_side rules value old due) (waiting_side rules value new next) at bytes o
     hello_greets due None out_old out_new rows_old rows_new h steps at = hello_signs due at at bytes bytes out_old out_new rows_old rows_new h (steps at)
     hello_greets due (Some n) out_old out_new rows_old rows_new h steps at = hello_signs due at (at + n) [] (take n bytes) out_old out_new rows_old rows_new h (steps at).1.1
 
-    proof_signs : (other : Hello) → IsSigned gives old new other → (at : ℕ) (piece : List ℕ) (behind : Side) → behind.signature ≡ new.signature → SignsTo gives (waiting_side rules value old (dues.Proof other) at []) behind piece
+    proof_signs : (other : Hello) → IsSigned gives old new other → (at : ℕ) (piece : List ℕ) (behind : Side) → behind.signature ≡ new.signature → SignsTo gives (waiting_side rules value old (awaited.Proof other) at []) behind piece
     unfolding run
     proof_signs other h at piece behind same signature made = by_either (h signature (sym same ∙ made))
       where
-        by_either : (old.signature ≡ Some signature) ⊎ (gives (own_message old.role old.hello other) signature ≡ true) → (old.signature ≡ Some signature) ⊎ SignsFor gives (waiting_side rules value old (dues.Proof other) at []) piece signature
+        by_either : (old.signature ≡ Some signature) ⊎ (gives (own_message old.role old.hello other) signature ≡ true) → (old.signature ≡ Some signature) ⊎ SignsFor gives (waiting_side rules value old (awaited.Proof other) at []) piece signature
         by_either (inl e) = inl e
         by_either (inr e) = inr (record { other = other; given = e; front = []; behind = piece; joined = refl; at = at; held = []; waits = refl })
 
-    pub proof_greets : (other : Hello) (o : Option ℕ) → IsSigned gives old new other → (at : ℕ) → SignsStep gives (waiting_side rules value old (dues.Proof other)) (waiting_side rules value new next) at bytes o
+    pub proof_greets : (other : Hello) (o : Option ℕ) → IsSigned gives old new other → (at : ℕ) → SignsStep gives (waiting_side rules value old (awaited.Proof other)) (waiting_side rules value new next) at bytes o
     proof_greets other None h at = proof_signs other h at bytes (waiting_side rules value new next at bytes) refl
     proof_greets other (Some n) h at = proof_signs other h at (take n bytes) (waiting_side rules value new next (at + n) []) refl
 
     -- what is signed before is not signed again
-    pub item_greets : (due : Due R) (o : Option ℕ) → new.signature ≡ old.signature → (at : ℕ) → SignsStep gives (waiting_side rules value old due) (waiting_side rules value new next) at bytes o
+    pub item_greets : (due : Awaited R) (o : Option ℕ) → new.signature ≡ old.signature → (at : ℕ) → SignsStep gives (waiting_side rules value old due) (waiting_side rules value new next) at bytes o
     item_greets due None same at = λ signature made. inl (sym same ∙ made)
     item_greets due (Some n) same at = λ signature made. inl (sym same ∙ made)
 
 -- ---- message by message
 
-module _ {R S : Type 0} (gives then_gives : List ℕ → List ℕ → Bool) (rules : Rules) (value : R → RowValue) (first old new : Talker R S) (due_first due next : Due R) (bytes : List ℕ) (taken : ℕ) (out_first out_old : List ℕ) (rows_first rows_old : List RowValue)
+module _ {R S : Type 0} (gives then_gives : List ℕ → List ℕ → Bool) (rules : Rules) (value : R → RowValue) (first old new : Participant R S) (due_first due next : Awaited R) (bytes : List ℕ) (taken : ℕ) (out_first out_old : List ℕ) (rows_first rows_old : List RowValue)
     (front : TakesFront rules value first old due_first due bytes taken out_first out_old rows_first rows_old)
     (before : (at : ℕ) → SignsTo gives (waiting_side rules value first due_first at []) (waiting_side rules value old due (at + taken) []) (take taken bytes)) where
   pub signs_closed : (at : ℕ) → SignsTo gives (waiting_side rules value first due_first at []) (waiting_side rules value old due (at + taken) (drop taken bytes)) bytes
@@ -144,13 +144,13 @@ module _ {R S : Type 0} (gives then_gives : List ℕ → List ℕ → Bool) (rul
     signs_more more is at =
         subst (λ l. SignsTo gives (waiting_side rules value first due_first at []) (waiting_side rules value new next (at + (taken + more)) []) l) (sym (take-add taken more bytes))
         (signs_append gives (waiting_side rules value first due_first at []) (waiting_side rules value old due (at + taken) []) (waiting_side rules value new next (at + (taken + more)) []) (take taken bytes) (take more (drop taken bytes))
-        out_first out_old rows_first rows_old (front.feeds at) once (before at) (step_as (Some more) is (at + taken)))
+        out_first out_old rows_first rows_old (front.reads_piece at) once (before at) (step_as (Some more) is (at + taken)))
 
     pub signs_end : answer ≡ None → (at : ℕ) → SignsTo gives (waiting_side rules value first due_first at []) (waiting_side rules value new next (at + taken) (drop taken bytes)) bytes
     signs_end is at =
         subst (λ l. SignsTo gives (waiting_side rules value first due_first at []) (waiting_side rules value new next (at + taken) (drop taken bytes)) l) (take-append-drop taken bytes)
         (signs_append gives (waiting_side rules value first due_first at []) (waiting_side rules value old due (at + taken) []) (waiting_side rules value new next (at + taken) (drop taken bytes)) (take taken bytes) (drop taken bytes)
-        out_first out_old rows_first rows_old (front.feeds at) once (before at) (step_as None is (at + taken)))
+        out_first out_old rows_first rows_old (front.reads_piece at) once (before at) (step_as None is (at + taken)))
 
 -- ---- behind the bytes that are held
 
@@ -179,15 +179,15 @@ module _ (here : Machine SessionStage SessionMessage SessionMessage RowValue Ses
   still_in true s e f = absurd (over_waits (waited here Over (Proving other) mid_at mid_held some (λ b. refl) e))
   still_in false s e f = ap (λ k. Waits k at held) (sym (same_stage here (Proving other) mid_at mid_held behind s held s at [] some e f))
 
-  still_due : {R : Type 0} (due : Due R) → (read here (stand_of due at []) some).stand ≡ mid → (read here mid behind).stand ≡ stand_of due at held → stand_of due at held ≡ Waits (Proving other) at held
-  still_due dues.Hello e f = still_in false Opening e f
-  still_due (dues.Proof hello) e f = still_in false (Proving hello) e f
-  still_due (dues.Items exchange) e f = still_in (has_finished exchange.core.doing) (Talking (within exchange.core)) e f
-  still_due (dues.Nothing causes.Bad) e f = absurd (broken_waits (waited here (Broken at) (Proving other) mid_at mid_held some (λ b. refl) e))
-  still_due (dues.Nothing (causes.Hello cause)) e f = absurd (refused_waits (InGreeting cause) (waited here (Refused (InGreeting cause)) (Proving other) mid_at mid_held some (λ b. refl) e))
-  still_due (dues.Nothing (causes.Core cause)) e f = absurd (refused_waits (InTalk cause) (waited here (Refused (InTalk cause)) (Proving other) mid_at mid_held some (λ b. refl) e))
+  still_due : {R : Type 0} (due : Awaited R) → (read here (stand_of due at []) some).stand ≡ mid → (read here mid behind).stand ≡ stand_of due at held → stand_of due at held ≡ Waits (Proving other) at held
+  still_due awaited.Hello e f = still_in false Opening e f
+  still_due (awaited.Proof hello) e f = still_in false (Proving hello) e f
+  still_due (awaited.Items exchange) e f = still_in (has_finished exchange.core.doing) (Talking (within exchange.core)) e f
+  still_due (awaited.Nothing causes.Bad) e f = absurd (broken_waits (waited here (Broken at) (Proving other) mid_at mid_held some (λ b. refl) e))
+  still_due (awaited.Nothing (causes.Hello cause)) e f = absurd (refused_waits (InGreeting cause) (waited here (Refused (InGreeting cause)) (Proving other) mid_at mid_held some (λ b. refl) e))
+  still_due (awaited.Nothing (causes.Core cause)) e f = absurd (refused_waits (InTalk cause) (waited here (Refused (InTalk cause)) (Proving other) mid_at mid_held some (λ b. refl) e))
 
-module _ {R S : Type 0} (gives : List ℕ → List ℕ → Bool) (rules : Rules) (value : R → RowValue) (old : Talker R S) (due : Due R) (at : ℕ) (held piece : List ℕ) (holds : Holds rules value old due held) where
+module _ {R S : Type 0} (gives : List ℕ → List ℕ → Bool) (rules : Rules) (value : R → RowValue) (old : Participant R S) (due : Awaited R) (at : ℕ) (held piece : List ℕ) (holds : Holds rules value old due held) where
   abbrev here : List ℕ → Machine SessionStage SessionMessage SessionMessage RowValue SessionCause
   here signature = session_of (party_of (waiting_side rules value old due at []) signature) (map value old.snapshot)
 

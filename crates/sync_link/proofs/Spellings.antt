@@ -1,25 +1,21 @@
 -- Hellos, proofs and items are read as what they spell, and bytes that are one spell it.
-use Rattle.std.proofs.Common.{◌≡◌, ℕ, ◌≤◌, ◌<◌, List, [], ◌∷◌, ◌++◌, length, append-nil, Option, Some, None, refl, sym, ap, ◌∙◌, subst, arith, length-append}
+use Rattle.std.proofs.Common.{◌≡◌, ℕ, ◌≤◌, ◌<◌, List, [], length, append-nil, Option, Some, None, refl, ap, ◌∙◌, subst, arith, length-append}
 use Rattle.std.specs.Prelude.{option_map}
 use Rattle.std.specs.Int.{w16, w32, to_be_bytes}
-use Rattle.spelling.specs.Front.{Front}
-use Rattle.spelling.specs.Front as front
 use Rattle.spelling.specs.Form.{AreBytes}
 use Rattle.spelling.proofs.Joining.{alone}
 use Rattle.spelling.proofs.Fields.{wide16, wide32}
 use Rattle.mc_cap.specs.Forms.{capability_spelling}
 use Rattle.mc_cap.specs.Signature.{signature_spelling, IsSignature}
 use Rattle.mc_cap.specs.declared.capability.Capability.{Capability}
-use Rattle.willow_entry.specs.EntryForm.{entry_spelling}
 use Rattle.willow_entry.specs.Frame.{row_frame, HasFrame}
 use Rattle.willow_entry.specs.declared.frame.TheConstants.{MAX_FRAME}
 use Rattle.willow_entry.specs.Row.{RowValue}
 use Rattle.willow_entry.specs.RowBody.{row_body}
 use Rattle.cap_codec.specs.Reading.{capability_at}
-use Rattle.cap_codec.specs.Rows.{RawValue, IsRawRow, row_of}
+use Rattle.cap_codec.specs.Rows.{IsRawRow}
 use Rattle.cap_codec.proofs.CapReads.{capability-reads}
 use Rattle.cap_codec.proofs.FormReads.{signature-reads}
-use Rattle.cap_codec.proofs.RowReads.{raw-reads}
 use Rattle.sync_msg.specs.Items.{ItemValue, item_spelling, IsHead}
 use Rattle.sync_msg.specs.declared.item.Item.TheVariants.{First, Agree, Split, Parts, Entries, Rest, Row, EndTurn, Bye}
 use Rattle.sync_msg.proofs.HeadReads.{head-reads}
@@ -28,18 +24,10 @@ use Rattle.sync_hello.specs.declared.hello.Hello.{Hello}
 use Rattle.sync_hello.proofs.HelloReads.{IsLoose, loose-reads, draft-reads, short-reads}
 use Rattle.session_rules.specs.Machine.{Whole}
 use Rattle.session_rules.specs.Messages.{IsReadAs}
-use Rattle.sync_link.specs.Readers.{all_read, hello_with, hello_drafted, hello_seen, proof_seen, row_spelled, row_seen, head_seen}
-use Rattle.sync_link.proofs.Seen.{read_as, read_back, judged_as, judged_back}
-
--- ---- what all of some bytes spell
-
-pub all_front : {A : Type 0} (f : Front A) (x : A) → all_read f ≡ Some x → f ≡ front.Whole x []
-all_front (front.Whole y []) x e =
-    let same : y ≡ x = cc in
-    ap (λ z. front.Whole z []) same
-all_front (front.Whole y (byte ∷ behind)) x e = absurd cc
-all_front front.Part x e = absurd cc
-all_front front.Wrong x e = absurd cc
+use Rattle.row_intake.specs.Readers.{all_read}
+use Rattle.sync_link.specs.Readers.{hello_with, hello_drafted, hello_seen, proof_seen, row_spelled, row_seen, head_seen}
+use Rattle.row_intake.proofs.Fronts.{all_front, body_spelled}
+use Rattle.row_intake.proofs.Seen.{read_as, read_back, judged_as, judged_back}
 
 -- ---- hellos
 
@@ -107,17 +95,8 @@ pub head_as : (version : ℕ) (item : ItemValue) → IsHead version item → IsR
 unfolding head_seen
 head_as version item f = read_as (head-reads version) item f (some_head version item f)
 
-body_spelled : (row : RowValue) → IsRawRow row → row_spelled (row_body row) ≡ Some (Row row)
-unfolding row_body
-body_spelled row f =
-    let raw : RawValue = record { entry = row.entry; token = f.read_out } in
-    let whole = alone raw-reads raw (record { entry_fits = f.entry_fits; token_fits = f.token_fits }) in
-    ap (λ token. row_spelled (entry_spelling row.entry ++ token)) f.spelled
-    ∙ ap (λ o. option_map (λ r. Row (row_of r)) (all_read o)) whole
-    ∙ ap (λ token. Some (Row (record row { token = token }))) (sym f.spelled)
-
 pub row_as : (row : RowValue) → IsRawRow row → HasFrame row → IsReadAs row_seen (row_frame row) (Row row)
 unfolding row_seen
 row_as row f framed =
-    judged_as short-reads row_spelled (row_body row) (Row row) framed (body_spelled row f)
+    judged_as short-reads row_spelled (row_body row) (Row row) framed (body_spelled Row row f)
     (omega (arith, length-append (to_be_bytes w32 (length (row_body row))) (row_body row), wide32.len (length (row_body row))))

@@ -6,11 +6,11 @@ use Rattle.scheme_core.specs.Rules.{Rules}
 use Rattle.mc_cap.specs.declared.refusal.RowRefusal.{RowRefusal}
 use Rattle.cap_codec.specs.Rows.{RawValue}
 use Rattle.auth_entry.specs.Authorised.{AuthorisedValue, verdict}
-use Rattle.log_rule.proofs.Prefixes.{prefix_self, empty_from_length}
-use Rattle.ns_cell.specs.Passes.{PassValue, IsLater}
+use Rattle.log_rule.proofs.Prefixes.{empty_from_length}
+use Rattle.ns_cell.specs.Passes.{PassValue}
 use Rattle.sync_link.specs.Tallies.{HasGrown, IsTally, TakesRows}
-use Rattle.sync_link.specs.declared.intake.Tally.{Tally}
-use Rattle.sync_link.proofs.Tallying.{grown_more}
+use Rattle.row_intake.specs.declared.tally.Tally.{Tally}
+use Rattle.sync_link.proofs.Offered.{grown_on, later_self}
 
 -- a member of a list of values, and those before it and behind it
 pub record IsMiddle {A B : Type 0} (f : A → B) (xs : List A) (front : List B) (y : B) : Type 0 where
@@ -36,9 +36,6 @@ middle_of f (x ∷ xs) (z ∷ front) y back e =
       front_is = (let head : z ≡ f x = cc in ap (λ w. w ∷ front) head ∙ ap (λ l. f x ∷ l) m.front_is);
       middle_is = m.middle_is;
     }
-
-pub later_self : {R : Type 0} (pass : PassValue R) → IsLater pass pass
-later_self pass = record { cell = refl; number = refl; seen = prefix_self pass.seen; turns = prefix_self pass.turns }
 
 -- what is so of a failed call is so of what it gives on
 pub takes_err : {A E : Type 0} (rules : Rules) (n : List ℕ) (start : PassValue AuthorisedValue) (rows : List RawValue) (pass : PassValue AuthorisedValue) (tally : Tally) (P : E → Type 0) (result : Result A E)
@@ -81,4 +78,4 @@ module _ (rules : Rules) (n : List ℕ) where
       let m = middle_of (verdict rules n) rows verdicts judged rest e in
       let there = next start (before ++ m.before) m.middle m.middle_is (so_far start before m.before m.front_is t) in
       let whole : ((before ++ m.before) ++ m.middle ∷ []) ++ m.behind ≡ before ++ rows = append_assoc (before ++ m.before) (m.middle ∷ []) m.behind ∙ append_assoc before m.before (m.middle ∷ m.behind) ∙ ap (λ l. before ++ l) (sym m.joined) in
-      subst (λ l. HasGrown rules n start l pass'') whole (grown_more rules n start ((before ++ m.before) ++ m.middle ∷ []) m.behind pass'' pass'' there (later_self pass'') refl)
+      subst (λ l. HasGrown rules n start l pass'') whole (grown_on rules n start ((before ++ m.before) ++ m.middle ∷ []) m.behind pass'' pass'' there (later_self pass'') refl)

@@ -1,6 +1,5 @@
 -- What a side counts is what its session says and reads.
 use Rattle.std.proofs.Common.{◌≡◌, inl, inr, ℕ, ◌+◌, Bool, true, false, cond, List, [], ◌∷◌, ◌++◌, map, take, Option, Some, None, Ok, option_to_list, refl, sym, ap, ap₂, ◌∙◌, subst, arith}
-use Rattle.std.proofs.lemmas.List.{length-take-le}
 use Rattle.scheme_core.specs.Rules.{Rules}
 use Rattle.willow_entry.specs.Row.{RowValue}
 use Rattle.session_end.specs.declared.refusal.HelloRefusal.{HelloRefusal}
@@ -26,27 +25,28 @@ use Rattle.session_rules.specs.Session.{Opening, Proving, Talking, to_hello, to_
 use Rattle.session_rules.specs.Talk.{answered, item_heard}
 use Rattle.session_rules.proofs.Growing.{read_part}
 use Rattle.session_rules.proofs.Runs.{run_append}
-use Rattle.session_rules.proofs.Spelled.{read_due}
 use Rattle.sync_link.specs.Greetings.{side_of, greeting}
 use Rattle.sync_link.specs.Places.{offers_of, has_finished, places, awaits_row}
 use Rattle.sync_link.specs.Readers.{hello_seen, proof_seen, item_seen}
 use Rattle.sync_link.specs.Sessions.{Party, SessionStage, SessionMessage, SessionCause, own_part, session_of}
-use Rattle.sync_link.specs.Standing.{Feeds, Reads, party_of, within}
-use Rattle.sync_link.specs.Found.{IsFound, is_due}
-use Rattle.sync_link.specs.Due.{stand_of}
-use Rattle.sync_link.specs.Fed.{Fed, GoesWell, CountsOn, counted, noted, noting}
-use Rattle.sync_link.specs.Held.{CountsStep, fed_with}
+use Rattle.sync_link.specs.Standing.{ReadsPiece, Reads, party_of, within}
+use Rattle.row_intake.specs.Found.{IsFound}
+use Rattle.row_intake.proofs.Moves.{read_found}
+use Rattle.sync_link.specs.Found.{is_due}
+use Rattle.sync_link.specs.Awaited.{stand_of}
+use Rattle.sync_link.specs.Progress.{Progress, GoesWell, CountsOn, counted, noted, noting}
+use Rattle.sync_link.specs.Held.{CountsStep, progress_with}
 use Rattle.sync_link.specs.Talking.{HearsHello, HearsProof, AcceptsProof, first_with, proof_cause}
 use Rattle.sync_link.specs.Taking.{IsExchange, TakesItem, ComesHello, ComesProof, ComesItem, due_after, due_behind, taken_after, taken_behind}
-use Rattle.sync_link.specs.declared.take.Came.{Came}
-use Rattle.sync_link.specs.declared.take.Came.TheVariants as came
-use Rattle.sync_link.specs.declared.take.ItemCame.{ItemCame}
-use Rattle.sync_link.specs.declared.take.ItemCame.TheVariants as items
-use Rattle.sync_link.specs.declared.due.Cause.TheVariants as causes
-use Rattle.sync_link.specs.declared.due.Due.{Due}
-use Rattle.sync_link.specs.declared.due.Due.TheVariants as dues
-use Rattle.sync_link.specs.declared.due.Exchange.{Exchange}
-use Rattle.sync_link.specs.declared.talker.Talker.{Talker}
+use Rattle.sync_link.specs.declared.side.take.GreetingTaken.{GreetingTaken}
+use Rattle.sync_link.specs.declared.side.take.GreetingTaken.TheVariants as came
+use Rattle.sync_link.specs.declared.side.take.ItemTaken.{ItemTaken}
+use Rattle.sync_link.specs.declared.side.take.ItemTaken.TheVariants as items
+use Rattle.sync_link.specs.declared.side.awaited.Cause.TheVariants as causes
+use Rattle.sync_link.specs.declared.side.awaited.Awaited.{Awaited}
+use Rattle.sync_link.specs.declared.side.awaited.Awaited.TheVariants as awaited
+use Rattle.sync_link.specs.declared.side.awaited.Exchange.{Exchange}
+use Rattle.sync_link.specs.declared.side.participant.Participant.{Participant}
 use Rattle.sync_link.proofs.Agreeing.{agrees_append, talks_in}
 use Rattle.sync_link.proofs.Exchanged.{awaits_due}
 use Rattle.sync_link.proofs.Heard.{reading_on}
@@ -69,11 +69,6 @@ same_on k n e = omega (arith, e)
 
 behind_none : (n k : ℕ) → n ≡ 0 → k ≡ n + k
 behind_none n k e = omega (arith, e)
-
-found_in : {S M O R E : Type 0} (a : Machine S M O R E) (s : S) (at : ℕ) (bytes : List ℕ) (m : M) (n : ℕ) → IsFound (a.sees s) bytes m n → reading.read a (Waits s at []) (take n bytes) ≡ stepped (at + n) (a.step s m)
-found_in a s at bytes m n found =
-    read_due a s at m (take n bytes) found.reads [] (take n bytes) refl found.reads.some_bytes
-    ∙ ap (λ k. stepped (at + k) (a.step s m)) (length-take-le n bytes found.within)
 
 item_counted : (place next : Place) (item : ItemValue) → heard place item ≡ Ok next → HearsCounted place (count_one item) next
 unfolding hears
@@ -99,27 +94,27 @@ module _ (p : Party) (rows : List RowValue) where
         → Tells at (take n bytes) (counted (stepped (at + n) step).says) (counted (stepped (at + n) (noted (f x) step)).rows)
     found_tells at bytes x n step found e =
         let whole = subst (λ look. IsFound look bytes (f x) n) (sym is) (found_as f sees bytes x n found) in (
-          ap (λ m. counted m.says) (found_in here s at bytes (f x) n whole) ∙ ap (λ k. counted (stepped (at + n) k).says) e,
-          ap (λ m. counted m.rows) (found_in (noting here) s at bytes (f x) n whole) ∙ ap (λ k. counted (stepped (at + n) (noted (f x) k)).rows) e,
+          ap (λ m. counted m.says) (read_found here s at bytes (f x) n whole) ∙ ap (λ k. counted (stepped (at + n) k).says) e,
+          ap (λ m. counted m.rows) (read_found (noting here) s at bytes (f x) n whole) ∙ ap (λ k. counted (stepped (at + n) (noted (f x) k)).rows) e,
         )
 
 -- ---- a side in memory
 
-module _ {R S : Type 0} (rules : Rules) (value : R → RowValue) (old new : Talker R S) (at : ℕ) (bytes : List ℕ) where
+module _ {R S : Type 0} (rules : Rules) (value : R → RowValue) (old new : Participant R S) (at : ℕ) (bytes : List ℕ) where
   abbrev party : List ℕ → Party
   party signature = record { rules = rules; namespace = old.namespace; role = old.role; hello = old.hello; interest = old.interest; signature = signature }
 
   abbrev own_rows : List RowValue
   own_rows = map value old.snapshot
 
-  abbrev Then : Due R → Due R → Option ℕ → Type 0
-  Then due next taken = CountsStep (fed_with rules value old due) (fed_with rules value new next) at bytes taken
+  abbrev Then : Awaited R → Awaited R → Option ℕ → Type 0
+  Then due next taken = CountsStep (progress_with rules value old due) (progress_with rules value new next) at bytes taken
 
   -- nothing is counted where something is refused
-  bad_counts : (due : Due R) → Then due (dues.Nothing causes.Bad) None
+  bad_counts : (due : Awaited R) → Then due (awaited.Nothing causes.Bad) None
   bad_counts due well = absurd well
 
-  hello_refused : (due next : Due R) (n : ℕ) (cause : HelloRefusal) → next ≡ dues.Nothing (causes.Hello cause) → Then due next (Some n)
+  hello_refused : (due next : Awaited R) (n : ℕ) (cause : HelloRefusal) → next ≡ awaited.Nothing (causes.Hello cause) → Then due next (Some n)
   hello_refused due next n cause is = subst (λ d. Then due d (Some n)) (sym is) (λ well. absurd well)
 
   -- ---- a hello
@@ -132,24 +127,24 @@ module _ {R S : Type 0} (rules : Rules) (value : R → RowValue) (old new : Talk
   to_proof_counts Caller p = refl
   to_proof_counts Answerer p = refl
 
-  hello_accepted : (other : Hello) (next : Due R) (n : ℕ) → IsFound hello_seen bytes other n → hello_refusal rules old.namespace other ≡ None → next ≡ dues.Proof other → Then dues.Hello next (Some n)
+  hello_accepted : (other : Hello) (next : Awaited R) (n : ℕ) → IsFound hello_seen bytes other n → hello_refusal rules old.namespace other ≡ None → next ≡ awaited.Proof other → Then awaited.Hello next (Some n)
   hello_accepted other next n found none is =
-      subst (λ d. Then dues.Hello d (Some n)) (sym is)
+      subst (λ d. Then awaited.Hello d (Some n)) (sym is)
       (λ well signature may.
       let p = party signature in
       let step = ap (λ o. hello_read (own_part p) other o) none in
       let t = found_tells p own_rows Opening session.Hello hello_seen refl at bytes other n (hello_read (own_part p) other None) found step in
       record { sent = same_on 0 _ (t.0 ∙ to_hello_counts old.role p); read = same_on 0 _ t.1; agreed = λ talks. absurd talks })
 
-  hello_by : (other : Hello) (next : Due R) (n : ℕ) (out_old out_new : List ℕ) → IsFound hello_seen bytes other n → (o : Option HelloRefusal) → hello_refusal rules old.namespace other ≡ o → HearsHello old new other next out_old out_new o → Then dues.Hello next (Some n)
-  hello_by other next n out_old out_new found (Some cause) is h = hello_refused dues.Hello next n cause h.0
+  hello_by : (other : Hello) (next : Awaited R) (n : ℕ) (out_old out_new : List ℕ) → IsFound hello_seen bytes other n → (o : Option HelloRefusal) → hello_refusal rules old.namespace other ≡ o → HearsHello old new other next out_old out_new o → Then awaited.Hello next (Some n)
+  hello_by other next n out_old out_new found (Some cause) is h = hello_refused awaited.Hello next n cause h.0
   hello_by other next n out_old out_new found None is h = hello_accepted other next n found is h.0
 
-  pub hello_counts : (out_old out_new : List ℕ) (came : Came R) → ComesHello rules old new bytes out_old out_new came → Then dues.Hello (due_after dues.Hello came) (taken_after came)
+  pub hello_counts : (out_old out_new : List ℕ) (came : GreetingTaken R) → ComesHello rules old new bytes out_old out_new came → Then awaited.Hello (due_after awaited.Hello came) (taken_after came)
   hello_counts out_old out_new came.More h = λ well signature may.
       let t = part_tells (party signature) own_rows Opening session.Hello hello_seen refl at bytes h.0 in
       record { sent = same_on 0 _ t.0; read = same_on 0 _ t.1; agreed = λ talks. absurd talks }
-  hello_counts out_old out_new came.Bad h = bad_counts dues.Hello
+  hello_counts out_old out_new came.Bad h = bad_counts awaited.Hello
   hello_counts out_old out_new (came.Next next n) h = hello_by h.0 next n out_old out_new h.1.0 (hello_refusal rules old.namespace h.0) refl h.1.1.1
 
   -- ---- a proof
@@ -158,9 +153,9 @@ module _ {R S : Type 0} (rules : Rules) (value : R → RowValue) (old new : Talk
     abbrev first : List RowValue → Place
     first shown = first_with old other shown
 
-    proof_accepted : (proof : List ℕ) (next : Due R) (n : ℕ) (out_old out_new : List ℕ) → IsFound proof_seen bytes proof n → proof_cause rules old.role old.hello other proof ≡ None → AcceptsProof value old new other next out_old out_new → Then (dues.Proof other) next (Some n)
+    proof_accepted : (proof : List ℕ) (next : Awaited R) (n : ℕ) (out_old out_new : List ℕ) → IsFound proof_seen bytes proof n → proof_cause rules old.role old.hello other proof ≡ None → AcceptsProof value old new other next out_old out_new → Then (awaited.Proof other) next (Some n)
     proof_accepted proof next n out_old out_new found none h =
-        subst (λ d. Then (dues.Proof other) d (Some n)) (sym h.due_is)
+        subst (λ d. Then (awaited.Proof other) d (Some n)) (sym h.due_is)
         (λ well signature may.
         let p = party signature in
         let exchange = exchange_with (greeting rules old.namespace) places (own_part p) (offers_of old.interest own_rows) other in
@@ -187,15 +182,15 @@ module _ {R S : Type 0} (rules : Rules) (value : R → RowValue) (old new : Talk
           );
         })
 
-    proof_by : (proof : List ℕ) (next : Due R) (n : ℕ) (out_old out_new : List ℕ) → IsFound proof_seen bytes proof n → (o : Option HelloRefusal) → proof_cause rules old.role old.hello other proof ≡ o → HearsProof value old new other next out_old out_new o → Then (dues.Proof other) next (Some n)
-    proof_by proof next n out_old out_new found (Some cause) is h = hello_refused (dues.Proof other) next n cause h.0
+    proof_by : (proof : List ℕ) (next : Awaited R) (n : ℕ) (out_old out_new : List ℕ) → IsFound proof_seen bytes proof n → (o : Option HelloRefusal) → proof_cause rules old.role old.hello other proof ≡ o → HearsProof value old new other next out_old out_new o → Then (awaited.Proof other) next (Some n)
+    proof_by proof next n out_old out_new found (Some cause) is h = hello_refused (awaited.Proof other) next n cause h.0
     proof_by proof next n out_old out_new found None is h = proof_accepted proof next n out_old out_new found is h
 
-    pub proof_counts : (out_old out_new : List ℕ) (came : Came R) → ComesProof rules value old new other bytes out_old out_new came → Then (dues.Proof other) (due_after (dues.Proof other) came) (taken_after came)
+    pub proof_counts : (out_old out_new : List ℕ) (came : GreetingTaken R) → ComesProof rules value old new other bytes out_old out_new came → Then (awaited.Proof other) (due_after (awaited.Proof other) came) (taken_after came)
     proof_counts out_old out_new came.More h = λ well signature may.
         let t = part_tells (party signature) own_rows (Proving other) session.Proof proof_seen refl at bytes h.0 in
         record { sent = same_on 0 _ t.0; read = same_on 0 _ t.1; agreed = λ talks. absurd talks }
-    proof_counts out_old out_new came.Bad h = bad_counts (dues.Proof other)
+    proof_counts out_old out_new came.Bad h = bad_counts (awaited.Proof other)
     proof_counts out_old out_new (came.Next next n) h = proof_by h.0 next n out_old out_new h.1.0 (proof_cause rules old.role old.hello other h.0) refl h.1.1
 
   -- ---- an item
@@ -210,16 +205,16 @@ module _ {R S : Type 0} (rules : Rules) (value : R → RowValue) (old new : Talk
     same_sees : item_seen ex.reader.version (is_due ex.reader.due) ≡ sees
     same_sees = ap₂ item_seen is.version (awaits_due ex.reader.due ex.core.doing is.due)
 
-    stands : stand_of (dues.Items ex) at [] ≡ Waits talks at []
+    stands : stand_of (awaited.Items ex) at [] ≡ Waits talks at []
     stands = ap (λ b. cond b Over (Waits talks at [])) (reading_on ex.core.doing waits)
 
     abbrev From : ℕ → ℕ → List ℕ → List ℕ → Stand SessionStage SessionCause → Type 0
     From sent read signature read_bytes q =
         (counted (reading.read (session_of (party signature) own_rows) q read_bytes).says ≡ sent) × (counted (reading.read (noting (session_of (party signature) own_rows)) q read_bytes).rows ≡ read)
 
-    item_more : (next : Exchange R) → ArePart (item_seen ex.reader.version (is_due ex.reader.due)) [] bytes → next ≡ ex → Then (dues.Items ex) (dues.Items next) None
+    item_more : (next : Exchange R) → ArePart (item_seen ex.reader.version (is_due ex.reader.due)) [] bytes → next ≡ ex → Then (awaited.Items ex) (awaited.Items next) None
     item_more next part same =
-        subst (λ x. Then (dues.Items ex) (dues.Items x) None) (sym same)
+        subst (λ x. Then (awaited.Items ex) (awaited.Items x) None) (sym same)
         (λ well signature may.
         let t = part_tells (party signature) own_rows talks session.Item sees refl at bytes (subst (λ look. ArePart look [] bytes) same_sees part) in
         let u = subst (From 0 0 signature bytes) (sym stands) t in
@@ -231,7 +226,7 @@ module _ {R S : Type 0} (rules : Rules) (value : R → RowValue) (old new : Talk
     answered_says now true item list last rows = (counted_items list, omega arith)
     answered_says now false item list last rows = (counted_items list, omega arith)
 
-    item_heard_counts : (next : Exchange R) (n : ℕ) (out_old out_new : List ℕ) (rows_old rows_new : List RowValue) → TakesItem ex next bytes n out_old out_new rows_old rows_new → Then (dues.Items ex) (dues.Items next) (Some n)
+    item_heard_counts : (next : Exchange R) (n : ℕ) (out_old out_new : List ℕ) (rows_old rows_new : List RowValue) → TakesItem ex next bytes n out_old out_new rows_old rows_new → Then (awaited.Items ex) (awaited.Items next) (Some n)
     item_heard_counts next n out_old out_new rows_old rows_new t well signature may =
         let item = t.item in
         let heard_to = t.hears.next in
@@ -254,19 +249,19 @@ module _ {R S : Type 0} (rules : Rules) (value : R → RowValue) (old new : Talk
           agreed = λ talks. inl (talks_in ex.core at [], t.area);
         }
 
-    item_refused : (next : Due R) (n : ℕ) (cause : CoreRefusal) → next ≡ dues.Nothing (causes.Core cause) → Then (dues.Items ex) next (Some n)
-    item_refused next n cause is = subst (λ d. Then (dues.Items ex) d (Some n)) (sym is) (λ well. absurd well)
+    item_refused : (next : Awaited R) (n : ℕ) (cause : CoreRefusal) → next ≡ awaited.Nothing (causes.Core cause) → Then (awaited.Items ex) next (Some n)
+    item_refused next n cause is = subst (λ d. Then (awaited.Items ex) d (Some n)) (sym is) (λ well. absurd well)
 
-    pub item_counts : (next : Exchange R) (out_old out_new : List ℕ) (rows_old rows_new : List RowValue) (came : ItemCame) → ComesItem ex next bytes out_old out_new rows_old rows_new came → Then (dues.Items ex) (due_behind (dues.Items next) came) (taken_behind came)
+    pub item_counts : (next : Exchange R) (out_old out_new : List ℕ) (rows_old rows_new : List RowValue) (came : ItemTaken) → ComesItem ex next bytes out_old out_new rows_old rows_new came → Then (awaited.Items ex) (due_behind (awaited.Items next) came) (taken_behind came)
     item_counts next out_old out_new rows_old rows_new items.More h = item_more next h.0 h.1.0
-    item_counts next out_old out_new rows_old rows_new items.Bad h = bad_counts (dues.Items ex)
+    item_counts next out_old out_new rows_old rows_new items.Bad h = bad_counts (awaited.Items ex)
     item_counts next out_old out_new rows_old rows_new (items.Taken n) h = item_heard_counts next n out_old out_new rows_old rows_new h
-    item_counts next out_old out_new rows_old rows_new (items.Refused cause n) h = item_refused (dues.Nothing (causes.Core cause)) n cause refl
+    item_counts next out_old out_new rows_old rows_new (items.Refused cause n) h = item_refused (awaited.Nothing (causes.Core cause)) n cause refl
 
 -- ---- pieces behind pieces
 
-pub counts_append : (a b c : Fed) (bytes more out_a out_b out_c : List ℕ) (rows_a rows_b rows_c : List RowValue)
-    → Feeds a.side b.side bytes out_a out_b rows_a rows_b → Feeds b.side c.side more out_b out_c rows_b rows_c
+pub counts_append : (a b c : Progress) (bytes more out_a out_b out_c : List ℕ) (rows_a rows_b rows_c : List RowValue)
+    → ReadsPiece a.side b.side bytes out_a out_b rows_a rows_b → ReadsPiece b.side c.side more out_b out_c rows_b rows_c
     → CountsOn a b bytes → CountsOn b c more → CountsOn a c (bytes ++ more)
 counts_append a b c bytes more out_a out_b out_c rows_a rows_b rows_c f g first second well signature may =
     let may_b = g.signed_once signature may in

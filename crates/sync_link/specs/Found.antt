@@ -1,5 +1,5 @@
 -- What stands at the front of bytes of a session, of which more may come.
-use Rattle.std.specs.Prelude.{◌≡◌, ℕ, zero, suc, ◌≤◌, Bool, true, false, ◌⊎◌, List, [], ◌∷◌, ◌++◌, length, take, Result, Ok, Err}
+use Rattle.std.specs.Prelude.{◌≡◌, ℕ, zero, suc, Bool, true, false, List, [], Result, Ok, Err}
 use Rattle.spelling.specs.declared.ending.End.{End}
 use Rattle.spelling.specs.declared.ending.End.TheVariants as ends
 use Rattle.spelling.specs.declared.ending.NoMemory.{NoMemory}
@@ -12,21 +12,11 @@ use Rattle.sync_msg.specs.declared.reader.Step.TheVariants.{Got, More}
 use Rattle.sync_hello.specs.HelloForm.{IsHello}
 use Rattle.sync_hello.specs.declared.read.HelloStep.{HelloStep}
 use Rattle.sync_hello.specs.declared.read.HelloStep.TheVariants as hellos
-use Rattle.session_rules.specs.Machine.{Seen, Part, Wrong}
-use Rattle.session_rules.specs.Messages.{IsReadAs, ArePart}
+use Rattle.session_rules.specs.Messages.{ArePart}
+use Rattle.row_intake.specs.Found.{IsFound, GoWrong}
 use Rattle.sync_link.specs.Readers.{hello_seen, proof_seen, item_seen}
-use Rattle.sync_link.specs.declared.proof.ProofStep.{ProofStep}
-use Rattle.sync_link.specs.declared.proof.ProofStep.TheVariants as proofs
-
--- a message stands there, in just so many bytes
-pub record IsFound {M : Type 0} (sees : List ℕ → Seen M) (bytes : List ℕ) (m : M) (taken : ℕ) : Type 0 where
-  pub within : taken ≤ length bytes
-  pub reads : IsReadAs sees (take taken bytes) m
-
--- the bytes, read one by one behind those held, are a part of a message until they are of none
-abbrev pub GoWrong : {M : Type 0} → (List ℕ → Seen M) → List ℕ → List ℕ → Type 0
-GoWrong sees held [] = ⊥
-GoWrong sees held (byte ∷ bytes) = (sees (held ++ byte ∷ []) ≡ Wrong) ⊎ ((sees (held ++ byte ∷ []) ≡ Part) × GoWrong sees (held ++ byte ∷ []) bytes)
+use Rattle.sync_link.specs.declared.side.proof.ProofStep.{ProofStep}
+use Rattle.sync_link.specs.declared.side.proof.ProofStep.TheVariants as proofs
 
 -- a hello, a part of one, or neither; for want of memory nothing is said
 abbrev pub FindsHello : List ℕ → Result HelloStep NoMemory → Type 0

@@ -9,11 +9,11 @@ pub mod Speaking
 pub mod Hearing
 pub mod Found
 pub mod Standing
-pub mod Due
+pub mod Awaited
 pub mod Asking
 pub mod Talking
 pub mod Taking
-pub mod Fed
+pub mod Progress
 pub mod Held
 pub mod TakingAll
 pub mod Signing
@@ -21,6 +21,7 @@ pub mod Plans
 pub mod Kept
 pub mod Run
 pub mod Tallies
+pub mod Writing
 pub mod UnderWay
 pub mod Ran
 pub mod SessionPromises

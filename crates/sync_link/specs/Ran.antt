@@ -26,7 +26,8 @@ use Rattle.sync_link.specs.Sessions.{Party, SessionCause, said, told_rows, out, 
 use Rattle.sync_link.specs.Granting.{IsGranted, GrantsRow, message_due}
 use Rattle.sync_link.specs.Settling.{IsOpening, Accepts, AreApartIn}
 use Rattle.sync_link.specs.Kept.{log_rows}
-use Rattle.sync_link.specs.Run.{Answer, AreAllOf, IsAllOf, Ends, Runs}
+use Rattle.row_intake.specs.Answers.{AreAllOf, IsAllOf}
+use Rattle.sync_link.specs.Run.{Answer, Ends, Runs}
 
 -- ---- a session that was run
 

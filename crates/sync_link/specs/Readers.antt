@@ -1,9 +1,6 @@
 -- What the bytes of a session are: a hello, a proof, or an item, each read by its grammar from left to right.
-use Rattle.std.specs.Prelude.{ℕ, Bool, true, false, List, [], ◌∷◌, Option, None, Some, option_map}
-use Rattle.spelling.specs.Front.{Front}
-use Rattle.spelling.specs.Front as front
-use Rattle.cap_codec.specs.Reading.{capability_at, signature_at, raw_at}
-use Rattle.cap_codec.specs.Rows.{row_of}
+use Rattle.std.specs.Prelude.{ℕ, Bool, true, false, List, Option, option_map}
+use Rattle.cap_codec.specs.Reading.{capability_at, signature_at}
 use Rattle.mc_cap.specs.declared.capability.Capability.{Capability}
 use Rattle.sync_msg.specs.Items.{ItemValue}
 use Rattle.sync_msg.specs.ItemReading.{head_at, body_at}
@@ -11,31 +8,8 @@ use Rattle.sync_msg.specs.declared.item.Item.TheVariants.{Row}
 use Rattle.sync_hello.specs.HelloForm.{Draft}
 use Rattle.sync_hello.specs.HelloReading.{draft_at}
 use Rattle.sync_hello.specs.declared.hello.Hello.{Hello}
-use Rattle.session_rules.specs.Machine.{Seen, Whole, Part, Wrong}
-
--- what all of some bytes are, by what stands at their front: bytes behind a whole value are of none
-abbrev pub all_seen : {A : Type 0} → Front A → Seen A
-all_seen (front.Whole x []) = Whole x
-all_seen (front.Whole x (byte ∷ behind)) = Wrong
-all_seen front.Part = Part
-all_seen front.Wrong = Wrong
-
--- the value that all of some bytes spell, if they spell one
-abbrev pub all_read : {A : Type 0} → Front A → Option A
-all_read (front.Whole x []) = Some x
-all_read (front.Whole x (byte ∷ behind)) = None
-all_read front.Part = None
-all_read front.Wrong = None
-
--- what is whole is judged then, and is wrong where it is nothing
-abbrev pub whole_or_wrong : {A : Type 0} → Option A → Seen A
-whole_or_wrong (Some x) = Whole x
-whole_or_wrong None = Wrong
-
-abbrev pub judged_whole : {A B : Type 0} → (A → Option B) → Seen A → Seen B
-judged_whole judge (Whole x) = whole_or_wrong (judge x)
-judged_whole judge Part = Part
-judged_whole judge Wrong = Wrong
+use Rattle.session_rules.specs.Machine.{Seen}
+use Rattle.row_intake.specs.Readers.{all_seen, all_read, judged_whole, row_spelled_as}
 
 -- ---- hellos and proofs
 
@@ -58,7 +32,7 @@ proof_seen bytes = all_seen (signature_at bytes)
 
 -- the row that a body spells, an entry and a write token
 abbrev pub row_spelled : List ℕ → Option ItemValue
-row_spelled body = option_map (λ raw. Row (row_of raw)) (all_read (raw_at body))
+row_spelled body = row_spelled_as Row body
 
 -- a row in its frame: the body is judged once all of it is there
 unfoldable pub row_seen : List ℕ → Seen ItemValue

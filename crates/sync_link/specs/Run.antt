@@ -1,17 +1,16 @@
 -- What a session does.
-use Rattle.std.specs.Prelude.{◌≡◌, ◌⊎◌, ℕ, ◌+◌, ◌≤◌, Bool, true, List, [], ◌++◌, map, length, All, Result, Ok, Err, IfOk}
+use Rattle.std.specs.Prelude.{◌≡◌, ◌⊎◌, ℕ, ◌+◌, ◌≤◌, Bool, true, List, [], ◌++◌, map, length, All, Contains, Result, Ok, Err, IfOk}
 use Rattle.std.specs.Io.KnownBytes.{Consumes}
 use Rattle.spelling.specs.Form.{AreBytes}
 use Rattle.willow_outside.specs.Told.{Extends}
 use mathlib.Core.List.{IsPrefix}
 use Rattle.willow_outside.specs.Counts.{HasRisen}
 use Rattle.willow_outside.specs.Facts.{LinkFacts}
-use Rattle.willow_entry.specs.Row.{RowValue, HasCovering, live}
+use Rattle.willow_entry.specs.Row.{RowValue, live}
 use Rattle.willow_entry.specs.declared.row.LogRow.{LogRow}
 use Rattle.mc_cap.specs.Signature.{IsSignature}
 use Rattle.cap_codec.specs.Rows.{RawValue, IsRaw, row_of}
 use Rattle.auth_entry.specs.Authorised.{AuthorisedValue}
-use Rattle.ns_state.specs.declared.live_log.TheConstants.{LOG_LIMIT}
 use Rattle.ns_cell.specs.Passes.{PassValue, FirstFound, IsLater}
 use Rattle.session_end.specs.declared.end.SessionEnd.{SessionEnd}
 use Rattle.session_end.specs.declared.end.SessionEnd.TheVariants.{LinkRead, LinkWrite, ClosedEarly, BadMessage, Hello, Core, SignFault, LogFull, NoMemory}
@@ -21,47 +20,23 @@ use Rattle.sync_hello.specs.declared.hello.Hello as hello
 use Rattle.session_rules.specs.Greeting.{HasHello}
 use Rattle.session_rules.specs.Reading as reading
 use Rattle.session_rules.specs.Rounds.{IsFront}
-use Rattle.session_rules.specs.Session.{InGreeting, InTalk}
+use Rattle.session_rules.specs.Session.{Proof, InGreeting, InTalk}
 use Rattle.sync_link.specs.Greetings.{greeting}
 use Rattle.sync_link.specs.Sessions.{Party, SessionCause, said, out, got, ending}
 use Rattle.sync_link.specs.Settling.{IsOpening}
 use Rattle.sync_link.specs.Talking.{own_message}
-use Rattle.sync_link.specs.Fed.{AgreesOn, heard, counted}
+use Rattle.sync_link.specs.Progress.{AgreesOn, heard, counted}
 use Rattle.auth_entry.specs.Rows.{authorised_rows, first_refused}
-use Rattle.sync_link.specs.Kept.{log_rows, uncovered, IsPart}
+use Rattle.row_intake.specs.Answers.{AreAllOf, IsAllOf, Covers, CountsReads, CountsWrites, CountsEnds}
+use Rattle.row_intake.specs.Kept.{CoversOrIsFull, IsPart}
+use Rattle.sync_link.specs.Kept.{log_rows}
 use Rattle.sync_link.specs.declared.plan.SessionReport.{SessionReport}
 
 -- what a session answers
 abbrev pub Answer : Type 0
 Answer = Result SessionReport SessionEnd
 
--- ---- what was written and how the session stands, by the answer
-
--- All of the list; where a write or a signer failed or memory was wanting, a front of it.
-abbrev pub IsAllOf : {A : Type 0} → List A → List A → Answer → Type 0
-IsAllOf all part (Ok report) = part ≡ all
-IsAllOf all part (Err LinkRead) = part ≡ all
-IsAllOf all part (Err LinkWrite) = IsFront part all
-IsAllOf all part (Err (ClosedEarly at)) = part ≡ all
-IsAllOf all part (Err (BadMessage at)) = part ≡ all
-IsAllOf all part (Err (Hello cause)) = part ≡ all
-IsAllOf all part (Err (Core cause)) = part ≡ all
-IsAllOf all part (Err SignFault) = IsFront part all
-IsAllOf all part (Err (LogFull missed)) = part ≡ all
-IsAllOf all part (Err NoMemory) = IsFront part all
-
--- All of the rows that came; where a signer failed or memory was wanting, a front of them. A write that failed loses none.
-abbrev pub AreAllOf : List RowValue → List RowValue → Answer → Type 0
-AreAllOf all part (Ok report) = part ≡ all
-AreAllOf all part (Err LinkRead) = part ≡ all
-AreAllOf all part (Err LinkWrite) = part ≡ all
-AreAllOf all part (Err (ClosedEarly at)) = part ≡ all
-AreAllOf all part (Err (BadMessage at)) = part ≡ all
-AreAllOf all part (Err (Hello cause)) = part ≡ all
-AreAllOf all part (Err (Core cause)) = part ≡ all
-AreAllOf all part (Err SignFault) = IsFront part all
-AreAllOf all part (Err (LogFull missed)) = part ≡ all
-AreAllOf all part (Err NoMemory) = IsFront part all
+-- ---- how the session stands, by the answer
 
 -- How the session ends to the bytes that were read, of which there are so many.
 abbrev pub Ends : reading.Ending SessionCause → ℕ → Answer → Type 0
@@ -76,40 +51,7 @@ Ends end read (Err SignFault) = Unit {0}
 Ends end read (Err (LogFull missed)) = end ≡ reading.Done
 Ends end read (Err NoMemory) = Unit {0}
 
--- Without some last part of them, of 1 to so many bytes, the bytes leave the session open: it read none behind the piece in which
--- it came to its end.
-pub record StopsInTime (p : Party) (opening : List RowValue) (most : ℕ) (bytes : List ℕ) : Type 0 where
-  pub front : List ℕ
-  pub last : List ℕ
-  pub joined : bytes ≡ front ++ last
-  pub some : 1 ≤ length last
-  pub few : length last ≤ most
-  pub goes_on : ending p opening front ≡ reading.More
-
--- ---- the rows that came, by the answer
-
--- the log covers the rows, or is full
-abbrev pub CoversOrIsFull : List RowValue → List RowValue → Type 0
-CoversOrIsFull log rows = All (HasCovering log) rows ⊎ (length log ≡ LOG_LIMIT)
-
--- The log is full, and leaves so many of the rows uncovered.
-pub record Misses (log rows : List RowValue) (missed : ℕ) : Type 0 where
-  pub full : length log ≡ LOG_LIMIT
-  pub counted : missed ≡ uncovered log rows
-  pub some : 1 ≤ missed
-
--- The log covers the rows that came, but for those for which it had no room.
-abbrev pub Covers : List RowValue → List RowValue → Answer → Type 0
-Covers log rows (Ok report) = All (HasCovering log) rows
-Covers log rows (Err LinkRead) = CoversOrIsFull log rows
-Covers log rows (Err LinkWrite) = CoversOrIsFull log rows
-Covers log rows (Err (ClosedEarly at)) = CoversOrIsFull log rows
-Covers log rows (Err (BadMessage at)) = CoversOrIsFull log rows
-Covers log rows (Err (Hello cause)) = CoversOrIsFull log rows
-Covers log rows (Err (Core cause)) = CoversOrIsFull log rows
-Covers log rows (Err SignFault) = Unit {0}
-Covers log rows (Err (LogFull missed)) = Misses log rows missed
-Covers log rows (Err NoMemory) = Unit {0}
+-- ---- the rows that came
 
 -- What was written is due to a first part of the bytes that were read, with which these rows came. The log covered the
 -- authorised ones before, but for those for which it had no room: rows go to the log before what they make due is written.
@@ -125,46 +67,7 @@ pub record KeptFirst (p : Party) (opening : List RowValue) (bytes written : List
 
 -- ---- causes
 
--- a count of reads that failed rose where that is answered, and nowhere else: no read that failed is told as want of memory
-abbrev pub CountsReads : ℕ → ℕ → Answer → Type 0
-CountsReads before now (Ok report) = now ≡ before
-CountsReads before now (Err LinkRead) = HasRisen before now
-CountsReads before now (Err LinkWrite) = now ≡ before
-CountsReads before now (Err (ClosedEarly at)) = now ≡ before
-CountsReads before now (Err (BadMessage at)) = now ≡ before
-CountsReads before now (Err (Hello cause)) = now ≡ before
-CountsReads before now (Err (Core cause)) = now ≡ before
-CountsReads before now (Err SignFault) = now ≡ before
-CountsReads before now (Err (LogFull missed)) = now ≡ before
-CountsReads before now (Err NoMemory) = now ≡ before
-
--- so does a count of writes that failed
-abbrev pub CountsWrites : ℕ → ℕ → Answer → Type 0
-CountsWrites before now (Ok report) = now ≡ before
-CountsWrites before now (Err LinkRead) = now ≡ before
-CountsWrites before now (Err LinkWrite) = HasRisen before now
-CountsWrites before now (Err (ClosedEarly at)) = now ≡ before
-CountsWrites before now (Err (BadMessage at)) = now ≡ before
-CountsWrites before now (Err (Hello cause)) = now ≡ before
-CountsWrites before now (Err (Core cause)) = now ≡ before
-CountsWrites before now (Err SignFault) = now ≡ before
-CountsWrites before now (Err (LogFull missed)) = now ≡ before
-CountsWrites before now (Err NoMemory) = now ≡ before
-
--- a count of ends rose where the other side ended too early, and nowhere else
-abbrev pub CountsEnds : ℕ → ℕ → Answer → Type 0
-CountsEnds before now (Ok report) = now ≡ before
-CountsEnds before now (Err LinkRead) = now ≡ before
-CountsEnds before now (Err LinkWrite) = now ≡ before
-CountsEnds before now (Err (ClosedEarly at)) = HasRisen before now
-CountsEnds before now (Err (BadMessage at)) = now ≡ before
-CountsEnds before now (Err (Hello cause)) = now ≡ before
-CountsEnds before now (Err (Core cause)) = now ≡ before
-CountsEnds before now (Err SignFault) = now ≡ before
-CountsEnds before now (Err (LogFull missed)) = now ≡ before
-CountsEnds before now (Err NoMemory) = now ≡ before
-
--- so does a signer's count of faults: no signer that failed is told as want of memory
+-- a signer's count of faults rose where that is answered, and nowhere else: no signer that failed is told as want of memory
 abbrev pub CountsSigns : ℕ → ℕ → Answer → Type 0
 CountsSigns before now (Ok report) = now ≡ before
 CountsSigns before now (Err LinkRead) = now ≡ before
@@ -254,7 +157,41 @@ pub record Runs (p : List ℕ → Party) (gives : List ℕ → List ℕ → Bool
   pub reported : IfOk answer (Reports (p signature) log bytes rows (length grown) (length after.seen))
   pub counted_faults : Counts link link' faults faults' answer
 
--- Where it was done, it read no further than that over a link that gives at most so many bytes at once.
-abbrev pub ReadsInTime : ℕ → (List ℕ → Party) → (List ℕ → List ℕ → Bool) → PassValue AuthorisedValue → PassValue AuthorisedValue → LinkFacts → LinkFacts → ℕ → ℕ → Answer → Type 0
-ReadsInTime most p gives before after link link' faults faults' answer =
-    (did : Runs p gives before after link link' faults faults' answer) × IfOk answer (λ report. StopsInTime (p did.signature) (live (log_rows did.log)) most did.bytes)
+-- ---- when it did it
+
+-- so it may answer that read nothing: a session that read nothing is open
+abbrev pub CanEndUnread : Answer → Type 0
+CanEndUnread (Ok report) = ⊥
+CanEndUnread (Err LinkRead) = Unit {0}
+CanEndUnread (Err LinkWrite) = Unit {0}
+CanEndUnread (Err (ClosedEarly at)) = Unit {0}
+CanEndUnread (Err (BadMessage at)) = ⊥
+CanEndUnread (Err (Hello cause)) = ⊥
+CanEndUnread (Err (Core cause)) = ⊥
+CanEndUnread (Err SignFault) = ⊥
+CanEndUnread (Err (LogFull missed)) = ⊥
+CanEndUnread (Err NoMemory) = Unit {0}
+
+-- The bytes are a front and a last part, of 1 to so many bytes. The front leaves the session open (`goes_on`): it read nothing
+-- behind the piece in which it came to its end. All that is due to the front stands in front of what was written (`answered`): it
+-- read nothing before it had written all that was due.
+pub record StopsInTime (p : Party) (opening : List RowValue) (most : ℕ) (bytes written : List ℕ) : Type 0 where
+  pub front : List ℕ
+  pub last : List ℕ
+  pub joined : bytes ≡ front ++ last
+  pub some : 1 ≤ length last
+  pub few : length last ≤ most
+  pub goes_on : ending p opening front ≡ reading.More
+  pub answered : IsFront (out p opening front) written
+
+-- the own proof is due to the bytes: with whatever signature, it is among the messages that the session says to them
+abbrev pub OwesProof : (List ℕ → Party) → List RowValue → List ℕ → Type 0
+OwesProof p opening bytes = (signature : List ℕ) → Contains (said (p signature) opening bytes) (Proof (p signature).signature)
+
+-- What a session did over a link that gives at most so many bytes at once, and that it did each thing in its time.
+-- `asked`: the signer is as it was (`still`), or the own proof is due to the bytes that were read.
+-- `stops`: nothing was read, or all but the last piece of the link was read of a session that was open, behind all that was due.
+pub record ActsInTime (still : Type 0) (most : ℕ) (p : List ℕ → Party) (gives : List ℕ → List ℕ → Bool) (before after : PassValue AuthorisedValue) (link link' : LinkFacts) (faults faults' : ℕ) (answer : Answer) : Type 0 where
+  pub did : Runs p gives before after link link' faults faults' answer
+  pub asked : still ⊎ OwesProof p (live (log_rows did.log)) did.bytes
+  pub stops : (CanEndUnread answer × (did.bytes ≡ [])) ⊎ StopsInTime (p did.signature) (live (log_rows did.log)) most did.bytes did.written

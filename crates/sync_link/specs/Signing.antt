@@ -1,14 +1,14 @@
 -- For whom a side signs its proof.
-use Rattle.std.specs.Prelude.{◌≡◌, ◌⊎◌, ℕ, ◌+◌, Bool, true, List, [], ◌++◌, take, Option, None, Some}
+use Rattle.std.specs.Prelude.{◌≡◌, ◌⊎◌, ℕ, ◌+◌, Bool, true, List, [], ◌++◌, take, Contains, Option, None, Some}
 use Rattle.sync_hello.specs.declared.hello.Hello.{Hello}
 use Rattle.session_rules.specs.Reading.{Waits, read}
-use Rattle.session_rules.specs.Session.{Proving}
+use Rattle.session_rules.specs.Session.{Proof, Proving}
 use Rattle.sync_link.specs.Sessions.{session_of}
 use Rattle.sync_link.specs.Standing.{Side, party_of}
 use Rattle.sync_link.specs.Talking.{own_message}
-use Rattle.sync_link.specs.declared.due.Due.{Due}
-use Rattle.sync_link.specs.declared.due.Due.TheVariants as dues
-use Rattle.sync_link.specs.declared.talker.Talker.{Talker}
+use Rattle.sync_link.specs.declared.side.awaited.Awaited.{Awaited}
+use Rattle.sync_link.specs.declared.side.awaited.Awaited.TheVariants as awaited
+use Rattle.sync_link.specs.declared.side.participant.Participant.{Participant}
 
 -- The signer may give the signature for the side's proof to one that said a hello: behind some first part of the piece the
 -- session waits for the proof of that one.
@@ -21,6 +21,14 @@ pub record SignsFor (gives : List ℕ → List ℕ → Bool) (side : Side) (piec
   pub at : ℕ
   pub held : List ℕ
   pub waits : (read (session_of (party_of side signature) side.rows) side.stand front).stand ≡ Waits (Proving other) at held
+
+-- with this signature, the own proof is among what a side says that reads the bytes
+abbrev pub SaysProof : Side → List ℕ → List ℕ → Type 0
+SaysProof side bytes signature = Contains (read (session_of (party_of side signature) side.rows) side.stand bytes).says (Proof signature)
+
+-- the proof of a side is due that reads the bytes, with whatever signature
+abbrev pub OwesIn : Side → List ℕ → Type 0
+OwesIn side bytes = (signature : List ℕ) → SaysProof side bytes signature
 
 -- any signature is given of any message
 abbrev pub anyone : List ℕ → List ℕ → Bool
@@ -38,6 +46,6 @@ SignsStep gives old new at bytes (Some taken) = SignsTo gives (old at []) (new (
 
 -- a side to which a hello may have come was signed before, or its signer may give the signature for its proof to the one whose
 -- proof is due now
-abbrev pub SignsNext : {R S : Type 0} → (List ℕ → List ℕ → Bool) → Talker R S → Talker R S → Due R → Type 0
+abbrev pub SignsNext : {R S : Type 0} → (List ℕ → List ℕ → Bool) → Participant R S → Participant R S → Awaited R → Type 0
 SignsNext gives old new due =
-    (signature : List ℕ) → new.signature ≡ Some signature → (old.signature ≡ Some signature) ⊎ ((other : Hello) × ((due ≡ dues.Proof other) × (gives (own_message old.role old.hello other) signature ≡ true)))
+    (signature : List ℕ) → new.signature ≡ Some signature → (old.signature ≡ Some signature) ⊎ ((other : Hello) × ((due ≡ awaited.Proof other) × (gives (own_message old.role old.hello other) signature ≡ true)))

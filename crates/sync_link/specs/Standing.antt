@@ -38,7 +38,7 @@ pub record Reads (p : Party) (rows : List RowValue) (from : Stand SessionStage S
 
 -- A side read a piece: what it writes stands behind what was to be written, and the rows that it takes behind those that
 -- came before. All else of it is as it was, but for its signature, which is made once.
-pub record Feeds (old new : Side) (piece out_old out_new : List ℕ) (rows_old rows_new : List RowValue) : Type 0 where
+pub record ReadsPiece (old new : Side) (piece out_old out_new : List ℕ) (rows_old rows_new : List RowValue) : Type 0 where
   pub written : List ℕ
   pub taken : List RowValue
   pub wrote : out_new ≡ out_old ++ written

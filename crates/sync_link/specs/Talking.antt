@@ -25,11 +25,11 @@ use Rattle.sync_link.specs.Sessions.{SessionStage, SessionCause}
 use Rattle.sync_link.specs.Places.{of_interest}
 use Rattle.sync_link.specs.Sound.{AreSound, IsSound}
 use Rattle.sync_link.specs.Standing.{Side, MayBe}
-use Rattle.sync_link.specs.declared.due.Cause.TheVariants as causes
-use Rattle.sync_link.specs.declared.due.Due.{Due}
-use Rattle.sync_link.specs.declared.due.Due.TheVariants as dues
-use Rattle.sync_link.specs.declared.due.Exchange.{Exchange}
-use Rattle.sync_link.specs.declared.talker.Talker.{Talker}
+use Rattle.sync_link.specs.declared.side.awaited.Cause.TheVariants as causes
+use Rattle.sync_link.specs.declared.side.awaited.Awaited.{Awaited}
+use Rattle.sync_link.specs.declared.side.awaited.Awaited.TheVariants as awaited
+use Rattle.sync_link.specs.declared.side.awaited.Exchange.{Exchange}
+use Rattle.sync_link.specs.declared.side.participant.Participant.{Participant}
 
 -- ---- what is signed and judged, by which side it is: the own hello, and the other one
 
@@ -63,8 +63,8 @@ box_between Caller own other = option_map area_box (common_area own other)
 box_between Answerer own other = option_map area_box (common_area other own)
 
 -- the place of a side at the beginning of the exchange over some rows with one that said a hello
-abbrev pub first_with : {R S : Type 0} → Talker R S → Hello → List RowValue → Place
-first_with talker other rows = first_place (version_between talker.role talker.hello other) talker.role rows (box_between talker.role talker.hello other)
+abbrev pub first_with : {R S : Type 0} → Participant R S → Hello → List RowValue → Place
+first_with participant other rows = first_place (version_between participant.role participant.hello other) participant.role rows (box_between participant.role participant.hello other)
 
 -- These rows are offered in place of all that a side has: those of them that lie in the box are the ones of interest, and all can
 -- be told.
@@ -99,31 +99,31 @@ UnsignedIf Answerer made = Unit {0}
 -- ---- a side
 
 -- what is seen of a side that stands so
-abbrev pub side_with : {R S : Type 0} → Rules → (R → RowValue) → Talker R S → Stand SessionStage SessionCause → Side
-side_with rules value talker stand = record {
+abbrev pub side_with : {R S : Type 0} → Rules → (R → RowValue) → Participant R S → Stand SessionStage SessionCause → Side
+side_with rules value participant stand = record {
   rules = rules;
-  namespace = talker.namespace;
-  role = talker.role;
-  hello = talker.hello;
-  interest = talker.interest;
-  signature = talker.signature;
-  rows = map value talker.snapshot;
+  namespace = participant.namespace;
+  role = participant.role;
+  hello = participant.hello;
+  interest = participant.interest;
+  signature = participant.signature;
+  rows = map value participant.snapshot;
   stand = stand;
 }
 
 -- but for its signature it is as it was
-abbrev pub Keeps : {R S : Type 0} → Talker R S → Talker R S → Type 0
+abbrev pub Keeps : {R S : Type 0} → Participant R S → Participant R S → Type 0
 Keeps old new = new ≡ record old { signature = new.signature }
 
 -- It signed its proof, by what its signer may give, and wrote it.
-pub record Proves {R S : Type 0} (gives : List ℕ → List ℕ → Bool) (old new : Talker R S) (other : Hello) (out_old out_new : List ℕ) : Type 0 where
+pub record Proves {R S : Type 0} (gives : List ℕ → List ℕ → Bool) (old new : Participant R S) (other : Hello) (out_old out_new : List ℕ) : Type 0 where
   pub signature : List ℕ
   pub made : new.signature ≡ Some signature
   pub given : gives (own_message old.role old.hello other) signature ≡ true
   pub wrote : out_new ≡ out_old ++ signature_spelling signature
 
 -- its signature is the one that it had, or its signer may give it for its proof to the side with this hello
-abbrev pub IsSigned : {R S : Type 0} → (List ℕ → List ℕ → Bool) → Talker R S → Talker R S → Hello → Type 0
+abbrev pub IsSigned : {R S : Type 0} → (List ℕ → List ℕ → Bool) → Participant R S → Participant R S → Hello → Type 0
 IsSigned gives old new other =
     (signature : List ℕ) → new.signature ≡ Some signature → (old.signature ≡ Some signature) ⊎ (gives (own_message old.role old.hello other) signature ≡ true)
 
@@ -134,9 +134,9 @@ SignsBy gives role own made_old made_new =
     (signature : List ℕ) → made_new ≡ Some signature → (made_old ≡ Some signature) ⊎ ((other : Hello) × (gives (own_message role own other) signature ≡ true))
 
 -- What is due behind a hello, by why it is refused, if it is.
-abbrev pub HearsHello : {R S : Type 0} → Talker R S → Talker R S → Hello → Due R → List ℕ → List ℕ → Option HelloRefusal → Type 0
-HearsHello old new other due out_old out_new (Some cause) = (due ≡ dues.Nothing (causes.Hello cause)) × (new ≡ old) × (out_new ≡ out_old)
-HearsHello old new other due out_old out_new None = (due ≡ dues.Proof other) × (Writes new.signature (said_to_hello old.role old.hello) out_old out_new × UnsignedIf old.role new.signature)
+abbrev pub HearsHello : {R S : Type 0} → Participant R S → Participant R S → Hello → Awaited R → List ℕ → List ℕ → Option HelloRefusal → Type 0
+HearsHello old new other due out_old out_new (Some cause) = (due ≡ awaited.Nothing (causes.Hello cause)) × (new ≡ old) × (out_new ≡ out_old)
+HearsHello old new other due out_old out_new None = (due ≡ awaited.Proof other) × (Writes new.signature (said_to_hello old.role old.hello) out_old out_new × UnsignedIf old.role new.signature)
 
 -- An exchange has begun over the rows of a side, and said what is due first; its items are read in its version.
 pub record BeginsExchange {R : Type 0} (place : Place) (exchange : Exchange R) (out_old out_new : List ℕ) : Type 0 where
@@ -147,21 +147,21 @@ pub record BeginsExchange {R : Type 0} (place : Place) (exchange : Exchange R) (
   pub silent : stage_of exchange.core.doing ≡ Writing → ⊥
 
 -- The same over the rows that a side offers to one that said a hello, in the area that both may read.
-pub record BeginsOffered {R S : Type 0} (value : R → RowValue) (talker : Talker R S) (other : Hello) (exchange : Exchange R) (out_old out_new : List ℕ) : Type 0 where
+pub record BeginsOffered {R S : Type 0} (value : R → RowValue) (participant : Participant R S) (other : Hello) (exchange : Exchange R) (out_old out_new : List ℕ) : Type 0 where
   pub rows : List RowValue
-  pub offered : AreOffered talker.interest (box_between talker.role talker.hello other) (map value talker.snapshot) rows
-  pub begins : BeginsExchange (first_with talker other rows) exchange out_old out_new
-  pub area : exchange.area ≡ area_between talker.role talker.hello other
+  pub offered : AreOffered participant.interest (box_between participant.role participant.hello other) (map value participant.snapshot) rows
+  pub begins : BeginsExchange (first_with participant other rows) exchange out_old out_new
+  pub area : exchange.area ≡ area_between participant.role participant.hello other
 
 -- and that behind a proof
-pub record AcceptsProof {R S : Type 0} (value : R → RowValue) (old new : Talker R S) (other : Hello) (due : Due R) (out_old out_new : List ℕ) : Type 0 where
+pub record AcceptsProof {R S : Type 0} (value : R → RowValue) (old new : Participant R S) (other : Hello) (due : Awaited R) (out_old out_new : List ℕ) : Type 0 where
   pub between : List ℕ
   pub proved : Writes new.signature (said_to_proof old.role) out_old between
   pub once : Once old.signature new.signature
   pub exchange : Exchange R
   pub over : BeginsOffered value old other exchange between out_new
-  pub due_is : due ≡ dues.Items exchange
+  pub due_is : due ≡ awaited.Items exchange
 
-abbrev pub HearsProof : {R S : Type 0} → (R → RowValue) → Talker R S → Talker R S → Hello → Due R → List ℕ → List ℕ → Option HelloRefusal → Type 0
-HearsProof value old new other due out_old out_new (Some cause) = (due ≡ dues.Nothing (causes.Hello cause)) × (new ≡ old) × (out_new ≡ out_old)
+abbrev pub HearsProof : {R S : Type 0} → (R → RowValue) → Participant R S → Participant R S → Hello → Awaited R → List ℕ → List ℕ → Option HelloRefusal → Type 0
+HearsProof value old new other due out_old out_new (Some cause) = (due ≡ awaited.Nothing (causes.Hello cause)) × (new ≡ old) × (out_new ≡ out_old)
 HearsProof value old new other due out_old out_new None = AcceptsProof value old new other due out_old out_new

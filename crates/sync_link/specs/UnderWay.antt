@@ -1,5 +1,5 @@
 -- A session that is under way: what it did so far.
-use Rattle.std.specs.Prelude.{◌≡◌, ◌⊎◌, ℕ, ◌≤◌, ◌<◌, ◌^◌, Bool, List, [], map, length, All, None, Some, Result, Ok, Err}
+use Rattle.std.specs.Prelude.{◌≡◌, ◌⊎◌, ℕ, ◌≤◌, ◌<◌, ◌^◌, Bool, List, [], map, length, All, Contains, Option, None, Some, Result, Ok, Err}
 use Rattle.std.specs.Io.KnownBytes.{Consumes}
 use Rattle.spelling.specs.Form.{AreBytes}
 use Rattle.willow_outside.specs.Told.{Extends}
@@ -18,34 +18,18 @@ use Rattle.sync_msg.specs.declared.role.Role.{Role}
 use Rattle.sync_hello.specs.Checked.{Passes}
 use Rattle.sync_hello.specs.HelloForm.{IsHello}
 use Rattle.sync_hello.specs.declared.hello.Hello.{Hello}
-use Rattle.sync_link.specs.Sessions.{Party}
+use Rattle.session_rules.specs.Session.{Proof}
+use Rattle.sync_link.specs.Sessions.{Party, said}
 use Rattle.sync_link.specs.Settling.{IsOpening}
-use Rattle.sync_link.specs.Standing.{Side}
-use Rattle.sync_link.specs.Fed.{Fed, HaveRead, fed_in}
+use Rattle.sync_link.specs.Standing.{Side, MayBe}
+use Rattle.sync_link.specs.Progress.{Progress, HaveRead, progress_in}
 use Rattle.auth_entry.specs.Rows.{entry_row}
 use Rattle.sync_link.specs.Kept.{log_rows}
-use Rattle.sync_link.specs.Tallies.{IsSum, IsTally}
-use Rattle.sync_link.specs.Run.{Answer, IsProofOf, ReadsInTime, Runs, StopsInTime}
-use Rattle.sync_link.specs.declared.piece.Session.{Session}
-use Rattle.sync_link.specs.declared.intake.Tally.{Tally}
-
--- ---- the link
-
--- what there is to read stays as it was, and what is counted of that
-pub record ReadsNothing (before now : LinkFacts) : Type 0 where
-  pub left : now.left ≡ before.left
-  pub taken : now.taken ≡ before.taken
-  pub faults : now.read_faults ≡ before.read_faults
-  pub ends : now.ends ≡ before.ends
-
--- The link gave just these bytes, and all else of it is as it was.
-pub record GaveBytes (before now : LinkFacts) (bytes : List ℕ) : Type 0 where
-  pub left : Consumes before.left now.left bytes
-  pub taken : Extends before.taken now.taken bytes
-  pub held : now.held ≡ before.held
-  pub reads : now.read_faults ≡ before.read_faults
-  pub writes : now.write_faults ≡ before.write_faults
-  pub ends : now.ends ≡ before.ends
+use Rattle.row_intake.specs.Tallies.{IsSum}
+use Rattle.sync_link.specs.Tallies.{IsTally}
+use Rattle.sync_link.specs.Run.{Answer, ActsInTime, IsProofOf, StopsInTime}
+use Rattle.sync_link.specs.declared.run.piece.Session.{Session}
+use Rattle.row_intake.specs.declared.tally.Tally.{Tally}
 
 -- ---- the rows
 
@@ -90,7 +74,7 @@ pub record IsBy (start : Start) (rules : Rules) (namespace : List ℕ) (gives : 
 -- What it has come to: its side, the numbers of the rows that came, how many bytes it read, and its pass, its link and its
 -- signer.
 pub record Now : Type 0 where
-  pub fed : Fed
+  pub progress : Progress
   pub tally : Tally
   pub count : ℕ
   pub pass : PassValue AuthorisedValue
@@ -106,7 +90,7 @@ pub record IsCounted {S : Type 0} (session : Session S) : Type 0 where
 
 -- a session as it stands in memory, and what it works on
 abbrev pub now_of : {S : Type 0} → Rules → Session S → PassValue AuthorisedValue → LinkFacts → ℕ → ℕ → Now
-now_of rules session pass link left faults = record { fed = fed_in rules session.speaker; tally = session.tally; count = session.count; pass = pass; link = link; left = left; faults = faults }
+now_of rules session pass link left faults = record { progress = progress_in rules session.side; tally = session.tally; count = session.count; pass = pass; link = link; left = left; faults = faults }
 
 -- These are the rows of the log that the pass found whole, as the session began, in a turn that it had then.
 pub record IsReady (start : Start) (rows : List RowValue) (now : PassValue AuthorisedValue) : Type 0 where
@@ -123,17 +107,18 @@ abbrev pub IsSideOf : Start → Side → Type 0
 IsSideOf start side = side ≡ record side { rules = start.rules; namespace = start.namespace; role = start.role; hello = start.hello; interest = start.interest; rows = live (log_rows start.log) }
 
 -- What the side of a session has come to that read these bytes: what is due to them, and the rows that came, read out. Where
--- it is signed, its signer may give that for this session.
-pub record Reached (start : Start) (side : Fed) (bytes written : List ℕ) (rows : List RawValue) : Type 0 where
+-- it is signed, its signer may give that for this session, and the own proof is due to the bytes.
+pub record Reached (start : Start) (side : Progress) (bytes written : List ℕ) (rows : List RawValue) : Type 0 where
   pub side_is : IsSideOf start side.side
   pub are_bytes : AreBytes bytes
   pub read : HaveRead side bytes written (map row_of rows)
   pub read_out : All IsRaw rows
   pub signed : (signature : List ℕ) → side.side.signature ≡ Some signature → IsProofOf (brought start signature) start.gives bytes
+  pub owes : (signature : List ℕ) → side.side.signature ≡ Some signature → Contains (said (brought start signature) (live (log_rows start.log)) bytes) (Proof signature)
 
--- nothing was read yet, or the session was open before the last piece
-abbrev pub WasOpen : Start → List ℕ → Type 0
-WasOpen start bytes = (bytes ≡ []) ⊎ ((signature : List ℕ) → StopsInTime (brought start signature) (live (log_rows start.log)) start.most bytes)
+-- nothing was read yet; or the session was open before the last piece, and had written all that was due
+abbrev pub WasOpen : Start → Option (List ℕ) → List ℕ → List ℕ → Type 0
+WasOpen start made bytes written = (bytes ≡ []) ⊎ ((signature : List ℕ) → MayBe made signature → StopsInTime (brought start signature) (live (log_rows start.log)) start.most bytes written)
 
 -- A session did its work so far: it read these bytes and wrote what is due to them, and the rows that came were offered to
 -- the log.
@@ -141,35 +126,39 @@ pub record IsUnderWay (start : Start) (now : Now) : Type 0 where
   pub bytes : List ℕ
   pub written : List ℕ
   pub rows : List RawValue
-  pub reached : Reached start now.fed bytes written rows
+  pub reached : Reached start now.progress bytes written rows
   pub opens : IsOpening start.namespace (live (log_rows start.log))
   pub opening : IsPrefix start.pass.seen start.log × IsPrefix start.log now.pass.seen
   pub turn : FirstFound start.pass start.log now.pass
   pub taken : Consumes start.link.left now.link.left bytes × Extends start.link.taken now.link.taken bytes
   pub held : Extends start.link.held now.link.held written
   pub count : now.count ≡ length bytes
-  pub was_open : WasOpen start bytes
-  pub unsigned : now.fed.side.signature ≡ None → now.left ≡ start.left
+  pub was_open : WasOpen start now.progress.side.signature bytes written
+  pub unsigned : now.progress.side.signature ≡ None → now.left ≡ start.left
   pub tally : IsTally start.rules start.namespace start.pass rows now.pass now.tally
   pub reads : now.link.read_faults ≡ start.link.read_faults
   pub writes : now.link.write_faults ≡ start.link.write_faults
   pub ends : now.link.ends ≡ start.link.ends
   pub faults : now.faults ≡ start.faults
 
--- what it has done that ended so
-abbrev pub EndsSo : Start → PassValue AuthorisedValue → LinkFacts → ℕ → SessionEnd → Type 0
-EndsSo start pass link faults end = Runs (brought start) start.gives start.pass pass start.link link start.faults faults (Err end)
+-- What it has done that answers so, each thing in its time. The signer is as it was where `still` is so.
+abbrev pub EndsInTime : Start → PassValue AuthorisedValue → LinkFacts → ℕ → Type 0 → Answer → Type 0
+EndsInTime start pass link faults still answer = ActsInTime still start.most (brought start) start.gives start.pass pass start.link link start.faults faults answer
 
--- the same, and where it was done, that it read no further
-abbrev pub EndsInTime : Start → PassValue AuthorisedValue → LinkFacts → ℕ → Answer → Type 0
-EndsInTime start pass link faults answer = ReadsInTime start.most (brought start) start.gives start.pass pass start.link link start.faults faults answer
+-- the same of one that ended so
+abbrev pub EndsSo : Start → PassValue AuthorisedValue → LinkFacts → ℕ → Type 0 → SessionEnd → Type 0
+EndsSo start pass link faults still end = EndsInTime start pass link faults still (Err end)
+
+-- a side was not signed, and its signer is as it was
+abbrev pub IsStill : {K : Type 0} → Option (List ℕ) → K → K → Type 0
+IsStill made old new = (made ≡ None) × (new ≡ old)
 
 -- it goes on, or it has ended
-abbrev pub GoesOnOrEnds : Start → Now → Result (Unit {0}) SessionEnd → Type 0
-GoesOnOrEnds start now (Ok u) = IsUnderWay start now
-GoesOnOrEnds start now (Err end) = EndsSo start now.pass now.link now.faults end
+abbrev pub GoesOnOrEnds : Start → Now → Type 0 → Result (Unit {0}) SessionEnd → Type 0
+GoesOnOrEnds start now still (Ok u) = IsUnderWay start now
+GoesOnOrEnds start now still (Err end) = EndsSo start now.pass now.link now.faults still end
 
--- a session that began, or has ended
+-- a session that began, or has ended before its signer was asked
 abbrev pub Opens : {S : Type 0} → Start → PassValue AuthorisedValue → LinkFacts → Result (Session S) SessionEnd → Type 0
 Opens start pass link (Ok session) = IsUnderWay start (now_of start.rules session pass link start.left start.faults)
-Opens start pass link (Err end) = EndsSo start pass link start.faults end
+Opens start pass link (Err end) = EndsSo start pass link start.faults (Unit {0}) end

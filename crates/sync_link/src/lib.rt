@@ -4,32 +4,15 @@
 //! the bytes that it reads.
 #![tactic(auto)]
 
-mod due;
-mod ear;
-mod find;
-mod greet;
-mod hear;
-mod intake;
-mod judge;
 pub mod laws;
-mod lists;
-mod opening;
-mod piece;
 mod plan;
-mod proof;
 mod run;
 pub mod run_laws;
-mod sending;
-mod speak;
-mod speaker;
-mod standing;
-mod take;
-mod take_all;
-mod talker;
+mod side;
 
 pub use area_interest::Interest;
 pub use mc_cap::RefusedRow;
-pub use opening::known_plan;
 pub use plan::{SessionPlan, SessionReport};
-pub use run::run_session;
+pub use run::opening::known_plan;
+pub use run::session::run_session;
 pub use session_end::SessionEnd;

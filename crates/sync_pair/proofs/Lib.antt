@@ -5,3 +5,4 @@ pub mod TurnEnds
 pub mod Plain
 pub mod Speaking
 pub mod Exchanging
+pub mod Alone

@@ -2,3 +2,4 @@ pub mod Stores
 pub mod Agreement
 pub mod Passing
 pub mod Meeting
+pub mod Alone

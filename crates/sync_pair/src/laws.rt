@@ -11,6 +11,7 @@ ghost use Rattle.block_store.specs.InBox.{is_in, rows_in};
 ghost use Rattle.exchange_rules.specs.Items.{counted, to_left, to_right};
 ghost use Rattle.exchange_rules.specs.Exchange.{Apart, exchange};
 ghost use Rattle.sync_core.specs.SyncRules.{sync_rules};
+ghost use Rattle.sync_pair.specs.Alone.{SayAlone};
 ghost use Rattle.sync_pair.specs.Stores.{AreStores};
 ghost use Rattle.sync_pair.specs.Agreement.{IsSelfContained, left_after, right_after};
 
@@ -91,6 +92,12 @@ pub fn two_worlds()
     ensures apart { (version : ℕ) (a b c d : List RowValue) (x : Ranges)
         → rows_in x a ≡ rows_in x c → rows_in x b ≡ rows_in x d
         → Apart (sync_rules version) a b x → Apart (sync_rules version) c d x }
+{}
+
+/// So it is with each side by itself: what it says is a function of its own rows in the box and of the turns that it reads.
+pub fn alone()
+    ensures { (version : ℕ) (namespace : List ℕ) (a b : List RowValue) (x : Option Ranges)
+        → AreStores namespace a b → SayAlone version a b x }
 {}
 
 /// Without an area that both sides read nothing is sent and nothing is counted, whatever the stores hold.

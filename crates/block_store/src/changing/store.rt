@@ -16,6 +16,7 @@ use crate::reading::snapshot::{Snapshot, snapshot_of};
 use std::alloc::Global;
 use std::marker::Model;
 use std::sync::Arc;
+use std::sync::atomic::{AtomicUsize, Ordering};
 use willow_entry::{MAX_ROWS, Placed, Row};
 use willow_path::NoMemory;
 
@@ -192,7 +193,20 @@ impl<R: Row> BlockStore<R> {
         rows_of(&self.pieces)
     }
 
-    /// The rows as they are now. No row is copied, and nothing that becomes of the store changes the snapshot.
+    /// Hashes the rows of blocks that no snapshot had before, for the next one. The counter, 0 at first, tells how many of
+    /// the blocks are taken: calls that share it, in threads too, part the blocks among them. What memory lacks for is
+    /// left to the snapshot.
+    pub fn hash_rows(&self, taken: &AtomicUsize) {
+        for _turn in 0..self.pieces.len() {
+            let Some(piece) = self.pieces.get(taken.fetch_add(1, Ordering::SeqCst)) else {
+                return;
+            };
+            let _made = piece.block.summary();
+        }
+    }
+
+    /// The rows as they are now. No row is copied, and nothing that becomes of the store changes the snapshot. Rows of
+    /// blocks that no snapshot had before are hashed; their leaves are kept, 32 bytes a row.
     pub fn snapshot(&self) -> Result<Snapshot<R>, NoMemory>
         ensures equal { IfOk result (λ snapshot. snapshot ≡ self.now) }
         ensures live { AreLive (map R.value self.now) }

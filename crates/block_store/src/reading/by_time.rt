@@ -17,7 +17,7 @@ ghost use Rattle.block_store.specs.InBox.{is_in};
 use crate::block::Block;
 use crate::changing::offer::note;
 use crate::reading::boxes::{block_behind, is_apart, is_in, lies_in, one_if};
-use crate::reading::fingerprint::read_if_in;
+use crate::reading::fingerprint::leaf_if_in;
 use crate::reading::listing::Listing;
 use crate::reading::runs::{Run, has_all_times, run_of};
 use lane_sum::Lanes;
@@ -189,8 +189,8 @@ pub(crate) fn found_at<R: Row>(
     Ok(found)
 }
 
-// The total of the row at a position where the box includes it, and else of no row.
-fn read_at<R: Row, L: Ledger>(
+// The leaf of the row at a position where the box includes it, and else the total of no row.
+fn leaf_at<R: Row, L: Ledger>(
     listing: &Listing<R>,
     area: &Box3,
     at: u32,
@@ -199,13 +199,13 @@ fn read_at<R: Row, L: Ledger>(
     ensures total { result ≡ total_by (row_bytes_at (block_values R.value listing.now.pieces.items)) (found_at area.now (block_values R.value listing.now.pieces.items) (at ∷ [])) }
     ensures steps { steps.new ≤ steps.old + 1 }
 {
-    match listing.get(at) {
-        Some(row) => read_if_in(row, area, steps),
+    match listing.told(at) {
+        Some((row, leaf)) => leaf_if_in(row, leaf, area, steps),
         None => Lanes::zero(),
     }
 }
 
-// The total of those of the positions' rows that the box includes, each read once.
+// The total of those of the positions' rows that the box includes, of which each leaf is taken once.
 pub(crate) fn total_at<R: Row, L: Ledger>(
     listing: &Listing<R>,
     area: &Box3,
@@ -217,7 +217,7 @@ pub(crate) fn total_at<R: Row, L: Ledger>(
 {
     let mut total = Lanes::zero();
     for i in 0..ats.len() {
-        let part = read_at(listing, area, ats[i], steps);
+        let part = leaf_at(listing, area, ats[i], steps);
         total = total.add(&part);
     }
     total

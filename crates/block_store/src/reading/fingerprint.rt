@@ -1,6 +1,6 @@
 //! What the rows that a box includes add up to.
 
-ghost use Rattle.std.specs.Prelude.{◌≡◌, ◌+◌, ◌<◌, ◌≤◌, [], ◌∷◌, length, IsTrue};
+ghost use Rattle.std.specs.Prelude.{◌≡◌, ◌+◌, ◌<◌, ◌≤◌, [], ◌∷◌, length, map, IsTrue};
 ghost use Rattle.lane_sum.specs.Totals.{total_by};
 ghost use Rattle.willow_entry.specs.Row.{IsRising};
 ghost use Rattle.block_store.specs.Blocks.{block_rows, block_values};
@@ -9,121 +9,78 @@ ghost use Rattle.block_store.specs.BoxRuns.{IsRunOf};
 ghost use Rattle.block_store.specs.Fingerprint.{row_bytes};
 ghost use Rattle.block_store.specs.Held.{values_of};
 ghost use Rattle.block_store.specs.InBox.{rows_in};
+ghost use Rattle.block_store.specs.Leaves.{row_leaf, summary_of};
 ghost use Rattle.block_store.specs.Starts.{values_at};
 
 use crate::block::Block;
 use crate::reading::boxes::{block_behind, is_apart, is_in, lies_in};
 use crate::reading::listing::Listing;
 use crate::reading::runs::{Run, run_of};
-use crate::reading::summary::four_leaves;
-use lane_sum::Lanes;
+use crate::reading::summary::Summary;
+use lane_sum::{Lanes, Leaf};
 use std::sync::Arc;
 use std::sync::ledger::Ledger;
 use step_count::Steps;
 use willow_area::Box3;
 use willow_entry::Row;
 
-// Reads a row: a step, and the only way to its leaf.
-fn read<R: Row, L: Ledger>(row: &R, steps: &mut Steps<L>) -> Lanes
-    ensures total { result ≡ total_by row_bytes (R.value row.now ∷ []) }
-    ensures step { steps.new ≡ steps.old + 1 }
-{
-    steps.tick();
-    Lanes::leaf(row.entry_bytes(), row.token_bytes())
-}
-
-// The total of a row where the box includes it, and else of no row.
-pub(crate) fn read_if_in<R: Row, L: Ledger>(row: &R, area: &Box3, steps: &mut Steps<L>) -> Lanes
+// The leaf of a row where the box includes it, and else the total of no row. To take a leaf is a step.
+pub(crate) fn leaf_if_in<R: Row, L: Ledger>(
+    row: &R,
+    leaf: &Leaf,
+    area: &Box3,
+    steps: &mut Steps<L>,
+) -> Lanes
+    requires { leaf.now ≡ row_leaf (R.value row.now) }
     ensures total { result ≡ total_by row_bytes (rows_in area.now (R.value row.now ∷ [])) }
     ensures steps { steps.new ≤ steps.old + 1 }
 {
     if is_in(row, area) {
-        read(row, steps)
+        steps.tick();
+        leaf.total()
     } else {
         Lanes::zero()
     }
 }
 
-// Reads four rows: four steps, and the only way to the leaves of four.
-fn read_four<R: Row, L: Ledger>(rows: &[Arc<R>; 4], steps: &mut Steps<L>) -> Lanes
-    ensures total { result ≡ total_by row_bytes (values_of R.value rows.now) }
-    ensures steps { steps.new ≡ steps.old + 4 }
-{
-    steps.tick();
-    steps.tick();
-    steps.tick();
-    steps.tick();
-    four_leaves(rows)
-}
-
-// Whether the box includes each of four rows.
-fn are_in<R: Row>(rows: &[Arc<R>; 4], area: &Box3) -> bool
-    ensures { IsTrue result → rows_in area.now (values_of R.value rows.now) ≡ values_of R.value rows.now }
-{
-    is_in(&*rows[0], area)
-        && is_in(&*rows[1], area)
-        && is_in(&*rows[2], area)
-        && is_in(&*rows[3], area)
-}
-
-// The total of those of four rows that the box includes, each read once.
-fn total_in_four<R: Row, L: Ledger>(rows: &[Arc<R>; 4], area: &Box3, steps: &mut Steps<L>) -> Lanes
-    ensures total { result ≡ total_by row_bytes (rows_in area.now (values_of R.value rows.now)) }
-    ensures steps { steps.new ≤ steps.old + length rows.now }
-{
-    if are_in(rows, area) {
-        read_four(rows, steps)
-    } else {
-        total_in_few(rows.as_slice(), area, steps)
-    }
-}
-
-// The total of the rows that the box includes, each read once, four at a time where the box includes all of them.
-fn total_in_rows<R: Row, L: Ledger>(rows: &[Arc<R>], area: &Box3, steps: &mut Steps<L>) -> Lanes
-    ensures total { result ≡ total_by row_bytes (rows_in area.now (values_of R.value rows.now)) }
-    ensures steps { steps.new ≤ steps.old + length rows.now }
-{
-    match rows.split_first_chunk::<4>() {
-        Some((four, behind)) => {
-            let front = total_in_four(four, area, steps);
-            front.add(&total_in_rows(behind, area, steps))
-        }
-        None => total_in_few(rows, area, steps),
-    }
-}
-
-// The total of the rows that the box includes, each read once, alone.
-fn total_in_few<R: Row, L: Ledger>(rows: &[Arc<R>], area: &Box3, steps: &mut Steps<L>) -> Lanes
+// The total of the rows that the box includes, of which each leaf is taken once.
+fn total_in_rows<R: Row, L: Ledger>(
+    rows: &[Arc<R>],
+    leaves: &[Leaf],
+    area: &Box3,
+    steps: &mut Steps<L>,
+) -> Lanes
+    requires { leaves.now ≡ map row_leaf (values_of R.value rows.now) }
     ensures total { result ≡ total_by row_bytes (rows_in area.now (values_of R.value rows.now)) }
     ensures steps { steps.new ≤ steps.old + length rows.now }
 {
     let mut total = Lanes::zero();
     for at in 0..rows.len() {
-        let part = read_if_in(&*rows[at], area, steps);
+        let part = leaf_if_in(&*rows[at], &leaves[at], area, steps);
         total = total.add(&part);
     }
     total
 }
 
-// The total of the rows of a block that the box includes: the block's own where it lies in the box, and else its rows
-// are read.
+// The total of the rows of a block that the box includes: the block's own where it lies in the box, and else it is made of
+// its rows' leaves.
 fn total_in_block<R: Row, L: Ledger>(
     block: &Block<R>,
-    total: &Lanes,
+    summary: &Summary,
     area: &Box3,
     steps: &mut Steps<L>,
 ) -> Lanes
     requires rising { IsRising (values_of R.value block.now.rows.items) }
-    requires own { total.now ≡ total_by row_bytes (values_of R.value block.now.rows.items) }
+    requires own { summary.now ≡ summary_of (values_of R.value block.now.rows.items) }
     ensures total { result ≡ total_by row_bytes (rows_in area.now (values_of R.value block.now.rows.items)) }
     ensures steps { steps.new ≤ steps.old + length block.now.rows.items }
 {
     if is_apart(block, area) {
         Lanes::zero()
     } else if lies_in(block, area) {
-        *total
+        *summary.total()
     } else {
-        total_in_rows(&block.rows, area, steps)
+        total_in_rows(&block.rows, summary.leaves(), area, steps)
     }
 }
 
@@ -135,8 +92,8 @@ fn is_between(run: &Run, block: usize) -> bool
     run.exact && run.from.block < block && block < run.to.block
 }
 
-// The total of the rows of the block of that number that the box includes. No row is read of those between the ends of
-// an exact run.
+// The total of the rows of the block of that number that the box includes. No leaf is taken of those between the ends
+// of an exact run.
 fn total_at<R: Row, L: Ledger>(
     listing: &Listing<R>,
     area: &Box3,
@@ -152,9 +109,9 @@ fn total_at<R: Row, L: Ledger>(
     ensures none { IsTrue run.now.exact → run.now.from.block < i → i < run.now.to.block → steps.new ≡ steps.old }
 {
     if is_between(run, i) {
-        *listing.total(i)
+        *listing.summary(i).total()
     } else {
-        total_in_block(listing.block(i), listing.total(i), area, steps)
+        total_in_block(listing.block(i), listing.summary(i), area, steps)
     }
 }
 

@@ -1,33 +1,33 @@
-//! Blocks with where they start and what they add up to.
+//! Blocks with where they start, what they add up to, and the leaves of their rows.
 
-ghost use Rattle.std.specs.Prelude.{◌≡◌, ◌+◌, ◌^◌, ◌<◌, ◌≤◌, length, take, Some, slice_get, MatchOption, IfOk, vec_len};
-ghost use Rattle.lane_sum.specs.Totals.{total_by};
+ghost use Rattle.std.specs.Prelude.{◌≡◌, ◌+◌, ◌^◌, ◌<◌, ◌≤◌, length, map, take, Some, slice_get, MatchOption, IfOk, IfSome, vec_len};
 ghost use Rattle.willow_entry.specs.Row.{AreLive, IsRising};
 ghost use Rattle.block_store.specs.Blocks.{block_rows, block_values, index_of, IsSpot};
-ghost use Rattle.block_store.specs.Fingerprint.{row_bytes};
 ghost use Rattle.block_store.specs.Held.{rows_of, values_of};
+ghost use Rattle.block_store.specs.Leaves.{row_leaf, summary_of};
 ghost use Rattle.block_store.specs.Starts.{AreStarts, values_at};
-ghost use Rattle.block_store.specs.Totals.{totals_of};
+ghost use Rattle.block_store.specs.Summaries.{summaries_of};
 
 use crate::block::{Block, Piece};
 use crate::looking::spot::Spot;
-use lane_sum::Lanes;
+use crate::reading::summary::Summary;
+use lane_sum::Leaf;
 use std::alloc::Global;
 use std::sync::Arc;
 use willow_entry::Row;
 use willow_path::NoMemory;
 
 // Live rows in blocks, with the position of each block's first row and behind these the number of all rows, and with
-// the total of each block.
+// the summary of each block.
 #[derive(Drop)]
 pub(crate) struct Listing<R: Row> {
     pub(crate) pieces: Vec<Piece<R>>,
     pub(crate) starts: Vec<u32>,
-    pub(crate) totals: Vec<Lanes>,
+    pub(crate) summaries: Vec<Summary>,
     ghost live: { AreLive (block_values R.value pieces.items) },
     ghost few: { length (block_rows pieces.items) < 2 ^ 32 },
     ghost placed: { AreStarts starts.items pieces.items },
-    ghost summed: { totals.items ≡ totals_of R.value pieces.items },
+    ghost summed: { summaries.items ≡ summaries_of R.value pieces.items },
 }
 
 // For each block the position of its first row, and behind these the number of all rows.
@@ -45,15 +45,15 @@ fn starts_of<R: Row>(alloc: Global, pieces: &[Piece<R>]) -> Result<Vec<u32>, NoM
     Ok(starts)
 }
 
-// The total of each block.
-fn totals_of<R: Row>(alloc: Global, pieces: &[Piece<R>]) -> Result<Vec<Lanes>, NoMemory>
-    ensures { IfOk result (λ totals. totals.items ≡ totals_of R.value pieces.now) }
+// The summary of each block.
+fn summaries_of<R: Row>(alloc: Global, pieces: &[Piece<R>]) -> Result<Vec<Summary>, NoMemory>
+    ensures { IfOk result (λ summaries. summaries.items ≡ summaries_of R.value pieces.now) }
 {
-    let mut totals = Vec::with_capacity(alloc, pieces.len())?;
+    let mut summaries = Vec::with_capacity(alloc, pieces.len())?;
     for i in 0..pieces.len() {
-        totals.push(pieces[i].block.total())?;
+        summaries.push(pieces[i].block.summary()?)?;
     }
-    Ok(totals)
+    Ok(summaries)
 }
 
 // The same blocks, shared once more.
@@ -72,7 +72,7 @@ fn share<R: Row>(alloc: Global, pieces: &[Piece<R>]) -> Result<Vec<Piece<R>>, No
     Ok(copy)
 }
 
-// The listing of the blocks, which share their rows. A total is made where no listing made it before.
+// The listing of the blocks, which share their rows. A summary is made where no listing made it before.
 pub(crate) fn listing_of<R: Row>(alloc: Global, pieces: &[Piece<R>]) -> Result<Listing<R>, NoMemory>
     requires live { AreLive (block_values R.value pieces.now) }
     requires few { length (block_rows pieces.now) < 2 ^ 32 }
@@ -80,11 +80,11 @@ pub(crate) fn listing_of<R: Row>(alloc: Global, pieces: &[Piece<R>]) -> Result<L
 {
     let pieces = share(alloc, pieces)?;
     let starts = starts_of(alloc, &pieces)?;
-    let totals = totals_of(alloc, &pieces)?;
+    let summaries = summaries_of(alloc, &pieces)?;
     Ok(Listing {
         pieces,
         starts,
-        totals,
+        summaries,
     })
 }
 
@@ -93,6 +93,16 @@ fn held_at<R: Row>(rows: &[Arc<R>], at: u32) -> Option<&Arc<R>>
     ensures { MatchOption result (length rows.now ≤ at) (λ held. slice_get (rows_of rows.now) at ≡ Some held.now.value) }
 {
     rows.get(at as usize)
+}
+
+// The same row with its leaf.
+fn told_at<'a, R: Row>(rows: &'a [Arc<R>], leaves: &'a [Leaf], at: u32) -> Option<(&'a R, &'a Leaf)>
+    requires { leaves.now ≡ map row_leaf (values_of R.value rows.now) }
+    ensures row { MatchOption result (length rows.now ≤ at) (λ found. slice_get (rows_of rows.now) at ≡ Some found.0.now) }
+    ensures leaf { IfSome result (λ found. found.1.now ≡ row_leaf (R.value found.0.now)) }
+{
+    let held = held_at(rows, at)?;
+    Some((&**held, &leaves[at as usize]))
 }
 
 impl<R: Row> Listing<R> {
@@ -157,12 +167,23 @@ impl<R: Row> Listing<R> {
         self.starts[i]
     }
 
-    // The total of the block of that number.
-    pub(crate) fn total(&self, i: usize) -> &Lanes
-        requires { i < length self.now.pieces.items }
-        ensures { result.now ≡ total_by row_bytes (values_at R.value self.now.pieces.items i) }
+    // The row at this position with its leaf; None exactly from the number of rows on.
+    pub(crate) fn told(&self, at: u32) -> Option<(&R, &Leaf)>
+        ensures row { MatchOption result (length (block_rows self.now.pieces.items) ≤ at) (λ found. slice_get (block_rows self.now.pieces.items) at ≡ Some found.0.now) }
+        ensures leaf { IfSome result (λ found. found.1.now ≡ row_leaf (R.value found.0.now)) }
     {
-        &self.totals[i]
+        let block = self.block_at(at);
+        let piece = self.pieces.get(block)?;
+        let leaves = self.summaries[block].leaves();
+        told_at(&piece.block.rows, leaves, at - self.starts[block])
+    }
+
+    // The summary of the block of that number.
+    pub(crate) fn summary(&self, i: usize) -> &Summary
+        requires { i < length self.now.pieces.items }
+        ensures { result.now ≡ summary_of (values_at R.value self.now.pieces.items i) }
+    {
+        &self.summaries[i]
     }
 
     // The last block that starts at most at this position, or the number of blocks from the number of rows on.

@@ -108,8 +108,8 @@ impl<R: Row> Snapshot<R> {
 
     /// The fingerprint of the rows that the box includes: the SHA-256 digest of their number and of the four sums
     /// of their leaves' words, each modulo 2^64 and in eight bytes, high byte first. A row's leaf is the SHA-256
-    /// digest of its entry's spelling and its token. To read a row for this is a step. For a box of all times that has
-    /// one subspace or all paths, and rows of one namespace, at most 128 are taken.
+    /// digest of its entry's spelling and its token. Leaves are made with the snapshot, and here to take one is a step. For
+    /// a box of all times that has one subspace or all paths, and rows of one namespace, at most 128 are taken.
     pub fn fingerprint<L: Ledger>(&self, area: &Box3, steps: &mut Steps<L>) -> [u8; 32]
         ensures fingerprint { result ≡ fingerprint_of (rows_in area.now (map R.value self.now)) }
         ensures steps { steps.new ≤ steps.old + length self.now }

@@ -82,7 +82,7 @@ impl TimeOrder {
     }
 
     /// The fingerprint of the rows of its snapshot that the box includes, in the form of the snapshot's own call, and
-    /// within its bounds. To read a row for this is a step.
+    /// within its bounds. To take a leaf for this is a step.
     pub fn fingerprint<R: Row, L: Ledger>(
         &self,
         snapshot: &Snapshot<R>,

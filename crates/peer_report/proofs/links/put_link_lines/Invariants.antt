@@ -1,6 +1,6 @@
 use Rattle.std.proofs.Common.{◌≡◌, ◌++◌, take}
-use Rattle.peer_report.specs.Report.{link_lines}
+use Rattle.peer_report.specs.Report.{link_line, numbered}
 use Rattle.peer_report.proofs.links.put_link_lines.Given as goal
 
 abbrev pub invariant-loop-index : goal.invariant-loop-index
-invariant-loop-index l = l.text.items ≡ l.initial.text.items ++ link_lines 1 (take l.index l.sessions)
+invariant-loop-index l = l.text.items ≡ l.initial.text.items ++ numbered (link_line l.awaited) 1 (take l.index l.sessions)

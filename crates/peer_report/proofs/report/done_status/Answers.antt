@@ -1,5 +1,4 @@
-use Rattle.peer_stage.specs.declared.outcome.Done.TheVariants as done
-use Rattle.peer_report.proofs.Statuses.{joined_status, shown_status, met_status, watched_status, same_status, stopped_status, made_status}
+use Rattle.peer_report.proofs.Statuses.{joined_status, shown_status, met_status, watched_status, hosted_told, stopped_status, made_status}
 use Rattle.peer_report.proofs.report.done_status.Goals as goal
 
 pub returns-in-Joined : goal.returns-in-Joined
@@ -14,11 +13,8 @@ returns-in-Met c = met_status c.args.done.now c.in-Met.counts c.first_status.res
 pub returns-in-Made : goal.returns-in-Made
 returns-in-Made c = made_status c.args.done.now c.in-Made.is
 
-pub returns-in-Synced : goal.returns-in-Synced
-returns-in-Synced c = same_status c.args.done.now (done.Synced c.in-Synced.synced) c.synced_status.result c.in-Synced.is c.synced_status.ensures
-
-pub returns-in-Served : goal.returns-in-Served
-returns-in-Served c = same_status c.args.done.now (done.Served c.in-Served.served) c.served_status.result c.in-Served.is c.served_status.ensures
+pub returns-in-Hosted : goal.returns-in-Hosted
+returns-in-Hosted c = hosted_told c.args.done.now c.in-Hosted.hosted c.hosted_status.result c.in-Hosted.is c.hosted_status.ensures
 
 pub returns-in-Watched : goal.returns-in-Watched
 returns-in-Watched c = watched_status c.args.done.now c.in-Watched.counts c.first_status-in-Watched.result c.in-Watched.is c.first_status-in-Watched.ensures

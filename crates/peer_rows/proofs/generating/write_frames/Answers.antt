@@ -1,9 +1,8 @@
-use Rattle.std.proofs.Common.{◌≡◌, ◌≤◌, ℕ, List, ◌++◌, subst, sym, ap, ◌∙◌, arith}
+use Rattle.std.proofs.Common.{◌≤◌, ℕ, List, ◌++◌, subst, sym, ap, arith}
 use Rattle.std.proofs.lemmas.Result.{err_from_is_err_and}
 use Rattle.peer_listing.specs.Ranges.{frames_between}
 use Rattle.peer_listing.proofs.Ranges.{frames_join}
-use Rattle.peer_rows.specs.Generate.{generated_frames}
-use Rattle.peer_rows.proofs.Generated.{all_left, none_left, some_left}
+use Rattle.peer_rows.proofs.Generated.{none_left, some_left}
 use Rattle.peer_rows.proofs.Writing.{nothing_written, piece_grows, piece_written, writing_unpaid, writing_stops, writing_ends}
 use Rattle.peer_rows.specs.Writing.{IsWritingOut}
 use Rattle.peer_rows.proofs.generating.write_frames.Goals as goal
@@ -12,22 +11,22 @@ use Rattle.peer_rows.proofs.generating.write_frames.Goals.{then-len-ge-PIECE+in_
 pub rows-init : goal.rows-init
 rows-init g c =
     record {
-      within = omega arith;
+      within = c.requires.order;
       writing =
-          nothing_written (g.O.Sink.facts c.args.output.now) (generated_frames c.args.rows) c.new-piece.result.items (frames_between 0 c.args.rows)
-          (all_left c.args.rows ∙ ap (λ (l : List ℕ). l ++ frames_between 0 c.args.rows) (sym c.new-piece.ensures.items));
+          nothing_written (g.O.Sink.facts c.args.output.now) (frames_between c.args.from c.args.rows) c.new-piece.result.items (frames_between c.args.from c.args.rows)
+          (ap (λ (l : List ℕ). l ++ frames_between c.args.from c.args.rows) (sym c.new-piece.ensures.items));
     }
 
 pub returns-in_err-write_output-clause-writes : goal.returns-in_err-write_output-clause-writes
 returns-in_err-write_output-clause-writes g c =
     let p = err_from_is_err_and c.from_residual.result c.from_residual.ensures.1 in
-    rw (p.1, p.2) (writing_stops (g.O.Sink.facts c.args.output.now) (g.O.Sink.facts c.rows.output) (generated_frames c.args.rows) c.rows.piece.items (g.O.Sink.facts c.write_output.new.output) c.deref.result.now (frames_between c.rows.made c.args.rows)
+    rw (p.1, p.2) (writing_stops (g.O.Sink.facts c.args.output.now) (g.O.Sink.facts c.rows.output) (frames_between c.args.from c.args.rows) c.rows.piece.items (g.O.Sink.facts c.write_output.new.output) c.deref.result.now (frames_between c.rows.made c.args.rows)
     c.in_err-write_output.field-0.0 c.rows.invariant.writing c.deref.ensures.value c.in_err-write_output.ensures.writes)
 
 pub rows-preserved : goal.rows-preserved
 rows-preserved g c =
     let o = g.O.Sink.facts c.args.output.now in
-    let whole = generated_frames c.args.rows in
+    let whole = frames_between c.args.from c.args.rows in
     let made = c.rows.made in
     let to = c.min-to.result in
     let up : made ≤ to = omega (arith, c.min-to.ensures, c.rows-test.true) in
@@ -50,7 +49,7 @@ pub returns-in_err-put_frames-clause-writes : goal.returns-in_err-put_frames-cla
 returns-in_err-put_frames-clause-writes g c =
     let p = err_from_is_err_and c.from_residual-in_err-put_frames.result c.from_residual-in_err-put_frames.ensures.1 in
     let o = g.O.Sink.facts c.args.output.now in
-    let whole = generated_frames c.args.rows in
+    let whole = frames_between c.args.from c.args.rows in
     let rest = frames_between c.rows.made c.args.rows in
     let here : IsWritingOut o (g.O.Sink.facts c.if-len-ge-PIECE.output) whole c.if-len-ge-PIECE.piece.items rest =
     elim c.if-len-ge-PIECE.branch [
@@ -63,7 +62,7 @@ pub returns-clause-writes : goal.returns-clause-writes
 returns-clause-writes g c =
     let o = g.O.Sink.facts c.args.output.now in
     let o' = g.O.Sink.facts c.rows.output in
-    let whole = generated_frames c.args.rows in
+    let whole = frames_between c.args.from c.args.rows in
     writing_ends o o' whole c.rows.piece.items (g.O.Sink.facts c.write_output-2.new.output) c.deref-2.result.now c.write_output-2.result
     (subst (λ (l : List ℕ). IsWritingOut o o' whole c.rows.piece.items l) (none_left c.rows.made c.args.rows (omega (arith, c.rows-test.false))) c.rows.invariant.writing)
     c.deref-2.ensures.value c.write_output-2.ensures.writes

@@ -5,7 +5,7 @@ use Rattle.sync_hello.proofs.Meaning.{passes_means}
 use Rattle.sync_link.specs.Plans.{own_hello}
 use Rattle.sync_link.specs.UnderWay.{Start}
 use Rattle.sync_link.proofs.Begun.{no_snapshot}
-use Rattle.sync_link.proofs.TakenRows.{later_self}
+use Rattle.sync_link.proofs.Offered.{later_self}
 use Rattle.peer_run.proofs.calling.talk.Goals as goal
 
 -- where there is no memory for the checker, nothing was begun

@@ -18,6 +18,6 @@ loop-i-preserved g c =
     let here = found_at area rows (get_or ats i 0 ∷ []) in
     let more : found_at area rows (take (i + 1) ats) ≡ before ++ here = filter_more (passes_at (is_in area) rows) ats i 0 (omega arith) in
     record {
-      added = c.add-total.ensures.sum ∙ ap₂ sum_of c.loop-i.invariant.added c.read_at-part.ensures.total ∙ total_joined (row_bytes_at rows) before here ∙ ap (total_by (row_bytes_at rows)) (sym more);
-      few = omega (arith, c.loop-i.invariant.few, c.read_at-part.ensures.steps);
+      added = c.add-total.ensures.sum ∙ ap₂ sum_of c.loop-i.invariant.added c.leaf_at-part.ensures.total ∙ total_joined (row_bytes_at rows) before here ∙ ap (total_by (row_bytes_at rows)) (sym more);
+      few = omega (arith, c.loop-i.invariant.few, c.leaf_at-part.ensures.steps);
     }

@@ -1,7 +1,7 @@
 use Rattle.std.proofs.Common.{map, length, sym, ap, ◌∙◌, subst, arith}
 use Rattle.willow_entry.specs.Row.{AreLive}
 use Rattle.block_store.specs.Starts.{AreStarts}
-use Rattle.block_store.specs.Totals.{totals_of}
+use Rattle.block_store.specs.Summaries.{summaries_of}
 use Rattle.block_store.proofs.Pieces.{values_seen}
 use Rattle.block_store.proofs.reading.listing.listing_of.Goals as goal
 
@@ -14,5 +14,5 @@ invariant_of-result g c =
       live = subst AreLive values c.requires.live;
       few = omega (arith, ap length c.in_ok-pieces.ensures, c.requires.few);
       placed = subst (AreStarts c.in_ok-starts.starts.items) c.deref.ensures.value c.in_ok-starts.ensures;
-      summed = c.in_ok-totals.ensures ∙ ap (totals_of value) c.deref-2.ensures.value;
+      summed = c.in_ok-summaries.ensures ∙ ap (summaries_of value) c.deref-2.ensures.value;
     }

@@ -1,0 +1,5 @@
+use Rattle.std.proofs.Common.{length}
+use Rattle.block_store.proofs.reading.summary.+add_leaves.Given as goal
+
+abbrev pub decreases-add_leaves : goal.decreases-add_leaves
+decreases-add_leaves g l = length l.rows.now

@@ -1,0 +1,4 @@
+pub mod Elements
+pub mod Told
+pub mod Parts
+pub mod Visits

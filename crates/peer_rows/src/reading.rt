@@ -1,0 +1,91 @@
+//! The reading of an input of row frames: the next piece of it, and its end.
+
+ghost use Rattle.std.specs.Prelude.{◌≡◌, ℕ, ◌<◌, ◌≤◌, List, length, IfOk, IsTrue, OnOk};
+ghost use Rattle.willow_outside.specs.Facts.{SourceFacts};
+ghost use Rattle.cap_codec.specs.Rows.{RawValue};
+ghost use Rattle.row_stream.specs.Feeding.{nothing_fed};
+ghost use Rattle.peer_stage.specs.Faults.{CountsStep};
+ghost use Rattle.peer_stage.specs.Stages.{IsReadSomewhat};
+
+use crate::intake::Intake;
+use crate::joining::{end_stream, take_piece};
+use auth_entry::Checker;
+use cap_codec::RawRows;
+use lms_core::PeerScheme;
+use peer_stage::{INPUT_LIMIT, Stop};
+use row_stream::RowStream;
+use spelling::NoMemory;
+use std::alloc::Global;
+use std::thread::Threads;
+use willow_outside::{Fault, Source};
+
+/// How many bytes are asked for in one read.
+const PIECE: usize = 65_536;
+
+/// An input that is read: the stream of its rows, room for one read, and how many bytes may be taken yet.
+#[derive(Drop)]
+pub(crate) struct Reading {
+    pub(crate) stream: RowStream<RawRows>,
+    pub(crate) piece: Vec<u8>,
+    pub(crate) left: u64,
+}
+
+impl Reading {
+    ghost use Rattle.peer_rows.specs.Reading.{HasRead, IsLonger, ReadsOn};
+
+    /// Nothing is read yet.
+    pub(crate) fn begin(alloc: Global) -> Result<Reading, NoMemory>
+        ensures stream { IfOk result (λ reading. reading.stream ≡ nothing_fed) }
+        ensures room { IfOk result (λ reading. 0 < length reading.piece.items) }
+        ensures all { IfOk result (λ reading. reading.left ≡ INPUT_LIMIT) }
+    {
+        Ok(Reading {
+            stream: RowStream::new(alloc),
+            piece: vec![in alloc; 0u8; PIECE]?,
+            left: INPUT_LIMIT,
+        })
+    }
+
+    /// Reads once more, and takes in what came; where the input ended the rows that wait are judged. Answers whether a piece
+    /// came. What is wrong stops the reading.
+    pub(crate) fn next<C: Checker<PeerScheme>, R: Threads + Sync, I: Source>(
+        &mut self,
+        rt: &R,
+        alloc: Global,
+        checker: &mut C,
+        intake: &mut Intake,
+        input: &mut I,
+    ) -> Result<bool, Stop>
+        requires namespace { C.judged_in checker.old ≡ intake.old.log.kept.namespace }
+        requires read { (n : List ℕ) × (had : List RawValue) × (begun : SourceFacts) × HasRead n had begun (I.facts input.old) self.old intake.old }
+        ensures namespace { C.judged_in checker.new ≡ C.judged_in checker.old }
+        ensures reads { (n : List ℕ) (had : List RawValue) (begun : SourceFacts) → HasRead n had begun (I.facts input.old) self.old intake.old
+            → ReadsOn n had begun (I.facts input.new) self.new intake.new result }
+        ensures somewhat { IsReadSomewhat (I.facts input.old) (I.facts input.new) }
+        ensures longer { OnOk result (IsLonger intake.old.log intake.new.log) }
+        ensures fewer { IfOk result (λ came. IsTrue came → self.new.left < self.old.left) }
+        ensures faults { CountsStep (I.facts input.old).faults (I.facts input.new).faults result }
+        ensures ends { (I.facts input.old).ends ≤ (I.facts input.new).ends }
+    {
+        // Behind the last byte that may be taken one more tells that the input goes on.
+        self.piece.truncate(self.left.max(1) as usize);
+        match input.read(&mut self.piece) {
+            Ok(0) => {
+                end_stream(&self.stream)?;
+                intake.judge(rt, alloc, checker)?;
+                Ok(false)
+            }
+            Ok(n) => {
+                if self.left == 0 {
+                    return Err(Stop::bad_input(INPUT_LIMIT));
+                }
+                self.left -= n as u64;
+                let given = &self.piece[..n];
+                take_piece(rt, alloc, checker, &mut self.stream, intake, given)?;
+                Ok(true)
+            }
+            Err(Fault::Failed) => Err(Stop::ReadFault),
+            Err(Fault::NoMemory) => Err(Stop::NoMemory),
+        }
+    }
+}
