@@ -12,12 +12,14 @@ pub mod Preparing
 pub mod Closing
 pub mod SideGiven
 pub mod Calling
+pub mod Hearing
 pub mod Visiting
 pub mod Telling
 pub mod Hosting
 pub mod Answered
 pub mod HostDeed
 pub mod Hall
+pub mod Accepting
 pub mod Deeds
 pub mod Run
 pub mod Locals
@@ -27,3 +29,7 @@ pub mod WatchHeadline
 pub mod Ending
 pub mod HostHeadline
 pub mod Promises
+pub mod Following
+pub mod Feeding
+pub mod MetPasses
+pub mod Tails
