@@ -7,11 +7,7 @@ pub mod Offered
 pub mod Waiting
 pub mod RawStreams
 pub mod Pieces
-pub mod Coming
 pub mod ReadLog
-pub mod Held
-pub mod Gathered
-pub mod UnderWay
 pub mod Writing
 pub mod Framed
 pub mod Joined

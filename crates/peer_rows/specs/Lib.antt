@@ -5,10 +5,6 @@ pub mod Parts
 pub mod Drilled
 pub mod Stored
 pub mod Join
-pub mod Coming
-pub mod Keeping
-pub mod Gathering
-pub mod Joining
 pub mod Reading
 pub mod Show
 pub mod Opened

@@ -5,14 +5,11 @@
 #![tactic(auto)]
 
 mod drilled;
-mod feeding;
-mod gathering;
 mod generating;
 mod images;
 mod imaging;
 mod intake;
 mod joining;
-mod keeping;
 mod listing;
 mod log;
 mod offering;

@@ -1,6 +1,6 @@
 -- The visits of a server's guests, as the sessions of all links over one log.
 use Rattle.std.proofs.Common.{◌≡◌, ℕ, zero, suc, ◌+◌, ◌≤◌, Bool, true, false, List, [], ◌∷◌, ◌++◌, length, map, inl, inr, refl, sym, ap, ap₂, ◌∙◌, subst, arith}
-use Rattle.std.specs.Prelude.{Result, Ok, Err, IfOk, IfErr, Option, Some, None}
+use Rattle.std.specs.Prelude.{Result, Ok, Err, Option, Some, None}
 use Rattle.std.specs.List.{AllByRecursion}
 use Rattle.std.proofs.lemmas.List.Elements.{recursion_from_All}
 use mathlib.Core.List.{IsPrefix}
@@ -10,20 +10,17 @@ use Rattle.willow_outside.specs.Facts.{LinkFacts, DoorFacts}
 use Rattle.willow_outside.specs.declared.fault.Fault.{Fault}
 use Rattle.willow_outside.specs.declared.fault.Fault.TheVariants as fault
 use Rattle.link_host.specs.Visits as hosts
-use Rattle.link_host.specs.Hosted.{accepts_made, counted_on, list_with_all}
+use Rattle.link_host.specs.Hosted.{IsHosted, CountsStop, accepts_made, counted_on, list_with_all}
 use Rattle.link_host.specs.declared.hosting.Hosted.{Hosted}
 use Rattle.willow_entry.specs.declared.row.LogRow.{LogRow}
 use Rattle.auth_entry.specs.Authorised.{AuthorisedValue}
 use Rattle.log_rule.specs.Views.{rows_of_pass, AreOf}
 use Rattle.log_rule.proofs.Books.{rows_of_pass-other}
-use Rattle.log_rule.proofs.Prefixes.{prefix_trans}
-use Rattle.sub_hub.specs.Hubs.{HubValue, IsPumped}
 use Rattle.lms_core.specs.Use.{peer_rules}
 use Rattle.lms_core.specs.declared.scheme.PeerScheme.{PeerScheme}
 use Rattle.ns_state.specs.Log.{StateValue, IsLog}
 use Rattle.ns_cell.specs.Closed.{IsClosed}
-use Rattle.ns_cell.specs.Passes.{CellValue, PassValue, new_pass, new_passes}
-use Rattle.willow_area.specs.declared.area.Area.{Area}
+use Rattle.ns_cell.specs.Passes.{PassValue, new_pass, new_passes}
 use Rattle.auth_entry.specs.Rows.{entry_row}
 use Rattle.sync_link.specs.Plans.{planned}
 use Rattle.sync_link.specs.Run.{Answer, Runs}
@@ -34,16 +31,14 @@ use Rattle.peer_make.specs.KeySigners.{gives_of}
 use Rattle.peer_make.specs.declared.key_signer.KeySigner.{KeySigner}
 use Rattle.peer_stage.specs.declared.outcome.Stop.{Stop}
 use Rattle.peer_stage.specs.declared.outcome.Stop.TheVariants as stop
-use Rattle.peer_run.specs.Accepting.{AreReceived, CountsComing, HasOnlyRead}
 use Rattle.peer_run.specs.Hall.{DoesVisit, HasLeft, IsAccepted, Leaves, Listens}
-use Rattle.peer_run.specs.Hearing.{HaveHeardSeen, hub_opened, rows_behind}
 use Rattle.peer_run.specs.Preparing.{nonce_of}
-use Rattle.peer_run.specs.Visiting.{Way, Visit, IsVisit, IsShared, Accepts, AreAttended, AreBack, Attends}
+use Rattle.peer_run.specs.Visiting.{Way, Visit, IsVisit, IsShared, Accepts, AreAttended, Attends, StopsAttending}
 use Rattle.peer_run.specs.declared.hosting.Attended.{Attended}
-use Rattle.peer_run.specs.declared.hall.Guest.{Guest}
-use Rattle.peer_run.specs.declared.hall.Hall.{Hall}
-use Rattle.peer_run.specs.declared.hall.Parting.{Parting}
-use Rattle.peer_run.proofs.HeardBehind.{server_heard, server_stops}
+use Rattle.peer_run.specs.declared.hosting.Guest.{Guest}
+use Rattle.peer_run.specs.declared.hosting.Hall.{Hall}
+use Rattle.peer_run.specs.declared.hosting.Parting.{Parting}
+use Rattle.peer_run.proofs.HostRules.{none_more}
 use Rattle.peer_run.proofs.SharedLog.{heads, tails, never_empty, IsLowOrEmpty, low_numbers, later_own, none_own}
 
 -- ---- the parts of guests, partings and visits
@@ -154,42 +149,23 @@ module _ (hall : Hall) (opening log : Log) where
 
   -- ---- the log
 
-  is_shared : AreOf 0 opening → (first own : PassValue AuthorisedValue) → HasOnlyRead first own → (count : ℕ) (visits : List Hosting) (unused : List Guest) → first ≡ new_pass hall.cell opening 0 → AreNew visits unused 1 count → AllByRecursion IsOne visits
+  is_shared : AreOf 0 opening → (own : PassValue AuthorisedValue) (count : ℕ) (visits : List Hosting) (unused : List Guest) → own ≡ new_pass hall.cell opening 0 → AreNew visits unused 1 count → AllByRecursion IsOne visits
       → IsClosed (own ∷ (handed_on (partings_of visits) ++ passes_of unused)) log → IsShared true opening log (length visits)
-  is_shared of_first first own read count visits unused new passes each closed =
+  is_shared of_first own count visits unused first passes each closed =
       let all = own ∷ (handed_on (partings_of visits) ++ passes_of unused) in
       let front : IsPrefix own.seen log = (recursion_from_All IsFront all closed.prefixes).0 in
       let rows : rows_of_pass own.number log ≡ own.own = (recursion_from_All HasOwn all closed.own).0 in
       let low = low_behind 1 count (length visits) visits unused (omega arith) passes each in
       let empty = empty_passes (length visits) (passes_of unused) (unused_empty 1 count visits unused (omega arith) passes) in
-      let number : own.number ≡ 0 = read.later.number ∙ ap (λ (p : PassValue AuthorisedValue). p.number) new in
+      let number : own.number ≡ 0 = ap (λ (p : PassValue AuthorisedValue). p.number) first in
       record {
-        front = subst (λ (l : Log). IsPrefix l log) (ap (λ (p : PassValue AuthorisedValue). p.seen) new) (prefix_trans first.seen own.seen log read.later.seen front);
+        front = subst (λ (l : Log). IsPrefix l log) (ap (λ (p : PassValue AuthorisedValue). p.seen) first) front;
         of_first = of_first;
-        opening_own = λ awaited. ap (λ (n : ℕ). rows_of_pass n log) (sym number) ∙ (rows ∙ (read.own ∙ ap (λ (p : PassValue AuthorisedValue). p.own) new));
+        opening_own = λ awaited. ap (λ (n : ℕ). rows_of_pass n log) (sym number) ∙ (rows ∙ ap (λ (p : PassValue AuthorisedValue). p.own) first);
         numbered = λ k d within.
             let few = low_numbers all log (length visits) closed (inl (omega arith), All-append (IsLowOrEmpty (length visits)) (handed_on (partings_of visits)) (passes_of unused) low empty) k d within in
             omega (arith, few);
       }
-
--- the own pass, as it is made
-pub own_first : (cell : CellValue) (log : Log) (first : PassValue AuthorisedValue) (guests : List Guest) (count : ℕ) → first ∷ passes_of guests ≡ new_passes cell log 0 count → first ≡ new_pass cell log 0
-own_first cell log first guests zero passes = absurd (never_empty first (passes_of guests) passes)
-own_first cell log first guests (suc count) passes = heads first (new_pass cell log 0) (passes_of guests) (new_passes cell log 1 count) passes
-
--- ---- where nobody came
-
--- no memory was found before the place was asked for
-pub unasked : (place : List ℕ) (area : Area) (p : List ℕ → List ℕ → Party) (signers : List KeySigner) (draws : List (List ℕ)) (state : StateValue AuthorisedValue) (d : DoorFacts) (u : HubValue)
-    → Attends (record { awaited = true; place = place }) area p signers draws state d d u u (Err stop.NoMemory)
-unasked place area p signers draws state d u = ((inl (record { asked = refl; out = refl; back = refl }), refl), inl refl)
-
--- the place could not be listened at
-pub unheard : (place : List ℕ) (area : Area) (p : List ℕ → List ℕ → Party) (signers : List KeySigner) (draws : List (List ℕ)) (state : StateValue AuthorisedValue) (d d' : DoorFacts) (u : HubValue) (e : Stop) → Listens place d d' (Err e)
-    → Attends (record { awaited = true; place = place }) area p signers draws state d d' u u (Err e)
-unheard place area p signers draws state d d' u stop.ReadFault listens = (listens, refl)
-unheard place area p signers draws state d d' u stop.NoMemory listens = ((inl listens.0, listens.1), inl refl)
-unheard place area p signers draws state d d' u e listens = absurd listens
 
 -- ---- what is told of them
 
@@ -211,20 +187,25 @@ as_many_jobs [] (g ∷ gs) = omega (arith, as_many_jobs [] gs)
 as_many_jobs (v ∷ vs) unused = omega (arith, as_many_jobs vs unused)
 
 accepts_so : (old listened new : DoorFacts) (links came : ℕ) (unused : List Guest) (stopped : Option Fault) (all_came : Bool) → links ≡ came + length unused → listened.faults ≡ old.faults → listened.accepts ≡ old.accepts
-    → CountsComing listened new came unused stopped → IsAccepted stopped all_came → Accepts true links came all_came old new
-accepts_so old listened new links came unused None true all same none_yet counted is = (omega (arith, all, ap length counted.0.0), counted.0.1 ∙ same, counted.1 ∙ ap (counted_on came) none_yet)
-accepts_so old listened new links came unused (Some fault.Failed) false all same none_yet counted is = (omega (arith, all, counted.0.0), subst (λ (n : ℕ). HasRisen n new.faults) same counted.0.1, counted.1 ∙ ap (counted_on (came + 1)) none_yet)
-accepts_so old listened new links came unused None false all same none_yet counted is = absurd is
-accepts_so old listened new links came unused (Some fault.Failed) true all same none_yet counted is = absurd is
-accepts_so old listened new links came unused (Some fault.NoMemory) all_came all same none_yet counted is = absurd is
+    → CountsStop listened.faults new.faults unused stopped → new.accepts ≡ counted_on (accepts_made came stopped) listened.accepts → IsAccepted stopped all_came → Accepts true links came all_came old new
+accepts_so old listened new links came unused None true all same none_yet stops made is = (omega (arith, all, ap length stops.0), stops.1 ∙ same, made ∙ ap (counted_on came) none_yet)
+accepts_so old listened new links came unused (Some fault.Failed) false all same none_yet stops made is = (omega (arith, all, stops.0), subst (λ (n : ℕ). HasRisen n new.faults) same stops.1, made ∙ ap (counted_on (came + 1)) none_yet)
+accepts_so old listened new links came unused None false all same none_yet stops made is = absurd is
+accepts_so old listened new links came unused (Some fault.Failed) true all same none_yet stops made is = absurd is
+accepts_so old listened new links came unused (Some fault.NoMemory) all_came all same none_yet stops made is = absurd is
 
--- want of memory counts no fault
-wants_memory : (old new : DoorFacts) (came : ℕ) (unused : List Guest) (stopped : Option Fault) → stopped ≡ Some fault.NoMemory → CountsComing old new came unused stopped → new.faults ≡ old.faults
-wants_memory old new came unused stopped wants counted = subst (CountsComing old new came unused) wants counted
+-- an accept that tells want of memory counts no fault
+wants_memory : (before now : ℕ) (unused : List Guest) (stopped : Option Fault) → stopped ≡ Some fault.NoMemory → CountsStop before now unused stopped → now ≡ before
+wants_memory before now unused stopped wants stops = (subst (CountsStop before now unused) wants stops).1
+
+-- where no link was accepted behind a place that was listened at, for want of memory
+pub unvisited : (place : List ℕ) (old listened new : DoorFacts) → Listens place old listened (Ok tt) → new ≡ listened → StopsAttending (record { awaited = true; place = place }) old new stop.NoMemory
+unvisited place old listened new heard same =
+    subst (λ (d : DoorFacts). StopsAttending (record { awaited = true; place = place }) old d stop.NoMemory) (sym same) (inr (record { awaited = refl; links = []; back = record { asked = heard.0; out = heard.1; back = heard.2 ∙ none_more old.back } }), heard.3)
 
 -- ---- all of it
 
-module _ (place : List ℕ) (plan : SessionPlan PeerScheme) (signers : List KeySigner) (draws : List (List ℕ)) (state : StateValue AuthorisedValue) (hall : Hall) (first own : PassValue AuthorisedValue) (read : HasOnlyRead first own) (guests : List Guest) (of_first : AreOf 0 state.log) where
+module _ (place : List ℕ) (plan : SessionPlan PeerScheme) (signers : List KeySigner) (draws : List (List ℕ)) (state : StateValue AuthorisedValue) (hall : Hall) (own : PassValue AuthorisedValue) (guests : List Guest) (of_first : AreOf 0 state.log) where
   abbrev way : Way
   way = record { awaited = true; place = place }
 
@@ -237,32 +218,32 @@ module _ (place : List ℕ) (plan : SessionPlan PeerScheme) (signers : List KeyS
       (subst (λ (ss : List KeySigner). AreVisits (IsVisit state.log log (party hall state.log log)) 1 ss draws visits) same are))
 
   attended : (count : ℕ) (old listened new : DoorFacts) (hosted : Hosted Guest Parting) (x : Attended) → hall.plan ≡ plan → hall.cell.namespace ≡ state.namespace
-      → first ∷ passes_of guests ≡ new_passes hall.cell state.log 0 count → signers_of guests ≡ signers → nonces_of guests ≡ map nonce_of draws
-      → Listens place old listened (Ok tt) → AreReceived hall guests listened new hosted → HasLeft hall own hosted x
+      → own ∷ passes_of guests ≡ new_passes hall.cell state.log 0 count → signers_of guests ≡ signers → nonces_of guests ≡ map nonce_of draws
+      → Listens place old listened (Ok tt) → IsHosted (DoesVisit hall) guests listened new hosted → HasLeft hall own hosted x
       → AreAttended way (λ draw. planned peer_rules state.namespace plan (nonce_of draw)) signers draws state old new x.ends.items x.all_came x.state
-  attended zero old listened new hosted x same_plan same_namespace passes signs nonces heard did left = absurd (never_empty first (passes_of guests) passes)
+  attended zero old listened new hosted x same_plan same_namespace passes signs nonces heard did left = absurd (never_empty own (passes_of guests) passes)
   attended (suc count) old listened new hosted x same_plan same_namespace passes signs nonces heard did left =
       let visits = did.visits in
       let unused = hosted.unused.items in
       let log = x.state.log in
-      let is_new = heads first (new_pass hall.cell state.log 0) (passes_of guests) (new_passes hall.cell state.log 1 count) passes in
-      let rest = tails first (new_pass hall.cell state.log 0) (passes_of guests) (new_passes hall.cell state.log 1 count) passes in
-      let are_new : AreNew hall state.log log visits unused 1 count = ap passes_of (sym did.guests_are) ∙ rest in
+      let first = heads own (new_pass hall.cell state.log 0) (passes_of guests) (new_passes hall.cell state.log 1 count) passes in
+      let rest = tails own (new_pass hall.cell state.log 0) (passes_of guests) (new_passes hall.cell state.log 1 count) passes in
+      let are_new : AreNew hall state.log log visits unused 1 count = ap passes_of (sym did.jobs_are) ∙ rest in
       let each = recursion_from_All (IsOne hall state.log log) visits did.each in
       let closed : IsClosed (own ∷ (handed_on (partings_of visits) ++ passes_of unused)) log =
       subst (λ (ps : List Parting). IsClosed (own ∷ (handed_on ps ++ passes_of unused)) log) did.partings_are left.closed in
       let all = own ∷ (handed_on (partings_of visits) ++ passes_of unused) in
       let fronts = All-left (IsFront hall state.log log) (handed_on (partings_of visits)) (passes_of unused) (recursion_from_All (IsFront hall state.log log) all closed.prefixes).1 in
       let rows = All-left (HasOwn hall state.log log) (handed_on (partings_of visits)) (passes_of unused) (recursion_from_All (HasOwn hall state.log log) all closed.own).1 in
-      let same : signers_of (jobs_of visits ++ unused) ≡ signers = ap signers_of (sym did.guests_are) ∙ signs in
+      let same : signers_of (jobs_of visits ++ unused) ≡ signers = ap signers_of (sym did.jobs_are) ∙ signs in
       let links : length signers ≡ length visits + length unused = ap length (sym same) ∙ as_many_jobs visits unused in
       let many : length (map visit_of visits) ≡ length visits = as_many visits in
       record {
         visits = map visit_of visits;
         are_visits =
             as_planned log (signers_of (jobs_of visits ++ unused)) (map visit_of visits) same_plan same_namespace same
-            (are_visits hall state.log log of_first 1 count visits unused draws (omega arith) are_new (ap nonces_of (sym did.guests_are) ∙ nonces) each fronts rows);
-        shared = subst (λ (n : ℕ). IsShared true state.log log n) (sym many) (is_shared hall state.log log of_first first own read count visits unused is_new are_new each closed);
+            (are_visits hall state.log log of_first 1 count visits unused draws (omega arith) are_new (ap nonces_of (sym did.jobs_are) ∙ nonces) each fronts rows);
+        shared = subst (λ (n : ℕ). IsShared true state.log log n) (sym many) (is_shared hall state.log log of_first own count visits unused first are_new each closed);
         called = λ call. absurd cc;
         is_log = subst (λ (n : List ℕ). IsLog entry_row n log) same_namespace left.is_log;
         of_namespace = left.of_namespace ∙ same_namespace;
@@ -273,27 +254,16 @@ module _ (place : List ℕ) (plan : SessionPlan PeerScheme) (signers : List KeyS
           back = did.back ∙ ap₂ (λ (links : List LinkFacts) (told : Option (List LinkFacts)). list_with_all links told) (links_of visits) heard.2;
         };
         accepts =
-            accepts_so old listened new (length signers) (length (map visit_of visits)) unused hosted.stopped x.all_came (links ∙ ap (λ (n : ℕ). n + length unused) (sym many)) heard.3 heard.4
-            (subst (λ (n : ℕ). CountsComing listened new n unused hosted.stopped) (sym many) did.counted) left.accepts;
+            accepts_so old listened new (length signers) (length (map visit_of visits)) unused hosted.stopped x.all_came (links ∙ ap (λ (n : ℕ). n + length unused) (sym many)) heard.3 heard.4 did.stopped
+            (did.accepts ∙ ap (λ (n : ℕ). counted_on (accepts_made n hosted.stopped) listened.accepts) (sym many)) left.accepts;
       }
 
-  -- and where memory was wanting no fault of the door was met; those who watch heard of the log up to its end, or of some of it
+  -- and where accepting a link told want of memory, no fault of the door was met
   pub attends : (count : ℕ) (old listened new : DoorFacts) (hosted : Hosted Guest Parting) (end : Result Attended Stop) → hall.plan ≡ plan → hall.cell.namespace ≡ state.namespace
-      → first ∷ passes_of guests ≡ new_passes hall.cell state.log 0 count → signers_of guests ≡ signers → nonces_of guests ≡ map nonce_of draws
-      → Listens place old listened (Ok tt) → AreReceived hall guests listened new hosted → Leaves hall own hosted end
-      → (u u1 u2 : HubValue) (so_far : ℕ) → HaveHeardSeen state.namespace state.log own.seen hosted.stopped (hub_opened plan.ask state.log u) u1 so_far
-      → IfOk end (λ x. (more : ℕ) × (x.left ≡ so_far + more) × IsPumped u1 u2 (rows_behind own.seen x.state.log) more) → IfErr end (λ e. u2 ≡ u1)
-      → Attends way plan.ask (λ draw. planned peer_rules state.namespace plan (nonce_of draw)) signers draws state old new u u2 end
-  attends count old listened new hosted (Ok x) same_plan same_namespace passes signs nonces heard did left u u1 u2 so_far seen rest same =
-      let last : IsPrefix own.seen x.state.log = left.closed.prefixes 0 own (omega arith) in (
-        attended count old listened new hosted x same_plan same_namespace passes signs nonces heard did left,
-        server_heard plan.ask state.namespace state.log own.seen hosted.stopped u u1 so_far seen x.all_came x.state.log u2 rest.0 x.left left.accepts last (subst (λ (n : List ℕ). IsLog entry_row n x.state.log) same_namespace left.is_log) rest.1 rest.2,
-      )
-  attends count old listened new hosted (Err stop.NoMemory) same_plan same_namespace passes signs nonces heard did left u u1 u2 so_far seen rest same =
-      let visits = did.visits in
-      let links : List LinkFacts = map (λ (v : Hosting). v.link) visits in
-      let back : AreBack place old new links = record { asked = did.asked ∙ heard.0; out = did.out ∙ heard.1; back = did.back ∙ ap (λ (told : Option (List LinkFacts)). list_with_all links told) heard.2 } in (
-        (inr (record { awaited = refl; links = links; back = back }), wants_memory listened new (length visits) hosted.unused.items hosted.stopped left did.counted ∙ heard.3),
-        server_stops plan.ask state.namespace state.log own.seen hosted.stopped u u1 so_far seen u2 same,
-      )
-  attends count old listened new hosted (Err e) same_plan same_namespace passes signs nonces heard did left u u1 u2 so_far seen rest same = absurd left
+      → own ∷ passes_of guests ≡ new_passes hall.cell state.log 0 count → signers_of guests ≡ signers → nonces_of guests ≡ map nonce_of draws
+      → Listens place old listened (Ok tt) → IsHosted (DoesVisit hall) guests listened new hosted → Leaves hall own hosted end
+      → Attends way (λ draw. planned peer_rules state.namespace plan (nonce_of draw)) signers draws state old new end
+  attends count old listened new hosted (Ok x) same_plan same_namespace passes signs nonces heard did left = attended count old listened new hosted x same_plan same_namespace passes signs nonces heard did left
+  attends count old listened new hosted (Err stop.NoMemory) same_plan same_namespace passes signs nonces heard did left =
+      (inr (record { awaited = refl; links = map (λ (v : Hosting). v.link) did.visits; back = record { asked = did.asked ∙ heard.0; out = did.out ∙ heard.1; back = did.back ∙ ap (λ (told : Option (List LinkFacts)). list_with_all (map (λ (v : Hosting). v.link) did.visits) told) heard.2 } }), wants_memory listened.faults new.faults hosted.unused.items hosted.stopped left did.stopped ∙ heard.3)
+  attends count old listened new hosted (Err e) same_plan same_namespace passes signs nonces heard did left = absurd left

@@ -11,7 +11,6 @@ use Rattle.willow_outside.specs.Facts.{ShelfFacts, DoorFacts}
 use Rattle.willow_outside.specs.Links.{list_with}
 use Rattle.link_host.specs.Hosted.{list_with_all}
 use Rattle.area_interest.specs.declared.interest.Interest.{Interest}
-use Rattle.willow_area.specs.declared.area.Area.{Area}
 use Rattle.auth_entry.specs.Authorised.{AuthorisedValue}
 use Rattle.ns_state.specs.Log.{StateValue}
 use Rattle.session_end.specs.declared.end.SessionEnd.{SessionEnd}
@@ -177,12 +176,12 @@ none_wanted name old new told t put seven = elim (gave t 7 (seven_met t seven)) 
     seven_met : (t : Told) → status_told host_rules (Ok t) ≡ 7 → Contains (statuses t) 7
     seven_met t is = elim (told_met told_order (statuses t)) [ inl none ↦ absurd (omega (arith, none, is)) | inr at ↦ subst (λ (k : ℕ). Contains (statuses t) k) is at ]
 
-module _ (way : Way) (area : Area) (p : List ℕ → List ℕ → Party) (signers : List KeySigner) (draws : List (List ℕ)) (rows : ℕ) (name : List ℕ) (start : Told) where
+module _ (way : Way) (p : List ℕ → List ℕ → Party) (signers : List KeySigner) (draws : List (List ℕ)) (rows : ℕ) (name : List ℕ) (start : Told) where
   abbrev Run : Part World Told Stop
-  Run = RunsSessions way area p signers draws rows
+  Run = RunsSessions way p signers draws rows
 
   -- the door may have counted faults behind a place that was listened at
-  went : (old between new : World) (t : Told) → HasAttended way area p signers draws rows old start between t → Unfailed between new → new.door ≡ between.door → Unfailed old new ⊎ WantsLater way old new
+  went : (old between new : World) (t : Told) → HasAttended way p signers draws rows old start between t → Unfailed between new → new.door ≡ between.door → Unfailed old new ⊎ WantsLater way old new
   went old between new t did stood same = by way.awaited refl where
     inside : UnfailedInside old new
     inside =
@@ -193,38 +192,38 @@ module _ (way : Way) (area : Area) (p : List ℕ → List ℕ → Party) (signer
           input = stood.input ∙ ap (λ (w : World). w.input.faults) others;
           output = stood.output ∙ ap (λ (w : World). w.output.faults) others;
           report = stood.report ∙ ap (λ (w : World). w.report.faults) others;
-          door = omega (arith, (attend_counts way area p signers draws rows old between start (Ok t) did).counts.door_faults, ap (λ (d : DoorFacts). d.faults) same);
+          door = omega (arith, (attend_counts way p signers draws rows old between start (Ok t) did).counts.door_faults, ap (λ (d : DoorFacts). d.faults) same);
           noise = stood.noise ∙ ap (λ (w : World). w.noise.faults) others;
           bay = stood.bay ∙ ap (λ (w : World). w.bay.faults) others;
         }
 
     by : (awaited : Bool) → way.awaited ≡ awaited → Unfailed old new ⊎ WantsLater way old new
     by true is = inr (record { awaited = is; inside = inside; asked = ap (λ (d : DoorFacts). d.asked) same ∙ did.does.back.asked })
-    by false is = inl (unfailed_on old between new (attend_stood way area p signers draws rows old between start t did (did.does.called is).came) stood)
+    by false is = inl (unfailed_on old between new (attend_stood way p signers draws rows old between start t did (did.does.called is).came) stood)
 
   run_want : (old new : World) (e : Stop) → Run old start new (Err e) → host_rules.stop e ≡ 7 → Unfailed old new
   run_want old new stop.NoMemory s seven = door_stood old new s.0.1 s.1
   run_want old new stop.ReadFault s seven = absurd (omega (arith, seven))
   run_want old new e s seven = absurd s.0
 
-  put_want : (old between new : World) (t : Told) (e : Stop) → HasAttended way area p signers draws rows old start between t → PutsImage name between t new (Err e) → Unfailed old new ⊎ WantsLater way old new
+  put_want : (old between new : World) (t : Told) (e : Stop) → HasAttended way p signers draws rows old start between t → PutsImage name between t new (Err e) → Unfailed old new ⊎ WantsLater way old new
   put_want old between new t stop.NoMemory did f =
       went old between new t did (shelf_unfailed (PutsBytes name (image_of t.state)) between new (Err stop.NoMemory) tt f) (ap (λ (w : World). w.door) f.others)
   put_want old between new t e did f = absurd f
 
   -- want of memory hides no fault but those of a door that was listened at
-  host_want : (old new : World) (e : Stop) → HostsLinks way area p signers draws rows name old start new (Err e) → host_rules.stop e ≡ 7 → Unfailed old new ⊎ WantsLater way old new
+  host_want : (old new : World) (e : Stop) → HostsLinks way p signers draws rows name old start new (Err e) → host_rules.stop e ≡ 7 → Unfailed old new ⊎ WantsLater way old new
   host_want old new e (inl s) seven = inl (run_want old new e s seven)
   host_want old new e (inr q) seven = put_want old q.between new q.so_far e q.given q.rest
 
 -- ---- as the last step of a command
 
-module _ (awaited : Bool) (way : Way) (area : Area) (p : List ℕ → List ℕ → Party) (signers : List KeySigner) (draws : List (List ℕ)) (rows : ℕ) (name : List ℕ) (state : StateValue AuthorisedValue) (first : Option RefusedRow) where
+module _ (awaited : Bool) (way : Way) (p : List ℕ → List ℕ → Party) (signers : List KeySigner) (draws : List (List ℕ)) (rows : ℕ) (name : List ℕ) (state : StateValue AuthorisedValue) (first : Option RefusedRow) where
   abbrev All : Step Done
-  All = Tells (HostsLinks way area p signers draws rows name) (none_told state first) (TellsHosted awaited)
+  All = Tells (HostsLinks way p signers draws rows name) (none_told state first) (TellsHosted awaited)
 
-  owed : parts.Owes host_rules (HostsLinks way area p signers draws rows name) (none_told state first)
-  owed = host_owes way area p signers draws rows name state first
+  owed : parts.Owes host_rules (HostsLinks way p signers draws rows name) (none_told state first)
+  owed = host_owes way p signers draws rows name state first
 
   all_counts : (old new : World) (end : Result Done Stop) → All old new end → NeverFall old new
   all_counts old new (Ok d) did = (owed.counts old new (Ok did.0) did.1).counts
@@ -237,7 +236,7 @@ module _ (awaited : Bool) (way : Way) (area : Area) (p : List ℕ → List ℕ �
 
   all_want : (old new : World) (end : Result Done Stop) → All old new end → status_of end ≡ 7 → Unfailed old new ⊎ WantsLater way old new
   all_want old new (Ok d) did seven = absurd (none_wanted name did.1.between new did.1.so_far did.0 did.1.rest (status_is awaited did.0 d did.2 ∙ seven))
-  all_want old new (Err e) did seven = host_want way area p signers draws rows name (none_told state first) old new e did seven
+  all_want old new (Err e) did seven = host_want way p signers draws rows name (none_told state first) old new e did seven
 
   all_usage : (old new : World) (end : Result Done Stop) → All old new end → status_of end ≡ 2 → ⊥
   all_usage old new (Ok d) did is = owed.usage old new (Ok did.0) did.1 (status_is awaited did.0 d did.2 ∙ is)
@@ -270,4 +269,4 @@ module _ (words : HostWords) where
   host_closes =
       then_closes HostReads HostWrites (WantsLater way) Nothing (λ s. Nothing) Open _ reads_last writes_last (wants_last way) opened (opening_keeps_door (own_role words.awaited) words.image words.cap words.key words.links words.area words.limits)
       (λ s. then_closes HostReads HostWrites (WantsLater way) Nothing (λ draws. Nothing) (OnNoise (DrawsAll words.links)) _ reads_last writes_last (wants_last way) (drawing_owes words.links) (noise_keeps (DrawsAll words.links))
-      (λ draws. all_closes words.awaited way s.plan.ask (plans_of s) s.signers.items draws.items s.opening.rows (string_bytes words.image) s.opening.state s.opening.first))
+      (λ draws. all_closes words.awaited way (plans_of s) s.signers.items draws.items s.opening.rows (string_bytes words.image) s.opening.state s.opening.first))

@@ -158,7 +158,7 @@ module _ (words : HostWords) (old new : World) (can : CanHost words old new) whe
     -- ---- so it comes to its end
 
     module _ (s : house.House) (began : World) (opens : Opens old began (Ok s)) (draws : Vec (List ℕ)) (drawn : World) (drew : OnNoise (DrawsAll words.links) began drawn (Ok draws)) (t : Told)
-        (hosts : HostsLinks (way_of words) s.plan.ask (plans_of s) s.signers.items draws.items s.opening.rows (string_bytes words.image) drawn (none_told s.opening.state s.opening.first) new (Ok t)) where
+        (hosts : HostsLinks (way_of words) (plans_of s) s.signers.items draws.items s.opening.rows (string_bytes words.image) drawn (none_told s.opening.state s.opening.first) new (Ok t)) where
       zero : (answer : Answer) → Contains t.answers answer → session_status (told_of answer) ≡ 0
       zero answer at =
           let opened = has_house (own_role words.awaited) words.image words.cap words.key words.links words.area words.limits old began s opens in
@@ -173,7 +173,7 @@ module _ (words : HostWords) (old new : World) (can : CanHost words old new) whe
 
       told_small : status_told host_rules (Ok t) ≢ 3 → status_told host_rules (Ok t) ≢ 4 → status_told host_rules (Ok t) ≢ 7 → status_told host_rules (Ok t) ≤ 1
       told_small three four seven =
-          let met = (host_owes (way_of words) s.plan.ask (plans_of s) s.signers.items draws.items s.opening.rows (string_bytes words.image) s.opening.state s.opening.first).was_met t in
+          let met = (host_owes (way_of words) (plans_of s) s.signers.items draws.items s.opening.rows (string_bytes words.image) s.opening.state s.opening.first).was_met t in
           (told_known (statuses t)).above three four (λ is. unmet 6 (omega arith) (met 6 is (omega arith))) (λ is. unmet 8 (omega arith) (met 8 is (omega arith))) seven
 
     small : (end : Result Done Stop) → DoesHost words old new end → status_of end ≢ 7 → status_of end ≤ 1

@@ -40,7 +40,7 @@ pub record HadSo (words : HostWords) (old new : World) (answers : List Answer) (
 
 module _ (words : HostWords) (old new : World) (s : house.House) (began : World) (draws : Vec (List ℕ)) (drawn : World) (t : Told) (attended : World)
     (opened : HasHouse (own_role words.awaited) words.image words.cap words.key words.links words.area words.limits old began s) (drew : OnNoise (DrawsAll words.links) began drawn (Ok draws))
-    (did : HasAttended (way_of words) s.plan.ask (plans_of s) s.signers.items draws.items s.opening.rows drawn (none_told s.opening.state s.opening.first) attended t)
+    (did : HasAttended (way_of words) (plans_of s) s.signers.items draws.items s.opening.rows drawn (none_told s.opening.state s.opening.first) attended t)
     (puts : OnShelf (PutsBytes (string_bytes words.image) (image_of t.state)) attended new (Ok tt)) where
   abbrev n : List ℕ
   n = opened.front.given.namespace

@@ -7,7 +7,6 @@ use Rattle.mc_cap.specs.declared.refusal.RefusedRow.{RefusedRow}
 use Rattle.session_end.specs.declared.end.SessionEnd.TheVariants as ending
 use Rattle.willow_outside.specs.Facts.{DoorFacts, LinkFacts}
 use Rattle.link_host.specs.Hosted.{list_with_all}
-use Rattle.willow_area.specs.declared.area.Area.{Area}
 use Rattle.auth_entry.specs.Authorised.{AuthorisedValue}
 use Rattle.ns_state.specs.Log.{StateValue}
 use Rattle.row_intake.specs.Answers.{CountsReads, CountsWrites}
@@ -112,20 +111,20 @@ stops_up way old new stop.ReadFault s = (s.1.never_falls, asked_back way old new
 stops_up way old new stop.NoMemory s = (omega (arith, s.1), asked_back way old new s.0)
 stops_up way old new e s = absurd s
 
-at_door : (old new : World) → old.door.faults ≤ new.door.faults → new ≡ record old { door = new.door; hub = new.hub } → NeverFall old new
+at_door : (old new : World) → old.door.faults ≤ new.door.faults → new ≡ record old { door = new.door } → NeverFall old new
 at_door old new up others =
     subst (λ (w : World). NeverFall old w) (sym others)
     (record { shelf_reads = omega arith; shelf_writes = omega arith; input_faults = omega arith; input_ends = omega arith; output_faults = omega arith; report_faults = omega arith; door_faults = up; noise_faults = omega arith; bay_faults = omega arith })
 
-pub door_stood : (old new : World) → new.door.faults ≡ old.door.faults → new ≡ record old { door = new.door; hub = new.hub } → Unfailed old new
+pub door_stood : (old new : World) → new.door.faults ≡ old.door.faults → new ≡ record old { door = new.door } → Unfailed old new
 door_stood old new same others =
     subst (λ (w : World). Unfailed old w) (sym others)
     (record { shelf_reads = refl; shelf_writes = refl; input = refl; output = refl; report = refl; door = same; noise = refl; bay = refl })
 
 -- ---- the sessions
 
-module _ (way : Way) (area : Area) (p : List ℕ → List ℕ → Party) (signers : List KeySigner) (draws : List (List ℕ)) (rows : ℕ) where
-  pub attend_counts : (old new : World) (told : Told) (end : Result Told Stop) → RunsSessions way area p signers draws rows old told new end → GoesOn old new
+module _ (way : Way) (p : List ℕ → List ℕ → Party) (signers : List KeySigner) (draws : List (List ℕ)) (rows : ℕ) where
+  pub attend_counts : (old new : World) (told : Told) (end : Result Told Stop) → RunsSessions way p signers draws rows old told new end → GoesOn old new
   attend_counts old new told (Ok t) did =
       let a = did.does in
       record {
@@ -137,7 +136,7 @@ module _ (way : Way) (area : Area) (p : List ℕ → List ℕ → Party) (signer
       let up = stops_up way old.door new.door e did.0 in
       record { counts = at_door old new up.0 did.1; links = up.1.0; back = up.1.1 }
 
-  attend_keeps : (old new : World) (told t : Told) → RunsSessions way area p signers draws rows old told new (Ok t) → (status : ℕ) → 1 ≤ status → Contains (statuses told) status → Contains (statuses t) status
+  attend_keeps : (old new : World) (told t : Told) → RunsSessions way p signers draws rows old told new (Ok t) → (status : ℕ) → 1 ≤ status → Contains (statuses told) status → Contains (statuses t) status
   attend_keeps old new told t did status some at = elim (gave told status at) [
     | inl session ↦ absurd (none (subst (λ (l : List Answer). Contains l session.0) did.none_yet session.1))
     | inr (inl accept) ↦ absurd (all_came told.all_came did.all_came_yet accept)
@@ -153,7 +152,7 @@ module _ (way : Way) (area : Area) (p : List ℕ → List ℕ → Party) (signer
       all_came false is accept = absurd cc
 
   -- one of the links has failed
-  module _ (old new : World) (told t : Told) (did : HasAttended way area p signers draws rows old told new t) where
+  module _ (old new : World) (told t : Told) (did : HasAttended way p signers draws rows old told new t) where
     visited : (answer : Answer) → Contains t.answers answer → (visit : Visit) × Contains did.does.visits visit × (visit.answer ≡ answer)
     visited answer at = contains_from_map (λ (visit : Visit). visit.answer) did.does.visits answer (subst (λ (l : List Answer). Contains l answer) did.does.ends at)
 
@@ -219,12 +218,12 @@ module _ (way : Way) (area : Area) (p : List ℕ → List ℕ → Party) (signer
       by true is = attend_stood is
       by false is = absurd (three (is_met t (accept_status t.all_came) 3 (ap accept_status is) (accepted_at t)))
 
-  attend_stops : (old new : World) (told : Told) (e : Stop) → RunsSessions way area p signers draws rows old told new (Err e) → IsStop host_rules old new e
+  attend_stops : (old new : World) (told : Told) (e : Stop) → RunsSessions way p signers draws rows old told new (Err e) → IsStop host_rules old new e
   attend_stops old new told stop.ReadFault did = inr (inl (refl, inr (inr (inl did.0.1.rose))))
   attend_stops old new told stop.NoMemory did = inl refl
   attend_stops old new told e did = absurd did.0
 
-  pub attend_honest : IsHonest host_rules (RunsSessions way area p signers draws rows)
+  pub attend_honest : IsHonest host_rules (RunsSessions way p signers draws rows)
   attend_honest =
       record {
         counts = attend_counts;
@@ -309,10 +308,10 @@ begun_few state first status large at = elim (gave (none_told state first) statu
   | inr (inr (inr is)) ↦ let small = first_small first in omega (arith, is, small, large)
 ]
 
-pub host_owes : (way : Way) (area : Area) (p : List ℕ → List ℕ → Party) (signers : List KeySigner) (draws : List (List ℕ)) (rows : ℕ) (name : List ℕ) (state : StateValue AuthorisedValue) (first : Option RefusedRow)
-    → Owes host_rules (HostsLinks way area p signers draws rows name) (none_told state first)
-host_owes way area p signers draws rows name state first =
-    owes host_rules are_rules (HostsLinks way area p signers draws rows name) (behind_honest host_rules are_rules (RunsSessions way area p signers draws rows) (PutsImage name) (attend_honest way area p signers draws rows) (put_honest name))
+pub host_owes : (way : Way) (p : List ℕ → List ℕ → Party) (signers : List KeySigner) (draws : List (List ℕ)) (rows : ℕ) (name : List ℕ) (state : StateValue AuthorisedValue) (first : Option RefusedRow)
+    → Owes host_rules (HostsLinks way p signers draws rows name) (none_told state first)
+host_owes way p signers draws rows name state first =
+    owes host_rules are_rules (HostsLinks way p signers draws rows name) (behind_honest host_rules are_rules (RunsSessions way p signers draws rows) (PutsImage name) (attend_honest way p signers draws rows) (put_honest name))
     (none_told state first) (begun_few state first 3 (omega arith)) (begun_few state first 4 (omega arith))
 
 -- where no session has it, no status from 5 on was met

@@ -4,7 +4,6 @@ use Rattle.std.specs.Prelude.{Result, Ok, Err}
 use Rattle.std.specs.Global.{Vec}
 use Rattle.std.specs.String.{string_bytes}
 use Rattle.willow_outside.specs.Facts.{ShelfFacts, DoorFacts, NoiseFacts}
-use Rattle.sub_hub.specs.Hubs.{HubValue}
 use Rattle.mc_cap.specs.declared.refusal.RefusedRow.{RefusedRow}
 use Rattle.peer_make.specs.Making.{DrawsAll}
 use Rattle.peer_stage.specs.Faults.{CountsStep}
@@ -34,61 +33,61 @@ pub closes_so : (name : List ℕ) (awaited : Bool) (rows : ℕ) (first : Option 
 closes_so name awaited rows first x s w w' none told puts = (with_put (told_behind rows first x) s.put, record { wanted_none = none; put = s.put; told_is = refl; does = puts }, told)
 
 -- sessions over the links of a way, told of the same place and the same draws
-pub attends_as : (awaited : Bool) (place is_place : List ℕ) (draws are_draws : List (List ℕ)) (s : house.House) (d d' : DoorFacts) (u u' : HubValue) (end : Result Attended Stop) → place ≡ is_place → draws ≡ are_draws
-    → Attends (record { awaited = awaited; place = place }) s.plan.ask (plans_of s) s.signers.items draws s.opening.state d d' u u' end → Attends (record { awaited = awaited; place = is_place }) s.plan.ask (plans_of s) s.signers.items are_draws s.opening.state d d' u u' end
-attends_as awaited place is_place draws are_draws s d d' u u' end here same attends =
-    subst (λ (x : List ℕ). Attends (record { awaited = awaited; place = x }) s.plan.ask (plans_of s) s.signers.items are_draws s.opening.state d d' u u' end) here
-    (subst (λ (x : List (List ℕ)). Attends (record { awaited = awaited; place = place }) s.plan.ask (plans_of s) s.signers.items x s.opening.state d d' u u' end) same attends)
+pub attends_as : (awaited : Bool) (place is_place : List ℕ) (draws are_draws : List (List ℕ)) (s : house.House) (d d' : DoorFacts) (end : Result Attended Stop) → place ≡ is_place → draws ≡ are_draws
+    → Attends (record { awaited = awaited; place = place }) (plans_of s) s.signers.items draws s.opening.state d d' end → Attends (record { awaited = awaited; place = is_place }) (plans_of s) s.signers.items are_draws s.opening.state d d' end
+attends_as awaited place is_place draws are_draws s d d' end here same attends =
+    subst (λ (x : List ℕ). Attends (record { awaited = awaited; place = x }) (plans_of s) s.signers.items are_draws s.opening.state d d' end) here
+    (subst (λ (x : List (List ℕ)). Attends (record { awaited = awaited; place = place }) (plans_of s) s.signers.items x s.opening.state d d' end) same attends)
 
-module _ (words : HostWords) (others : World) (h h1 : ShelfFacts) (n n1 : NoiseFacts) (d : DoorFacts) (u : HubValue) where
+module _ (words : HostWords) (others : World) (h h1 : ShelfFacts) (n n1 : NoiseFacts) (d : DoorFacts) where
   -- the objects before, and behind the reservation, the draws and the sessions
   abbrev before : World
-  before = record others { shelf = h; door = d; noise = n; hub = u }
+  before = record others { shelf = h; door = d; noise = n }
 
   abbrev opened : World
-  opened = record others { shelf = h1; door = d; noise = n; hub = u }
+  opened = record others { shelf = h1; door = d; noise = n }
 
   abbrev drawn : World
-  drawn = record others { shelf = h1; door = d; noise = n1; hub = u }
+  drawn = record others { shelf = h1; door = d; noise = n1 }
 
-  abbrev attended : DoorFacts → HubValue → World
-  attended d1 u1 = record others { shelf = h1; door = d1; noise = n1; hub = u1 }
+  abbrev attended : DoorFacts → World
+  attended d1 = record others { shelf = h1; door = d1; noise = n1 }
 
   abbrev Opens : Step house.House
   Opens = OpensHouse (own_role words.awaited) words.image words.cap words.key words.links words.area words.limits
 
   -- how sessions are run with draws
-  abbrev AttendsWith : house.House → List (List ℕ) → DoorFacts → HubValue → Result Attended Stop → Type 0
-  AttendsWith s draws d1 u1 = Attends (way_of words) s.plan.ask (plans_of s) s.signers.items draws s.opening.state d d1 u u1
+  abbrev AttendsWith : house.House → List (List ℕ) → DoorFacts → DoorFacts → Result Attended Stop → Type 0
+  AttendsWith s draws = Attends (way_of words) (plans_of s) s.signers.items draws s.opening.state
 
   -- the last step with draws
   abbrev TellsWith : house.House → List (List ℕ) → Step Done
-  TellsWith s draws = Tells (HostsLinks (way_of words) s.plan.ask (plans_of s) s.signers.items draws s.opening.rows (string_bytes words.image)) (none_told s.opening.state s.opening.first) (TellsHosted words.awaited)
+  TellsWith s draws = Tells (HostsLinks (way_of words) (plans_of s) s.signers.items draws s.opening.rows (string_bytes words.image)) (none_told s.opening.state s.opening.first) (TellsHosted words.awaited)
 
   module _ (s : house.House) (opens : Opens before opened (Ok s)) where
     pub drawing_stops : (e : Stop) → DrawsAll words.links n n1 (Err e) → CountsStep {A = Vec (List ℕ)} n.faults n1.faults (Err e) → DoesHost words before drawn (Err e)
     drawing_stops e does faults = passes Opens _ before opened drawn s (Err e) opens (inl (record { does = does; faults = faults; others = refl }))
 
     module _ (draws : Vec (List ℕ)) (draw : DrawsAll words.links n n1 (Ok draws)) (stood : n1.faults ≡ n.faults) where
-      pub attending_stops : (d1 : DoorFacts) (u1 : HubValue) (e : Stop) → AttendsWith s draws.items d1 u1 (Err e) → DoesHost words before (attended d1 u1) (Err e)
-      attending_stops d1 u1 e does =
-          passes Opens _ before opened (attended d1 u1) s (Err e) opens
-          (noise_on (DrawsAll words.links) _ opened n n1 (attended d1 u1) draws (Err e) draw stood (inl (does.0, refl, does.1)))
+      pub attending_stops : (d1 : DoorFacts) (e : Stop) → AttendsWith s draws.items d d1 (Err e) → DoesHost words before (attended d1) (Err e)
+      attending_stops d1 e does =
+          passes Opens _ before opened (attended d1) s (Err e) opens
+          (noise_on (DrawsAll words.links) _ opened n n1 (attended d1) draws (Err e) draw stood (inl (does, refl)))
 
       -- the sessions that were run, as the first part
-      has_attended : (d1 : DoorFacts) (u1 : HubValue) (x : Attended) → AttendsWith s draws.items d1 u1 (Ok x)
-          → HasAttended (way_of words) s.plan.ask (plans_of s) s.signers.items draws.items s.opening.rows drawn (none_told s.opening.state s.opening.first) (attended d1 u1) (told_behind s.opening.rows s.opening.first x)
-      has_attended d1 u1 x does = record { none_yet = refl; all_came_yet = refl; does = does.0; first_is = refl; put_is = refl; heard = does.1; others = refl }
+      has_attended : (d1 : DoorFacts) (x : Attended) → AttendsWith s draws.items d d1 (Ok x)
+          → HasAttended (way_of words) (plans_of s) s.signers.items draws.items s.opening.rows drawn (none_told s.opening.state s.opening.first) (attended d1) (told_behind s.opening.rows s.opening.first x)
+      has_attended d1 x does = record { none_yet = refl; all_came_yet = refl; does = does; first_is = refl; put_is = refl; others = refl }
 
-      tells : (d1 : DoorFacts) (u1 : HubValue) (x : Attended) (new : World) (end : Result Done Stop) → AttendsWith s draws.items d1 u1 (Ok x)
-          → Tells (PutsImage (string_bytes words.image)) (told_behind s.opening.rows s.opening.first x) (TellsHosted words.awaited) (attended d1 u1) new end → TellsWith s draws.items drawn new end
-      tells d1 u1 x new (Ok d) does rest =
-          (rest.0, record { between = attended d1 u1; so_far = told_behind s.opening.rows s.opening.first x; given = has_attended d1 u1 x does; rest = rest.1 }, rest.2)
-      tells d1 u1 x new (Err e) does rest =
-          inr (record { between = attended d1 u1; so_far = told_behind s.opening.rows s.opening.first x; given = has_attended d1 u1 x does; rest = rest })
+      tells : (d1 : DoorFacts) (x : Attended) (new : World) (end : Result Done Stop) → AttendsWith s draws.items d d1 (Ok x)
+          → Tells (PutsImage (string_bytes words.image)) (told_behind s.opening.rows s.opening.first x) (TellsHosted words.awaited) (attended d1) new end → TellsWith s draws.items drawn new end
+      tells d1 x new (Ok d) does rest =
+          (rest.0, record { between = attended d1; so_far = told_behind s.opening.rows s.opening.first x; given = has_attended d1 x does; rest = rest.1 }, rest.2)
+      tells d1 x new (Err e) does rest =
+          inr (record { between = attended d1; so_far = told_behind s.opening.rows s.opening.first x; given = has_attended d1 x does; rest = rest })
 
-      pub all_steps : (d1 : DoorFacts) (u1 : HubValue) (x : Attended) (new : World) (end : Result Done Stop) → AttendsWith s draws.items d1 u1 (Ok x)
-          → Tells (PutsImage (string_bytes words.image)) (told_behind s.opening.rows s.opening.first x) (TellsHosted words.awaited) (attended d1 u1) new end → DoesHost words before new end
-      all_steps d1 u1 x new end does rest =
+      pub all_steps : (d1 : DoorFacts) (x : Attended) (new : World) (end : Result Done Stop) → AttendsWith s draws.items d d1 (Ok x)
+          → Tells (PutsImage (string_bytes words.image)) (told_behind s.opening.rows s.opening.first x) (TellsHosted words.awaited) (attended d1) new end → DoesHost words before new end
+      all_steps d1 x new end does rest =
           passes Opens _ before opened new s end opens
-          (noise_on (DrawsAll words.links) _ opened n n1 new draws end draw stood (tells d1 u1 x new end does rest))
+          (noise_on (DrawsAll words.links) _ opened n n1 new draws end draw stood (tells d1 x new end does rest))

@@ -34,9 +34,6 @@ pub mod CalledAlone
 pub mod SideReady
 pub mod AnsweredLinks
 pub mod SharedLog
-pub mod HeardBehind
-pub mod StoredCounts
-pub mod LinksTold
 pub mod Guests
 pub mod Paired
 pub mod VisitedLinks
@@ -53,8 +50,3 @@ pub mod WholeHost
 pub mod FirstOfLinks
 pub mod HostSteps
 pub mod HostReady
-pub mod FedLog
-pub mod FedPlaces
-pub mod MetPasses
-pub mod FedLinks
-pub mod FedClosed

@@ -7,6 +7,7 @@ use Rattle.std.proofs.lemmas.List.Elements.{All-append, All-cons, All-from_recur
 use Rattle.spelling.proofs.Lists.{All-right}
 use Rattle.willow_outside.specs.Facts.{DoorFacts}
 use Rattle.link_host.specs.Visits as hosts
+use Rattle.link_host.specs.Hosted.{IsHosted}
 use Rattle.link_host.specs.declared.hosting.Hosted.{Hosted}
 use Rattle.auth_entry.specs.Authorised.{AuthorisedValue}
 use Rattle.lms_core.specs.Use.{peer_rules}
@@ -17,12 +18,11 @@ use Rattle.sync_link.specs.Plans.{own_hello}
 use Rattle.sync_link.specs.Run.{Answer}
 use Rattle.peer_make.specs.KeySigners.{left_of}
 use Rattle.peer_make.specs.declared.key_signer.KeySigner.{KeySigner}
-use Rattle.peer_run.specs.Accepting.{AreReceived}
 use Rattle.peer_run.specs.Hall.{DoesVisit, MayVisit}
 use Rattle.peer_run.specs.Preparing.{nonce_of}
-use Rattle.peer_run.specs.declared.hall.Guest.{Guest}
-use Rattle.peer_run.specs.declared.hall.Hall.{Hall}
-use Rattle.peer_run.specs.declared.hall.Parting.{Parting}
+use Rattle.peer_run.specs.declared.hosting.Guest.{Guest}
+use Rattle.peer_run.specs.declared.hosting.Hall.{Hall}
+use Rattle.peer_run.specs.declared.hosting.Parting.{Parting}
 use Rattle.peer_run.proofs.SharedLog.{never_empty, heads, tails}
 use Rattle.peer_run.proofs.Guests.{Passes, Hosting, passes_of, signers_of, nonces_of, jobs_of, partings_of, handed_on}
 
@@ -124,7 +124,7 @@ module _ (hall : Hall) where
   guests_stay [] each = tt
   guests_stay (g ∷ gs) each = (each.0, guests_stay gs each.1)
 
-  module _ (guests : List Guest) (old new : DoorFacts) (hosted : Hosted Guest Parting) (did : AreReceived hall guests old new hosted) where
+  module _ (guests : List Guest) (old new : DoorFacts) (hosted : Hosted Guest Parting) (did : IsHosted (DoesVisit hall) guests old new hosted) where
     pub partings_of_cell : All (λ (p : Parting). IsPassOf hall.cell p.pass) hosted.partings.items
     partings_of_cell =
         subst (All (λ (p : Parting). IsPassOf hall.cell p.pass)) (sym did.partings_are)
@@ -133,7 +133,7 @@ module _ (hall : Hall) where
     pub unused_of_cell : (own : PassValue AuthorisedValue) (all : Passes) → own ∷ passes_of guests ≡ all → All (IsPassOf hall.cell) all → All (λ (g : Guest). IsPassOf hall.cell g.pass) hosted.unused.items
     unused_of_cell own all passes of_cell =
         let each = recursion_from_All (IsPassOf hall.cell) (own ∷ passes_of guests) (subst (All (IsPassOf hall.cell)) (sym passes) of_cell) in
-        let whole = subst (AllByRecursion (λ (g : Guest). IsPassOf hall.cell g.pass)) did.guests_are (guests_stay guests each.1) in
+        let whole = subst (AllByRecursion (λ (g : Guest). IsPassOf hall.cell g.pass)) did.jobs_are (guests_stay guests each.1) in
         All-from_recursion (λ (g : Guest). IsPassOf hall.cell g.pass) hosted.unused.items (All-right (λ (g : Guest). IsPassOf hall.cell g.pass) (jobs_of did.visits) hosted.unused.items whole)
 
     as_many_partings : (visits : List Hosting) → length (jobs_of visits) ≡ length (partings_of visits)
@@ -141,7 +141,7 @@ module _ (hall : Hall) where
     as_many_partings (v ∷ vs) = ap suc (as_many_partings vs)
 
     pub all_back : length hosted.partings.items + length hosted.unused.items ≡ length guests
-    all_back = omega (arith, ap length did.guests_are, ap length did.partings_are, as_many_partings did.visits, length-append (jobs_of did.visits) hosted.unused.items)
+    all_back = omega (arith, ap length did.jobs_are, ap length did.partings_are, as_many_partings did.visits, length-append (jobs_of did.visits) hosted.unused.items)
 
 -- ---- all passes, and how the sessions ended
 

@@ -48,10 +48,6 @@ use Rattle.peer_stage.specs.declared.outcome.Stop.{Stop}
 use Rattle.peer_stage.specs.declared.outcome.Stop.TheVariants as stop
 use Rattle.peer_stage.proofs.Ends.{accept_few, put_few}
 use Rattle.peer_words.specs.Alike.{AreAlike, AreSameSigner, AreSameTextIfAny}
-use Rattle.mc_cap.specs.Grant.{granted}
-use Rattle.peer_words.specs.Areas.{completed}
-use Rattle.sub_hub.specs.Hubs.{HubValue}
-use Rattle.willow_area.specs.declared.area.Area.{Area}
 use Rattle.peer_words.specs.Commands.{IsWords}
 use Rattle.peer_words.specs.declared.command.AreaWords.{AreaWords}
 use Rattle.peer_words.specs.declared.command.Command.{Command}
@@ -62,7 +58,6 @@ use Rattle.peer_run.specs.Calling.{IsUnasked}
 use Rattle.peer_run.specs.Closing.{image_of, put_answer}
 use Rattle.peer_run.specs.Deeds.{deed_of}
 use Rattle.peer_run.specs.Greeting.{own_hello, own_refusal}
-use Rattle.peer_run.specs.Hearing.{HearsSessions}
 use Rattle.peer_run.specs.HostHeadline.{AnswersOk, HasHosted, HostPromises, IsUnhosted, IsWholeHost, KeepsButKeys, PutsOrFails, ServeHeadline, SyncHeadline}
 use Rattle.peer_run.specs.Hosting.{DoesHost, HostsLinks, PutsImage, calling_words, host_rules, plans_of, own_role, serving_words, way_of}
 use Rattle.peer_run.specs.PairDeeds.{HasImage, HoldsCapability}
@@ -76,9 +71,7 @@ use Rattle.peer_run.specs.declared.sessions.HostWords.{HostWords}
 use Rattle.peer_run.proofs.AllNew.{authorised_new}
 use Rattle.peer_run.proofs.Ends.{memory_end, own_seven, own_status}
 use Rattle.peer_run.proofs.NeverStops.{Never, then_never}
-use Rattle.peer_run.proofs.HeardBehind.{heard_front}
 use Rattle.peer_run.proofs.HostAbove.{has_visited}
-use Rattle.peer_run.proofs.StoredCounts.{log_counts}
 use Rattle.peer_run.proofs.HostBegun.{HasHouse, has_house, plan_asks, keeps_as, opening_keeps, opening_never, reserved_keeps, signers_as}
 use Rattle.peer_run.proofs.HostDeeds.{opening_keeps_door, status_is}
 use Rattle.peer_run.proofs.HostParts.{accepted_at, first_at, gave, put_at, session_at}
@@ -93,7 +86,7 @@ puts_as name false n rows h h' puts = puts
 module _ (words : HostWords) (run : Run) (s : house.House) (began : World) (draws : Vec (List ℕ)) (drawn : World) (t : Told) (told : Hosted)
     (opened : HasHouse (own_role words.awaited) words.image words.cap words.key words.links words.area words.limits run.old began s)
     (drew : OnNoise (DrawsAll words.links) began drawn (Ok draws))
-    (hosts : HostsLinks (way_of words) s.plan.ask (plans_of s) s.signers.items draws.items s.opening.rows (string_bytes words.image) drawn (none_told s.opening.state s.opening.first) (before_report run) (Ok t))
+    (hosts : HostsLinks (way_of words) (plans_of s) s.signers.items draws.items s.opening.rows (string_bytes words.image) drawn (none_told s.opening.state s.opening.first) (before_report run) (Ok t))
     (is_told : TellsJust words.awaited t told) where
   abbrev n : List ℕ
   n = opened.front.given.namespace
@@ -173,24 +166,6 @@ module _ (words : HostWords) (run : Run) (s : house.House) (began : World) (draw
       puts_as (string_bytes words.image) hosts.rest.put n (live (log_rows so_far.state.log)) began.shelf run.new.shelf
       (subst (λ (m : List ℕ). PutsBytes (string_bytes words.image) (image m (live (log_rows so_far.state.log))) began.shelf run.new.shelf (put_answer hosts.rest.put)) namespace_is here)
 
-  -- ---- those who watch
-
-  area_is : s.plan.ask ≡ completed words.area (granted given.cap)
-  area_is = ap (λ (plan : SessionPlan PeerScheme). plan.ask) (plan_asks (own_role words.awaited) words.image words.cap words.key words.links words.area words.limits run.old began s opened)
-
-  hub_before : drawn.hub ≡ run.old.hub
-  hub_before = ap (λ (w : World). w.hub) drew.others ∙ ap (λ (w : World). w.hub) opened.others
-
-  hub_after : hosts.between.hub ≡ run.new.hub
-  hub_after = sym (ap (λ (w : World). w.hub) hosts.rest.does.others)
-
-  told_watchers : HearsSessions words.awaited (completed words.area (granted given.cap)) n opening so_far.state.log run.old.hub run.new.hub so_far.left
-  told_watchers =
-      subst (λ (u : HubValue). HearsSessions words.awaited (completed words.area (granted given.cap)) n opening so_far.state.log run.old.hub u so_far.left) hub_after
-      (subst (λ (u : HubValue). HearsSessions words.awaited (completed words.area (granted given.cap)) n opening so_far.state.log u hosts.between.hub so_far.left) hub_before
-      (subst (λ (m : List ℕ). HearsSessions words.awaited (completed words.area (granted given.cap)) m opening so_far.state.log drawn.hub hosts.between.hub so_far.left) opened.front.opened.of_namespace
-      (subst (λ (area : Area). HearsSessions words.awaited area s.opening.state.namespace opening so_far.state.log drawn.hub hosts.between.hub so_far.left) area_is hosts.given.heard)))
-
   -- ---- what is told
 
   abbrev first_told : Option RefusedRow
@@ -203,8 +178,8 @@ module _ (words : HostWords) (run : Run) (s : house.House) (began : World) (draw
       ∙ ap (λ (k : ℕ). or_else (first_refused n rows) (first_of_links k so_far.answers)) opened.front.opened.counted
 
   -- whatever was told before the put was that all is well
-  told_put : record { answers = so_far.answers; all_came = so_far.all_came; first = so_far.first; left = so_far.left; put = hosts.rest.put; state = so_far.state } ≡ t
-  told_put = ap (λ (put : Bool). record { answers = so_far.answers; all_came = so_far.all_came; first = so_far.first; left = so_far.left; put = put; state = so_far.state }) (by so_far.put hosts.rest.put hosts.given.put_is) ∙ sym hosts.rest.told_is where
+  told_put : record { answers = so_far.answers; all_came = so_far.all_came; first = so_far.first; put = hosts.rest.put; state = so_far.state } ≡ t
+  told_put = ap (λ (put : Bool). record { answers = so_far.answers; all_came = so_far.all_came; first = so_far.first; put = put; state = so_far.state }) (by so_far.put hosts.rest.put hosts.given.put_is) ∙ sym hosts.rest.told_is where
     by : (before put : Bool) → before ≡ true → put ≡ (before && put)
     by true put is = refl
     by false put is = absurd cc
@@ -224,7 +199,7 @@ module _ (words : HostWords) (run : Run) (s : house.House) (began : World) (draw
         are_draws = drew.does.1;
         drawn = all_draws;
         as_many = (as_many_signers, drew.does.0);
-        told = record { answers = so_far.answers; all_came = so_far.all_came; first = so_far.first; left = so_far.left; put = hosts.rest.put; state = so_far.state };
+        told = record { answers = so_far.answers; all_came = so_far.all_came; first = so_far.first; put = hosts.rest.put; state = so_far.state };
         visits = visits;
         are_back = are_back;
         accepts = accepts;
@@ -235,10 +210,6 @@ module _ (words : HostWords) (run : Run) (s : house.House) (began : World) (draw
         is_log = subst (λ (m : List ℕ). IsLog {R = AuthorisedValue} entry_row m so_far.state.log) opened.front.opened.of_namespace hosts.given.does.is_log;
         are_visits = are_visits;
         visited = λ p number signer draw visit of_visit. has_visited hosts.given.does.is_log.few of_visit;
-        told_watchers = told_watchers;
-        front = λ served. heard_front words.awaited (completed words.area (granted given.cap)) n opening so_far.state.log run.old.hub run.new.hub so_far.left served told_watchers;
-        front_counts = λ served done. heard_front words.awaited (completed words.area (granted given.cap)) n opening so_far.state.log run.old.hub run.new.hub so_far.left served told_watchers
-            ∙ log_counts words.awaited opening so_far.state.log (plans_of s) s.signers.items draws.items visits so_far.answers served hosts.given.does.shared hosts.given.does.are_visits hosts.given.does.ends done;
         is_put = is_put;
         answers_are = hosts.given.does.ends;
         first_is = first_is;
@@ -398,7 +369,7 @@ module _ (words : HostWords) (run : Run) where
   finished : (d : Done) → DoesHost words run.old after (Ok d) → Keeps words run (Ok d)
   unfolding has_hosted
   finished d p = by d p.rest.rest.0 p.rest.rest.1 p.rest.rest.2 where
-    by : (d : Done) (t : Told) → HostsLinks (way_of words) p.value.plan.ask (plans_of p.value) p.value.signers.items p.rest.value.items p.value.opening.rows (string_bytes words.image) p.rest.between (none_told p.value.opening.state p.value.opening.first) after (Ok t)
+    by : (d : Done) (t : Told) → HostsLinks (way_of words) (plans_of p.value) p.value.signers.items p.rest.value.items p.value.opening.rows (string_bytes words.image) p.rest.between (none_told p.value.opening.state p.value.opening.first) after (Ok t)
         → TellsHosted words.awaited t d → Keeps words run (Ok d)
     by (done.Hosted told) t hosts is_told =
         let opened = has_house role words.image words.cap words.key words.links words.area words.limits run.old p.between p.value p.given in
@@ -467,11 +438,6 @@ hosted_as words other run same c =
           (subst (λ (limits : Interest). AreVisits (IsVisit c.opening c.told.state.log (party_of (own_role other.awaited) words.area limits c.given)) (first_number other.awaited) c.signers c.draws c.visits) (sym same.limits)
           (subst (λ (area : AreaWords). AreVisits (IsVisit c.opening c.told.state.log (party_of (own_role other.awaited) area other.limits c.given)) (first_number other.awaited) c.signers c.draws c.visits) (sym same.area) c.are_visits));
       visited = c.visited;
-      told_watchers =
-          subst (λ (awaited : Bool). HearsSessions awaited (completed words.area (granted c.given.cap)) c.given.namespace c.opening c.told.state.log run.old.hub run.new.hub c.told.left) (sym same.awaited)
-          (subst (λ (area : AreaWords). HearsSessions other.awaited (completed area (granted c.given.cap)) c.given.namespace c.opening c.told.state.log run.old.hub run.new.hub c.told.left) (sym same.area) c.told_watchers);
-      front = λ served. c.front (sym same.awaited ∙ served);
-      front_counts = λ served. c.front_counts (sym same.awaited ∙ served);
       is_put = subst (λ (name : List ℕ). PutsOrFails name c.told.put c.given.namespace (live (log_rows c.told.state.log)) c.reserved run.new.shelf) (sym same.image) c.is_put;
       answers_are = c.answers_are;
       first_is = c.first_is;

@@ -25,9 +25,9 @@ use Rattle.peer_stage.specs.declared.outcome.Stop.TheVariants as stop
 use Rattle.peer_run.specs.Calling.{IsUnasked}
 use Rattle.peer_run.specs.Preparing.{nonce_of}
 use Rattle.peer_run.specs.declared.hosting.Attended.{Attended}
-use Rattle.peer_run.specs.declared.hall.Guest.{Guest}
-use Rattle.peer_run.specs.declared.hall.Hall.{Hall}
-use Rattle.peer_run.specs.declared.hall.Parting.{Parting}
+use Rattle.peer_run.specs.declared.hosting.Guest.{Guest}
+use Rattle.peer_run.specs.declared.hosting.Hall.{Hall}
+use Rattle.peer_run.specs.declared.hosting.Parting.{Parting}
 use Rattle.peer_run.specs.declared.hosting.Room.{Room}
 
 -- The hall has this plan, and a cell of this log with one pass more than there are signers. The own pass is the first of these,

@@ -3,9 +3,8 @@
 -- end of a link whose session was done said what the link gave, the store lies at or above the join of what that session began
 -- with and of that one's rows in the area that both may read. What was written on a link is a function of the rows with which
 -- its session began in that area and of what was read. Each session told rows of the whole log as it stood at a turn of its own,
--- and only to one that may read them. Each of those who watch a server hears of just the rows of its area that came over the links.
-use Rattle.std.specs.Prelude.{◌≡◌, ◌≢◌, ◌⊎◌, ℕ, ◌+◌, ◌≤◌, Bool, true, false, List, length, map, All, None, IsNone, IsSome, Ok, Err}
-use Rattle.std.specs.List.{sum_by}
+-- and only to one that may read them.
+use Rattle.std.specs.Prelude.{◌≡◌, ◌≢◌, ◌⊎◌, ℕ, ◌≤◌, Bool, true, false, List, length, map, All, None, IsNone, IsSome, Ok, Err}
 use Rattle.std.specs.String.{string_bytes}
 use Rattle.std.specs.declared.string.String.{String}
 use Rattle.std.specs.declared.alloc.Global.{Global}
@@ -38,15 +37,12 @@ use Rattle.peer_rows.specs.Logged.{authorised_rows, first_refused}
 use Rattle.peer_stage.specs.Shelves.{IsPut}
 use Rattle.peer_stage.specs.declared.outcome.Done.TheVariants as done
 use Rattle.peer_stage.specs.declared.outcome.Hosted.{Hosted}
-use Rattle.mc_cap.specs.Grant.{granted}
-use Rattle.peer_words.specs.Areas.{completed}
 use Rattle.peer_words.specs.Commands.{IsWords}
 use Rattle.peer_words.specs.declared.command.AreaWords.{AreaWords}
 use Rattle.peer_words.specs.declared.command.Command.TheVariants as cmd
 use Rattle.peer_words.specs.declared.command.SignerWord.{SignerWord}
 use Rattle.peer_words.specs.declared.command.SignerWord.TheVariants.{OpenKey, LmsFile}
 use Rattle.peer_run.specs.Calling.{IsUnasked}
-use Rattle.peer_run.specs.Hearing.{HearsSessions}
 use Rattle.peer_run.specs.Hosting.{calling_words, serving_words, own_role}
 use Rattle.peer_run.specs.Run.{Run}
 use Rattle.peer_run.specs.SideGiven.{SideGiven, AreSideGiven, party_of}
@@ -60,11 +56,6 @@ use Rattle.peer_run.specs.declared.sessions.HostWords.{HostWords}
 abbrev pub AnswersOk : Answer → Type 0
 AnswersOk (Ok report) = Unit {0}
 AnswersOk (Err end) = ⊥
-
--- how many rows its line tells as stored; of another end none
-abbrev pub stored_told : Answer → ℕ
-stored_told (Ok report) = report.stored
-stored_told (Err end) = 0
 
 -- where it answers so
 abbrev pub WhereOk : Answer → Type 0 → Type 0
@@ -149,12 +140,6 @@ pub record HasHosted (words : HostWords) (run : Run) : Type 0 where
   -- the session of each link, and what it makes of the store
   pub are_visits : AreVisits (IsVisit opening told.state.log (party_of (own_role words.awaited) words.area words.limits given)) (first_number words.awaited) signers draws visits
   pub visited : (p : List ℕ → List ℕ → Party) (number : ℕ) (signer : KeySigner) (draw : List ℕ) (visit : Visit) (run : IsVisit opening told.state.log p number signer draw visit) → HasVisited run
-  -- a server told each of those who watch of just the rows that came into the log, for the area that it asks for, up to the log's
-  -- end; a call told nobody
-  pub told_watchers : HearsSessions words.awaited (completed words.area (granted given.cap)) given.namespace opening told.state.log run.old.hub run.new.hub told.left
-  pub front : words.awaited ≡ true → run.new.hub.front ≡ length told.state.log
-  -- these are the opening rows and, where each session was done, as many as their lines tell as stored
-  pub front_counts : words.awaited ≡ true → All AnswersOk told.answers → run.new.hub.front ≡ length opening + sum_by stored_told told.answers
   -- the image of what is live of the log was put, or could not be
   pub is_put : PutsOrFails (string_bytes words.image) told.put given.namespace (live (log_rows told.state.log)) reserved run.new.shelf
   -- how each session ended, and the first row that is not authorised, of the image and then of those that came

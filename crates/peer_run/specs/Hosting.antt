@@ -13,7 +13,6 @@ use Rattle.sync_msg.specs.declared.role.Role.{Role}
 use Rattle.sync_msg.specs.declared.role.Role.TheVariants.{Caller, Answerer}
 use Rattle.sync_link.specs.Plans.{planned}
 use Rattle.sync_link.specs.Sessions.{Party}
-use Rattle.willow_area.specs.declared.area.Area.{Area}
 use Rattle.call_rules.specs.Parts.{Rules, Part, Behind}
 use Rattle.peer_words.specs.declared.command.AreaWords.{AreaWords}
 use Rattle.peer_words.specs.declared.command.SignerWord.{SignerWord}
@@ -28,7 +27,6 @@ use Rattle.peer_stage.specs.declared.outcome.Done.{Done}
 use Rattle.peer_stage.specs.declared.outcome.Stop.{Stop}
 use Rattle.peer_stage.specs.declared.outcome.Stop.TheVariants as stop
 use Rattle.peer_run.specs.Closing.{image_of, put_answer}
-use Rattle.peer_run.specs.Hearing.{HearsSessions, StopsHearing}
 use Rattle.peer_run.specs.Meet.{Yields}
 use Rattle.peer_run.specs.Preparing.{Prepares, nonce_of, plan_of}
 use Rattle.peer_run.specs.Telling.{Told, AreNotForWant, TellsHosted, none_told, first_of_links, statuses}
@@ -90,28 +88,25 @@ host_rules = record { goes_on = GoesOn; unfailed = Unfailed; reads = HostReads; 
 
 -- ---- the sessions
 
--- Sessions were run over the links of a way, before which none was told. Those who watch this area heard of what came.
-pub record HasAttended (way : Way) (area : Area) (p : List ℕ → List ℕ → Party) (signers : List KeySigner) (draws : List (List ℕ)) (rows : ℕ) (old : World) (told : Told) (new : World) (t : Told) : Type 0 where
+-- Sessions were run over the links of a way, before which none was told.
+pub record HasAttended (way : Way) (p : List ℕ → List ℕ → Party) (signers : List KeySigner) (draws : List (List ℕ)) (rows : ℕ) (old : World) (told : Told) (new : World) (t : Told) : Type 0 where
   pub none_yet : told.answers ≡ []
   pub all_came_yet : told.all_came ≡ true
   pub does : AreAttended way p signers draws told.state old.door new.door t.answers t.all_came t.state
   pub first_is : t.first ≡ or_else told.first (first_of_links rows t.answers)
   pub put_is : t.put ≡ told.put
-  pub heard : HearsSessions way.awaited area told.state.namespace told.state.log t.state.log old.hub new.hub t.left
-  pub others : new ≡ record old { door = new.door; hub = new.hub }
+  pub others : new ≡ record old { door = new.door }
 
--- Sessions are run over the links of a way, behind an image of so many rows. Only the door is asked, and in a server those who
--- watch this area are told.
-abbrev pub RunsSessions : Way → Area → (List ℕ → List ℕ → Party) → List KeySigner → List (List ℕ) → ℕ → Part World Told Stop
-RunsSessions way area p signers draws rows old told new (Ok t) = HasAttended way area p signers draws rows old told new t
-RunsSessions way area p signers draws rows old told new (Err e) =
-    StopsAttending way old.door new.door e × (new ≡ record old { door = new.door; hub = new.hub }) × StopsHearing way.awaited area told.state.namespace told.state.log old.hub new.hub e
+-- Sessions are run over the links of a way, behind an image of so many rows.
+abbrev pub RunsSessions : Way → (List ℕ → List ℕ → Party) → List KeySigner → List (List ℕ) → ℕ → Part World Told Stop
+RunsSessions way p signers draws rows old told new (Ok t) = HasAttended way p signers draws rows old told new t
+RunsSessions way p signers draws rows old told new (Err e) = StopsAttending way old.door new.door e × (new ≡ record old { door = new.door })
 
 -- ---- the image
 
 -- what is told of a put, behind what was told
 abbrev pub with_put : Told → Bool → Told
-with_put told put = record { answers = told.answers; all_came = told.all_came; first = told.first; left = told.left; put = told.put && put; state = told.state }
+with_put told put = record { answers = told.answers; all_came = told.all_came; first = told.first; put = told.put && put; state = told.state }
 
 -- The image was put, or writing it failed, which is told; memory was wanting in none of the sessions.
 pub record HasPut (name : List ℕ) (old : World) (told : Told) (new : World) (t : Told) : Type 0 where
@@ -128,8 +123,8 @@ PutsImage name old told new (Err e) = ⊥
 
 -- ---- as a command
 
-abbrev pub HostsLinks : Way → Area → (List ℕ → List ℕ → Party) → List KeySigner → List (List ℕ) → ℕ → List ℕ → Part World Told Stop
-HostsLinks way area p signers draws rows name = Behind (RunsSessions way area p signers draws rows) (PutsImage name)
+abbrev pub HostsLinks : Way → (List ℕ → List ℕ → Party) → List KeySigner → List (List ℕ) → ℕ → List ℕ → Part World Told Stop
+HostsLinks way p signers draws rows name = Behind (RunsSessions way p signers draws rows) (PutsImage name)
 
 -- it ends with what tells what is told, or with the stop
 abbrev pub Tells : Part World Told Stop → Told → (Told → Done → Type 0) → Step Done
@@ -148,9 +143,9 @@ abbrev pub plans_of : house.House → List ℕ → List ℕ → Party
 plans_of s draw = planned peer_rules s.opening.state.namespace s.plan (nonce_of draw)
 
 -- It gets the image and the capability, and reserves what signs and draws, for each link that is to come. It runs a session over
--- each, and puts the image of what is live behind all of them. A server tells those who watch the area that it asks for.
+-- each, and puts the image of what is live behind all of them.
 abbrev pub DoesHost : HostWords → Step Done
 DoesHost words =
     Then (OpensHouse (own_role words.awaited) words.image words.cap words.key words.links words.area words.limits) (λ s.
     Then (OnNoise (DrawsAll words.links)) (λ draws.
-    Tells (HostsLinks (way_of words) s.plan.ask (plans_of s) s.signers.items draws.items s.opening.rows (string_bytes words.image)) (none_told s.opening.state s.opening.first) (TellsHosted words.awaited)))
+    Tells (HostsLinks (way_of words) (plans_of s) s.signers.items draws.items s.opening.rows (string_bytes words.image)) (none_told s.opening.state s.opening.first) (TellsHosted words.awaited)))

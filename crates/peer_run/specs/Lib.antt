@@ -12,14 +12,12 @@ pub mod Preparing
 pub mod Closing
 pub mod SideGiven
 pub mod Calling
-pub mod Hearing
 pub mod Visiting
 pub mod Telling
 pub mod Hosting
 pub mod Answered
 pub mod HostDeed
 pub mod Hall
-pub mod Accepting
 pub mod Deeds
 pub mod Run
 pub mod Locals
@@ -29,7 +27,3 @@ pub mod WatchHeadline
 pub mod Ending
 pub mod HostHeadline
 pub mod Promises
-pub mod Following
-pub mod Feeding
-pub mod MetPasses
-pub mod Tails

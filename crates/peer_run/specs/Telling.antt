@@ -42,36 +42,34 @@ AreNotForWant answers = All (λ answer. IsForWant answer → ⊥) answers
 
 -- ---- of all of them
 
--- how the sessions ended, whether all links came, the first refused row, how many of those who watch left, whether the image was
--- put, and the log so far
+-- how the sessions ended, whether all links came, the first refused row, whether the image was put, and the log so far
 pub record Told : Type 0 where
   pub answers : List Answer
   pub all_came : Bool
   pub first : Option RefusedRow
-  pub left : ℕ
   pub put : Bool
   pub state : StateValue AuthorisedValue
 
 -- before any link: this is the log of the image, of which this is the first refused row
 abbrev pub none_told : StateValue AuthorisedValue → Option RefusedRow → Told
-none_told state first = record { answers = []; all_came = true; first = first; left = 0; put = true; state = state }
+none_told state first = record { answers = []; all_came = true; first = first; put = true; state = state }
 
 -- behind the sessions over all links, which began behind an image of so many rows
 abbrev pub told_behind : ℕ → Option RefusedRow → Attended → Told
-told_behind rows first x = record { answers = x.ends.items; all_came = x.all_came; first = or_else first (first_of_links rows x.ends.items); left = x.left; put = true; state = x.state }
+told_behind rows first x = record { answers = x.ends.items; all_came = x.all_came; first = or_else first (first_of_links rows x.ends.items); put = true; state = x.state }
 
 -- the statuses of what was met
 abbrev pub statuses : Told → List ℕ
 statuses t = map session_status (map told_of t.answers) ++ (accept_status t.all_came ∷ (put_status t.put ∷ (first_status t.first ∷ [])))
 
--- The end of a command tells just this: nothing is followed behind a session, and no log is kept.
+-- The end of a command tells just this: nothing is followed behind a session, nobody watches, and no log is kept.
 pub record TellsJust (awaited : Bool) (t : Told) (s : Hosted) : Type 0 where
   pub awaited_is : s.awaited ≡ awaited
   pub sessions : s.sessions.items ≡ map told_of t.answers
   pub none_followed : s.tails.items ≡ []
   pub accepted_is : s.all_came ≡ t.all_came
   pub first_is : s.first ≡ t.first
-  pub left_is : s.left ≡ t.left
+  pub nobody_left : s.left ≡ 0
   pub no_log : s.kept ≡ None
   pub put_is : s.put ≡ t.put
 

@@ -6,7 +6,6 @@ use Rattle.willow_outside.specs.Counts.{HasRisen}
 use Rattle.willow_outside.specs.Facts.{LinkFacts, DoorFacts}
 use Rattle.willow_outside.specs.Links.{IsFresh, list_with}
 use Rattle.link_host.specs.Hosted.{counted_on, list_with_all}
-use Rattle.willow_area.specs.declared.area.Area.{Area}
 use Rattle.willow_entry.specs.declared.row.LogRow.{LogRow}
 use Rattle.auth_entry.specs.Authorised.{AuthorisedValue}
 use Rattle.log_rule.specs.Views.{rows_of_pass, AreOf}
@@ -16,14 +15,12 @@ use Rattle.auth_entry.specs.Rows.{entry_row}
 use Rattle.sync_link.specs.Ran.{Ran}
 use Rattle.sync_link.specs.Run.{Answer, Runs}
 use Rattle.sync_link.specs.Sessions.{Party}
-use Rattle.sub_hub.specs.Hubs.{HubValue}
 use Rattle.call_rules.specs.Visits.{AreVisits}
 use Rattle.peer_make.specs.KeySigners.{gives_of}
 use Rattle.peer_make.specs.declared.key_signer.KeySigner.{KeySigner}
 use Rattle.peer_stage.specs.declared.outcome.Stop.{Stop}
 use Rattle.peer_stage.specs.declared.outcome.Stop.TheVariants as stop
 use Rattle.peer_run.specs.Calling.{IsUnasked}
-use Rattle.peer_run.specs.Hearing.{HearsSessions, StopsHearing}
 use Rattle.peer_run.specs.declared.hosting.Attended.{Attended}
 
 -- ---- how links come
@@ -146,8 +143,7 @@ StopsAttending way old new stop.ReadFault = IsUnasked old new × HasRisen old.fa
 StopsAttending way old new stop.NoMemory = IsAskedAtMost way old new × (new.faults ≡ old.faults)
 StopsAttending way old new e = ⊥
 
--- how sessions are run over the links of a way, and what those who watch this area are told of them
-abbrev pub Attends : Way → Area → (List ℕ → List ℕ → Party) → List KeySigner → List (List ℕ) → StateValue AuthorisedValue → DoorFacts → DoorFacts → HubValue → HubValue → Result Attended Stop → Type 0
-Attends way area p signers draws opening old new hub hub' (Ok x) =
-    AreAttended way p signers draws opening old new x.ends.items x.all_came x.state × HearsSessions way.awaited area opening.namespace opening.log x.state.log hub hub' x.left
-Attends way area p signers draws opening old new hub hub' (Err e) = StopsAttending way old new e × StopsHearing way.awaited area opening.namespace opening.log hub hub' e
+-- how sessions are run over the links of a way
+abbrev pub Attends : Way → (List ℕ → List ℕ → Party) → List KeySigner → List (List ℕ) → StateValue AuthorisedValue → DoorFacts → DoorFacts → Result Attended Stop → Type 0
+Attends way p signers draws opening old new (Ok x) = AreAttended way p signers draws opening old new x.ends.items x.all_came x.state
+Attends way p signers draws opening old new (Err e) = StopsAttending way old new e

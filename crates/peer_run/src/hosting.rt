@@ -1,6 +1,6 @@
 //! Sessions with those who come to a place.
 
-ghost use Rattle.std.specs.Prelude.{◌≡◌, ◌≤◌, ◌<◌, ◌+◌, true, List, ℕ, ◌∷◌, ◌++◌, None, Some, All, IfOk, IfErr, OnErr, [], length, map, vec_len, vec_capacity};
+ghost use Rattle.std.specs.Prelude.{◌≡◌, ◌≤◌, ◌<◌, ◌+◌, true, List, ℕ, ◌∷◌, ◌++◌, None, Some, All, IfOk, OnErr, [], length, map, vec_len, vec_capacity};
 ghost use Rattle.log_rule.specs.Views.{AreOf};
 ghost use Rattle.lms_core.specs.Use.{peer_rules};
 ghost use Rattle.ns_cell.specs.declared.limits.TheConstants.{PASS_LIMIT};
@@ -9,20 +9,15 @@ ghost use Rattle.sync_hello.specs.Checked.{hello_refusal};
 ghost use Rattle.sync_core.specs.SyncRules.{IsVersion};
 ghost use Rattle.sync_link.specs.Plans.{own_hello, planned};
 ghost use Rattle.ns_cell.specs.Passes.{IsPassOf};
-ghost use Rattle.sub_hub.specs.Hubs.{IsPumped, count_left};
-ghost use Rattle.sub_hub.specs.Seen.{hub_seen};
 ghost use Rattle.willow_outside.specs.declared.fault.Fault.TheVariants as fault;
 ghost use Rattle.peer_run.specs.Hall.{IsAccepted, IsRoom, Leaves, Listens};
-ghost use Rattle.peer_run.specs.Hearing.{rows_behind};
 ghost use Rattle.peer_run.specs.Visiting.{Attends};
 ghost use Rattle.peer_run.specs.Preparing.{nonce_of};
 
-use crate::accepting::{Received, receive};
-use crate::hall::{Guest, Hall, Parting};
-use crate::hearing::tell_rest;
+use crate::calling::talk;
 use crate::preparing::nonce_of;
 use auth_entry::AuthorisedEntry;
-use link_host::{Hosted, Workers};
+use link_host::{Host, Hosted, host_links};
 use lms_core::PeerScheme;
 use ns_cell::{NsCell, Pass};
 use ns_state::NsState;
@@ -32,9 +27,25 @@ use spelling::NoMemory;
 use std::alloc::Global;
 use std::sync::Wait;
 use std::thread::Threads;
-use sub_hub::Hub;
 use sync_link::{SessionEnd, SessionPlan, SessionReport};
-use willow_outside::{Door, Fault};
+use willow_outside::{Door, Fault, Link};
+use willow_path::NamespaceKey;
+
+/// What all sessions of a server share: the cell of its rows, and what it says of itself.
+#[derive(Drop)]
+struct Hall {
+    namespace: NamespaceKey,
+    cell: NsCell<AuthorisedEntry<PeerScheme>>,
+    plan: SessionPlan<PeerScheme>,
+}
+
+/// What one session has of its own: its pass, its signer, and its nonce.
+#[derive(Drop)]
+struct Guest {
+    pass: Pass<AuthorisedEntry<PeerScheme>>,
+    signer: KeySigner,
+    nonce: [u8; 16],
+}
 
 /// What stands ready before the first link: what all sessions share, the pass that stays behind, a guest for each session, and
 /// the lists that are filled behind all visits. So nothing that came is lost for want of their memory.
@@ -47,20 +58,63 @@ struct Room {
     ends: Vec<Result<SessionReport, SessionEnd>>,
 }
 
-/// How the sessions ended, in the order in which the links came; whether as many came as were asked for; the log behind all
-/// sessions; and how many of those who watch left.
+/// What a session hands on: its pass, and how it ended.
+#[derive(Drop)]
+struct Parting {
+    pass: Pass<AuthorisedEntry<PeerScheme>>,
+    end: Result<SessionReport, SessionEnd>,
+}
+
+/// How the sessions ended, in the order in which the links came; whether as many came as were asked for; and the log behind
+/// all sessions.
 #[derive(Drop)]
 pub(crate) struct Attended {
     pub(crate) ends: Vec<Result<SessionReport, SessionEnd>>,
     pub(crate) all_came: bool,
     pub(crate) state: NsState<AuthorisedEntry<PeerScheme>>,
-    pub(crate) left: u32,
+}
+
+impl<L: Link + Send> Host<L> for Hall {
+    type Job = Guest;
+
+    type Parting = Parting;
+
+    ghost use Rattle.peer_run.specs.Hall.{DoesVisit, MayVisit};
+
+    ghost may = { MayVisit };
+
+    ghost does = { DoesVisit };
+
+    fn visit<R: Wait + Threads + Sync>(
+        &self,
+        rt: &R,
+        alloc: Global,
+        job: Guest,
+        link: &mut L,
+    ) -> Parting {
+        let Guest {
+            mut pass,
+            signer,
+            nonce,
+        } = job;
+        let end = talk(
+            rt,
+            alloc,
+            self.namespace,
+            &self.cell,
+            &mut pass,
+            &self.plan,
+            signer,
+            nonce,
+            link,
+        );
+        Parting { pass, end }
+    }
 }
 
 /// Listens at the place, and runs a session over each link that comes, on a thread of its own where one starts: up to as many
 /// as there are signers, each with a draw. All are joined before the links are given back, in the order in which they came.
-/// The rows that come are stored in the one log. Those who watch the area that is asked for are told of them, behind each link
-/// that is accepted and once more behind all sessions.
+/// The rows that come are stored in the one log.
 pub(crate) fn attend<R: Wait + Threads + Sync, D: Door>(
     rt: &R,
     alloc: Global,
@@ -70,7 +124,6 @@ pub(crate) fn attend<R: Wait + Threads + Sync, D: Door>(
     signers: Vec<KeySigner>,
     draws: &[[u8; 32]],
     door: &mut D,
-    hub: &mut Hub,
 ) -> Result<Attended, Stop>
     requires opening { AreOf 0 state.log }
     requires hello { (draw : List ℕ) → hello_refusal peer_rules state.namespace (own_hello plan (nonce_of draw)) ≡ None }
@@ -78,15 +131,10 @@ pub(crate) fn attend<R: Wait + Threads + Sync, D: Door>(
     requires sign { All (λ signer. 1 ≤ left_of signer) signers.items }
     requires draws { length draws.now ≡ vec_len signers }
     requires few { vec_len signers < PASS_LIMIT }
-    ensures { Attends (record { awaited = true; place = place.now }) plan.ask (λ draw. planned peer_rules state.namespace plan (nonce_of draw)) signers.items draws.now state
-        (D.facts door.old) (D.facts door.new) (hub_seen (λ w. told (w.vtable, w.value)) hub.old) (hub_seen (λ w. told (w.vtable, w.value)) hub.new) result }
+    ensures { Attends (record { awaited = true; place = place.now }) (λ draw. planned peer_rules state.namespace plan (nonce_of draw)) signers.items draws.now state (D.facts door.old) (D.facts door.new) result }
 {
-    let front = state.front();
-    let area = plan.ask.copy()?;
     let room = room_for(alloc, state, plan, signers, draws)?;
-    let workers = Workers::with_room(alloc, &room.hall, room.guests.len())?;
     listen(door, place)?;
-    hub.begin(front, area);
     let Room {
         hall,
         own,
@@ -94,8 +142,8 @@ pub(crate) fn attend<R: Wait + Threads + Sync, D: Door>(
         passes,
         ends,
     } = room;
-    let received = receive(rt, alloc, &hall, guests, door, hub, workers, own);
-    leave(rt, hall, received, passes, ends, hub)
+    let hosted = host_links(rt, alloc, &hall, guests, door)?;
+    leave(rt, hall, own, hosted, passes, ends)
 }
 
 // The room of a plan, with a guest for each signer.
@@ -205,49 +253,35 @@ fn listen<D: Door>(door: &mut D, place: &str) -> Result<(), Stop>
     }
 }
 
-// Closes the cell with all passes, tells those who watch of what they have not heard of its log, and tells how the sessions
-// ended, in lists that have room for them.
+// Closes the cell with all passes, and tells how the sessions ended, in lists that have room for them.
 fn leave<R: Wait>(
     rt: &R,
     hall: Hall,
-    received: Received,
+    own: Pass<AuthorisedEntry<PeerScheme>>,
+    hosted: Hosted<Guest, Parting>,
     passes: Vec<Pass<AuthorisedEntry<PeerScheme>>>,
     ends: Vec<Result<SessionReport, SessionEnd>>,
-    hub: &mut Hub,
 ) -> Result<Attended, Stop>
-    requires own { IsPassOf hall.cell received.own }
-    requires partings { All (λ parting. IsPassOf hall.cell parting.pass) received.hosted.partings.items }
-    requires unused { All (λ guest. IsPassOf hall.cell guest.pass) received.hosted.unused.items }
-    requires all { 1 + (vec_len received.hosted.partings + vec_len received.hosted.unused) ≡ hall.cell.passes }
-    requires passes { (passes.items ≡ []) × (vec_len received.hosted.partings + vec_len received.hosted.unused < vec_capacity passes) }
-    requires ends { (ends.items ≡ []) × (vec_len received.hosted.partings ≤ vec_capacity ends) }
-    requires front { (received.hosted.stopped ≡ Some fault.NoMemory → ⊥) → hub.old.front ≡ length received.own.seen }
-    requires few { received.left ≤ count_left (hub_seen (λ w. told (w.vtable, w.value)) hub.old).members }
-    ensures leaves { Leaves hall received.own received.hosted result }
-    ensures told { IfOk result (λ x. (more : ℕ) × (x.left ≡ received.left + more) × IsPumped (hub_seen (λ w. told (w.vtable, w.value)) hub.old)
-        (hub_seen (λ w. told (w.vtable, w.value)) hub.new) (rows_behind received.own.seen x.state.log) more) }
-    ensures untold { IfErr result (λ e. hub_seen (λ w. told (w.vtable, w.value)) hub.new ≡ hub_seen (λ w. told (w.vtable, w.value)) hub.old) }
+    requires own { IsPassOf hall.cell own }
+    requires partings { All (λ parting. IsPassOf hall.cell parting.pass) hosted.partings.items }
+    requires unused { All (λ guest. IsPassOf hall.cell guest.pass) hosted.unused.items }
+    requires all { 1 + (vec_len hosted.partings + vec_len hosted.unused) ≡ hall.cell.passes }
+    requires passes { (passes.items ≡ []) × (vec_len hosted.partings + vec_len hosted.unused < vec_capacity passes) }
+    requires ends { (ends.items ≡ []) × (vec_len hosted.partings ≤ vec_capacity ends) }
+    ensures { Leaves hall own hosted result }
 {
-    let Received {
-        hosted: Hosted {
-            partings,
-            unused,
-            stopped,
-        },
-        own,
-        left,
-    } = received;
+    let Hosted {
+        partings,
+        unused,
+        stopped,
+    } = hosted;
     let all_came = all_came(stopped)?;
     let (passes, ends) = part(own, partings, unused, passes, ends);
     let Hall { cell, .. } = hall;
-    let state = cell.close(rt, passes);
-    let more = tell_rest(hub, &state);
-    let left = left + more;
     Ok(Attended {
         ends,
         all_came,
-        state,
-        left,
+        state: cell.close(rt, passes),
     })
 }
 

@@ -2,17 +2,12 @@
 //! answers a status. Its contract says what is read, written and reported at each status, and why it comes.
 #![tactic(auto)]
 
-mod accepting;
 mod calling;
 mod closing;
 mod drilling;
 mod exchanging;
-mod feeding;
-mod following;
 mod getting;
 mod greeting;
-mod hall;
-mod hearing;
 mod hosting;
 mod images_met;
 mod judging;
@@ -22,7 +17,6 @@ mod preparing;
 mod program;
 mod run;
 mod sessions;
-mod tails;
 mod transcript;
 
 pub use program::run_program;

@@ -196,13 +196,12 @@ fn run_afar<R: Wait + Threads + Sync, H: Shelf, D: Door, N: Noise>(
     shelf: &mut H,
     door: &mut D,
     noise: &mut N,
-    hub: &mut Hub,
 ) -> Result<Done, Stop>
     requires words { (words : List (List ℕ)) × IsWords words command }
     requires afar { IsLocal command → ⊥ }
     ensures { (others : World) → (deed_of command).meets
-        (record others { shelf = H.facts shelf.old; door = D.facts door.old; noise = N.facts noise.old; hub = hub_seen (λ w. told (w.vtable, w.value)) hub.old })
-        (record others { shelf = H.facts shelf.new; door = D.facts door.new; noise = N.facts noise.new; hub = hub_seen (λ w. told (w.vtable, w.value)) hub.new }) result }
+        (record others { shelf = H.facts shelf.old; door = D.facts door.old; noise = N.facts noise.old })
+        (record others { shelf = H.facts shelf.new; door = D.facts door.new; noise = N.facts noise.new }) result }
 {
     match command {
         Command::Sync {
@@ -220,9 +219,9 @@ fn run_afar<R: Wait + Threads + Sync, H: Shelf, D: Door, N: Noise>(
             }
             let limits = Interest { newest, bytes };
             let words = calling_words(image, cap, key, to, area, limits);
-            host(rt, alloc, words, shelf, door, noise, hub)
+            host(rt, alloc, words, shelf, door, noise)
         }
-        server => run_server(rt, alloc, server, shelf, door, noise, hub),
+        server => run_server(rt, alloc, server, shelf, door, noise),
     }
 }
 
@@ -234,13 +233,12 @@ fn run_server<R: Wait + Threads + Sync, H: Shelf, D: Door, N: Noise>(
     shelf: &mut H,
     door: &mut D,
     noise: &mut N,
-    hub: &mut Hub,
 ) -> Result<Done, Stop>
     requires words { (words : List (List ℕ)) × IsWords words command }
     requires server { IsServer command }
     ensures { (others : World) → (deed_of command).meets
-        (record others { shelf = H.facts shelf.old; door = D.facts door.old; noise = N.facts noise.old; hub = hub_seen (λ w. told (w.vtable, w.value)) hub.old })
-        (record others { shelf = H.facts shelf.new; door = D.facts door.new; noise = N.facts noise.new; hub = hub_seen (λ w. told (w.vtable, w.value)) hub.new }) result }
+        (record others { shelf = H.facts shelf.old; door = D.facts door.old; noise = N.facts noise.old })
+        (record others { shelf = H.facts shelf.new; door = D.facts door.new; noise = N.facts noise.new }) result }
 {
     match command {
         Command::Serve {
@@ -260,7 +258,7 @@ fn run_server<R: Wait + Threads + Sync, H: Shelf, D: Door, N: Noise>(
             }
             let limits = Interest { newest, bytes };
             let words = serving_words(image, cap, key, at, links, area, limits);
-            host(rt, alloc, words, shelf, door, noise, hub)
+            host(rt, alloc, words, shelf, door, noise)
         }
         _ => unreachable!(),
     }
@@ -298,9 +296,8 @@ pub fn run_local<R: Threads + Sync, H: Shelf, I: Source, O: Sink, E: Sink, N: No
 /// a session is refused, before it begins or in it; 7 for want of memory; 8 where a row met a full log; 9 for a key
 /// file without an index left. The report gets the lines of that end. What a command does not call stays as it was.
 ///
-/// Those who watch in the hub are told by `watch` and by `serve`: each begins the hub at the log of the image, with the area of
-/// its words (of a server that which it asks for), and tells of the rows that come into the log behind it. The hub's front is the
-/// length of the log behind a `watch` with 0 or 1, and a `serve` that put an image. By any other command the hub stays as it was.
+/// Those who watch in the hub are told by `watch` alone: it begins the hub at the log of the image, with the area of the words,
+/// and its front is the length of the log behind a run with 0 or 1. By any other command the hub stays as it was.
 ///
 /// No command has a bay yet: whichever there is, it is the same behind the run.
 ///
@@ -347,7 +344,7 @@ pub fn peer_run<R: Wait + Threads + Sync, H: Shelf, I: Source, O: Sink, E: Sink,
             if is_local(&command) {
                 run_local(rt, alloc, command, shelf, input, output, report, noise, hub)
             } else {
-                let end = run_afar(rt, alloc, command, shelf, door, noise, hub);
+                let end = run_afar(rt, alloc, command, shelf, door, noise);
                 end_run(alloc, &end, report)
             }
         }

@@ -9,7 +9,6 @@ ghost use Rattle.ns_cell.specs.declared.limits.TheConstants.{PASS_LIMIT};
 ghost use Rattle.sync_hello.specs.Checked.{hello_refusal};
 ghost use Rattle.sync_core.specs.SyncRules.{IsVersion};
 ghost use Rattle.sync_link.specs.Plans.{own_hello, planned};
-ghost use Rattle.sub_hub.specs.Seen.{hub_seen};
 ghost use Rattle.peer_make.specs.KeySigners.{left_of};
 ghost use Rattle.peer_stage.specs.World.{World};
 ghost use Rattle.peer_words.specs.Signers.{IsSigner};
@@ -35,7 +34,6 @@ use spelling::NoMemory;
 use std::alloc::Global;
 use std::sync::Wait;
 use std::thread::Threads;
-use sub_hub::Hub;
 use sync_link::{Interest, SessionEnd, SessionPlan, SessionReport};
 use sync_msg::Role;
 use willow_outside::{Door, Noise, Shelf};
@@ -64,7 +62,7 @@ pub(crate) struct House {
 
 /// Gets an image and a capability, runs a session over the link to a place, or over each that comes there on a thread of its
 /// own, and puts the image of what is live behind all of them, whatever the sessions answered, but for want of memory. The
-/// nonce of a session is the first 16 bytes of its draw. A server tells those who watch of the rows that come into its log.
+/// nonce of a session is the first 16 bytes of its draw.
 pub(crate) fn host<R: Wait + Threads + Sync, H: Shelf, D: Door, N: Noise>(
     rt: &R,
     alloc: Global,
@@ -72,14 +70,13 @@ pub(crate) fn host<R: Wait + Threads + Sync, H: Shelf, D: Door, N: Noise>(
     shelf: &mut H,
     door: &mut D,
     noise: &mut N,
-    hub: &mut Hub,
 ) -> Result<Done, Stop>
     requires signer { IsSigner words.key }
     requires links { (1 ≤ words.links) × (words.links ≤ MOST_LINKS) }
     requires call { words.awaited ≡ false → words.links ≡ 1 }
     ensures { (others : World) → DoesHost words
-        (record others { shelf = H.facts shelf.old; door = D.facts door.old; noise = N.facts noise.old; hub = hub_seen (λ w. told (w.vtable, w.value)) hub.old })
-        (record others { shelf = H.facts shelf.new; door = D.facts door.new; noise = N.facts noise.new; hub = hub_seen (λ w. told (w.vtable, w.value)) hub.new }) result }
+        (record others { shelf = H.facts shelf.old; door = D.facts door.old; noise = N.facts noise.old })
+        (record others { shelf = H.facts shelf.new; door = D.facts door.new; noise = N.facts noise.new }) result }
 {
     let HostWords {
         awaited,
@@ -111,7 +108,6 @@ pub(crate) fn host<R: Wait + Threads + Sync, H: Shelf, D: Door, N: Noise>(
         signers,
         &draws,
         door,
-        hub,
     )?;
     close_house(alloc, shelf, &name, awaited, rows, first, attended)
 }
@@ -181,7 +177,7 @@ fn own_role(awaited: bool) -> Role
     }
 }
 
-// Runs a session over the link to the place, or over each that comes there, where those who watch are told of what comes.
+// Runs a session over the link to the place, or over each that comes there.
 fn run_sessions<R: Wait + Threads + Sync, D: Door>(
     rt: &R,
     alloc: Global,
@@ -192,7 +188,6 @@ fn run_sessions<R: Wait + Threads + Sync, D: Door>(
     signers: Vec<KeySigner>,
     draws: &[[u8; 32]],
     door: &mut D,
-    hub: &mut Hub,
 ) -> Result<Attended, Stop>
     requires opening { AreOf 0 state.log }
     requires hello { (draw : List ℕ) → hello_refusal peer_rules state.namespace (own_hello plan (nonce_of draw)) ≡ None }
@@ -201,11 +196,10 @@ fn run_sessions<R: Wait + Threads + Sync, D: Door>(
     requires draws { length draws.now ≡ vec_len signers }
     requires few { vec_len signers < PASS_LIMIT }
     requires call { awaited ≡ false → vec_len signers ≡ 1 }
-    ensures { Attends (record { awaited = awaited; place = place.now }) plan.ask (λ draw. planned peer_rules state.namespace plan (nonce_of draw)) signers.items draws.now state
-        (D.facts door.old) (D.facts door.new) (hub_seen (λ w. told (w.vtable, w.value)) hub.old) (hub_seen (λ w. told (w.vtable, w.value)) hub.new) result }
+    ensures { Attends (record { awaited = awaited; place = place.now }) (λ draw. planned peer_rules state.namespace plan (nonce_of draw)) signers.items draws.now state (D.facts door.old) (D.facts door.new) result }
 {
     if awaited {
-        attend(rt, alloc, state, plan, place, signers, draws, door, hub)
+        attend(rt, alloc, state, plan, place, signers, draws, door)
     } else {
         call(rt, alloc, state, plan, place, signers, draws, door)
     }
@@ -228,7 +222,6 @@ fn close_house<H: Shelf>(
         ends,
         all_came,
         state,
-        left,
     } = attended;
     if ends.iter().any(wants_memory) {
         return Err(Stop::NoMemory);
@@ -244,7 +237,7 @@ fn close_house<H: Shelf>(
         tails,
         all_came,
         first,
-        left,
+        left: 0,
         kept: None,
         put,
     }))

@@ -17,7 +17,7 @@ returns g c =
     let put = c.in_ok-put.put in
     let none : AreNotForWant x.ends.items = search rules in
     let puts = puts_same c.as_str.result.now c.deref-4.result.now name (image_of x.state) h h1 (put_answer put) c.as_str.ensures.value (c.deref-4.ensures.value ∙ c.in_ok-image.ensures) c.in_ok-put.ensures.puts in
-    λ others. closes_so name c.args.awaited c.args.rows c.args.first x (record { awaited = c.args.awaited; sessions = c.in_ok-sessions.sessions; tails = c.new-tails.result; all_came = x.all_came; first = c.first_of_all-first.result; left = x.left; kept = None; put = put })
+    λ others. closes_so name c.args.awaited c.args.rows c.args.first x (record { awaited = c.args.awaited; sessions = c.in_ok-sessions.sessions; tails = c.new-tails.result; all_came = x.all_came; first = c.first_of_all-first.result; left = 0; kept = None; put = put })
     (record others { shelf = h }) (record others { shelf = h1 }) none
     (record {
       awaited_is = refl;
@@ -25,7 +25,7 @@ returns g c =
       none_followed = search rules;
       accepted_is = refl;
       first_is = c.first_of_all-first.ensures ∙ ap (λ (answers : List Answer). or_else c.args.first (first_of_links c.args.rows answers)) c.deref-2.ensures.value;
-      left_is = refl;
+      nobody_left = refl;
       no_log = refl;
       put_is = refl;
     })

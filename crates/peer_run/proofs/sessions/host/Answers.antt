@@ -2,7 +2,6 @@ use Rattle.std.proofs.Common.{ℕ, List, length, inl, ap, subst, arith}
 use Rattle.std.specs.Prelude.{Ok, Err}
 use Rattle.std.specs.String.{string_bytes}
 use Rattle.std.proofs.lemmas.Result.{err_from_is_err_and}
-use Rattle.sub_hub.specs.Seen.{hub_seen}
 use Rattle.peer_stage.specs.World.{World}
 use Rattle.peer_run.specs.Hosting.{PutsImage, Tells, own_role}
 use Rattle.peer_run.specs.Telling.{TellsHosted, told_behind}
@@ -16,8 +15,7 @@ returns-in_err-name g c =
     let p = err_from_is_err_and c.from_residual.result c.from_residual.ensures.1 in
     let d = g.D.Door.facts c.args.door.now in
     let n = g.N.Noise.facts c.args.noise.now in
-    let u = hub_seen (λ w. (goal.Watcher-dyn g (w.vtable, w.value)).told w.value) c.args.hub.now in
-    rw (p.1, p.2) (λ others. inl (c.in_err-name.ensures.stops (record others { door = d; noise = n; hub = u })))
+    rw (p.1, p.2) (λ others. inl (c.in_err-name.ensures.stops (record others { door = d; noise = n })))
 
 pub returns-in_err-draws : goal.returns-in_err-draws
 returns-in_err-draws g c =
@@ -27,8 +25,7 @@ returns-in_err-draws g c =
     let d = g.D.Door.facts c.args.door.now in
     let n = g.N.Noise.facts c.args.noise.now in
     let n1 = g.N.Noise.facts c.draw_all.new.noise in
-    let u = hub_seen (λ w. (goal.Watcher-dyn g (w.vtable, w.value)).told w.value) c.args.hub.now in
-    rw (p.1, p.2) (λ others. drawing_stops c.args.words others h h1 n n1 d u c.in_ok-name.house (c.in_ok-name.ensures.opens (record others { door = d; noise = n; hub = u })) c.in_err-draws.field-0.0 c.in_err-draws.ensures.draws c.in_err-draws.ensures.faults)
+    rw (p.1, p.2) (λ others. drawing_stops c.args.words others h h1 n n1 d c.in_ok-name.house (c.in_ok-name.ensures.opens (record others { door = d; noise = n })) c.in_err-draws.field-0.0 c.in_err-draws.ensures.draws c.in_err-draws.ensures.faults)
 
 pub run_sessions-requires-clause-opening : goal.run_sessions-requires-clause-opening
 run_sessions-requires-clause-opening g c κs within =
@@ -80,10 +77,8 @@ returns-in_err-attended g c =
     let brings = c.in_ok-name.house in
     let draws = c.in_ok-draws.draws in
     let e = c.in_err-attended.field-0.0 in
-    let u = hub_seen (λ w. (goal.Watcher-dyn g (w.vtable, w.value)).told w.value) c.args.hub.now in
-    let u1 = hub_seen (λ w. (goal.Watcher-dyn g (w.vtable, w.value)).told w.value) c.run_sessions.new.hub in
-    let attends = attends_as c.args.words.awaited c.as_str.result.now (string_bytes c.args.words.place) c.deref.result.now draws.items brings d d1 u u1 (Err e) c.as_str.ensures.value c.deref.ensures.value c.in_err-attended.ensures in
-    rw (p.1, p.2) (λ others. attending_stops c.args.words others h h1 n n1 d u brings (c.in_ok-name.ensures.opens (record others { door = d; noise = n; hub = u })) draws c.in_ok-draws.ensures.draws c.in_ok-draws.ensures.faults d1 u1 e attends)
+    let attends = attends_as c.args.words.awaited c.as_str.result.now (string_bytes c.args.words.place) c.deref.result.now draws.items brings d d1 (Err e) c.as_str.ensures.value c.deref.ensures.value c.in_err-attended.ensures in
+    rw (p.1, p.2) (λ others. attending_stops c.args.words others h h1 n n1 d brings (c.in_ok-name.ensures.opens (record others { door = d; noise = n })) draws c.in_ok-draws.ensures.draws c.in_ok-draws.ensures.faults d1 e attends)
 
 pub close_house-requires : goal.close_house-requires
 close_house-requires g c =
@@ -102,11 +97,9 @@ returns g c =
     let brings = c.in_ok-name.house in
     let draws = c.in_ok-draws.draws in
     let x = c.in_ok-attended.attended in
-    let u = hub_seen (λ w. (goal.Watcher-dyn g (w.vtable, w.value)).told w.value) c.args.hub.now in
-    let u1 = hub_seen (λ w. (goal.Watcher-dyn g (w.vtable, w.value)).told w.value) c.run_sessions.new.hub in
-    let attends = attends_as c.args.words.awaited c.as_str.result.now (string_bytes c.args.words.place) c.deref.result.now draws.items brings d d1 u u1 (Ok x) c.as_str.ensures.value c.deref.ensures.value c.in_ok-attended.ensures in
+    let attends = attends_as c.args.words.awaited c.as_str.result.now (string_bytes c.args.words.place) c.deref.result.now draws.items brings d d1 (Ok x) c.as_str.ensures.value c.deref.ensures.value c.in_ok-attended.ensures in
     λ others.
-    let after : World = record others { shelf = h2; door = d1; noise = n1; hub = u1 } in
-    let between : World = record others { shelf = h1; door = d1; noise = n1; hub = u1 } in
-    let rest = subst (λ (name : List ℕ). Tells (PutsImage name) (told_behind brings.opening.rows brings.opening.first x) (TellsHosted c.args.words.awaited) between after c.close_house.result) c.in_ok-name.ensures.name (c.close_house.ensures (record others { door = d1; noise = n1; hub = u1 })) in
-    all_steps c.args.words others h h1 n n1 d u brings (c.in_ok-name.ensures.opens (record others { door = d; noise = n; hub = u })) draws c.in_ok-draws.ensures.draws c.in_ok-draws.ensures.faults d1 u1 x after c.close_house.result attends rest
+    let after : World = record others { shelf = h2; door = d1; noise = n1 } in
+    let between : World = record others { shelf = h1; door = d1; noise = n1 } in
+    let rest = subst (λ (name : List ℕ). Tells (PutsImage name) (told_behind brings.opening.rows brings.opening.first x) (TellsHosted c.args.words.awaited) between after c.close_house.result) c.in_ok-name.ensures.name (c.close_house.ensures (record others { door = d1; noise = n1 })) in
+    all_steps c.args.words others h h1 n n1 d brings (c.in_ok-name.ensures.opens (record others { door = d; noise = n })) draws c.in_ok-draws.ensures.draws c.in_ok-draws.ensures.faults d1 x after c.close_house.result attends rest

@@ -3,7 +3,7 @@ use Rattle.std.specs.List.{AllByRecursion}
 use Rattle.std.proofs.lemmas.List.{take_more}
 use Rattle.spelling.proofs.Lists.{All-append}
 use Rattle.cap_codec.specs.Rows.{RawValue, IsRaw}
-use Rattle.peer_rows.proofs.feeding.known_rows.Goals as goal
+use Rattle.peer_rows.proofs.joining.known_rows.Goals as goal
 
 pub loop-row-preserved : goal.loop-row-preserved
 loop-row-preserved c =
