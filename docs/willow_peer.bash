@@ -1,7 +1,7 @@
 # Completions of willow_peer for bash: the commands, the options that a command still takes, values that are fixed, and names
 # of files in place. Read it by `. docs/willow_peer.bash`, or install it as `willow_peer` among the completions of bash.
 
-# The options of each command; --follow and --log are not built.
+# The options of each command.
 declare -gA _willow_peer_options=(
     [join]="--namespace"
     [show]="--newest"
@@ -10,8 +10,8 @@ declare -gA _willow_peer_options=(
     [delegate]="--key --to --subspace --under --from --until"
     [write]="--key --path --time --length --digest --subspace"
     [meet]="--left --right --left-cap --right-cap --left-out --right-out --subspace --under --from --until --newest --bytes"
-    [sync]="--image --cap --key --to --subspace --under --from --until --newest --bytes"
-    [serve]="--image --cap --key --at --links --subspace --under --from --until --newest --bytes"
+    [sync]="--image --cap --key --to --subspace --under --from --until --newest --bytes --follow"
+    [serve]="--image --cap --key --at --links --log --subspace --under --from --until --newest --bytes --follow"
     [watch]="--image --subspace --under --from --until"
     [gen]="--rows"
     [drill]="--rows"
@@ -42,8 +42,9 @@ _willow_peer_values() {
     --mode) printf '%s\n' read write ;;
     --subspace) [[ $1 == write ]] || echo any ;;
     --until) echo none ;;
+    --follow) echo yes ;;
     --key) echo open:; _willow_peer_signers ;;
-    --image | --cap | --left | --right | --left-cap | --right-cap | --left-out | --right-out) _willow_peer_names ;;
+    --image | --cap | --log | --left | --right | --left-cap | --right-cap | --left-out | --right-out) _willow_peer_names ;;
     esac
 }
 

@@ -1,4 +1,5 @@
 """What each command does: `run` is the whole program over the objects outside."""
+from contextlib import contextmanager
 from dataclasses import dataclass
 
 import lms
@@ -6,10 +7,12 @@ from capabilities import (FULL, Area, Capability, Delegation, entry_message, ini
                           read_capability)
 from entries import Entry, Store, by_recency, live
 from exchange import HIGHEST, Run, exchange
+from feeds import Feed, fed, feed
 from images import NotRising, Pruned, image, read_image
 from interest import UNLIMITED, Interest, interest_in
+from logfiles import opened as opened_file
 from octets import NotSpelled, whole
-from outside import Fault, Objects
+from outside import ROOM, Fault, Objects
 from report import (BAD_INPUT, KEY_SPENT, LOG_FULL, MISSING, NOT_RISING, PRUNED, READ_FAULT, REFUSED, TAKEN, USAGE,
                     SESSION_REFUSED, WRITE_FAULT, Stop, first_refused)
 from rows import OWNED, BadBytes, Frames, Row, generated
@@ -280,8 +283,9 @@ def meet(objects: Objects, left: str, right: str, left_cap: str, right_cap: str,
     return End(lines + first_refused(refusals), bool(refusals))
 
 
-def talked(link, side):
-    """Runs the session over the link: what came, and the line of its end and its status where it was not done."""
+def talked(link, side, room: int):
+    """Runs the session over the link, which is read so many bytes at once at most: what came, and the line of its end and
+    its status where it was not done."""
     stand, data = side.after(b""), b""
     try:
         link.write_whole(stand.out)
@@ -289,7 +293,7 @@ def talked(link, side):
         return stand, WRITE_FAULT, None
     while stand.end is None:
         try:
-            piece = link.read()
+            piece = link.read(room)
         except Fault:
             return stand, READ_FAULT, None
         if not piece:
@@ -303,20 +307,44 @@ def talked(link, side):
     return (stand, None, None) if stand.end == "done" else (stand, SESSION_REFUSED, stand.end)
 
 
+def followed(link, area):
+    """Reads a feed of the area over the link: what came, and the line of its end and its status where it was not done."""
+    stand, data = Feed(b"", area), b""
+    while stand.end is None:
+        try:
+            piece = link.read()
+        except Fault:
+            return stand, READ_FAULT, None
+        if not piece:
+            return stand, SESSION_REFUSED, f"ClosedEarly {len(data)}"
+        data += piece
+        stand = Feed(data, area)
+    return (stand, None, None) if stand.end == "done" else (stand, SESSION_REFUSED, stand.end)
+
+
 class Opened:
     """An image and a capability that were got: the store of the image's authorised rows, and what is asked for."""
 
-    def __init__(self, objects: Objects, image: str, cap: str, words: dict):
+    def __init__(self, objects: Objects, image: str, cap: str, words: dict, log=None):
         self.namespace, rows = image_in(named(objects, image), image)
+        self.file = opened_file(objects, log, self.namespace) if log else None
+        with kept_behind(objects, self.file):
+            self.open(objects, rows + (self.file.rows if self.file else []), cap, words)
+
+    def open(self, objects: Objects, rows: list, cap: str, words: dict) -> None:
         authorised, self.refusals = judged(rows, self.namespace)
-        self.rows, self.store = len(rows), Store()
-        take(self.store, authorised)
+        self.rows, self.store, self.log = len(rows), Store(), []
+        for row in authorised:
+            stored = self.store.stored
+            take(self.store, [row])
+            if self.store.stored > stored:
+                self.log.append((0, row))  # each row with the number of the session in which it came
         self.capability = capability_in(named(objects, cap), cap)
         self.ask, self.interest = asked_by(self.capability, self.namespace, words), interest_in(words)
 
-    def session(self, role, link, sign, nonce: bytes) -> "Session":
+    def session(self, role, link, sign, nonce: bytes, number: int = 0, room: int = ROOM) -> "Session":
         hello = Hello(HIGHEST, nonce, self.ask, self.capability)
-        return Session(self, role(self.namespace, hello, sign, self.store.live(), self.interest), link)
+        return Session(self, role(self.namespace, hello, sign, self.store.live(), self.interest), link, number, room)
 
     def put(self, objects: Objects, name: str) -> bool:
         """Whether the image of what is live now was put."""
@@ -328,61 +356,105 @@ class Opened:
 
 
 class Session:
-    """A session that began with what was live then."""
+    """A session that began with what was live then, and what follows it on its link."""
 
-    def __init__(self, opened: Opened, side, link):
-        self.opened, self.side, self.link = opened, side, link
+    def __init__(self, opened: Opened, side, link, number: int, room: int):
+        self.opened, self.side, self.link, self.number, self.room = opened, side, link, number, room
         self.before = opened.store.stored
+        self.area, self.fed_refusals, self.fed_line, self.fed_status = None, [], "", 0
 
     def end(self) -> None:
         """Runs it to its end: what came is in the store then."""
         store = self.opened.store
-        stand, kind, text = talked(self.link, self.side)
+        stand, kind, text = talked(self.link, self.side, self.room)
         came, self.refusals = judged(stand.came, self.opened.namespace)
         self.came = len(stand.came)
         stored, kept = store.stored, store.kept
-        if offered(store, came) and kind is None:
+        if offered(self.opened, self.number, came) and kind is None:
             kind = LOG_FULL
         closed = store.stored if came else self.before
         counts = (f"opened {self.before} closed {closed} stored {store.stored - stored} kept {store.kept - kept} "
                   f"refused {len(self.refusals)} sent {stand.sent} read {stand.read}\n")
         self.line, self.status = (counts, 0) if kind is None else (kind.line.format(text=text), kind.status)
+        self.area = stand.area if kind is None else None
+
+    def feed(self) -> None:
+        """Writes the feed behind it, where both sides may read an area."""
+        if self.area is not None:
+            try:
+                self.link.write_whole(feed(fed(self.opened.log, self.area, self.number, self.before)))
+            except Fault:
+                self.fed_line, self.fed_status = WRITE_FAULT.line, WRITE_FAULT.status
+
+    def follow(self) -> None:
+        """Reads the feed behind it, where both sides may read an area."""
+        if self.area is None:
+            return
+        store = self.opened.store
+        stand, kind, text = followed(self.link, self.area)
+        came, refusals = judged(stand.rows, self.opened.namespace)
+        stored, kept = store.stored, store.kept
+        if offered(self.opened, self.number, came) and kind is None:
+            kind = LOG_FULL
+        counts = (f"followed {len(stand.rows)} stored {store.stored - stored} kept {store.kept - kept} "
+                  f"refused {len(refusals)}\n")
+        self.fed_line, self.fed_status = (counts, 0) if kind is None else (kind.line.format(text=text), kind.status)
+        self.fed_refusals = refusals if kind is None else []
 
 
-def offered(store: Store, rows: list) -> int:
+def offered(opened: Opened, number: int, rows: list) -> int:
     """Offers the rows in order, and answers how many a full log leaves out."""
-    missed = 0
+    store, missed = opened.store, 0
     for row in rows:
         if store.stored == LOG_LIMIT and not store.covers(row):
             missed += 1
-        else:
-            store.take(row)
+            continue
+        stored = store.stored
+        store.take(row)
+        if store.stored > stored:
+            opened.log.append((number, row))
     return missed
 
 
-def ended(opened: Opened, sessions: list, lines: list, accepted: bool, put: bool) -> End:
-    """The end of a command with sessions. Refused rows are counted over the image and then session by session."""
+@contextmanager
+def kept_behind(objects: Objects, file):
+    """Where a run stops with a log file open, its disk is given back, and what it keeps is told."""
+    try:
+        yield
+    except Stop as stop:
+        if file and not stop.behind:
+            objects.bay.give_back(file.disk)
+            stop.behind = f"kept {file.kept}\n"
+        raise
+
+
+def ended(opened: Opened, sessions: list, lines: list, accepted: bool, put: bool, kept: str = "") -> End:
+    """The end of a command with sessions. Refused rows are counted over the image, a log file, then session by session, and
+    then over what was followed."""
     rows, refusals = opened.rows, list(opened.refusals)
     for session in sessions:
         refusals += [(rows + at, refusal) for at, refusal in session.refusals]
         rows += session.came
-    met = [*(session.status for session in sessions), *([] if accepted else [READ_FAULT.status]),
+    refusals += [(rows + at, refusal) for session in sessions for at, refusal in session.fed_refusals]
+    met = [*(session.status for session in sessions), *(session.fed_status for session in sessions), *([] if accepted else [READ_FAULT.status]),
            *([] if put else [WRITE_FAULT.status]), *([1] if refusals else [])]
     status = next((status for status in TOLD_ORDER if status in met), 0)
     first = first_refused(refusals) if status == 1 else ""
     faults = ("" if accepted else READ_FAULT.line) + ("" if put else WRITE_FAULT.line)
-    return End("".join(lines) + first + faults, status == 1, 0 if status == 1 else status)
+    return End("".join(lines) + first + kept + faults, status == 1, 0 if status == 1 else status)
 
 
-def sync(objects: Objects, image: str, cap: str, key, to: str, **words) -> End:
+def sync(objects: Objects, image: str, cap: str, key, to: str, follow: bool = False, **words) -> End:
     opened = Opened(objects, image, cap, words)
     sign = signer(objects, key)
     nonce = taken(objects.noise.words)[:16]
     link = taken(objects.door.connect)
-    session = opened.session(Caller, link, sign, nonce)
+    session = opened.session(Caller, link, sign, nonce, room=1 if follow else ROOM)
     session.end()
+    if follow:
+        session.follow()
     objects.door.give_back(link)
-    return ended(opened, [session], [session.line], True, opened.put(objects, image))
+    return ended(opened, [session], [session.line, session.fed_line], True, opened.put(objects, image))
 
 
 def accepted_links(objects: Objects, count: int) -> list:
@@ -407,17 +479,26 @@ def served(objects: Objects, begin, links: list) -> list:
     return [sessions[at] for at in range(len(links))]
 
 
-def serve(objects: Objects, image: str, cap: str, key, at: str, links: int, **words) -> End:
-    opened = Opened(objects, image, cap, words)
-    signs = signers(objects, key, links)
-    nonces = [taken(objects.noise.words)[:16] for _ in range(links)]
-    taken(objects.door.listen)
+def serve(objects: Objects, image: str, cap: str, key, at: str, links: int, follow: bool = False, log=None, **words) -> End:
+    opened = Opened(objects, image, cap, words, log)
+    with kept_behind(objects, opened.file):
+        signs = signers(objects, key, links)
+        nonces = [taken(objects.noise.words)[:16] for _ in range(links)]
+        taken(objects.door.listen)
     came = accepted_links(objects, links)
-    sessions = served(objects, lambda n: opened.session(Answerer, came[n], signs[n], nonces[n]), came)
+    sessions = served(objects, lambda n: opened.session(Answerer, came[n], signs[n], nonces[n], n + 1), came)
+    for session in sessions if follow else []:
+        session.feed()
     for link in came:
         objects.door.give_back(link)
-    lines = [f"link {number}: {session.line}" for number, session in enumerate(sessions, 1)]
-    return ended(opened, sessions, lines, len(came) == links, opened.put(objects, image))
+    lines = [f"link {session.number}: {session.line}" for session in sessions]
+    lines += [f"link {session.number}: {session.fed_line}" for session in sessions if session.fed_line]
+    put, kept = opened.put(objects, image), ""
+    if opened.file:
+        opened.file.keep([row for number, row in opened.log if number])
+        objects.bay.give_back(opened.file.disk)
+        put, kept = put and not opened.file.broken, f"kept {opened.file.kept}\n"
+    return ended(opened, sessions, lines, len(came) == links, put, kept)
 
 
 COMMANDS = {"join": join, "show": show, "key": key, "grant": grant, "delegate": delegate, "write": write, "gen": gen,

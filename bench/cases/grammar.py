@@ -21,12 +21,12 @@ OPTIONS = {
     "gen": "rows",
     "drill": "rows",
     "meet": "left right left-cap right-cap left-out right-out [newest] [bytes] [subspace] [under] [from] [until]",
-    "sync": "image cap key to [newest] [bytes] [subspace] [under] [from] [until]",
-    "serve": "image cap key at links [newest] [bytes] [subspace] [under] [from] [until]",
+    "sync": "image cap key to [newest] [bytes] [subspace] [under] [from] [until] [follow]",
+    "serve": "image cap key at links [newest] [bytes] [log] [subspace] [under] [from] [until] [follow]",
 }
 
 
-NAMES = ("left", "right", "left-cap", "right-cap", "left-out", "right-out", "image", "cap")
+NAMES = ("left", "right", "left-cap", "right-cap", "left-out", "right-out", "image", "cap", "log")
 
 
 class Usage(Exception):
@@ -113,10 +113,15 @@ def until(word: str):
     return NONE if word == NONE else number(word)
 
 
+def yes(word: str) -> bool:
+    demand(word == "yes")
+    return True
+
+
 VALUES = {
     "namespace": key, "user": key, "name": name, "height": height, "mode": mode, "key": signer,
     "path": path, "time": number, "length": number, "digest": digest, "rows": count, "newest": count, "bytes": number,
-    "at": place, "links": links, "under": path, "from": number, "until": until, **{option: name for option in NAMES},
+    "at": place, "links": links, "follow": yes, "under": path, "from": number, "until": until, **{option: name for option in NAMES},
 }
 
 

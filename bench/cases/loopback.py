@@ -29,9 +29,15 @@ class Came:
     image: bytes
     report: str
     held: tuple  # what each link holds that came back
+    opening: int | None = None  # how many rows a server's log has before its first link
+
+    def heard(self) -> str:
+        """What one who watches hears of: in a server of each row that is stored behind the opening ones, and nobody else tells."""
+        stored = 0 if self.opening is None else sum(int(number) for number in re.findall(r"stored (\d+)", self.report))
+        return f"heard {stored} rows from {self.opening if stored else 0} on\n"
 
     def told(self, title: str) -> str:
-        return f"{title}: status {self.status}, image {measure(self.image)}\n{self.report}"
+        return f"{title}: status {self.status}, image {measure(self.image)}\n{self.heard()}{self.report}"
 
     def without_fronts(self) -> "Came":
         """The same, but for how many rows the log had, which may rest on what runs at the same time."""
@@ -42,16 +48,16 @@ def measure(data: bytes) -> str:
     return f"{len(data)} bytes sha256 {sha256(data).hexdigest()}"
 
 
-def run_over(words: tuple, rows: list, draws: tuple, links: tuple, order=one_by_one) -> Came:
+def run_over(words: tuple, rows: list, draws: tuple, links: tuple, order=one_by_one, opening=None) -> Came:
     objects = Objects({"i": image_of(*rows), "c": R.spelled()}, draws, b"", {}, links=links, order=order)
     status = run(list(words), objects)
     return Came(status, objects.shelf.names["i"], objects.report.held.decode(),
-                tuple(bytes(link.held) for link in objects.door.back))
+                tuple(bytes(link.held) for link in objects.door.back), opening)
 
 
 def served(rows: list, links: tuple, order=one_by_one) -> Came:
     words = words_of("serve", **OPTIONS, at=PLACE, links=len(links))
-    return run_over(words, rows, DRAWS[:len(links)], links, order)
+    return run_over(words, rows, DRAWS[:len(links)], links, order, len(rows))
 
 
 def talk(rows: list, said: bytes, answers: bytes) -> Came:

@@ -9,8 +9,8 @@ of the program that shares no code with it and knows only the rules that docs/FO
 
 The model: `octets` (bytes and readers), `entries` (paths, entries, stores), `lms` (LMS keys), `capabilities`, `rows`
 (tokens, frames, the generator), `images`, `interest` (what is offered), `exchange` (two stores that meet), `sessions` (a
-session over bytes), `grammar` (the words), `outside` (the objects), `commands`, `report`. The cases: `situations` (what they
-are made of) and a module a command; `large_cases`, `full_log_cases`, `image_cases`, `interest_cases`, `loopback` and `samples`;
+session over bytes), `feeds` (what follows one), `grammar` (the words), `outside` (the objects), `commands`, `report`. The cases: `situations` (what they
+are made of) and a module a command; `large_cases`, `full_log_cases`, `image_cases`, `interest_cases`, `follow_cases`, `loopback` and `samples`;
 and the further ones, `further_cases`.
 
 Meetings and drills are of version 2 of the exchange, and so are sessions, but where a case says that a peer is of
@@ -29,6 +29,7 @@ sys.dont_write_bytecode = True
 
 import delegate_cases
 import drill_cases
+import follow_cases
 import full_log_cases
 import further_cases
 import gen_cases
@@ -38,6 +39,7 @@ import interest_cases
 import join_cases
 import key_cases
 import large_cases
+import log_cases
 import loopback
 import meet_cases
 import samples
@@ -63,8 +65,10 @@ COMMANDS = {
     "serve": serve_cases,
     "gen and join": large_cases,
     "sync and serve": full_log_cases,
+    "serve with a log": log_cases,
     "images of version 2": image_cases,
     "meet, sync and serve that offer some rows": interest_cases,
+    "sync and serve that follow": follow_cases,
     "words": words_cases,
 }
 

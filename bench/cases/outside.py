@@ -1,4 +1,4 @@
-"""The objects that a run is over: input, output, report, shelf, noise, door and links, each with the calls that fail.
+"""The objects that a run is over: input, output, report, shelf, noise, door and links, bay and disks, each with the calls that fail.
 
 A call is counted from 1, all kinds of call of one object together. A call that fails reads or writes nothing, but for
 the put of a shelf, which leaves the new bytes.
@@ -98,10 +98,10 @@ class Link(Counted):
         self.most = most
         self.held = bytearray()
 
-    def read(self) -> bytes:
+    def read(self, room: int = ROOM) -> bytes:
         if self.call():
             raise Fault
-        piece = self.data[self.taken:self.taken + self.most]
+        piece = self.data[self.taken:self.taken + min(self.most, room)]
         self.taken += len(piece)
         return piece
 
@@ -135,6 +135,57 @@ class Door(Counted):
         self.back.append(link)
 
 
+class Disk(Counted):
+    """A disk with known bytes; all kinds of call are counted together."""
+
+    def __init__(self, data: bytes, fails=()):
+        super().__init__(fails)
+        self.data = data
+        self.failed_reading = False
+
+    def reads(self) -> None:
+        if self.call():
+            self.failed_reading = True
+            raise Fault
+
+    def writes(self) -> None:
+        if self.call():
+            raise Fault
+
+    def length(self) -> int:
+        self.reads()
+        return len(self.data)
+
+    def read(self) -> bytes:
+        self.reads()
+        return self.data
+
+    def write(self, at: int, data: bytes) -> None:
+        self.writes()
+        self.data = self.data[:at] + data + self.data[at + len(data):]
+
+    def sync(self) -> None:
+        self.writes()
+
+
+class Bay(Counted):
+    """A bay that opens disks with the bytes of their names, and keeps those that come back."""
+
+    def __init__(self, names: dict, fails=(), disk_fails=()):
+        super().__init__(fails)
+        self.names = names
+        self.disk_fails = disk_fails
+        self.back = []
+
+    def open(self, name: str) -> Disk:
+        if self.call():
+            raise Fault
+        return Disk(self.names.get(name, b""), self.disk_fails)
+
+    def give_back(self, disk: Disk) -> None:
+        self.back.append(disk)
+
+
 def one_by_one(count: int) -> list:
     """Of so many sessions each begins and ends before the next."""
     return [at for at in range(count) for _ in range(2)]
@@ -146,7 +197,7 @@ class Objects:
     place of its number a session begins, and at the second one it ends."""
 
     def __init__(self, names: dict, draws, given: bytes, fails: dict, piece: int = PIECE, links=(),
-                 order=one_by_one):
+                 order=one_by_one, files=()):
         self.shelf = Shelf(names, fails.get("s", ()))
         self.noise = Noise(draws, fails.get("n", ()))
         self.input = Source(given, fails.get("i", ()), piece)
@@ -154,4 +205,5 @@ class Objects:
         self.report = Sink(REPORT_PIECE, fails.get("r", ()))
         self.door = Door([Link(data, fails.get("l" if at == 1 else f"l{at}", ()), piece)
                           for at, data in enumerate(links, 1)], fails.get("d", ()))
+        self.bay = Bay(dict(files), fails.get("b", ()), fails.get("k", ()))
         self.order = order

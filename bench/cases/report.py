@@ -31,9 +31,10 @@ class Stop(Exception):
         super().__init__(kind.line)
         self.kind = kind
         self.fields = fields
+        self.behind = ""  # what a log file keeps that was open as the run stopped
 
     def line(self) -> str:
-        return self.kind.line.format(**self.fields)
+        return self.kind.line.format(**self.fields) + self.behind
 
 
 def first_refused(refusals: list) -> str:

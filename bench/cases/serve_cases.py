@@ -50,14 +50,14 @@ def meet_as(told: bytes, answers: bytes, caller: Caller, answerer: Answerer) -> 
 
 
 def serve(name: str, own: list, *links: bytes, count=None, cap=R, space: bytes = N, fails="", gone=(), also=None,
-          options=None, draws=None, by_hand=None, **area) -> Case:
+          options=None, draws=None, by_hand=None, files=None, **area) -> Case:
     """A server with an image of these rows, for links that give these bytes, or for more than these."""
     count = count or len(links)
     names = {"i": old_image_of(*own, space=space), "c": bytes_of(cap), **(also or {})}
     kept = {name: data for name, data in names.items() if name not in gone}
     words = words_of("serve", **{**WORDS, "links": count, **(options or {})}, **area)
     return Case(f"serve-{name}", words, b"", kept, DRAWS[:count] if draws is None else draws, fails, links or None,
-                by_hand)
+                by_hand, files)
 
 
 def meets(name: str, own: list, others: list, version: int = HIGHEST, **options) -> Case:

@@ -156,6 +156,7 @@ class Stand:
     sent: int = 0
     read: int = 0
     end: Optional[str] = None
+    area: Optional[Area] = None  # which both sides may read
 
 
 @dataclass(frozen=True)
@@ -248,6 +249,7 @@ class Caller(Side):
         self.exchange(messages, stand, self.hello.ask.common(other.ask))
 
     def exchange(self, messages: Messages, stand: Stand, area: Optional[Area]) -> None:
+        stand.area = area
         if area is None:
             stand.out += BYE
             return self.farewell(messages)
@@ -273,6 +275,7 @@ class Answerer(Side):
         self.exchange(messages, stand, other.ask.common(self.hello.ask))
 
     def exchange(self, messages: Messages, stand: Stand, area: Optional[Area]) -> None:
+        stand.area = area
         if area is None:
             self.farewell(messages)
             stand.out += BYE

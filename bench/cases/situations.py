@@ -191,6 +191,7 @@ class Case:
     fails: str = ""  # as `i1 l2 l3:4`: a letter for the object, of a further link which one, and the number of its call
     links: Optional[tuple] = None  # what the links give to which the door leads, if it leads to any
     by_hand: Optional[ByHand] = None
+    files: Optional[dict] = None  # what the names of the bay hold, where a log file is named
     piece = PIECE  # the most bytes that a call of the input, the output or a link moves
 
     def situation(self) -> str:
@@ -221,7 +222,7 @@ class Case:
         for call in self.fails.split():
             link, _, number = call[1:].rpartition(":")
             fails.setdefault(call[0] + link, []).append(int(number))
-        return Objects(self.names, self.draws, self.input(), fails, self.piece, self.links or (), order)
+        return Objects(self.names, self.draws, self.input(), fails, self.piece, self.links or (), order, self.files or {})
 
     def line(self) -> str:
         """The case's line: its name, what is run, and what comes of it, in whatever order sessions begin and end."""
@@ -243,9 +244,17 @@ class Case:
 
     def traffic(self, objects: Objects) -> list:
         """What each link gives, and what each that came back holds; nothing where the door leads to none."""
-        if self.links is None:
+        if self.links is None and self.files is None:
             return []
-        return [self.told_links(), listed(hexadecimal(link.held) for link in objects.door.back)]
+        links = [self.told_links() if self.links else "-", listed(hexadecimal(link.held) for link in objects.door.back)]
+        return links + self.disks(objects)
+
+    def disks(self, objects: Objects) -> list:
+        """What the names of the bay hold, and what each disk that came back holds; nothing where no log file is named."""
+        if self.files is None:
+            return []
+        return [listed(f"{name}:{data.hex()}" for name, data in sorted(self.files.items())),
+                listed(disk.data.hex() or "-" for disk in objects.bay.back)]
 
 
 def word_of(value) -> str:

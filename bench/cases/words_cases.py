@@ -234,9 +234,12 @@ SERVERS = [
     serve("of-serve-with-an-end-at-the-start", **{"from": 5}, until=5),
 ]
 
-# This is a command of the grammar, but none that is built.
-NOT_BUILT = [
-    words("of-sync-that-follows", "sync", "--image", "a", "--cap", "c", "--key", BY_U, "--to", "host:1", "--follow", "yes"),
+FOLLOWS = [
+    words("of-sync-that-follows-no", "sync", "--image", "a", "--cap", "c", "--key", BY_U, "--to", "host:1", "--follow", "no"),
+    words("of-sync-that-follows-twice", "sync", "--image", "a", "--cap", "c", "--key", BY_U, "--to", "host:1", "--follow", "yes",
+          "--follow", "yes"),
+    words("of-meet-that-follows", "meet", "--follow", "yes"),
+    serve("of-serve-that-follows-yes-in-capitals", follow="YES"),
 ]
 
 GROUPS = {
@@ -249,5 +252,5 @@ GROUPS = {
     "drills and meetings": MEETINGS,
     "the newest": NEWEST,
     "servers": SERVERS,
-    "commands that are not built yet": NOT_BUILT,
+    "following": FOLLOWS,
 }

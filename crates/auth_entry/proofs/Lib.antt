@@ -6,3 +6,4 @@ pub mod Lists
 pub mod Placed
 pub mod Settling
 pub mod Verdicts
+pub mod Parts

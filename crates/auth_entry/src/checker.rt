@@ -9,15 +9,13 @@ use crate::checks::capability_causes;
 use crate::signatures::row_causes;
 use crate::standing::{all_settled, all_stand};
 use crate::unknown::Unknown;
+use crate::work::Sharing;
 use cap_codec::RawRow;
 use mc_cap::RowRefusal;
 use scheme_core::{Scheme, Verify};
 use std::alloc::Global;
 use std::thread::Threads;
 use willow_path::{NamespaceKey, NoMemory};
-
-// So many rows are judged together: enough for all processors, few enough that what is noted of them stays in their caches.
-const SEGMENT: usize = 1_024;
 
 /// What checks rows in one namespace by the rules of S. A checker tells its namespace and its scheme; it may remember
 /// capabilities that it found valid, and may let rows be checked on all processors. None of that changes a verdict.
@@ -122,11 +120,12 @@ fn refusals_of<S: Scheme, C: Checker<S>>(
     ensures refusals { IfOk result (λ refusals. refusals.items ≡ map (row_refusal S.rules (C.judged_in checker.old)) rows.now) }
     ensures same { C.judged_in checker.new ≡ C.judged_in checker.old }
 {
+    let sharing = Sharing::of(checker.takes_threads(), rows.len());
     let mut refusals = Vec::with_capacity(alloc, rows.len())?;
     let mut left = rows;
     'segments: while !left.is_empty() {
-        let (segment, behind) = left.split_at(left.len().min(SEGMENT));
-        refusals.extend_from_slice(&refusals_in(rt, alloc, checker, segment)?)?;
+        let (segment, behind) = left.split_at(left.len().min(sharing.segment()));
+        refusals.extend_from_slice(&refusals_in(rt, alloc, checker, sharing, segment)?)?;
         left = behind;
     }
     Ok(refusals)
@@ -137,19 +136,19 @@ fn refusals_in<S: Scheme, C: Checker<S>>(
     rt: &(impl Threads + Sync),
     alloc: Global,
     checker: &mut C,
+    sharing: Sharing,
     rows: &[RawRow],
 ) -> Result<Vec<Option<RowRefusal>>, NoMemory>
     ensures refusals { IfOk result (λ refusals. refusals.items ≡ map (row_refusal S.rules (C.judged_in checker.old)) rows.now) }
     ensures same { C.judged_in checker.new ≡ C.judged_in checker.old }
 {
     let (namespace, scheme) = (checker.namespace(), checker.scheme());
-    let threads = checker.takes_threads();
     let mut unknown = Unknown::new(alloc);
     let stood = all_stand(alloc, &namespace, checker, &mut unknown, rows)?;
-    let causes = capability_causes(rt, alloc, &scheme, threads, unknown.rows())?;
+    let causes = capability_causes(rt, alloc, &scheme, sharing, unknown.rows())?;
     remember_valid(alloc, checker, unknown.rows(), &causes)?;
     let pending = all_settled(alloc, &causes, &stood)?;
-    row_causes(rt, alloc, &scheme, threads, &pending)
+    row_causes(rt, alloc, &scheme, sharing, &pending)
 }
 
 // The checker is handed the capabilities of those rows for which there is no cause to refuse them.

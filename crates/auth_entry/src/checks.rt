@@ -4,9 +4,10 @@ ghost use Rattle.std.specs.Prelude.{◌≡◌, ◌<◌, map, IfOk};
 ghost use Rattle.auth_entry.specs.Authorised.{capability_refusal};
 ghost use Rattle.auth_entry.specs.Places.{carried};
 
+use crate::chunks;
 use crate::refusal::check_capability;
 use crate::together::causes_together;
-use crate::work::{is_worth_threads, least_checks, work_of};
+use crate::work::{Sharing, least_checks, work_of};
 use cap_codec::RawRow;
 use mc_cap::{Capability, RowRefusal};
 use rayon::prelude::*;
@@ -29,20 +30,21 @@ pub(crate) fn capability_cause<S: Verify>(
     }
 }
 
-/// Why the capability of each row is not valid, where it is not. Long signatures are checked in threads, where these are
-/// taken.
+/// Why the capability of each row is not valid, where it is not.
 pub(crate) fn capability_causes<S: Scheme>(
     rt: &(impl Threads + Sync),
     alloc: Global,
     scheme: &S,
-    threads: bool,
+    sharing: Sharing,
     rows: &[&RawRow],
 ) -> Result<Vec<Option<RowRefusal>>, NoMemory>
     ensures { IfOk result (λ causes. causes.items ≡ map (capability_refusal S.rules) (carried rows.now)) }
 {
     let work = capabilities_work(rows);
-    if threads && is_worth_threads(work) {
+    if sharing.takes_long(work) {
         causes_side_by_side(rt, alloc, scheme, rows, least_checks(rows.len(), work))
+    } else if sharing.takes_short() {
+        chunks::capability_causes(rt, alloc, scheme, rows)
     } else {
         causes_together(alloc, scheme, rows)
     }

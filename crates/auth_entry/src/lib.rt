@@ -5,6 +5,7 @@
 mod authorised;
 mod checker;
 mod checks;
+mod chunks;
 pub mod laws;
 mod refusal;
 mod signatures;

@@ -7,8 +7,9 @@ ghost use Rattle.scheme_core.specs.Rules.{Rules};
 ghost use Rattle.mc_cap.specs.declared.refusal.RowRefusal.{RowRefusal};
 ghost use Rattle.auth_entry.specs.Batch.{awaits_signature, is_signed, pending_refusal, pending_signed};
 
+use crate::chunks;
 use crate::turns::causes_by_turns;
-use crate::work::{is_worth_threads, work_of};
+use crate::work::{Sharing, work_of};
 use cap_codec::RawRow;
 use mc_cap::RowRefusal;
 use scheme_core::{Claim, Scheme, Verify};
@@ -110,8 +111,8 @@ fn signature_cause(accepted: bool) -> Option<RowRefusal>
     }
 }
 
-// Why each row is refused, where it is. One call verifies their signatures.
-fn causes_together<S: Scheme>(
+/// Why each row is refused, where it is. One call verifies their signatures.
+pub(crate) fn causes_together<S: Scheme>(
     alloc: Global,
     scheme: &S,
     pendings: &[Pending],
@@ -123,18 +124,20 @@ fn causes_together<S: Scheme>(
     causes_by::<S>(alloc, pendings, &answers)
 }
 
-/// Why each row is refused, where it is. Long signatures are checked in threads, where these are taken.
+/// Why each row is refused, where it is.
 pub(crate) fn row_causes<S: Scheme>(
     rt: &(impl Threads + Sync),
     alloc: Global,
     scheme: &S,
-    threads: bool,
+    sharing: Sharing,
     pendings: &[Pending],
 ) -> Result<Vec<Option<RowRefusal>>, NoMemory>
     ensures { IfOk result (λ causes. causes.items ≡ map (pending_refusal S.rules) pendings.now) }
 {
-    if threads && is_worth_threads(signatures_work(pendings)) {
+    if sharing.takes_long(signatures_work(pendings)) {
         causes_by_turns(rt, alloc, scheme, pendings)
+    } else if sharing.takes_short() {
+        chunks::row_causes(rt, alloc, scheme, pendings)
     } else {
         causes_together(alloc, scheme, pendings)
     }

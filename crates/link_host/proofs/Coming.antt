@@ -1,5 +1,5 @@
 -- Accepts that are made one after the other, and what comes of them.
-use Rattle.std.proofs.Common.{◌≡◌, ℕ, ◌+◌, ◌<◌, zero, suc, List, [], ◌∷◌, ◌++◌, length, map, Option, Some, None, refl, sym, ap, ◌∙◌, subst, arith}
+use Rattle.std.proofs.Common.{◌≡◌, ℕ, ◌+◌, zero, suc, List, [], ◌∷◌, ◌++◌, length, map, Some, None, refl, sym, ap, ◌∙◌, subst, arith}
 use Rattle.std.proofs.lemmas.List.{length-append, length-map}
 use Rattle.std.proofs.lemmas.Simd.{map-map}
 use Rattle.willow_outside.specs.Counts.{one_more, many_more, CountsCause}
@@ -7,7 +7,6 @@ use Rattle.willow_outside.specs.Facts.{LinkFacts, DoorFacts}
 use Rattle.willow_outside.specs.declared.fault.Fault.{Fault}
 use Rattle.link_host.specs.Begun.{Begun, HaveLinks, IsAccepted, AreVisited, beginning}
 use Rattle.link_host.specs.Hosted.{CountsStop, IsHosted, accepts_made, counted_on, list_with_all}
-use Rattle.link_host.specs.Visits.{Visit}
 use Rattle.link_host.specs.declared.hosting.Hosted.{Hosted}
 use Rattle.link_host.proofs.Passing.{became_one_more}
 

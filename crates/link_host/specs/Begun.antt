@@ -54,6 +54,22 @@ module _ {J : Type 0} (jobs : List J) (old new : DoorFacts) (begun : List (Begun
 abbrev pub beginning : {J P : Type 0} → Visit J P → Begun J
 beginning v = record { job = v.job; handed_out = v.handed_out }
 
+-- each visit that was begun is over, in order: it left its link so, and handed this on
+pub record AreOver {J P : Type 0} (does : J → LinkFacts → P → LinkFacts → Type 0) (begun : List (Begun J)) (links : List LinkFacts) (partings : List P) : Type 0 where
+  pub visits : List (Visit J P)
+  pub each : All (IsVisit does) visits
+  pub begun_are : map beginning visits ≡ begun
+  pub partings_are : map (λ v. v.parting) visits ≡ partings
+  pub links_are : map (λ v. v.link) visits ≡ links
+
+-- these links were given back, in order
+pub record AreGivenBack (links : List LinkFacts) (old new : DoorFacts) : Type 0 where
+  pub back : new.back ≡ list_with_all links old.back
+  pub out : new.out + length links ≡ old.out
+  pub accepts : new.accepts ≡ old.accepts
+  pub asked : new.asked ≡ old.asked
+  pub faults : new.faults ≡ old.faults
+
 -- each visit that was begun is over, in order, and its link is back
 pub record AreVisited {J P : Type 0} (does : J → LinkFacts → P → LinkFacts → Type 0) (begun : List (Begun J)) (partings : List P) (old new : DoorFacts) : Type 0 where
   pub visits : List (Visit J P)

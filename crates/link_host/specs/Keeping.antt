@@ -1,5 +1,5 @@
 -- What workers keep to.
-use Rattle.std.specs.Prelude.{◌≡◌, ℕ, ◌+◌, ◌≤◌, List, [], All, vec_len, vec_capacity}
+use Rattle.std.specs.Prelude.{◌≡◌, ℕ, ◌+◌, ◌≤◌, [], All, vec_len, vec_capacity}
 use Rattle.std.specs.declared.alloc.Global.{Global}
 use Rattle.std.specs.declared.vec.Vec.{Vec}
 use Rattle.willow_outside.specs.Facts.{LinkFacts}
@@ -25,9 +25,11 @@ module _ {L H J P : Type 0} (facts : L → LinkFacts) (does : H → J → LinkFa
     pub fresh : IsFresh (facts started.handed_out.value)
     pub keeps : KeepsTo started.job.value started.handed_out.value started.worker
 
-  -- each worker keeps to its visit, and there is room for so many more, and for what all of them hand on
-  pub record AllKeep (started : Vec (Started L H J P) Global) (partings : Vec P Global) (more : ℕ) : Type 0 where
+  -- each worker keeps to its visit, and there is room for so many more, for the links of all, and for what all of them hand on
+  pub record AllKeep (started : Vec (Started L H J P) Global) (links : Vec L Global) (partings : Vec P Global) (more : ℕ) : Type 0 where
     pub keep : All Keeps started.items
     pub room : vec_len started + more ≤ vec_capacity started
+    pub no_links : links.items ≡ []
+    pub links_room : vec_len started + more ≤ vec_capacity links
     pub no_partings : partings.items ≡ []
     pub partings_room : vec_len started + more ≤ vec_capacity partings

@@ -3,9 +3,10 @@
 ghost use Rattle.std.specs.Prelude.{◌≡◌, ◌+◌, ◌<◌, ◌≤◌, [], All, IfOk, length, map, vec_len, vec_capacity};
 ghost use Rattle.willow_outside.specs.Counts.{one_more};
 ghost use Rattle.willow_outside.specs.Links.{HandsOutLink};
-ghost use Rattle.link_host.specs.Begun.{AreVisited, Begins, CountsRefusal, beginning};
+ghost use Rattle.link_host.specs.Begun.{AreOver, AreVisited, Begins, CountsRefusal, beginning};
 ghost use Rattle.link_host.specs.Keeping.{Keeps, begun_of};
 
+use crate::giving::give_back_all;
 use crate::worker::{Errand, Started, Visited, finish, start};
 use crate::{Host, NoLink};
 use spelling::NoMemory;
@@ -22,6 +23,7 @@ use willow_outside::{Door, Link};
 pub struct Workers<L: Link + Send, H: Host<L>> {
     host: Snapshot<H>,
     started: Vec<Started<L, H>>,
+    links: Vec<L>,
     partings: Vec<H::Parting>,
     room: usize,
 }
@@ -35,7 +37,7 @@ impl<L: Link + Send, H: Host<L>> Model for Workers<L, H> {
 
     ghost view = { λ s. record { host = s.host.value; begun = map (begun_of L.facts) s.started.items; room = s.room } };
 
-    ghost invariant = { λ s. AllKeep L.facts H.does s.host.value s.started s.partings s.room };
+    ghost invariant = { λ s. AllKeep L.facts H.does s.host.value s.started s.links s.partings s.room };
 }
 
 impl<L: Link + Send, H: Host<L>> Workers<L, H> {
@@ -46,6 +48,7 @@ impl<L: Link + Send, H: Host<L>> Workers<L, H> {
         Ok(Workers {
             host: Snapshot::of(host),
             started: Vec::with_capacity(alloc, room)?,
+            links: Vec::with_capacity(alloc, room)?,
             partings: Vec::with_capacity(alloc, room)?,
             room,
         })
@@ -85,38 +88,48 @@ impl<L: Link + Send, H: Host<L>> Workers<L, H> {
         }
     }
 
-    /// Waits for all workers, in order, gives each link back to the door, and tells what the visits handed on.
-    pub fn finish<R: Threads, D: Door<L = L>>(self, rt: &R, door: &mut D) -> Vec<H::Parting>
-        requires { length self.begun ≤ (D.facts door.old).out }
-        ensures { AreVisited (H.does self.host) self.begun result.items (D.facts door.old) (D.facts door.new) }
+    /// Waits for all workers, in order, and hands out the link of each visit, and what each visit handed on.
+    pub fn join<R: Threads>(self, rt: &R) -> (Vec<L>, Vec<H::Parting>)
+        ensures { AreOver (H.does self.host) self.begun (map L.facts result.0.items) result.1.items }
     {
         let Workers {
             host,
             started,
+            links,
             partings,
             room: _,
         } = self;
-        finish_all(rt, &host, door, started, partings)
+        join_all(rt, &host, started, links, partings)
+    }
+
+    /// Waits for all workers, gives their links back to the door in order, and tells what the visits handed on.
+    pub fn finish<R: Threads, D: Door<L = L>>(self, rt: &R, door: &mut D) -> Vec<H::Parting>
+        requires { length self.begun ≤ (D.facts door.old).out }
+        ensures { AreVisited (H.does self.host) self.begun result.items (D.facts door.old) (D.facts door.new) }
+    {
+        let (links, partings) = self.join(rt);
+        give_back_all(door, links);
+        partings
     }
 }
 
-// Waits for all workers, in order, and gives each link back.
-fn finish_all<R: Threads, L: Link + Send, D: Door<L = L>, H: Host<L>>(
+// Waits for all workers, in order, with lists that have room for all links and for what all visits hand on.
+fn join_all<R: Threads, L: Link + Send, H: Host<L>>(
     rt: &R,
     host: &Snapshot<H>,
-    door: &mut D,
     started: Vec<Started<L, H>>,
+    mut links: Vec<L>,
     mut partings: Vec<H::Parting>,
-) -> Vec<H::Parting>
+) -> (Vec<L>, Vec<H::Parting>)
     requires keeps { All (Keeps L.facts H.does host.now.value) started.items }
-    requires out { vec_len started ≤ (D.facts door.old).out }
-    requires room { (partings.items ≡ []) × (vec_len started ≤ vec_capacity partings) }
-    ensures { AreVisited (H.does host.now.value) (map (begun_of L.facts) started.items) result.items (D.facts door.old) (D.facts door.new) }
+    requires links { (links.items ≡ []) × (vec_len started ≤ vec_capacity links) }
+    requires partings { (partings.items ≡ []) × (vec_len started ≤ vec_capacity partings) }
+    ensures { AreOver (H.does host.now.value) (map (begun_of L.facts) started.items) (map L.facts result.0.items) result.1.items }
 {
     for worker in started {
         let Visited { link, parting } = finish(rt, host, worker);
-        door.give_back(link);
+        links.push_reserved(link);
         partings.push_reserved(parting);
     }
-    partings
+    (links, partings)
 }

@@ -1,6 +1,6 @@
 //! Runs a server and its peers over links between two threads, over links in memory with one gate, and over TCP on this
-//! machine. Prints of each run the status, the length and the SHA-256 of the image that is there behind it, and the report;
-//! in whatever order the threads run it prints the same. The images and what is said by peers that are no runs come from
+//! machine. Prints of each run the status, the length and the SHA-256 of the image that is there behind it, what one who
+//! watches heard of, and the report; in whatever order the threads run it prints the same. The images and what is said by peers that are no runs come from
 //! standard input: lines of a name and bytes in hexadecimal. These lines and what must come out are made by
 //! `bench/cases/make.py`, which shares no code with this program. It promises nothing: what a run does is the contract of
 //! `peer_run`.
@@ -8,6 +8,7 @@
 
 mod gates;
 mod given;
+mod hearing;
 mod pairs;
 mod peers;
 mod places;

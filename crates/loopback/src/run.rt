@@ -1,14 +1,19 @@
 //! One run over a door.
 
 use crate::given::Given;
+use crate::hearing::{Listener, MOST};
 use peer_run::peer_run;
 use sha2::{Digest, Sha256};
 use std::alloc::{AllocError, Global};
 use std::collections::BTreeMap;
-use std::sync::Wait;
+use std::sync::atomic::{AtomicU64, Ordering};
+use std::sync::{Arc, Wait};
 use std::thread::Threads;
-use sub_hub::Hub;
-use willow_outside::{Door, MemNoise, MemShelf, MemSink, MemSource, Noise, Shelf, Sink, Source};
+use sub_hub::{Hub, Watcher};
+use willow_area::Area;
+use willow_outside::{
+    Bay, Door, MemBay, MemNoise, MemShelf, MemSink, MemSource, Noise, Shelf, Sink, Source,
+};
 
 // The author whose rows are exchanged. Anyone may sign for an open key.
 const SIGNER: &str = "open:5555555555555555555555555555555555555555555555555555555555555555";
@@ -59,6 +64,7 @@ impl Side<'_> {
 pub(crate) struct Outcome {
     status: u8,
     image: Option<Vec<u8>>,
+    heard: u64,
     report: MemSink,
 }
 
@@ -98,7 +104,7 @@ impl Outcome {
         Ok(lines)
     }
 
-    // The status and the image that is there behind the run, below a title.
+    // The status, the image that is there behind the run, and what one who watches heard, below a title.
     fn head(&self, alloc: Global, title: &str) -> Result<String, AllocError> {
         let image = match &self.image {
             Some(image) => image.as_slice(),
@@ -106,7 +112,10 @@ impl Outcome {
         };
         let status = self.status;
         let image = measure(alloc, image)?;
-        format!(in alloc; "{title}: status {status}, image {image}\n")
+        let mut head = format!(in alloc; "{title}: status {status}, image {image}\n")?;
+        let (first, count) = (self.heard / MOST, self.heard % MOST);
+        write!(head, "heard {count} rows from {first} on\n")?;
+        Ok(head)
     }
 }
 
@@ -129,7 +138,7 @@ fn sink_of(alloc: Global) -> MemSink {
 }
 
 // The one place that calls: over any objects, so that the contract is met once for all.
-fn call<R: Wait + Threads + Sync, H: Shelf, I: Source, O: Sink, E: Sink, D: Door, N: Noise>(
+fn call<R: Wait + Threads + Sync, H: Shelf, I: Source, O: Sink, E: Sink, D: Door, N: Noise, B: Bay>(
     rt: &R,
     alloc: Global,
     words: &[String],
@@ -139,15 +148,28 @@ fn call<R: Wait + Threads + Sync, H: Shelf, I: Source, O: Sink, E: Sink, D: Door
     report: &mut E,
     door: &mut D,
     noise: &mut N,
+    bay: &mut B,
+    hub: &mut Hub,
 ) -> u8 {
-    // nobody watches
-    let mut hub = Hub::new(alloc);
     peer_run(
-        rt, alloc, words, shelf, input, output, report, door, noise, &mut hub,
+        rt, alloc, words, shelf, input, output, report, door, noise, bay, hub,
     )
 }
 
-/// Runs the words over the side's objects and the door, with no input and without faults but the door's.
+// A hub with one who watches, and shows in this word what it heard of.
+fn watched(alloc: Global, shown: &Arc<AtomicU64>) -> Result<Hub, AllocError> {
+    let mut hub = Hub::new(alloc);
+    let listener = Listener::new(shown.clone()?);
+    let watcher: Box<dyn Watcher> = Box::new(alloc, listener).map_err(|unsaid| AllocError::from(
+        unsaid,
+    ))?;
+    match hub.add(Area::full(alloc), watcher) {
+        Ok(_) => Ok(hub),
+        Err(_) => Err(AllocError),
+    }
+}
+
+/// Runs the words over the side's objects and the door, with no input and without faults but the door's. One watches.
 pub(crate) fn over<R: Wait + Threads + Sync, D: Door>(
     rt: &R,
     alloc: Global,
@@ -161,6 +183,15 @@ pub(crate) fn over<R: Wait + Threads + Sync, D: Door>(
     let mut input = MemSource::new(alloc, Vec::new(alloc), Vec::new(alloc), PIECE);
     let mut output = sink_of(alloc);
     let mut report = sink_of(alloc);
+    // no run keeps a log
+    let mut bay = MemBay::new(
+        alloc,
+        BTreeMap::new(alloc),
+        Vec::new(alloc),
+        Vec::new(alloc),
+    );
+    let shown = Arc::new(alloc, AtomicU64::new(0))?;
+    let mut hub = watched(alloc, &shown)?;
     let status = call(
         rt,
         alloc,
@@ -171,10 +202,13 @@ pub(crate) fn over<R: Wait + Threads + Sync, D: Door>(
         &mut report,
         door,
         &mut noise,
+        &mut bay,
+        &mut hub,
     );
     Ok(Outcome {
         status,
         image: shelf.get("i").unwrap_or(None),
+        heard: shown.load(Ordering::SeqCst),
         report,
     })
 }

@@ -149,9 +149,9 @@ showing_owes asked =
 pub show_is_lawful : (asked : Option ℕ) → IsLawful (show_deed asked)
 show_is_lawful asked =
     lawful (show_deed asked) (λ old. CanShow old.input) (λ d new. Unit {0}) (λ unbuilt. unbuilt) (λ old new ready. ready)
-    (then_local _ _ (λ x. writes_local (x.0.items ++ x.1.items) (done.Shown x.2) tt))
+    (then_local _ _ (λ x. writes_local x.0 (done.Shown x.1) tt))
     (then_owes Reads Wrote (λ old. CanShow old.input) (λ x new. Unit {0}) (λ d new. Unit {0}) _ _ input_lasts output_lasts (showing_owes asked)
-    (λ x. writes_owe Reads Wrote (λ old. Unit {0}) (x.0.items ++ x.1.items) (done.Shown x.2) (λ old new rose. rose)))
+    (λ x. writes_owe Reads Wrote (λ old. Unit {0}) x.0 (done.Shown x.1) (λ old new rose. rose)))
 
 -- ---- gen
 

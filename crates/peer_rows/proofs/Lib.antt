@@ -7,7 +7,11 @@ pub mod Offered
 pub mod Waiting
 pub mod RawStreams
 pub mod Pieces
+pub mod Coming
 pub mod ReadLog
+pub mod Held
+pub mod Gathered
+pub mod UnderWay
 pub mod Writing
 pub mod Framed
 pub mod Joined
@@ -21,4 +25,4 @@ pub mod Deeds
 pub mod WatchSteps
 pub mod WatchDeeds
 pub mod WholeWatch
-pub mod Shares
+pub mod InShares

@@ -16,7 +16,7 @@ use Rattle.row_stream.specs.Streams.{frames_of, IsStreamRow, IsJudged, IsStream,
 use Rattle.row_stream.proofs.OneReading.{no_frame, one_reading}
 use Rattle.row_stream.proofs.Longer.{stream_more}
 use Rattle.peer_rows.specs.Join.{BeginNoFrames, AreRightSoFar}
-use Rattle.peer_rows.specs.Stored.{offset_of, AreWrong}
+use Rattle.peer_rows.specs.Coming.{offset_of, AreWrong}
 
 -- ---- rows
 

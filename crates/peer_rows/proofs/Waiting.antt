@@ -5,9 +5,10 @@ use Rattle.willow_entry.specs.Row.{RowValue, is_covering, new}
 use Rattle.cap_codec.specs.Rows.{RawValue}
 use Rattle.ns_state.specs.declared.live_log.TheConstants.{LOG_LIMIT}
 use Rattle.peer_stage.specs.declared.outcome.Stop.{Stop}
+use Rattle.peer_stage.specs.declared.outcome.Stop.TheVariants as stop
 use Rattle.peer_rows.specs.Logged.{authorised_rows, IsLogOf, FitsLog}
 use Rattle.peer_rows.specs.Reading.{IsLonger}
-use Rattle.peer_rows.specs.Stored.{HasTakenIn, HasJudged, JudgesAll, LacksMemory, MayWait}
+use Rattle.peer_rows.specs.Stored.{HasTakenIn, HasJudged, JudgesAll, LacksMemory, MayWait, TakesRows}
 use Rattle.peer_rows.specs.declared.log.Log.{Log}
 use Rattle.peer_rows.specs.declared.intake.Intake.{Intake}
 use Rattle.peer_rows.proofs.AuthorisedRows.{authorised_parts, authorised_few}
@@ -64,6 +65,13 @@ judged_may_wait namespace rows intake h = record {
   few = omega (arith, ap length h.none_wait);
   room = omega (arith, h.fits, ap length h.none_wait);
 }
+
+-- so what is judged was taken in
+pub judged_takes : (namespace : List ℕ) (rows : List RawValue) (before : Log) (intake : Intake) (result : Result (Unit {0}) Stop) → JudgesAll namespace rows before intake result → TakesRows namespace rows intake result
+judged_takes namespace rows before intake (Ok tt) judged = (none_waits namespace rows intake judged, judged_may_wait namespace rows intake judged)
+judged_takes namespace rows before intake (Err stop.LogFull) judged = judged
+judged_takes namespace rows before intake (Err stop.NoMemory) judged = tt
+judged_takes namespace rows before intake (Err e) judged = absurd judged
 
 -- ---- the log with more behind it
 

@@ -28,6 +28,7 @@ use Rattle.peer_rows.specs.declared.intake.Intake.{Intake}
 use Rattle.peer_rows.specs.declared.reading.Reading.{Reading}
 use Rattle.peer_rows.proofs.AuthorisedRows.{authorised_few, authorised_parts}
 use Rattle.peer_rows.proofs.NewRows.{new-longer, new_after-longer, new_after-more}
+use Rattle.peer_rows.proofs.Pieces.{right_fed}
 use Rattle.peer_rows.proofs.RawStreams.{right_so_far}
 
 -- the rows of the shared log from a position on are those of the log
@@ -91,22 +92,23 @@ module _ (n : List ℕ) (had : List RawValue) (i now : SourceFacts) (old : Log) 
   pub some_heard : (next : SourceFacts) (reading : Reading) (intake : Intake) → HasRead n had i now reading intake → HaveHeard old intake.log h h' left → IsReadSomewhat now next → HaveHeardSome n had i next h h'
   some_heard next reading intake read heard more =
       let seen = read.seen in
-      let taken = seen.taken_in in
+      let come = read.come in
+      let taken = read.taken_in in
       let rest = new-longer (authorised_rows n taken.judged) (authorised_rows n intake.waiting.items) in
-      let all : new (authorised_rows n (had ++ seen.seen)) ≡ new (authorised_rows n had) ++ (heard.rows ++ rest.0) =
+      let all : new (authorised_rows n (had ++ seen)) ≡ new (authorised_rows n had) ++ (heard.rows ++ rest.0) =
       ap (λ (l : List RawValue). new (authorised_rows n l)) taken.parts
       ∙ ap new (authorised_parts n taken.judged intake.waiting.items)
       ∙ rest.1
       ∙ ap (λ (l : List RowValue). l ++ rest.0) (sym taken.is_log.taken ∙ heard.longer ∙ ap (λ (l : List RowValue). l ++ heard.rows) whole.is_log.taken)
       ∙ append_assoc (new (authorised_rows n had)) heard.rows rest.0 in
-      let first : take (length heard.rows) (new_behind n had seen.seen) ≡ heard.rows =
-      ap (take (length heard.rows)) (behind_is (new (authorised_rows n had)) (heard.rows ++ rest.0) (new (authorised_rows n (had ++ seen.seen))) all) ∙ take-append_seam heard.rows rest.0 in
+      let first : take (length heard.rows) (new_behind n had seen) ≡ heard.rows =
+      ap (take (length heard.rows)) (behind_is (new (authorised_rows n had)) (heard.rows ++ rest.0) (new (authorised_rows n (had ++ seen))) all) ∙ take-append_seam heard.rows rest.0 in
       record {
-        bytes = read.bytes;
+        bytes = come.bytes;
         behind = more.0;
-        taken = Consumes-trans i.left now.left next.left read.bytes more.0 read.consumed more.1;
-        rows = seen.seen;
-        not_wrong = right_so_far 0 read.bytes seen.seen reading.stream.begun seen.fit seen.stream;
+        taken = Consumes-trans i.left now.left next.left come.bytes more.0 come.consumed more.1;
+        rows = seen;
+        not_wrong = right_fed come.bytes seen reading.stream come.fed;
         count = length heard.rows;
         left = left;
         told = subst (λ (l : List RowValue). IsPumped h h' l left) (sym first) heard.told;

@@ -70,6 +70,11 @@ module _ (old now : SinkFacts) (whole piece : List ℕ) where
   pub writing_rest : (rest : List ℕ) → IsWritingOut old now whole piece rest → rest ≡ [] → IsWritingOut old now whole piece []
   writing_rest rest w none = subst (λ (l : List ℕ). IsWritingOut old now whole piece l) none w
 
+  -- all was written
+  pub all_written : (rest : List ℕ) → IsWritingOut old now whole piece rest → piece ++ rest ≡ [] → IsWritten old now whole
+  all_written rest w none =
+      subst (λ (l : List ℕ). Appends old.held now.held l) (sym (w.parts ∙ ap (λ (l : List ℕ). w.written ++ l) none ∙ append-nil w.written)) w.appended
+
   -- the last piece decides
   pub writing_ends : (new : SinkFacts) (given : List ℕ) (result : Result (Unit {0}) Stop) → IsWritingOut old now whole piece [] → given ≡ piece → WritesOutput now new given result → WritesOutput old new whole result
   writing_ends new given result w same h =

@@ -10,7 +10,7 @@ use Rattle.peer_stage.specs.Steps.{Step, OnOutput}
 use Rattle.peer_stage.specs.Stages.{Writes}
 use Rattle.peer_stage.specs.declared.outcome.Done.{Done}
 use Rattle.peer_stage.specs.declared.outcome.Done.TheVariants as done
-use Rattle.peer_rows.specs.declared.generating.TheConstants.{SHARE}
+use Rattle.peer_rows.specs.declared.shares.TheConstants.{SHARE}
 
 -- the frames of the generated rows 0 to n - 1, in order
 abbrev pub generated_frames : ℕ → List ℕ
@@ -21,5 +21,5 @@ abbrev pub Generates : ℕ → Step Done
 Generates rows = OnOutput (Writes (generated_frames rows) done.Made)
 
 -- Share k of the rows from one on is the frames of SHARE of them, unless there was no memory for it.
-abbrev pub AreShares : ℕ → List (Result (Vec ℕ) NoMemory) → Type 0
-AreShares from shares = (k : ℕ) → k < length shares → IfSome (slice_get shares k) (λ share. IfOk share (λ bytes. bytes.items ≡ frames_between (from + k * SHARE) (from + (k * SHARE + SHARE))))
+abbrev pub AreFrameShares : ℕ → List (Result (Vec ℕ) NoMemory) → Type 0
+AreFrameShares from shares = (k : ℕ) → k < length shares → IfSome (slice_get shares k) (λ share. IfOk share (λ bytes. bytes.items ≡ frames_between (from + k * SHARE) (from + (k * SHARE + SHARE))))

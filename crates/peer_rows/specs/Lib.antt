@@ -5,6 +5,10 @@ pub mod Parts
 pub mod Drilled
 pub mod Stored
 pub mod Join
+pub mod Coming
+pub mod Keeping
+pub mod Gathering
+pub mod Joining
 pub mod Reading
 pub mod Show
 pub mod Opened
@@ -14,3 +18,4 @@ pub mod Listed
 pub mod Generate
 pub mod Deeds
 pub mod Writing
+pub mod Shares

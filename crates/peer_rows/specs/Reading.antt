@@ -1,29 +1,26 @@
 -- How the reading of an input into a log goes on, behind rows that were had before.
-use Rattle.std.specs.Prelude.{◌≡◌, ℕ, ◌+◌, ◌<◌, Bool, true, false, List, [], ◌++◌, length, Result, Ok, Err}
-use Rattle.std.specs.Io.KnownBytes.{Consumes}
+use Rattle.std.specs.Prelude.{◌≡◌, ℕ, ◌<◌, ◌^◌, Bool, true, false, List, [], ◌++◌, length, Result, Ok, Err}
 use Rattle.willow_outside.specs.Facts.{SourceFacts}
 use Rattle.willow_entry.specs.Row.{RowValue}
 use Rattle.cap_codec.specs.Rows.{RawValue, AreFrames}
 use Rattle.peer_stage.specs.Stages.{IsReadWhole}
 use Rattle.peer_stage.specs.declared.stage.TheConstants.{INPUT_LIMIT}
 use Rattle.peer_stage.specs.declared.outcome.Stop.{Stop}
+use Rattle.peer_rows.specs.Coming.{HaveCome}
 use Rattle.peer_rows.specs.Join.{JoinsInput, StopsInput}
 use Rattle.peer_rows.specs.Logged.{kept_rows}
-use Rattle.peer_rows.specs.Stored.{HasSeen, IsWholeLog, MayWait}
+use Rattle.peer_rows.specs.Stored.{HasTakenIn, IsWholeLog, MayWait}
 use Rattle.peer_rows.specs.declared.log.Log.{Log}
 use Rattle.peer_rows.specs.declared.intake.Intake.{Intake}
 use Rattle.peer_rows.specs.declared.reading.Reading.{Reading}
 
--- bytes were read, without a fault or the end, and taken in; so many may follow
+-- rows came behind those had before, and were taken in; of those had before no more are than an image tells
 pub record HasRead (namespace : List ℕ) (had : List RawValue) (old now : SourceFacts) (reading : Reading) (intake : Intake) : Type 0 where
-  pub bytes : List ℕ
-  pub consumed : Consumes old.left now.left bytes
-  pub seen : HasSeen namespace had bytes reading.stream intake
+  pub few : length had < 2 ^ 32
+  pub seen : List RawValue
+  pub come : HaveCome old now reading seen
+  pub taken_in : HasTakenIn namespace (had ++ seen) intake
   pub waits : MayWait intake
-  pub count : length bytes + reading.left ≡ INPUT_LIMIT
-  pub room : 0 < length reading.piece.items
-  pub not_ended : now.ends ≡ old.ends
-  pub no_fault : now.faults ≡ old.faults
 
 -- the input was read whole and is the frames of rows; the log is that of those had before and of them
 pub record IsLogRead (namespace : List ℕ) (had : List RawValue) (i i' : SourceFacts) (log : Log) : Type 0 where
@@ -47,8 +44,3 @@ IsLonger old new = (rows : List RowValue) × (kept_rows new.kept ≡ kept_rows o
 abbrev pub LogsInput : List ℕ → SourceFacts → SourceFacts → Result Log Stop → Type 0
 LogsInput namespace i i' (Ok log) = IsLogRead namespace [] i i' log
 LogsInput namespace i i' (Err e) = JoinsInput namespace i i' (Err e)
-
--- how the taking in of an input ends
-abbrev pub TakesInput : List ℕ → SourceFacts → SourceFacts → Intake → Result (Unit {0}) Stop → Type 0
-TakesInput namespace i i' intake (Ok u) = IsLogRead namespace [] i i' intake.log
-TakesInput namespace i i' intake (Err e) = StopsInput namespace [] i i' e

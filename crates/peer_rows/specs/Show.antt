@@ -1,7 +1,6 @@
 -- What `show` does: the listing of the authorised rows of the image that the input is.
 use Rattle.std.specs.Prelude.{◌≡◌, ℕ, ◌+◌, ◌⊎◌, List, ◌++◌, length, map, take, Option, Some, None, Result, Ok, Err}
 use Rattle.std.specs.List.{flat_map}
-use Rattle.std.specs.Global.{Vec}
 use Rattle.willow_outside.specs.Facts.{SourceFacts}
 use Rattle.lms_core.specs.Use.{peer_rules}
 use Rattle.willow_entry.specs.Row.{RowValue}
@@ -73,16 +72,6 @@ pub record IsFullImage (bytes : List ℕ) : Type 0 where
   pub in_order : order_refusal (map row_of rows) ≡ None
   pub passes : PassesLog namespace rows
 
--- how the showing of bytes ends: the head of the listing, its lines, and the numbers
-abbrev pub ShowsBytes : Option ℕ → List ℕ → Result (Vec ℕ × Vec ℕ × ShowCounts) Stop → Type 0
-ShowsBytes asked bytes (Ok x) = IsShownOf asked bytes (x.0.items ++ x.1.items) x.2
-ShowsBytes asked bytes (Err (stop.BadInput origin at)) = IsWrong bytes at × IsInput origin
-ShowsBytes asked bytes (Err (stop.NotRising origin row)) = IsMisordered bytes (refusal.NotRising row) × IsInput origin
-ShowsBytes asked bytes (Err (stop.Pruned origin row by)) = IsMisordered bytes (refusal.Pruned row by) × IsInput origin
-ShowsBytes asked bytes (Err stop.LogFull) = IsFullImage bytes
-ShowsBytes asked bytes (Err stop.NoMemory) = Unit {0}
-ShowsBytes asked bytes (Err e) = ⊥
-
 -- ---- over the bytes taken of the input
 
 -- the input was read whole, and its listing is this text, with these numbers
@@ -103,9 +92,9 @@ IsReadMisordered i i' refused = (bytes : List ℕ) × IsReadWhole INPUT_LIMIT i 
 abbrev pub IsReadFull : SourceFacts → SourceFacts → Type 0
 IsReadFull i i' = (bytes : List ℕ) × IsReadWhole INPUT_LIMIT i i' bytes × IsFullImage bytes
 
--- how the reading and listing of an input ends: with the head, the lines and the numbers
-abbrev pub ShowsInput : Option ℕ → SourceFacts → SourceFacts → Result (Vec ℕ × Vec ℕ × ShowCounts) Stop → Type 0
-ShowsInput asked i i' (Ok x) = IsShownRead asked i i' (x.0.items ++ x.1.items) x.2
+-- how the reading and listing of an input ends, with the listing and the numbers
+abbrev pub ShowsInput : Option ℕ → SourceFacts → SourceFacts → Result (List ℕ × ShowCounts) Stop → Type 0
+ShowsInput asked i i' (Ok x) = IsShownRead asked i i' x.0 x.1
 ShowsInput asked i i' (Err stop.ReadFault) = (bytes : List ℕ) × IsReadToFault INPUT_LIMIT i i' bytes
 ShowsInput asked i i' (Err (stop.BadInput origin at)) = IsBadImage i i' at × IsInput origin
 ShowsInput asked i i' (Err (stop.NotRising origin row)) = IsReadMisordered i i' (refusal.NotRising row) × IsInput origin
@@ -120,4 +109,4 @@ ShowsInput asked i i' (Err e) = ⊥
 abbrev pub Shows : Option ℕ → Step Done
 Shows asked =
     Then (OnInput (ShowsInput asked)) (λ x.
-    OnOutput (Writes (x.0.items ++ x.1.items) (done.Shown x.2)))
+    OnOutput (Writes x.0 (done.Shown x.1)))

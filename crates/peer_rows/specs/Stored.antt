@@ -1,19 +1,11 @@
 -- The log of the rows of a stream that is read in pieces, and the rows that wait to be judged for it.
-use Rattle.std.specs.Prelude.{◌≡◌, ◌⊎◌, ℕ, ◌+◌, ◌^◌, ◌<◌, ◌≤◌, List, [], ◌∷◌, ◌++◌, length, map, None, Result, Ok, Err}
-use Rattle.std.specs.List.{AllByRecursion}
+use Rattle.std.specs.Prelude.{◌≡◌, ◌⊎◌, ℕ, ◌+◌, ◌<◌, ◌≤◌, List, [], ◌∷◌, ◌++◌, length, Result, Ok, Err}
 use Rattle.spelling.specs.declared.ending.End.{End}
 use Rattle.spelling.specs.declared.ending.End.TheVariants as ends
-use Rattle.cap_codec.specs.Rows.{RawValue, row_of, IsRawRow, FitsFrame}
-use Rattle.cap_codec.specs.Streams.{FramesStopAt}
-use Rattle.row_stream.specs.Streams.{IsStream}
-use Rattle.row_stream.specs.Feeding.{StreamState, Finishes}
-use Rattle.row_stream.specs.declared.refusal.StreamRefusal.{StreamRefusal}
-use Rattle.row_stream.specs.declared.refusal.StreamRefusal.TheVariants.{BadFrame, FrameTooLong, CutShort}
-use Rattle.peer_stage.specs.Stages.{IsInput}
+use Rattle.cap_codec.specs.Rows.{RawValue}
 use Rattle.peer_stage.specs.declared.outcome.Stop.{Stop}
 use Rattle.peer_stage.specs.declared.outcome.Stop.TheVariants as stop
 use Rattle.peer_rows.specs.Logged.{IsLogOf, FitsLog, PassesLog}
-use Rattle.peer_rows.specs.Join.{BeginNoFrames, AreRightSoFar}
 use Rattle.peer_rows.specs.declared.log.Log.{Log}
 use Rattle.peer_rows.specs.declared.intake.Intake.{Intake}
 use Rattle.peer_rows.specs.declared.intake.TheConstants.{TOGETHER}
@@ -76,57 +68,14 @@ AdmitsRow namespace rows before intake (Err stop.LogFull) = PassesLog namespace 
 AdmitsRow namespace rows before intake (Err stop.NoMemory) = LacksMemory namespace rows before intake.log
 AdmitsRow namespace rows before intake (Err e) = ⊥
 
--- ---- pieces
+-- how the taking in of the rows of a piece ends, where these are all with them
+abbrev pub TakesRows : List ℕ → List RawValue → Intake → Result (Unit {0}) Stop → Type 0
+TakesRows namespace rows intake (Ok u) = HasTakenIn namespace rows intake × MayWait intake
+TakesRows namespace rows intake (Err stop.LogFull) = PassesLog namespace rows
+TakesRows namespace rows intake (Err stop.NoMemory) = Unit {0}
+TakesRows namespace rows intake (Err e) = ⊥
 
--- These bytes were fed to the stream, and the rows that became whole were taken in, behind those had before. Of these no more
--- are than an image tells.
-pub record HasSeen (namespace : List ℕ) (had : List RawValue) (bytes : List ℕ) (state : StreamState) (intake : Intake) : Type 0 where
-  pub few : length had < 2 ^ 32
-  pub seen : List RawValue
-  pub fit : AllByRecursion FitsFrame seen
-  pub unrefused : state.refusal ≡ None
-  pub stream : IsStream IsRawRow 0 bytes (map row_of seen) state.begun None
-  pub all_fed : state.at + length state.begun ≡ length bytes
-  pub taken_in : HasTakenIn namespace (had ++ seen) intake
-
--- the bytes stop at this place to be frames of rows, and what stands there is wrong whatever comes behind
-pub record AreWrong (bytes : List ℕ) (at : ℕ) : Type 0 where
-  pub wrong : FramesStopAt bytes at
-  pub cause : BeginNoFrames bytes
-  pub judged : (rows : List RawValue) → AreRightSoFar bytes rows → ⊥
-
--- of the whole rows of the bytes one too many would be stored behind those had before, and nothing in them is wrong
-pub record IsPastLog (namespace : List ℕ) (had : List RawValue) (bytes : List ℕ) : Type 0 where
-  pub rows : List RawValue
-  pub not_wrong : AreRightSoFar bytes rows
-  pub passes : PassesLog namespace (had ++ rows)
-
--- how the feeding of a piece ends, where the bytes are all with this piece
-abbrev pub FeedsPiece : List ℕ → List RawValue → List ℕ → StreamState → Intake → Result (Unit {0}) Stop → Type 0
-FeedsPiece namespace had bytes state intake (Ok u) = HasSeen namespace had bytes state intake
-FeedsPiece namespace had bytes state intake (Err (stop.BadInput origin at)) = AreWrong bytes at × IsInput origin
-FeedsPiece namespace had bytes state intake (Err stop.NoMemory) = Unit {0}
-FeedsPiece namespace had bytes state intake (Err e) = ⊥
-
--- how the taking of a piece ends, where the bytes are all with this piece
-abbrev pub TakesPiece : List ℕ → List RawValue → List ℕ → StreamState → Intake → Result (Unit {0}) Stop → Type 0
-TakesPiece namespace had bytes state intake (Ok u) = HasSeen namespace had bytes state intake × MayWait intake
-TakesPiece namespace had bytes state intake (Err (stop.BadInput origin at)) = AreWrong bytes at × IsInput origin
-TakesPiece namespace had bytes state intake (Err stop.LogFull) = IsPastLog namespace had bytes
-TakesPiece namespace had bytes state intake (Err stop.NoMemory) = Unit {0}
-TakesPiece namespace had bytes state intake (Err e) = ⊥
-
--- the offset that a refusal tells
-abbrev pub offset_of : StreamRefusal → ℕ
-offset_of (BadFrame at) = at
-offset_of (FrameTooLong at) = at
-offset_of (CutShort at) = at
-
--- how the stream ends behind its last piece: a refusal is told as bad input at its offset
-abbrev pub EndsStream : StreamState → Result (Unit {0}) Stop → Type 0
-EndsStream state (Ok u) = Finishes state (Ok u)
-EndsStream state (Err (stop.BadInput origin at)) = ((refusal : StreamRefusal) × Finishes state (Err refusal) × (at ≡ offset_of refusal)) × IsInput origin
-EndsStream state (Err e) = ⊥
+-- ---- a whole log
 
 -- a log of just these rows, each that would be stored with room
 pub record IsWholeLog (namespace : List ℕ) (rows : List RawValue) (log : Log) : Type 0 where

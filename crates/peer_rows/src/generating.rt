@@ -1,28 +1,23 @@
 //! `generate`: the frames of the generator's rows, made on all processors where they are many, and written a piece at a time.
 
-ghost use Rattle.std.specs.Prelude.{◌≡◌, ℕ, ◌+◌, ◌*◌, ◌≤◌, IfOk, IsTrue, length};
+ghost use Rattle.std.specs.Prelude.{◌≡◌, ℕ, ◌+◌, ◌*◌, ◌≤◌, IfOk, length};
 ghost use Rattle.peer_listing.specs.Ranges.{frames_between};
 ghost use Rattle.peer_stage.specs.Faults.{CountsStep};
 ghost use Rattle.peer_stage.specs.Stages.{WritesOutput};
 ghost use Rattle.peer_stage.specs.World.{World};
-ghost use Rattle.peer_rows.specs.Generate.{AreShares, generated_frames, Generates};
+ghost use Rattle.peer_rows.specs.Generate.{AreFrameShares, generated_frames, Generates};
 
 use crate::imaging::PIECE;
+use crate::shares::{SHARE, SHARES, is_worth_threads, write_shares};
 use peer_listing::{GENERATED_ROWS, Generator};
 use peer_stage::{Done, Stop, write_output};
 use spelling::NoMemory;
 use std::alloc::Global;
-use std::thread::{Threads, available_parallelism, map_indices};
+use std::thread::{Threads, map_indices};
 use willow_outside::Sink;
 
 // So many rows are made together: enough for all lanes, few enough that what is made of them stays near.
 const TOGETHER: u32 = 64;
-
-// So many rows are made on one thread: to make them takes some ten times as long as to start it.
-const SHARE: u32 = 1_024;
-
-// So many threads make rows at once, whose frames then stand in memory.
-const SHARES: u32 = 4;
 
 /// Writes the frames of the first `rows` rows of the generator, from row 0 on. There are at most `GENERATED_ROWS`. Where there
 /// are many they are made on all processors.
@@ -55,21 +50,10 @@ fn write_rows<R: Threads + Sync, O: Sink>(
     let mut made = 0;
     'rounds: while is_worth_threads(rt, rows - made) {
         let shares = make_shares(rt, alloc, generator, made)?;
-        write_shares(made, &shares, output)?;
+        write_shares(&shares, output)?;
         made += SHARES * SHARE;
     }
     write_frames(alloc, generator, made, rows, output)
-}
-
-// Whether so many rows are made by threads.
-fn is_worth_threads(rt: &impl Threads, rows: u32) -> bool
-    ensures { IsTrue result → SHARES * SHARE ≤ rows }
-{
-    rows >= SHARES * SHARE
-        && match available_parallelism(rt) {
-            Ok(count) => count.get() > 1,
-            Err(_) => false,
-        }
 }
 
 // The frames of the rows from one on, each share of them made on a thread of its own.
@@ -80,7 +64,7 @@ fn make_shares<R: Threads + Sync>(
     from: u32,
 ) -> Result<Vec<Result<Vec<u8>, NoMemory>>, NoMemory>
     requires { from + SHARES * SHARE ≤ GENERATED_ROWS }
-    ensures shares { IfOk result (λ shares. AreShares from shares.items) }
+    ensures shares { IfOk result (λ shares. AreFrameShares from shares.items) }
     ensures count { IfOk result (λ shares. length shares.items ≡ SHARES) }
 {
     let shares = map_indices(
@@ -112,26 +96,6 @@ fn make_share(alloc: Global, generator: &Generator, from: u32, to: u32) -> Resul
         made = next;
     }
     Ok(bytes)
-}
-
-// Writes the shares of the rows from one on, in order. That a share found no memory is told when its turn comes.
-fn write_shares<O: Sink>(
-    from: u32,
-    shares: &[Result<Vec<u8>, NoMemory>],
-    output: &mut O,
-) -> Result<(), Stop>
-    requires shares { AreShares from shares.now }
-    requires count { length shares.now ≡ SHARES }
-    ensures writes { WritesOutput (O.facts output.old) (O.facts output.new) (frames_between from (from + SHARES * SHARE)) result }
-    ensures faults { CountsStep (O.facts output.old).faults (O.facts output.new).faults result }
-{
-    'shares: for k in 0..shares.len() {
-        match &shares[k] {
-            Ok(bytes) => write_output(output, bytes)?,
-            Err(NoMemory) => return Err(Stop::NoMemory),
-        }
-    }
-    Ok(())
 }
 
 // Writes the frames of the rows from one on: no more of them than a piece and those made together stand in memory.

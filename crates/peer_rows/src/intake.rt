@@ -1,8 +1,9 @@
-//! What a join took in of its input: the log of the rows that were judged, and the rows that wait.
+//! What was taken in of an input or an image: the log of the rows that were judged, and the rows that wait.
 
 ghost use Rattle.std.specs.Prelude.{◌≡◌, ℕ, ◌+◌, ◌^◌, ◌<◌, ◌≤◌, ◌∷◌, ◌++◌, ◌↔◌, [], List, length, IsTrue, None, OnOk};
 ghost use Rattle.cap_codec.specs.Rows.{RawValue};
-ghost use Rattle.peer_rows.specs.Stored.{AdmitsRow, HasTakenIn, JudgesAll, MayWait};
+ghost use Rattle.peer_rows.specs.Reading.{IsLonger};
+ghost use Rattle.peer_rows.specs.Stored.{AdmitsRow, HasTakenIn, JudgesAll, MayWait, TakesRows};
 
 use crate::images::log_stop;
 use crate::log::Log;
@@ -53,36 +54,39 @@ impl Intake {
         }
     }
 
-    /// Lets rows wait, behind those that do.
-    pub(crate) fn wait(&mut self, mut rows: Vec<RawRow>) -> Result<(), NoMemory>
+    /// Takes in the rows that a read brought. They wait for more where each is long to judge, unless those that wait are many
+    /// or one could meet a full log: so a full log is told at the read that brings the row that is too many.
+    pub(crate) fn take_in<C: Checker<PeerScheme>, R: Threads + Sync>(
+        &mut self,
+        rt: &R,
+        alloc: Global,
+        checker: &mut C,
+        rows: Vec<RawRow>,
+    ) -> Result<(), Stop>
+        requires namespace { C.judged_in checker.old ≡ self.old.log.kept.namespace }
+        requires few { (namespace : List ℕ) × (before : List RawValue) × HasTakenIn namespace before self.old × (length before + length rows.items < 2 ^ 64) }
+        ensures namespace { C.judged_in checker.new ≡ C.judged_in checker.old }
+        ensures takes { (namespace : List ℕ) (before : List RawValue) → HasTakenIn namespace before self.old → TakesRows namespace (before ++ rows.items) self.new result }
+        ensures longer { OnOk result (IsLonger self.old.log self.new.log) }
+    {
+        let brought = rows.len();
+        self.wait(rows)?;
+        if brought < LIGHT && self.may_wait() {
+            return Ok(());
+        }
+        self.judge(rt, alloc, checker)
+    }
+
+    // Lets rows wait, behind those that do.
+    fn wait(&mut self, rows: Vec<RawRow>) -> Result<(), NoMemory>
         ensures log { self.new.log ≡ self.old.log }
         ensures waits { OnOk result (self.new.waiting.items ≡ self.old.waiting.items ++ rows.items) }
     {
-        // Where none waits, the list is taken as it is.
-        if self.waiting.is_empty() {
-            self.waiting = rows;
-            return Ok(());
-        }
-        self.waiting.append(&mut rows)?;
-        Ok(())
+        put_behind(&mut self.waiting, rows)
     }
 
-    /// How many rows wait.
-    pub(crate) fn count(&self) -> usize
-        ensures { result ≡ length self.now.waiting.items }
-    {
-        self.waiting.len()
-    }
-
-    /// Whether rows of which a read brought so many are long to judge, each of them.
-    pub(crate) fn are_heavy(brought: usize) -> bool
-        ensures { IsTrue result ↔ (brought < LIGHT) }
-    {
-        brought < LIGHT
-    }
-
-    /// Whether the rows that wait may wait for more: they are few, and none of them can meet a full log.
-    pub(crate) fn may_wait(&self) -> bool
+    // Whether the rows that wait may wait for more: they are few, and none of them can meet a full log.
+    fn may_wait(&self) -> bool
         requires { self.now.log.counts.stored ≤ LOG_LIMIT }
         ensures { IsTrue result ↔ MayWait self.now }
     {
@@ -137,4 +141,16 @@ impl Intake {
             Err(end) => Err(log_stop(end)),
         }
     }
+}
+
+/// Puts rows behind others. Where there are none the list is taken as it is.
+pub(crate) fn put_behind(rows: &mut Vec<RawRow>, mut more: Vec<RawRow>) -> Result<(), NoMemory>
+    ensures { OnOk result (rows.new.items ≡ rows.old.items ++ more.items) }
+{
+    if rows.is_empty() {
+        *rows = more;
+        return Ok(());
+    }
+    rows.append(&mut more)?;
+    Ok(())
 }

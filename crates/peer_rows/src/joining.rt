@@ -1,35 +1,37 @@
 //! `join`: the image of the live rows among the authorised rows of the input.
 
-ghost use Rattle.std.specs.Prelude.{◌≡◌, ℕ, List, ◌+◌, ◌≤◌, ◌++◌, [], length, OnOk};
-ghost use Rattle.std.specs.List.{AllByRecursion};
-ghost use Rattle.cap_codec.specs.Rows.{IsRaw, RawValue};
+ghost use Rattle.std.specs.Prelude.{◌≡◌, ℕ, ◌^◌, ◌<◌, ◌≤◌, List, length, false, Err, IfOk, IsTrue, ◌↔◌};
+ghost use Rattle.willow_outside.specs.Facts.{SourceFacts};
+ghost use Rattle.cap_codec.specs.Rows.{RawValue};
 ghost use Rattle.peer_stage.specs.World.{World};
 ghost use Rattle.peer_stage.specs.Faults.{CountsStep};
-ghost use Rattle.peer_stage.specs.declared.outcome.Origin.TheVariants as origin;
+ghost use Rattle.peer_stage.specs.Stages.{IsReadSomewhat};
 ghost use Rattle.peer_stage.specs.declared.outcome.Stop.TheVariants as stop;
+ghost use Rattle.peer_rows.specs.Coming.{HaveCome};
+ghost use Rattle.peer_rows.specs.Gathering.{GathersJudged};
 ghost use Rattle.peer_rows.specs.Join.{Joins};
-ghost use Rattle.peer_rows.specs.Reading.{HasRead, IsLonger, LogsInput, TakesInput};
-ghost use Rattle.peer_rows.specs.Stored.{EndsStream, FeedsPiece, HasSeen, TakesPiece, offset_of};
+ghost use Rattle.peer_rows.specs.Joining.{IsUnderWay, JoinsOn, TakesInput};
+ghost use Rattle.peer_rows.specs.Keeping.{HoldsJudged, KeepsAll};
+ghost use Rattle.peer_rows.specs.Reading.{LogsInput};
 
+use crate::gathering::{Gathered, gather};
 use crate::imaging::write_image_of;
-use crate::intake::Intake;
+use crate::keeping::Keeping;
 use crate::log::{Log, leave_to_exit};
 use crate::reading::Reading;
 use auth_entry::{Checker, NewChecker};
-use cap_codec::{RawRow, RawRows};
 use lms_core::PeerScheme;
-use peer_stage::{Done, INPUT_LIMIT, Stop};
-use row_stream::{RowStream, StreamRefusal};
-use spelling::End;
+use peer_stage::{Done, Stop};
 use std::alloc::Global;
-use std::thread::Threads;
+use std::thread::{Threads, join_mut};
 use willow_outside::{Sink, Source};
 use willow_path::NamespaceKey;
 
 /// Reads row frames from the input, keeps the live rows of those that are authorised in the namespace, and
-/// writes their image. Rows of several pieces of the input wait to be judged together, by a checker of the given kind; still
-/// what is wrong, and a row that meets a full log, are told at the piece that brings them. Neither all of the input nor all
-/// of the image stands in memory. Once the image is written the log of the rows is left to the end of the run.
+/// writes their image. Rows of several pieces of the input are judged together, by a checker of the given kind, and while they
+/// are put into the log those of the next pieces are read and judged. Still what is wrong, and a row that meets a full log, are
+/// told at the piece that brings them. Neither all of the input nor all of the image stands in memory. Once the image is written
+/// the log of the rows is left to the end of the run.
 pub fn join<C: NewChecker<PeerScheme>, R: Threads + Sync, I: Source, O: Sink>(
     rt: &R,
     alloc: Global,
@@ -60,10 +62,10 @@ fn read_log<C: NewChecker<PeerScheme>, R: Threads + Sync, I: Source>(
     ensures ends { (I.facts input.old).ends ≤ (I.facts input.new).ends }
 {
     let mut checker = C::begin(alloc, PeerScheme, *namespace)?;
-    let mut intake = Intake::new(alloc, *namespace);
     let mut reading = Reading::begin(alloc)?;
-    take_input(rt, alloc, &mut checker, &mut reading, &mut intake, input)?;
-    Ok(intake.log)
+    let mut keeping = Keeping::new(alloc, Log::new(alloc, *namespace));
+    take_input(rt, alloc, &mut checker, &mut reading, &mut keeping, input)?;
+    Ok(keeping.log)
 }
 
 // Takes the input in up to its end, where nothing is taken in yet.
@@ -72,98 +74,103 @@ fn take_input<C: Checker<PeerScheme>, R: Threads + Sync, I: Source>(
     alloc: Global,
     checker: &mut C,
     reading: &mut Reading,
-    intake: &mut Intake,
+    keeping: &mut Keeping,
     input: &mut I,
 ) -> Result<(), Stop>
-    requires namespace { C.judged_in checker.old ≡ intake.old.log.kept.namespace }
-    requires read { HasRead intake.old.log.kept.namespace [] (I.facts input.old) (I.facts input.old) reading.old intake.old }
-    ensures takes { TakesInput intake.old.log.kept.namespace (I.facts input.old) (I.facts input.new) intake.new result }
+    requires { IsUnderWay (C.judged_in checker.old) (I.facts input.old) (I.facts input.old) reading.old keeping.old }
+    ensures takes { TakesInput (C.judged_in checker.old) (I.facts input.old) (I.facts input.new) keeping.new result }
     ensures faults { CountsStep (I.facts input.old).faults (I.facts input.new).faults result }
     ensures ends { (I.facts input.old).ends ≤ (I.facts input.new).ends }
 {
-    'pieces: loop {
-        if !reading.next(rt, alloc, checker, intake, input)? {
-            return Ok(());
+    'steps: loop {
+        if !go_on(rt, alloc, checker, reading, keeping, input)? {
+            return keeping.settle(alloc);
         }
     }
 }
 
-// Takes a piece in. The rows that became whole wait for more where each is long to judge, unless those that wait are many or
-// one could meet a full log: so a full log is told at the piece that brings the row that is too many. Bytes that are wrong go
-// before it.
-pub(crate) fn take_piece<C: Checker<PeerScheme>, R: Threads + Sync>(
+// Takes the rows that are held into the log, and holds the next ones. Answers whether the input goes on behind them. Only while
+// the log has room for all that are held are the next ones read beside that: so nothing is read behind a row that meets a full
+// log. What the first rows meet is told first, but want of memory hides no fault.
+fn go_on<C: Checker<PeerScheme>, R: Threads + Sync, I: Source>(
     rt: &R,
     alloc: Global,
     checker: &mut C,
-    stream: &mut RowStream<RawRows>,
-    intake: &mut Intake,
-    piece: &[u8],
-) -> Result<(), Stop>
-    requires namespace { C.judged_in checker.old ≡ intake.old.log.kept.namespace }
-    requires seen { (namespace : List ℕ) × (had : List RawValue) × (bytes : List ℕ) × HasSeen namespace had bytes stream.old intake.old
-        × (length bytes + length piece.now ≤ INPUT_LIMIT) }
+    reading: &mut Reading,
+    keeping: &mut Keeping,
+    input: &mut I,
+) -> Result<bool, Stop>
+    requires { (begun : SourceFacts) × IsUnderWay (C.judged_in checker.old) begun (I.facts input.old) reading.old keeping.old }
     ensures namespace { C.judged_in checker.new ≡ C.judged_in checker.old }
-    ensures takes { (namespace : List ℕ) (had : List RawValue) (bytes : List ℕ) → HasSeen namespace had bytes stream.old intake.old
-        → TakesPiece namespace had (bytes ++ piece.now) stream.new intake.new result }
-    ensures longer { OnOk result (IsLonger intake.old.log intake.new.log) }
+    ensures joins { (begun : SourceFacts) → IsUnderWay (C.judged_in checker.old) begun (I.facts input.old) reading.old keeping.old
+        → JoinsOn (C.judged_in checker.old) begun (I.facts input.new) reading.new keeping.new result }
+    ensures fewer { IfOk result (λ goes_on. IsTrue goes_on → reading.new.left < reading.old.left) }
+    ensures faults { CountsStep (I.facts input.old).faults (I.facts input.new).faults result }
+    ensures ends { (I.facts input.old).ends ≤ (I.facts input.new).ends }
 {
-    let before = intake.count();
-    feed_piece(stream, intake, piece)?;
-    let brought = intake.count().saturating_sub(before);
-    if Intake::are_heavy(brought) && intake.may_wait() {
-        return Ok(());
+    if let Some(room) = keeping.room_behind() {
+        let (settled, came) = settle_and_gather(rt, alloc, checker, reading, keeping, input, room);
+        if has_failed(&came) {
+            return Err(Stop::ReadFault);
+        }
+        settled?;
+        return Ok(keeping.hold(came?));
     }
-    intake.judge(rt, alloc, checker)
+    keeping.settle(alloc)?;
+    let came = gather(rt, alloc, checker, reading, input, keeping.room())?;
+    Ok(keeping.hold(came))
 }
 
-// Feeds a piece to the stream: the rows that become whole with it wait.
-fn feed_piece(
-    stream: &mut RowStream<RawRows>,
-    intake: &mut Intake,
-    piece: &[u8],
-) -> Result<(), Stop>
-    requires { (namespace : List ℕ) × (had : List RawValue) × (bytes : List ℕ) × HasSeen namespace had bytes stream.old intake.old
-        × (length bytes + length piece.now ≤ INPUT_LIMIT) }
-    ensures log { intake.new.log ≡ intake.old.log }
-    ensures feeds { (namespace : List ℕ) (had : List RawValue) (bytes : List ℕ) → HasSeen namespace had bytes stream.old intake.old
-        → FeedsPiece namespace had (bytes ++ piece.now) stream.new intake.new result }
+// Takes the rows that are held into the log on a thread of its own, while the next ones are read and judged on this one: so the
+// input and the checker need not go to another thread.
+fn settle_and_gather<C: Checker<PeerScheme>, R: Threads + Sync, I: Source>(
+    rt: &R,
+    alloc: Global,
+    checker: &mut C,
+    reading: &mut Reading,
+    keeping: &mut Keeping,
+    input: &mut I,
+    room: usize,
+) -> (Result<(), Stop>, Result<Gathered, Stop>)
+    requires held { (namespace : List ℕ) × (rows : List RawValue) × HoldsJudged namespace rows keeping.old × (length rows < 2 ^ 64) }
+    requires come { (begun : SourceFacts) × (rows : List RawValue) × HaveCome begun (I.facts input.old) reading.old rows }
+    ensures keeps { (namespace : List ℕ) (rows : List RawValue) → HoldsJudged namespace rows keeping.old → KeepsAll namespace rows keeping.new result.0 }
+    ensures namespace { C.judged_in checker.new ≡ C.judged_in checker.old }
+    ensures gathers { (begun : SourceFacts) (rows : List RawValue) → HaveCome begun (I.facts input.old) reading.old rows
+        → GathersJudged begun (I.facts input.new) reading.new rows room (C.judged_in checker.old) result.1 }
+    ensures somewhat { IsReadSomewhat (I.facts input.old) (I.facts input.new) }
+    ensures fewer { IfOk result.1 (λ gathered. gathered.ended ≡ false → reading.new.left < reading.old.left) }
+    ensures faults { CountsStep (I.facts input.old).faults (I.facts input.new).faults result.1 }
+    ensures ends { (I.facts input.old).ends ≤ (I.facts input.new).ends }
 {
-    let rows = match stream.feed(piece) {
-        Ok(rows) => rows,
-        Err(End::Refused(refusal)) => return Err(stop_of(refusal)),
-        Err(End::NoMemory) => return Err(Stop::NoMemory),
-    };
-    known_rows(&rows);
-    intake.wait(rows)?;
-    Ok(())
+    settle_beside(
+        rt,
+        alloc,
+        keeping,
+        &mut ||
+            requires { (begun : SourceFacts) × (rows : List RawValue) × HaveCome begun (I.facts input.now) reading.now rows }
+        { gather(rt, alloc, checker, reading, input, room) },
+    )
 }
 
-// Ends the stream where the input ended.
-pub(crate) fn end_stream(stream: &RowStream<RawRows>) -> Result<(), Stop>
-    ensures { EndsStream stream.now result }
+// Takes the rows that are held into the log on a thread of its own, while the other work is done on this one.
+fn settle_beside<R: Threads, T, G: FnMut() -> T>(
+    rt: &R,
+    alloc: Global,
+    keeping: &mut Keeping,
+    other: &mut G,
+) -> (Result<(), Stop>, T)
+    requires here { (namespace : List ℕ) × (rows : List RawValue) × HoldsJudged namespace rows keeping.old × (length rows < 2 ^ 64) }
+    requires other { G.pre other.old }
+    ensures keeps { (namespace : List ℕ) (rows : List RawValue) → HoldsJudged namespace rows keeping.old → KeepsAll namespace rows keeping.new result.0 }
+    ensures other { G.step other.old result.1 other.new }
 {
-    match stream.finish() {
-        Ok(()) => Ok(()),
-        Err(refusal) => Err(stop_of(refusal)),
-    }
+    join_mut(rt, &mut || keeping.settle(alloc), other)
 }
 
-// The input goes wrong where its stream of rows does.
-fn stop_of(refusal: StreamRefusal) -> Stop
-    ensures { result ≡ stop.BadInput origin.Input (offset_of refusal) }
+// Whether the reading failed.
+fn has_failed(came: &Result<Gathered, Stop>) -> bool
+    ensures { IsTrue result ↔ (came.now ≡ Err stop.ReadFault) }
 {
-    match refusal {
-        StreamRefusal::BadFrame { at }
-        | StreamRefusal::FrameTooLong { at }
-        | StreamRefusal::CutShort { at } => Stop::bad_input(at),
-    }
-}
-
-// Does nothing: it is called for its clause, that the rows are within their limits.
-fn known_rows(rows: &[RawRow])
-    ensures { AllByRecursion IsRaw rows.now }
-{
-    for row in rows {
-        row.known();
-    }
+    matches!(came, Err(Stop::ReadFault))
 }

@@ -5,11 +5,14 @@
 #![tactic(auto)]
 
 mod drilled;
+mod feeding;
+mod gathering;
 mod generating;
 mod images;
 mod imaging;
 mod intake;
 mod joining;
+mod keeping;
 mod listing;
 mod log;
 mod offering;
@@ -17,6 +20,7 @@ mod parts;
 mod parts_two;
 mod reading;
 mod row_log;
+mod shares;
 mod showing;
 mod watching;
 

@@ -22,7 +22,7 @@ use std::thread::Threads;
 pub(crate) const TRAILER: usize = 8;
 
 /// How many rows are taken together at most: so few that what is made of them stays in the caches of a processor.
-pub(crate) const PART: usize = 512;
+pub(crate) const PART: usize = 1_024;
 
 /// Behind so many rows one part more may have more rows than the end of an image can count.
 pub(crate) const MOST: u64 = (1 << 32) - PART as u64;

@@ -1,16 +1,16 @@
-//! The reading of an input of row frames: the next piece of it, and its end.
+//! The reading of an input of row frames: the rows of the next piece of it, and its end.
 
-ghost use Rattle.std.specs.Prelude.{◌≡◌, ℕ, ◌<◌, ◌≤◌, List, length, IfOk, IsTrue, OnOk};
+ghost use Rattle.std.specs.Prelude.{◌≡◌, ℕ, ◌<◌, ◌≤◌, List, length, IfOk, IfSome, IsTrue, OnOk};
 ghost use Rattle.willow_outside.specs.Facts.{SourceFacts};
 ghost use Rattle.cap_codec.specs.Rows.{RawValue};
 ghost use Rattle.row_stream.specs.Feeding.{nothing_fed};
 ghost use Rattle.peer_stage.specs.Faults.{CountsStep};
 ghost use Rattle.peer_stage.specs.Stages.{IsReadSomewhat};
 
+use crate::feeding::{end_stream, feed_piece};
 use crate::intake::Intake;
-use crate::joining::{end_stream, take_piece};
 use auth_entry::Checker;
-use cap_codec::RawRows;
+use cap_codec::{RawRow, RawRows};
 use lms_core::PeerScheme;
 use peer_stage::{INPUT_LIMIT, Stop};
 use row_stream::RowStream;
@@ -31,6 +31,7 @@ pub(crate) struct Reading {
 }
 
 impl Reading {
+    ghost use Rattle.peer_rows.specs.Coming.{ComesNext, HaveCome};
     ghost use Rattle.peer_rows.specs.Reading.{HasRead, IsLonger, ReadsOn};
 
     /// Nothing is read yet.
@@ -44,6 +45,37 @@ impl Reading {
             piece: vec![in alloc; 0u8; PIECE]?,
             left: INPUT_LIMIT,
         })
+    }
+
+    /// Reads once more, and answers the rows that became whole, or None where the input ended. What is wrong stops the
+    /// reading.
+    pub(crate) fn rows<I: Source>(&mut self, input: &mut I) -> Result<Option<Vec<RawRow>>, Stop>
+        requires { (begun : SourceFacts) × (rows : List RawValue) × HaveCome begun (I.facts input.old) self.old rows }
+        ensures comes { (begun : SourceFacts) (rows : List RawValue) → HaveCome begun (I.facts input.old) self.old rows
+            → ComesNext begun (I.facts input.new) self.new rows result }
+        ensures somewhat { IsReadSomewhat (I.facts input.old) (I.facts input.new) }
+        ensures fewer { IfOk result (λ came. IfSome came (λ rows. self.new.left < self.old.left)) }
+        ensures faults { CountsStep (I.facts input.old).faults (I.facts input.new).faults result }
+        ensures ends { (I.facts input.old).ends ≤ (I.facts input.new).ends }
+    {
+        // Behind the last byte that may be taken one more tells that the input goes on.
+        self.piece.truncate(self.left.max(1) as usize);
+        match input.read(&mut self.piece) {
+            Ok(0) => {
+                end_stream(&self.stream)?;
+                Ok(None)
+            }
+            Ok(n) => {
+                if self.left == 0 {
+                    return Err(Stop::bad_input(INPUT_LIMIT));
+                }
+                self.left -= n as u64;
+                let rows = feed_piece(&mut self.stream, &self.piece[..n])?;
+                Ok(Some(rows))
+            }
+            Err(Fault::Failed) => Err(Stop::ReadFault),
+            Err(Fault::NoMemory) => Err(Stop::NoMemory),
+        }
     }
 
     /// Reads once more, and takes in what came; where the input ended the rows that wait are judged. Answers whether a piece
@@ -67,25 +99,11 @@ impl Reading {
         ensures faults { CountsStep (I.facts input.old).faults (I.facts input.new).faults result }
         ensures ends { (I.facts input.old).ends ≤ (I.facts input.new).ends }
     {
-        // Behind the last byte that may be taken one more tells that the input goes on.
-        self.piece.truncate(self.left.max(1) as usize);
-        match input.read(&mut self.piece) {
-            Ok(0) => {
-                end_stream(&self.stream)?;
-                intake.judge(rt, alloc, checker)?;
-                Ok(false)
-            }
-            Ok(n) => {
-                if self.left == 0 {
-                    return Err(Stop::bad_input(INPUT_LIMIT));
-                }
-                self.left -= n as u64;
-                let given = &self.piece[..n];
-                take_piece(rt, alloc, checker, &mut self.stream, intake, given)?;
-                Ok(true)
-            }
-            Err(Fault::Failed) => Err(Stop::ReadFault),
-            Err(Fault::NoMemory) => Err(Stop::NoMemory),
-        }
+        let Some(rows) = self.rows(input)? else {
+            intake.judge(rt, alloc, checker)?;
+            return Ok(false);
+        };
+        intake.take_in(rt, alloc, checker, rows)?;
+        Ok(true)
     }
 }

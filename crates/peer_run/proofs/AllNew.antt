@@ -1,5 +1,7 @@
 -- Rows in order are all new: none is covered by those before it.
-use Rattle.std.proofs.Common.{◌≡◌, ◌||◌, Bool, true, false, cond, ℕ, List, [], ◌∷◌, ◌++◌, refl, sym, ap, ◌∙◌, ◌⊎◌, inl, inr, None, Less}
+use Rattle.std.proofs.Common.{◌≡◌, ◌||◌, Bool, true, false, cond, ℕ, List, [], ◌∷◌, ◌++◌, refl, sym, ap, ◌∙◌, ◌⊎◌, inl, inr, Option, Some, None, Less, append-nil}
+use Rattle.std.specs.declared.string.String.{String}
+use Rattle.std.specs.declared.alloc.Global.{Global}
 use Rattle.std.specs.List.{list_any, AllByRecursion, Contains}
 use Rattle.std.specs.List.Sorted.{IsStrictlySortedBy}
 use Rattle.std.proofs.lemmas.Bool.{false_from_ne_true}
@@ -16,6 +18,13 @@ use Rattle.peer_image.specs.Order.{IsInOrder, order_refusal}
 use Rattle.peer_image.proofs.InOrder.{order_decides, order_of_live}
 use Rattle.peer_rows.specs.Logged.{authorised_rows}
 use Rattle.peer_rows.proofs.AuthorisedRows.{authorised_live, of_namespace}
+use Rattle.willow_outside.specs.Facts.{BayFacts}
+use Rattle.peer_run.specs.LogFiles.{FileState}
+use Rattle.sync_link.specs.Kept.{log_rows}
+use Rattle.peer_run.specs.LogGiven.{AreFiled, opening_rows}
+use Rattle.peer_run.specs.Opening.{IsOpened}
+use Rattle.peer_run.specs.declared.opening.Opening.{Opening}
+use Rattle.peer_run.proofs.SideBegun.{FiledBy}
 
 -- an item covers none behind it
 abbrev CoversNone : {X : Type 0} → (X → X → Bool) → List X → Type 0
@@ -74,3 +83,17 @@ authorised_new n rows order =
     let live_is = authorised_live n rows order in
     let none = (order_of_live n (authorised_rows n rows) (of_namespace n rows)).1 live_is in
     in_order_new (authorised_rows n rows) ((order_decides (authorised_rows n rows)).0 none)
+
+-- so the opening log of a side is that of its rows, by whether it has a log file
+pub filed_is : (log : Option (String Global)) (file : Option FileState) (n : List ℕ) (bay bay' : BayFacts) (filed : List RawValue) → FiledBy log file n bay bay' filed → AreFiled log n bay filed
+filed_is None None n bay bay' filed by = by.0
+filed_is None (Some f) n bay bay' filed by = absurd by
+filed_is (Some name) None n bay bay' filed by = absurd by
+filed_is (Some name) (Some f) n bay bay' filed by = by.held
+
+pub opening_is : (log : Option (String Global)) (file : Option FileState) (n : List ℕ) (rows : List RawValue) (bay bay' : BayFacts) (filed : List RawValue) (x : Opening) → order_refusal (raw_rows rows) ≡ None → FiledBy log file n bay bay' filed
+    → IsOpened n (rows ++ filed) x → log_rows x.state.log ≡ opening_rows log n rows filed
+opening_is None None n rows bay bay' filed x order by is = is.held ∙ ap (λ (all : List RawValue). new (authorised_rows n all)) (ap (λ (more : List RawValue). rows ++ more) by.0 ∙ append-nil rows) ∙ authorised_new n rows order
+opening_is None (Some f) n rows bay bay' filed x order by is = absurd by
+opening_is (Some name) None n rows bay bay' filed x order by is = absurd by
+opening_is (Some name) (Some f) n rows bay bay' filed x order by is = is.held

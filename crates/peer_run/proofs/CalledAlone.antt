@@ -1,5 +1,5 @@
 -- The log of a cell that had one pass.
-use Rattle.std.proofs.Common.{◌≡◌, ℕ, ◌-◌, true, false, List, [], ◌∷◌, Option, refl, sym, ap, ◌∙◌, subst, inl, inr, arith}
+use Rattle.std.proofs.Common.{◌≡◌, ℕ, Bool, ◌-◌, true, false, List, [], ◌∷◌, Option, refl, sym, ap, ◌∙◌, subst, inl, inr, arith}
 use Rattle.std.specs.List.{All, Contains}
 use Rattle.std.proofs.lemmas.List.Elements.{All-cons, All-nil, recursion_from_All}
 use mathlib.Core.List.{IsPrefix}
@@ -15,17 +15,20 @@ use Rattle.lms_core.specs.declared.scheme.PeerScheme.{PeerScheme}
 use Rattle.auth_entry.specs.Authorised.{AuthorisedValue}
 use Rattle.ns_state.specs.Log.{StateValue, IsLog}
 use Rattle.ns_cell.specs.Closed.{IsClosed}
-use Rattle.ns_cell.specs.Passes.{CellValue, PassValue, new_pass}
+use Rattle.ns_cell.specs.Passes.{CellValue, PassValue, IsLater, new_pass}
 use Rattle.auth_entry.specs.Rows.{entry_row}
 use Rattle.sync_link.specs.Plans.{planned}
-use Rattle.sync_link.specs.Run.{Answer, Runs}
+use Rattle.sync_link.specs.Run.{Answer}
 use Rattle.sync_link.specs.Sessions.{Party}
 use Rattle.sync_link.specs.declared.plan.SessionPlan.{SessionPlan}
 use Rattle.peer_make.specs.KeySigners.{gives_of}
 use Rattle.peer_make.specs.declared.key_signer.KeySigner.{KeySigner}
 use Rattle.peer_run.specs.Calling.{IsConnected}
+use Rattle.peer_run.specs.Following.{TalksOverLink}
 use Rattle.peer_run.specs.Preparing.{nonce_of}
 use Rattle.peer_run.specs.Visiting.{Way, Visit, IsVisit, IsAlone, AreAttended}
+use Rattle.peer_run.specs.declared.tails.Tail.{Tail}
+use Rattle.peer_run.proofs.FollowedUp.{follows_later}
 
 module _ {R : Type 0} (pass : PassValue R) (log : List (LogRow R)) (closed : IsClosed (pass ∷ []) log) where
   only : (other : PassValue R) → Contains (pass ∷ []) other → pass ≡ other
@@ -46,19 +49,23 @@ module _ {R : Type 0} (pass : PassValue R) (log : List (LogRow R)) (closed : IsC
 
 -- ---- a session over a link, of the only pass
 
-module _ (place : List ℕ) (plan : SessionPlan PeerScheme) (signer : KeySigner) (draw : List ℕ) (opening : StateValue AuthorisedValue) (of_first : AreOf 0 opening.log) (cell : CellValue) (of_namespace : cell.namespace ≡ opening.namespace)
-    (old between new : DoorFacts) (handed_out link : LinkFacts) (before after : PassValue AuthorisedValue) (nonce : List ℕ) (answer : Answer) (state : StateValue AuthorisedValue)
+module _ (follows : Bool) (place : List ℕ) (plan : SessionPlan PeerScheme) (signer : KeySigner) (draw : List ℕ) (opening : StateValue AuthorisedValue) (of_first : AreOf 0 opening.log) (cell : CellValue) (of_namespace : cell.namespace ≡ opening.namespace)
+    (old between new : DoorFacts) (handed_out link : LinkFacts) (before after : PassValue AuthorisedValue) (nonce : List ℕ) (answer : Answer) (tail : Tail) (state : StateValue AuthorisedValue)
     (connected : IsConnected place old between handed_out) (first : before ≡ new_pass cell opening.log 0) (is_nonce : nonce ≡ nonce_of draw)
-    (ran : Runs (planned peer_rules cell.namespace plan nonce) (gives_of signer) before after handed_out link 0 0 answer)
+    (talked : TalksOverLink follows (planned peer_rules cell.namespace plan nonce) (gives_of signer) before after handed_out link answer tail)
     (closed : IsClosed (after ∷ []) state.log) where
   abbrev way : Way
-  way = record { awaited = false; place = place }
+  way = record { awaited = false; follows = follows; place = place }
 
   abbrev brings : List ℕ → List ℕ → Party
   brings draw = planned peer_rules opening.namespace plan (nonce_of draw)
 
+  -- behind the session, what followed left the pass the same
+  more : IsLater talked.between after
+  more = follows_later _ _ _ talked.between after talked.behind link tail talked.followed
+
   number : after.number ≡ 0
-  number = ran.later.number ∙ ap (λ (p : PassValue AuthorisedValue). p.number) first
+  number = more.number ∙ (talked.ran.later.number ∙ ap (λ (p : PassValue AuthorisedValue). p.number) first)
 
   seen : after.seen ≡ state.log
   seen = alone_seen after state.log closed
@@ -66,21 +73,23 @@ module _ (place : List ℕ) (plan : SessionPlan PeerScheme) (signer : KeySigner)
   each : All (λ (row : LogRow AuthorisedValue). row.pass ≡ 0) state.log
   each = subst (λ (n : ℕ). All (λ (row : LogRow AuthorisedValue). row.pass ≡ n) state.log) number (alone_each after state.log closed)
 
+  talks : TalksOverLink follows (brings draw) (gives_of signer) before after handed_out link answer tail
+  talks =
+      subst (λ (n : List ℕ). TalksOverLink follows (planned peer_rules n plan (nonce_of draw)) (gives_of signer) before after handed_out link answer tail) of_namespace
+      (subst (λ (n : List ℕ). TalksOverLink follows (planned peer_rules cell.namespace plan n) (gives_of signer) before after handed_out link answer tail) is_nonce talked)
+
   abbrev visit : Visit
-  visit = record { handed_out = handed_out; link = link; before = before; after = after; answer = answer }
+  visit = record { handed_out = handed_out; behind = talks.behind; link = link; before = before; between = talks.between; after = after; answer = answer; tail = tail }
 
-  runs_so : Runs (brings draw) (gives_of signer) before after handed_out link 0 0 answer
-  runs_so =
-      subst (λ (n : List ℕ). Runs (planned peer_rules n plan (nonce_of draw)) (gives_of signer) before after handed_out link 0 0 answer) of_namespace
-      (subst (λ (n : List ℕ). Runs (planned peer_rules cell.namespace plan n) (gives_of signer) before after handed_out link 0 0 answer) is_nonce ran)
-
-  is_visit : IsVisit opening.log state.log brings 0 signer draw visit
+  is_visit : IsVisit false follows opening.log state.log brings 0 signer draw visit
   is_visit =
       record {
         fresh = connected.fresh;
         begun = (ap (λ (p : PassValue AuthorisedValue). p.seen) first, ap (λ (p : PassValue AuthorisedValue). p.own) first ∙ sym (rows_of_pass-own 0 opening.log of_first));
         unturned = ap (λ (p : PassValue AuthorisedValue). p.turns) first;
-        ran = runs_so;
+        ran = talks.ran;
+        by_byte = λ called. talks.by_byte;
+        followed = talks.followed;
         front = subst (λ (l : List (LogRow AuthorisedValue)). IsPrefix l state.log) (sym seen) (prefix_self state.log);
         own = alone_own after state.log closed ∙ sym (rows_of_pass-own 0 state.log (recursion_from_All (λ (row : LogRow AuthorisedValue). row.pass ≡ 0) state.log each));
       }
@@ -91,10 +100,10 @@ module _ (place : List ℕ) (plan : SessionPlan PeerScheme) (signer : KeySigner)
   front : IsPrefix opening.log state.log
   front =
       subst (λ (l : List (LogRow AuthorisedValue)). IsPrefix l state.log) (ap (λ (p : PassValue AuthorisedValue). p.seen) first)
-      (subst (λ (l : List (LogRow AuthorisedValue)). IsPrefix before.seen l) seen (prefix_trans before.seen ran.log after.seen ran.opening.0 ran.opening.1))
+      (subst (λ (l : List (LogRow AuthorisedValue)). IsPrefix before.seen l) seen (prefix_trans before.seen talked.between.seen after.seen (prefix_trans before.seen talked.ran.log talked.between.seen talked.ran.opening.0 talked.ran.opening.1) more.seen))
 
   called_alone : new.back ≡ list_with link between.back → new.out ≡ between.out - 1 → new.asked ≡ between.asked → new.accepts ≡ between.accepts → new.faults ≡ between.faults
-      → IsLog entry_row cell.namespace state.log → state.namespace ≡ cell.namespace → AreAttended way brings (signer ∷ []) (draw ∷ []) opening old new (answer ∷ []) true state
+      → IsLog entry_row cell.namespace state.log → state.namespace ≡ cell.namespace → AreAttended way brings (signer ∷ []) (draw ∷ []) opening old new (answer ∷ []) (tail ∷ []) true state
   called_alone back out asked accepts faults is_log same =
       record {
         visits = visit ∷ [];
@@ -104,6 +113,7 @@ module _ (place : List ℕ) (plan : SessionPlan PeerScheme) (signer : KeySigner)
         is_log = subst (λ (n : List ℕ). IsLog entry_row n state.log) of_namespace is_log;
         of_namespace = same ∙ of_namespace;
         ends = refl;
+        tailed = refl;
         back = record {
           asked = asked ∙ connected.asked;
           out = omega (arith, out, connected.out);
@@ -113,10 +123,11 @@ module _ (place : List ℕ) (plan : SessionPlan PeerScheme) (signer : KeySigner)
       }
 
   -- of the one signer, the one draw and the one answer
-  pub called_so : (signers : List KeySigner) (draws : List (List ℕ)) (answers : List Answer) → signers ≡ signer ∷ [] → draws ≡ draw ∷ [] → answers ≡ answer ∷ []
+  pub called_so : (signers : List KeySigner) (draws : List (List ℕ)) (answers : List Answer) (tails : List Tail) → signers ≡ signer ∷ [] → draws ≡ draw ∷ [] → answers ≡ answer ∷ [] → tails ≡ tail ∷ []
       → new.back ≡ list_with link between.back → new.out ≡ between.out - 1 → new.asked ≡ between.asked → new.accepts ≡ between.accepts → new.faults ≡ between.faults
-      → IsLog entry_row cell.namespace state.log → state.namespace ≡ cell.namespace → AreAttended way brings signers draws opening old new answers true state
-  called_so signers draws answers one_signer one_draw one_answer back out asked accepts faults is_log same =
-      subst (λ (s : List KeySigner). AreAttended way brings s draws opening old new answers true state) (sym one_signer)
-      (subst (λ (d : List (List ℕ)). AreAttended way brings (signer ∷ []) d opening old new answers true state) (sym one_draw)
-      (subst (λ (a : List Answer). AreAttended way brings (signer ∷ []) (draw ∷ []) opening old new a true state) (sym one_answer) (called_alone back out asked accepts faults is_log same)))
+      → IsLog entry_row cell.namespace state.log → state.namespace ≡ cell.namespace → AreAttended way brings signers draws opening old new answers tails true state
+  called_so signers draws answers tails one_signer one_draw one_answer one_tail back out asked accepts faults is_log same =
+      subst (λ (s : List KeySigner). AreAttended way brings s draws opening old new answers tails true state) (sym one_signer)
+      (subst (λ (d : List (List ℕ)). AreAttended way brings (signer ∷ []) d opening old new answers tails true state) (sym one_draw)
+      (subst (λ (a : List Answer). AreAttended way brings (signer ∷ []) (draw ∷ []) opening old new a tails true state) (sym one_answer)
+      (subst (λ (t : List Tail). AreAttended way brings (signer ∷ []) (draw ∷ []) opening old new (answer ∷ []) t true state) (sym one_tail) (called_alone back out asked accepts faults is_log same))))

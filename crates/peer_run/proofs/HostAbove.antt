@@ -1,9 +1,12 @@
 -- What a session makes of a log that may have grown further: all that its pass has seen behind it is a front of that.
-use Rattle.std.proofs.Common.{◌≡◌, ◌≤◌, ◌⊎◌, ℕ, List, ◌++◌, All, length, flat_map, get_or, inl, inr, refl, sym, ap, subst, arith}
-use Rattle.std.specs.Prelude.{Ok, Err}
+use Rattle.std.proofs.Common.{◌≡◌, ◌≤◌, ◌⊎◌, ℕ, Bool, true, false, Option, Some, None, List, ◌++◌, All, length, flat_map, get_or, inl, inr, refl, sym, ap, subst, arith}
+use Rattle.std.specs.Prelude.{Result, Ok, Err}
 use Rattle.std.proofs.lemmas.List.{length-map}
 use Rattle.std.proofs.lemmas.List.Elements.{All-from_recursion}
 use mathlib.Core.List.{IsPrefix}
+use Rattle.scheme_core.specs.Rules.{Rules}
+use Rattle.willow_outside.specs.Facts.{LinkFacts}
+use Rattle.willow_area.specs.declared.area.Area.{Area}
 use Rattle.willow_entry.specs.Row.{RowValue, HasCovering, inner_place_cmp, live}
 use Rattle.willow_entry.specs.declared.row.LogRow.{LogRow}
 use Rattle.willow_entry.proofs.Live.{live_covers_live_front}
@@ -13,6 +16,8 @@ use Rattle.auth_entry.specs.Authorised.{AuthorisedValue}
 use Rattle.log_rule.proofs.Prefixes.{prefix_self, prefix_trans, prefix_length}
 use Rattle.ns_state.proofs.NewRows.{live_covering}
 use Rattle.ns_state.specs.declared.live_log.TheConstants.{LOG_LIMIT}
+use Rattle.ns_cell.specs.Passes.{PassValue}
+use Rattle.session_end.specs.declared.end.SessionEnd.{SessionEnd}
 use Rattle.session_end.specs.declared.end.SessionEnd.TheVariants.{LinkRead, LinkWrite, ClosedEarly, BadMessage, Hello, Core, SignFault, LogFull, NoMemory}
 use Rattle.session_rules.proofs.Growing.{says_of}
 use Rattle.session_rules.proofs.Worlds.{same_read}
@@ -30,8 +35,12 @@ use Rattle.sync_link.proofs.CoveringRuns.{runs_cover}
 use Rattle.sync_link.proofs.GrantedRuns.{runs_granted}
 use Rattle.sync_link.proofs.Promised.{fresh_of}
 use Rattle.peer_make.specs.declared.key_signer.KeySigner.{KeySigner}
-use Rattle.peer_run.specs.HostHeadline.{CoversCame, HasVisited, WhereOk, LiesAbove}
-use Rattle.peer_run.specs.Visiting.{Visit, IsVisit, ran_of}
+use Rattle.peer_run.specs.Following.{FollowsBehind, area_to_follow}
+use Rattle.peer_run.specs.HostHeadline.{CoversCame, CoversFed, CoversFollowed, HasVisited, WhereOk, LiesAbove}
+use Rattle.peer_run.specs.Visiting.{Visit, IsFollowedUp, IsVisit, ran_of}
+use Rattle.peer_run.specs.declared.tails.Tail.{Tail}
+use Rattle.peer_run.specs.declared.tails.Tail.TheVariants.{Nothing, Followed}
+use Rattle.peer_run.proofs.FollowedUp.{followed_later}
 
 -- ---- the longer log
 
@@ -55,7 +64,7 @@ module _ (seen log : List (LogRow AuthorisedValue)) (front : IsPrefix seen log) 
   either_on few rows (inr full) = inr (full_on few full)
 
   -- so it covers the rows that came
-  pub covers_came : length log ≤ LOG_LIMIT → (rows : List RowValue) (answer : Answer) → Covers (log_rows seen) rows answer → CoversCame (log_rows log) rows answer
+  pub covers_came : {Report : Type 0} → length log ≤ LOG_LIMIT → (rows : List RowValue) (answer : Result Report SessionEnd) → Covers (log_rows seen) rows answer → CoversCame (log_rows log) rows answer
   covers_came few rows (Ok report) c = all_on rows c
   covers_came few rows (Err LinkRead) c = either_on few rows c
   covers_came few rows (Err LinkWrite) c = either_on few rows c
@@ -100,16 +109,32 @@ alike_in_common p held others bytes same =
 
 -- ---- all of it, for one visit
 
-module _ {opening log : List (LogRow AuthorisedValue)} {p : List ℕ → List ℕ → Party} {number : ℕ} {signer : KeySigner} {draw : List ℕ} {visit : Visit} (few : length log ≤ LOG_LIMIT) (run : IsVisit opening log p number signer draw visit) where
-  above : (answer : Answer) → visit.answer ≡ answer → WhereOk answer (LiesAbove (ran_of run) (log_rows visit.after.seen))
-  above (Ok report) is = lies_above (ran_of run) visit.after.seen (prefix_self visit.after.seen) report is
+-- the rows of a feed that was followed are covered too
+fed_covered : (rules : Rules) (namespace : List ℕ) (area : Option Area) (before after : PassValue AuthorisedValue) (link link' : LinkFacts) (tail : Tail) (log : List (LogRow AuthorisedValue)) → length log ≤ LOG_LIMIT → IsPrefix after.seen log
+    → (did : FollowsBehind rules namespace area before after link link' tail) → CoversFed rules namespace area before after link link' tail (log_rows log) did
+fed_covered rules namespace None before after link link' Nothing log few front did = tt
+fed_covered rules namespace (Some area) before after link link' (Followed answer) log few front did = covers_came after.seen log front few (authorised_rows rules namespace did.follows.rows) answer did.follows.covers
+fed_covered rules namespace None before after link link' tail log few front did = absurd did
+fed_covered rules namespace (Some area) before after link link' tail log few front did = absurd did
+
+followed_covered : (awaited follows : Bool) (rules : Rules) (namespace : List ℕ) (log : List (LogRow AuthorisedValue)) (number : ℕ) (visit : Visit) → length log ≤ LOG_LIMIT → IsPrefix visit.after.seen log
+    → (did : IsFollowedUp awaited follows rules namespace log number visit) → CoversFollowed awaited follows rules namespace log number visit did
+followed_covered true follows rules namespace log number visit few front did = tt
+followed_covered false follows rules namespace log number visit few front did =
+    fed_covered rules namespace (area_to_follow follows visit.answer) visit.between visit.after visit.behind visit.link visit.tail log few front did
+
+module _ {awaited follows : Bool} {opening log : List (LogRow AuthorisedValue)} {p : List ℕ → List ℕ → Party} {number : ℕ} {signer : KeySigner} {draw : List ℕ} {visit : Visit} (few : length log ≤ LOG_LIMIT) (run : IsVisit awaited follows opening log p number signer draw visit) where
+  above : (answer : Answer) → visit.answer ≡ answer → WhereOk answer (LiesAbove (ran_of run) (log_rows visit.between.seen))
+  above (Ok report) is = lies_above (ran_of run) visit.between.seen (prefix_self visit.between.seen) report is
   above (Err e) is = tt
 
   pub has_visited : HasVisited run
   has_visited =
       let party = p draw run.ran.signature in
+      let more = followed_later awaited follows party.rules party.namespace log number visit run.followed in
       record {
-        covers = covers_came visit.after.seen log run.front few (authorised_rows party.rules party.namespace run.ran.rows) visit.answer run.ran.covers;
+        covers = covers_came visit.between.seen log (prefix_trans visit.between.seen visit.after.seen log more.seen run.front) few (authorised_rows party.rules party.namespace run.ran.rows) visit.answer run.ran.covers;
+        covers_fed = followed_covered awaited follows party.rules party.namespace log number visit few run.front run.followed;
         fresh = fresh_of (ran_of run);
         above = above visit.answer refl;
         alike = λ others same. alike_in_common party (live (log_rows run.ran.log)) others run.ran.bytes same;

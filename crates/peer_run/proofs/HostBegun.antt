@@ -1,10 +1,10 @@
 -- What a side got and reserved before it asked for any place, and what it left where it stopped before.
-use Rattle.std.proofs.Common.{◌≡◌, ◌∙◌, ℕ, List, replicate, inl, inr, refl, sym, subst, ap}
+use Rattle.std.proofs.Common.{◌≡◌, ◌∙◌, ℕ, List, Option, replicate, inl, inr, refl, sym, subst, ap}
 use Rattle.std.specs.Prelude.{Ok, Err}
 use Rattle.std.specs.Global.{Vec}
 use Rattle.std.specs.declared.string.String.{String}
 use Rattle.std.specs.declared.alloc.Global.{Global}
-use Rattle.willow_outside.specs.Facts.{ShelfFacts}
+use Rattle.willow_outside.specs.Facts.{BayFacts, ShelfFacts}
 use Rattle.area_interest.specs.declared.interest.Interest.{Interest}
 use Rattle.lms_core.specs.Key.{raised}
 use Rattle.lms_core.specs.Reserve.{HoldsKey, KeepsNames, PutsKey}
@@ -27,6 +27,7 @@ use Rattle.peer_run.specs.Greeting.{own_hello}
 use Rattle.peer_run.specs.Preparing.{no_nonce, plan_of}
 use Rattle.peer_run.specs.HostHeadline.{KeepsButKeys}
 use Rattle.peer_run.specs.Hosting.{OpensHouse}
+use Rattle.peer_run.specs.LogFiles.{FileState}
 use Rattle.peer_run.specs.declared.preparing.Prepared.{Prepared}
 use Rattle.peer_run.specs.declared.sessions.House as house
 use Rattle.peer_run.proofs.NeverStops.{Never, then_never, never_prepared}
@@ -75,55 +76,61 @@ no_refusal (LmsFile name) count h h' refusal s = s
 
 -- ---- all that a side begins with
 
-module _ (role : Role) (image cap : String Global) (key : SignerWord) (links : ℕ) (area : AreaWords) (limits : Interest) where
+module _ (role : Role) (image cap : String Global) (key : SignerWord) (links : ℕ) (area : AreaWords) (limits : Interest) (log : Option (String Global)) (file : Option FileState) where
   -- It has what a side brings, the plan says the same of it, and the signers are as many as links are to come, of the one that
   -- the words name.
   pub record HasHouse (old new : World) (s : house.House) : Type 0 where
     pub hello : Hello
-    pub front : HasPrepared image cap area old old (record { opening = s.opening; hello = hello })
+    pub prepared : World
+    pub front : HasPrepared image cap area log file old prepared (record { opening = s.opening; hello = hello })
     pub plan_is : s.plan ≡ plan_of role hello limits
     pub reserved : AreSignersOf key links old.shelf new.shelf s.signers.items
     pub counted : new.shelf.write_faults ≡ old.shelf.write_faults
-    pub others : new ≡ record old { shelf = new.shelf }
+    pub bay_is : new.bay ≡ prepared.bay
+    pub others : new ≡ record old { shelf = new.shelf; bay = new.bay }
 
   -- the plan says what the words ask
   pub plan_asks : (old new : World) (s : house.House) (begun : HasHouse old new s) → s.plan ≡ plan_of role (own_hello area begun.front.capability no_nonce) limits
   plan_asks old new s begun = begun.plan_is ∙ ap (λ (h : Hello). plan_of role h limits) begun.front.hello_is
 
   -- from what was prepared, and what was reserved behind it
-  house_of : (old between reserved : World) (r : Prepared) (signers : Vec KeySigner) → HasPrepared image cap area old between r → OnShelf (HandsSigners key links) between reserved (Ok signers)
+  house_of : (old between reserved : World) (r : Prepared) (signers : Vec KeySigner) → HasPrepared image cap area log file old between r → OnShelf (HandsSigners key links) between reserved (Ok signers)
       → HasHouse old reserved (record { opening = r.opening; plan = plan_of role r.hello limits; signers = signers })
   house_of old between reserved r signers has s =
+      let shelf : between.shelf ≡ old.shelf = ap (λ (w : World). w.shelf) has.same in
+      let bay : reserved.bay ≡ between.bay = ap (λ (w : World). w.bay) s.others in
       record {
         hello = r.hello;
-        front = subst (λ (w : World). HasPrepared image cap area old w r) has.same has;
+        prepared = between;
+        front = has;
         plan_is = refl;
-        reserved = subst (λ (w : World). AreSignersOf key links w.shelf reserved.shelf signers.items) has.same s.does;
-        counted = s.write_faults ∙ ap (λ (w : World). w.shelf.write_faults) has.same;
-        others = s.others ∙ ap (λ (w : World). record w { shelf = reserved.shelf }) has.same;
+        reserved = subst (λ (h : ShelfFacts). AreSignersOf key links h reserved.shelf signers.items) shelf s.does;
+        counted = s.write_faults ∙ ap (λ (h : ShelfFacts). h.write_faults) shelf;
+        bay_is = bay;
+        others = s.others ∙ ap (λ (w : World). record w { shelf = reserved.shelf }) has.same ∙ ap (λ (b : BayFacts). record old { shelf = reserved.shelf; bay = b }) (sym bay);
       }
 
-  pub has_house : (old new : World) (s : house.House) → OpensHouse role image cap key links area limits old new (Ok s) → HasHouse old new s
+  pub has_house : (old new : World) (s : house.House) → OpensHouse role image cap key links area limits log file old new (Ok s) → HasHouse old new s
   has_house old new s p =
       let q = p.rest in
-      let begun = house_of old p.between q.between p.value q.value (has_prepared image cap area old p.between p.value p.given) q.given in
+      let begun = house_of old p.between q.between p.value q.value (has_prepared image cap area log file old p.between p.value p.given) q.given in
       subst (λ (w : World). HasHouse old w s) (sym q.rest.1) (subst (λ (x : house.House). HasHouse old q.between x) (sym q.rest.0) begun)
 
   -- ---- where it stopped
 
-  pub opening_keeps : (old new : World) (e : Stop) → OpensHouse role image cap key links area limits old new (Err e) → KeepsButKeys key links old.shelf new.shelf
-  opening_keeps old new e (inl s) = keeps_all key links old.shelf new.shelf (preparing_keeps image cap area old new e s)
+  pub opening_keeps : (old new : World) (e : Stop) → OpensHouse role image cap key links area limits log file old new (Err e) → KeepsButKeys key links old.shelf new.shelf
+  opening_keeps old new e (inl s) = keeps_all key links old.shelf new.shelf (preparing_keeps image cap area log file old new e s)
   opening_keeps old new e (inr p) =
-      let same = (has_prepared image cap area old p.between p.value p.given).same in
+      let same = ap (λ (w : World). w.shelf) (has_prepared image cap area log file old p.between p.value p.given).same in
       elim p.rest [
-        | inl s ↦ subst (λ (w : World). KeepsButKeys key links w.shelf new.shelf) same (reserving_keeps key links p.between.shelf new.shelf e s.does)
+        | inl s ↦ subst (λ (h : ShelfFacts). KeepsButKeys key links h new.shelf) same (reserving_keeps key links p.between.shelf new.shelf e s.does)
         | inr q ↦ absurd q.rest.0
       ]
 
   -- nothing is refused as what was to be made
-  pub opening_never : (refusal : RowRefusal) → Never (OpensHouse role image cap key links area limits) (stop.Refused refusal)
+  pub opening_never : (refusal : RowRefusal) → Never (OpensHouse role image cap key links area limits log file) (stop.Refused refusal)
   opening_never refusal =
-      then_never _ _ (stop.Refused refusal) (never_prepared refusal image cap area) (λ r.
+      then_never _ _ (stop.Refused refusal) (never_prepared refusal image cap area log file) (λ r.
       then_never _ _ (stop.Refused refusal) (record { never = λ old new s. no_refusal key links old.shelf new.shelf refusal s.does }) (λ signers. record { never = λ old new s. s.0 }))
 
 -- behind a reservation the shelf was left as that left it

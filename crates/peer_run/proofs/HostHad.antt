@@ -1,5 +1,5 @@
 -- The sessions that a command had, over the objects of its run.
-use Rattle.std.proofs.Common.{◌≡◌, ◌∙◌, ℕ, List, map, sym, subst, ap}
+use Rattle.std.proofs.Common.{◌≡◌, ◌∙◌, ℕ, List, Option, map, sym, subst, ap}
 use Rattle.std.specs.Prelude.{Ok}
 use Rattle.std.specs.Global.{Vec}
 use Rattle.std.specs.String.{string_bytes}
@@ -24,23 +24,26 @@ use Rattle.peer_image.specs.Image.{image}
 use Rattle.peer_run.specs.Closing.{image_of}
 use Rattle.peer_run.specs.HostDeed.{HadSessions}
 use Rattle.peer_run.specs.Hosting.{HasAttended, plans_of, own_role, way_of}
+use Rattle.peer_run.specs.LogFiles.{FileState}
 use Rattle.peer_run.specs.Preparing.{nonce_of}
 use Rattle.peer_run.specs.SideGiven.{SideGiven, party_of}
 use Rattle.peer_run.specs.Telling.{Told, none_told}
 use Rattle.peer_run.specs.Visiting.{Visit, AreAttended}
 use Rattle.peer_run.specs.declared.sessions.House as house
 use Rattle.peer_run.specs.declared.sessions.HostWords.{HostWords}
-use Rattle.peer_run.proofs.AllNew.{authorised_new}
+use Rattle.peer_run.specs.declared.tails.Tail.{Tail}
+use Rattle.peer_run.proofs.AllNew.{filed_is, opening_is}
 use Rattle.peer_run.proofs.HostBegun.{HasHouse, plan_asks}
 
 -- those that it had by what is given, each of which ended so
-pub record HadSo (words : HostWords) (old new : World) (answers : List Answer) (given : SideGiven) : Type 0 where
+pub record HadSo (words : HostWords) (old new : World) (answers : List Answer) (tails : List Tail) (given : SideGiven) : Type 0 where
   pub had : HadSessions words given old new
   pub ends : answers ≡ map (λ (visit : Visit). visit.answer) had.visits
+  pub tailed : tails ≡ map (λ (visit : Visit). visit.tail) had.visits
 
-module _ (words : HostWords) (old new : World) (s : house.House) (began : World) (draws : Vec (List ℕ)) (drawn : World) (t : Told) (attended : World)
-    (opened : HasHouse (own_role words.awaited) words.image words.cap words.key words.links words.area words.limits old began s) (drew : OnNoise (DrawsAll words.links) began drawn (Ok draws))
-    (did : HasAttended (way_of words) (plans_of s) s.signers.items draws.items s.opening.rows drawn (none_told s.opening.state s.opening.first) attended t)
+module _ (words : HostWords) (file : Option FileState) (old new : World) (s : house.House) (began : World) (draws : Vec (List ℕ)) (drawn : World) (t : Told) (attended : World)
+    (opened : HasHouse (own_role words.awaited) words.image words.cap words.key words.links words.area words.limits words.log file old began s) (drew : OnNoise (DrawsAll words.links) began drawn (Ok draws))
+    (did : HasAttended (way_of words) s.plan.ask (plans_of s) s.signers.items draws.items s.opening.rows drawn (none_told s.opening.state s.opening.first) attended t)
     (puts : OnShelf (PutsBytes (string_bytes words.image) (image_of t.state)) attended new (Ok tt)) where
   abbrev n : List ℕ
   n = opened.front.given.namespace
@@ -52,10 +55,10 @@ module _ (words : HostWords) (old new : World) (s : house.House) (began : World)
   party_is =
       let by_namespace : List ℕ → List ℕ → List ℕ → Party = λ m draw. planned peer_rules m s.plan (nonce_of draw) in
       let by_plan : SessionPlan PeerScheme → List ℕ → List ℕ → Party = λ plan draw. planned peer_rules n plan (nonce_of draw) in
-      ap by_namespace opened.front.opened.of_namespace ∙ ap by_plan (plan_asks (own_role words.awaited) words.image words.cap words.key words.links words.area words.limits old began s opened)
+      ap by_namespace opened.front.opened.of_namespace ∙ ap by_plan (plan_asks (own_role words.awaited) words.image words.cap words.key words.links words.area words.limits words.log file old began s opened)
 
-  sessions : AreAttended (way_of words) (party_of (own_role words.awaited) words.area words.limits given) s.signers.items draws.items s.opening.state drawn.door attended.door t.answers t.all_came t.state
-  sessions = subst (λ (p : List ℕ → List ℕ → Party). AreAttended (way_of words) p s.signers.items draws.items s.opening.state drawn.door attended.door t.answers t.all_came t.state) party_is did.does
+  sessions : AreAttended (way_of words) (party_of (own_role words.awaited) words.area words.limits given) s.signers.items draws.items s.opening.state drawn.door attended.door t.answers t.tails t.all_came t.state
+  sessions = subst (λ (p : List ℕ → List ℕ → Party). AreAttended (way_of words) p s.signers.items draws.items s.opening.state drawn.door attended.door t.answers t.tails t.all_came t.state) party_is did.does
 
   abbrev links : List LinkFacts
   links = map (λ (visit : Visit). visit.link) sessions.visits
@@ -88,7 +91,7 @@ module _ (words : HostWords) (old new : World) (s : house.House) (began : World)
       subst (λ (f : NoiseFacts). TakesDraws f new.noise draws.items) noise_before
       (subst (λ (f : NoiseFacts). TakesDraws began.noise f draws.items) noise_after drew.does.2)
 
-  pub had_sessions : HadSo words old new t.answers given
+  pub had_sessions : HadSo words old new t.answers t.tails given
   had_sessions =
       record {
         had = record {
@@ -102,7 +105,11 @@ module _ (words : HostWords) (old new : World) (s : house.House) (began : World)
           back = back;
           opening = s.opening.state.log;
           log = t.state.log;
-          opens = opened.front.opened.held ∙ authorised_new n opened.front.given.rows.items opened.front.has_image.is_image.in_order;
+          opens = record {
+            filed = opened.front.filed;
+            are_filed = filed_is words.log file n old.bay opened.prepared.bay opened.front.filed opened.front.is_filed;
+            are_rows = opening_is words.log file n opened.front.given.rows.items old.bay opened.prepared.bay opened.front.filed s.opening opened.front.has_image.is_image.in_order opened.front.is_filed opened.front.opened;
+          };
           shared = sessions.shared;
           alone = λ call. (sessions.called call).alone;
           is_log = subst (λ (m : List ℕ). IsLog {R = AuthorisedValue} entry_row m t.state.log) opened.front.opened.of_namespace sessions.is_log;
@@ -110,4 +117,5 @@ module _ (words : HostWords) (old new : World) (s : house.House) (began : World)
           is_put = is_put;
         };
         ends = sessions.ends;
+        tailed = sessions.tailed;
       }

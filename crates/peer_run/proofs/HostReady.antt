@@ -1,9 +1,8 @@
 -- What a side brings may run sessions: its rows are those of the first pass, its hello passes, and each of its signers can
 -- sign.
-use Rattle.std.proofs.Common.{◌≡◌, ◌∙◌, ℕ, ◌<◌, ◌≤◌, ◌^◌, List, None, length, sym, ap, subst, arith}
+use Rattle.std.proofs.Common.{◌≡◌, ◌∙◌, ℕ, ◌≤◌, List, ◌++◌, Option, None, length, sym, ap, subst, arith}
 use Rattle.std.specs.Prelude.{Ok}
 use Rattle.std.specs.List.{All}
-use Rattle.std.specs.String.{string_bytes}
 use Rattle.std.specs.declared.string.String.{String}
 use Rattle.std.specs.declared.alloc.Global.{Global}
 use Rattle.log_rule.specs.Views.{AreOf}
@@ -20,21 +19,22 @@ use Rattle.peer_stage.specs.World.{World}
 use Rattle.peer_words.specs.declared.command.AreaWords.{AreaWords}
 use Rattle.peer_words.specs.declared.command.SignerWord.{SignerWord}
 use Rattle.peer_run.specs.Greeting.{own_hello}
+use Rattle.peer_run.specs.LogFiles.{FileState}
 use Rattle.peer_run.specs.Opening.{IsOpened}
 use Rattle.peer_run.specs.Preparing.{no_nonce, nonce_of, plan_of}
 use Rattle.peer_run.specs.Hosting.{OpensHouse}
 use Rattle.peer_run.specs.declared.opening.Opening.{Opening}
 use Rattle.peer_run.specs.declared.sessions.House as house
 use Rattle.peer_run.proofs.SideReady.{plan_passes, plan_speaks}
-use Rattle.peer_run.proofs.GotImages.{held_few}
 use Rattle.peer_run.proofs.SideBegun.{HasPrepared, has_prepared}
 
-module _ (role : Role) (image cap : String Global) (key : SignerWord) (links : ℕ) (area : AreaWords) (limits : Interest) (old new : World) (s : house.House) (opens : OpensHouse role image cap key links area limits old new (Ok s)) where
-  has : HasPrepared image cap area old opens.between opens.value
-  has = has_prepared image cap area old opens.between opens.value opens.given
+module _ (role : Role) (image cap : String Global) (key : SignerWord) (links : ℕ) (area : AreaWords) (limits : Interest) (log : Option (String Global)) (file : Option FileState) (old new : World) (s : house.House)
+    (opens : OpensHouse role image cap key links area limits log file old new (Ok s)) where
+  has : HasPrepared image cap area log file old opens.between opens.value
+  has = has_prepared image cap area log file old opens.between opens.value opens.given
 
-  opened : IsOpened has.given.namespace has.given.rows.items s.opening
-  opened = subst (λ (x : Opening). IsOpened has.given.namespace has.given.rows.items x) (sym (ap (λ (t : house.House). t.opening) opens.rest.rest.0)) has.opened
+  opened : IsOpened has.given.namespace (has.given.rows.items ++ has.filed) s.opening
+  opened = subst (λ (x : Opening). IsOpened has.given.namespace (has.given.rows.items ++ has.filed) x) (sym (ap (λ (t : house.House). t.opening) opens.rest.rest.0)) has.opened
 
   plan_is : s.plan ≡ plan_of role (own_hello area has.capability no_nonce) limits
   plan_is = ap (λ (t : house.House). t.plan) opens.rest.rest.0 ∙ ap (λ (h : Hello). plan_of role h limits) has.hello_is
@@ -42,10 +42,6 @@ module _ (role : Role) (image cap : String Global) (key : SignerWord) (links : �
   -- all rows are of the first pass
   pub house_own : AreOf 0 s.opening.state.log
   house_own = opened.own
-
-  -- there are few of them
-  pub house_few : s.opening.rows < 2 ^ 32
-  house_few = omega (arith, opened.counted, held_few old.shelf.names (string_bytes image) has.given.namespace has.given.rows.items has.has_image)
 
   -- what it says of itself passes, whatever is drawn
   pub house_hello : (draw : List ℕ) → hello_refusal peer_rules s.opening.state.namespace (plans.own_hello s.plan (nonce_of draw)) ≡ None

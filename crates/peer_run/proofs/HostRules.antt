@@ -16,7 +16,7 @@ pub none_more : {A : Type 0} (told : Option (List A)) → told ≡ list_with_all
 none_more None = refl
 none_more (Some xs) = ap (λ (l : List _). Some l) (sym (append-nil xs))
 
-more_and_more : {A : Type 0} (one two : List A) (told : Option (List A)) → list_with_all two (list_with_all one told) ≡ list_with_all (one ++ two) told
+pub more_and_more : {A : Type 0} (one two : List A) (told : Option (List A)) → list_with_all two (list_with_all one told) ≡ list_with_all (one ++ two) told
 more_and_more one two None = refl
 more_and_more one two (Some xs) = ap (λ (l : List _). Some l) (append_assoc xs one two)
 
@@ -65,7 +65,7 @@ reads_before old between new on (inr (inr (inl rose))) = inr (inr (inl (rose_beh
 reads_before old between new on (inr (inr (inr failed))) = inr (inr (inr (failed_before (λ link. link.read_faults) old between new on failed)))
 
 -- a count that rose and then did not fall has risen
-rose_before : (before mid now : ℕ) → Rose before mid → mid ≤ now → Rose before now
+pub rose_before : (before mid now : ℕ) → Rose before mid → mid ≤ now → Rose before now
 rose_before before mid now rose up = omega (arith, rose, up)
 
 reads_behind : (old between new : World) → HostReads old between → GoesOn between new → HostReads old new

@@ -1,8 +1,8 @@
 -- The laws of each command.
-use Rattle.std.proofs.Common.{◌++◌, false, None}
+use Rattle.std.proofs.Common.{◌++◌}
 use Rattle.peer_stage.specs.Deed.{IsLawful}
 use Rattle.peer_stage.specs.declared.outcome.Done.TheVariants as done
-use Rattle.peer_stage.proofs.Owing.{StaysLocal, then_local, writes_local, not_built_is_lawful}
+use Rattle.peer_stage.proofs.Owing.{StaysLocal, then_local, writes_local}
 use Rattle.peer_rows.proofs.Deeds.{join_is_lawful, show_is_lawful, gen_is_lawful}
 use Rattle.peer_rows.proofs.WatchDeeds.{watch_is_lawful, watches_local}
 use Rattle.peer_make.proofs.Deeds.{key_is_lawful, grant_is_lawful, delegate_is_lawful, write_is_lawful}
@@ -26,15 +26,14 @@ laws_of (cmd.Gen rows) = gen_is_lawful rows
 laws_of (cmd.Drill rows) = drill_is_lawful rows
 laws_of (cmd.Meet left right left_cap right_cap left_out right_out area newest bytes) =
     meet_is_lawful (record { left = left; right = right; left_cap = left_cap; right_cap = right_cap; left_out = left_out; right_out = right_out; area = area; limits = record { newest = newest; bytes = bytes } })
-laws_of (cmd.Sync image cap key to area newest bytes false) = host_is_lawful (calling_words image cap key to area (record { newest = newest; bytes = bytes }))
-laws_of (cmd.Serve image cap key at links area newest bytes false None) = host_is_lawful (serving_words image cap key at links area (record { newest = newest; bytes = bytes }))
+laws_of (cmd.Sync image cap key to area newest bytes follow) = host_is_lawful (calling_words image cap key to area (record { newest = newest; bytes = bytes }) follow)
+laws_of (cmd.Serve image cap key at links area newest bytes follow log) = host_is_lawful (serving_words image cap key at links area (record { newest = newest; bytes = bytes }) follow log)
 laws_of (cmd.Watch image area) = watch_is_lawful image area
-laws_of command = not_built_is_lawful
 
 -- One line a command: any but those that call others stays without sessions.
 pub stays_local : (c : Command) → locals.IsLocal c → StaysLocal (deed_of c).meets
 stays_local (cmd.Join namespace) is = then_local _ _ (λ x. writes_local x.0 (done.Joined x.1) tt)
-stays_local (cmd.Show newest) is = then_local _ _ (λ x. writes_local (x.0.items ++ x.1.items) (done.Shown x.2) tt)
+stays_local (cmd.Show newest) is = then_local _ _ (λ x. writes_local x.0 (done.Shown x.1) tt)
 stays_local (cmd.Key name height) is = then_local _ _ (λ free. then_local _ _ (λ k. then_local _ _ (λ put. writes_local _ done.Made tt)))
 stays_local (cmd.Grant namespace mode user key) is = then_local _ _ (λ initial. then_local _ _ (λ valid. writes_local _ done.Made tt))
 stays_local (cmd.Delegate key to area) is = then_local _ _ (λ c. then_local _ _ (λ asked. then_local _ _ (λ signature. then_local _ _ (λ valid. writes_local _ done.Made tt))))

@@ -1,5 +1,5 @@
 -- Steps that never stop in some way.
-use Rattle.std.proofs.Common.{inl, inr}
+use Rattle.std.proofs.Common.{ℕ, List, Option, Some, None, inl, inr}
 use Rattle.std.specs.Prelude.{Err}
 use Rattle.std.specs.declared.string.String.{String}
 use Rattle.std.specs.declared.alloc.Global.{Global}
@@ -10,6 +10,8 @@ use Rattle.peer_stage.specs.declared.outcome.Stop.{Stop}
 use Rattle.peer_stage.specs.declared.outcome.Stop.TheVariants as stop
 use Rattle.peer_words.specs.declared.command.AreaWords.{AreaWords}
 use Rattle.peer_run.specs.Getting.{GetsImage, GetsCapability}
+use Rattle.peer_run.specs.LogFiles.{FileState}
+use Rattle.peer_run.specs.LogOpening.{OpensFile}
 use Rattle.peer_run.specs.Preparing.{Prepares}
 
 -- the step does not stop so
@@ -27,9 +29,16 @@ no_image refusal name = then_never _ _ (stop.Refused refusal) (record { never = 
 pub no_capability : (refusal : RowRefusal) (name : String Global) → Never (GetsCapability name) (stop.Refused refusal)
 no_capability refusal name = then_never _ _ (stop.Refused refusal) (record { never = λ old new s. s.does }) (λ got. record { never = λ old new s. s.0 })
 
-pub never_prepared : (refusal : RowRefusal) (image cap : String Global) (area : AreaWords) → Never (Prepares image cap area) (stop.Refused refusal)
-never_prepared refusal image cap area =
+no_file : (refusal : RowRefusal) (log : Option (String Global)) (file : Option FileState) (n : List ℕ) → Never (OpensFile log file n) (stop.Refused refusal)
+no_file refusal None None n = record { never = λ old new s. s.0 }
+no_file refusal None (Some f) n = record { never = λ old new s. s }
+no_file refusal (Some name) None n = record { never = λ old new s. s.does }
+no_file refusal (Some name) (Some f) n = record { never = λ old new s. s.does }
+
+pub never_prepared : (refusal : RowRefusal) (image cap : String Global) (area : AreaWords) (log : Option (String Global)) (file : Option FileState) → Never (Prepares image cap area log file) (stop.Refused refusal)
+never_prepared refusal image cap area log file =
     then_never _ _ (stop.Refused refusal) (no_image refusal image) (λ i.
+    then_never _ _ (stop.Refused refusal) (no_file refusal log file i.namespace) (λ filed.
     then_never _ _ (stop.Refused refusal) (record { never = λ old new s. s.0 }) (λ opening.
     then_never _ _ (stop.Refused refusal) (no_capability refusal cap) (λ c.
-    then_never _ _ (stop.Refused refusal) (record { never = λ old new s. s.0 }) (λ h. record { never = λ old new s. s.0 }))))
+    then_never _ _ (stop.Refused refusal) (record { never = λ old new s. s.0 }) (λ h. record { never = λ old new s. s.0 })))))

@@ -1,7 +1,7 @@
 -- What a side offers of its rows: some of them, as a store has them.
 use Rattle.std.proofs.Common.{◌≡◌, ℕ, List, map, Option, Some, None, get_or, refl, ap, subst}
 use Rattle.std.specs.Prelude.{Result, Ok, Err, IfOk}
-use Rattle.std.specs.List.{All, AllByRecursion, Contains}
+use Rattle.std.specs.List.{AllByRecursion, Contains}
 use Rattle.std.proofs.lemmas.List.Elements.{All-contains, All-contains_itself}
 use Rattle.willow_area.specs.Boxes.{Ranges}
 use Rattle.willow_entry.specs.Row.{RowValue, AreLive, place_cmp}

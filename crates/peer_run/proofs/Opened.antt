@@ -27,6 +27,7 @@ use Rattle.peer_rows.proofs.Logged.{authorised_none, authorised_some, authorised
 use Rattle.peer_rows.proofs.Offered.{PassesLog-longer}
 use Rattle.peer_rows.proofs.Taken.{placed_row, refused_row}
 use Rattle.peer_run.specs.Opening.{IsOpened, OpensLog, TakesRow, with_refused}
+use Rattle.peer_stage.specs.declared.outcome.Stop.{Stop}
 use Rattle.peer_run.specs.declared.opening.Opening.{Opening}
 
 -- rows of one pass with one more
@@ -120,7 +121,7 @@ module _ (n : List ℕ) (all : List RawValue) (judged : Result AuthorisedValue R
   parts_on = h.parts ∙ ap (λ (l : List RawValue). h.seen ++ l) first.parts ∙ sym (append_assoc h.seen (first.row ∷ []) first.others)
 
   -- fewer are counted than there are
-  pub opened_below : length all < 2 ^ 32 → x.rows < 2 ^ 32
+  pub opened_below : length all < 2 ^ 64 → x.rows + 1 < 2 ^ 64
   opened_below few = omega (arith, few, h.so_far.counted, ap length h.parts, ap length first.parts, length-append h.seen h.left)
 
   -- the next one is on a row, in the namespace of the log
@@ -142,3 +143,7 @@ module _ (n : List ℕ) (all : List RawValue) (judged : Result AuthorisedValue R
 pub opened_all : (n : List ℕ) (all : List RawValue) (verdicts : List (Result AuthorisedValue RowRefusal)) (x : Opening) → HasOpened n all verdicts x → verdicts ≡ [] → IsOpened n all x
 opened_all n all verdicts x h none =
     subst (λ (rows : List RawValue). IsOpened n rows x) (sym (append-nil h.seen) ∙ ap (λ (l : List RawValue). h.seen ++ l) (sym (none_judged peer_rules n h.left verdicts none h.judged)) ∙ sym h.parts) h.so_far
+
+-- the same rows, told as those of an image and more behind them
+pub opens_as : (n is_n : List ℕ) (rows are_rows : List RawValue) (end : Result Opening Stop) → n ≡ is_n → rows ≡ are_rows → OpensLog n rows end → OpensLog is_n are_rows end
+opens_as n is_n rows are_rows end named same opens = subst (λ (m : List ℕ). OpensLog m are_rows end) named (subst (λ (l : List RawValue). OpensLog n l end) same opens)

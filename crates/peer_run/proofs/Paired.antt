@@ -1,28 +1,32 @@
--- A guest for each signer, and all passes behind the visits.
-use Rattle.std.proofs.Common.{◌≡◌, ℕ, suc, ◌+◌, ◌≤◌, ◌<◌, List, [], ◌∷◌, ◌++◌, length, map, take, get_or, refl, sym, ap, ap₂, ◌∙◌, subst, arith, append_assoc, append-nil, length-append}
-use Rattle.std.specs.Prelude.{None}
+-- A guest for each signer, and what is left behind the visits.
+use Rattle.std.proofs.Common.{◌≡◌, ℕ, Bool, Option, suc, ◌+◌, ◌≤◌, ◌<◌, List, [], ◌∷◌, ◌++◌, length, map, take, get_or, refl, sym, ap, ap₂, ◌∙◌, subst, arith, append_assoc, append-nil, length-append}
+use Rattle.std.specs.Prelude.{None, Ok, Err}
 use Rattle.std.specs.List.{All, AllByRecursion}
-use Rattle.std.proofs.lemmas.List.{map-append, take_more, take_all}
-use Rattle.std.proofs.lemmas.List.Elements.{All-append, All-cons, All-from_recursion, All-map, recursion_from_All}
+use Rattle.std.proofs.lemmas.List.{length-map, map-append, take_more, take_all}
+use Rattle.std.proofs.lemmas.List.Elements.{All-from_recursion, recursion_from_All}
 use Rattle.spelling.proofs.Lists.{All-right}
-use Rattle.willow_outside.specs.Facts.{DoorFacts}
+use Rattle.log_rule.proofs.Prefixes.{prefix_length}
+use Rattle.willow_outside.specs.Facts.{LinkFacts, DoorFacts}
+use Rattle.willow_outside.specs.declared.fault.Fault.{Fault}
 use Rattle.link_host.specs.Visits as hosts
-use Rattle.link_host.specs.Hosted.{IsHosted}
-use Rattle.link_host.specs.declared.hosting.Hosted.{Hosted}
 use Rattle.auth_entry.specs.Authorised.{AuthorisedValue}
 use Rattle.lms_core.specs.Use.{peer_rules}
-use Rattle.ns_cell.specs.Passes.{CellValue, PassValue, IsPassOf}
+use Rattle.ns_cell.specs.Passes.{PassValue, IsPassOf}
 use Rattle.sync_hello.specs.Checked.{hello_refusal}
 use Rattle.sync_core.specs.SyncRules.{IsVersion}
 use Rattle.sync_link.specs.Plans.{own_hello}
-use Rattle.sync_link.specs.Run.{Answer}
+use Rattle.sync_link.specs.Run.{Answer, Runs}
+use Rattle.sync_link.specs.Sessions.{Party}
 use Rattle.peer_make.specs.KeySigners.{left_of}
 use Rattle.peer_make.specs.declared.key_signer.KeySigner.{KeySigner}
+use Rattle.peer_run.specs.Accepting.{AreReceived}
+use Rattle.peer_run.specs.Behind.{HasSeenOwn}
+use Rattle.peer_run.specs.Feeding.{HasSeenOpening}
 use Rattle.peer_run.specs.Hall.{DoesVisit, MayVisit}
 use Rattle.peer_run.specs.Preparing.{nonce_of}
-use Rattle.peer_run.specs.declared.hosting.Guest.{Guest}
-use Rattle.peer_run.specs.declared.hosting.Hall.{Hall}
-use Rattle.peer_run.specs.declared.hosting.Parting.{Parting}
+use Rattle.peer_run.specs.declared.hall.Guest.{Guest}
+use Rattle.peer_run.specs.declared.hall.Hall.{Hall}
+use Rattle.peer_run.specs.declared.hall.Parting.{Parting}
 use Rattle.peer_run.proofs.SharedLog.{never_empty, heads, tails}
 use Rattle.peer_run.proofs.Guests.{Passes, Hosting, passes_of, signers_of, nonces_of, jobs_of, partings_of, handed_on}
 
@@ -120,51 +124,75 @@ module _ (hall : Hall) where
   partings_stay [] each = tt
   partings_stay (v ∷ vs) each = (each.0.did.pass, partings_stay vs each.1)
 
+  has_seen : {p : List ℕ → Party} {gives : List ℕ → List ℕ → Bool} {before : PassValue AuthorisedValue} {link link' : LinkFacts} (pass : PassValue AuthorisedValue) (end : Answer) → Runs p gives before pass link link' 0 0 end → HasSeenOpening pass end
+  has_seen pass (Ok report) ran = omega (arith, ran.reported.opened, prefix_length ran.log pass.seen ran.opening.1)
+  has_seen pass (Err end) ran = tt
+
+  partings_seen : (visits : List Hosting) → AllByRecursion (hosts.IsVisit (DoesVisit hall)) visits → AllByRecursion HasSeenOwn (partings_of visits)
+  partings_seen [] each = tt
+  partings_seen (v ∷ vs) each = (has_seen v.parting.pass v.parting.end each.0.did.ran, partings_seen vs each.1)
+
   guests_stay : (guests : List Guest) → AllByRecursion (IsPassOf hall.cell) (passes_of guests) → AllByRecursion (λ (g : Guest). IsPassOf hall.cell g.pass) guests
   guests_stay [] each = tt
   guests_stay (g ∷ gs) each = (each.0, guests_stay gs each.1)
 
-  module _ (guests : List Guest) (old new : DoorFacts) (hosted : Hosted Guest Parting) (did : IsHosted (DoesVisit hall) guests old new hosted) where
-    pub partings_of_cell : All (λ (p : Parting). IsPassOf hall.cell p.pass) hosted.partings.items
+  module _ (guests : List Guest) (old new : DoorFacts) (partings : List Parting) (links : List LinkFacts) (unused : List Guest) (stopped : Option Fault) (did : AreReceived hall guests old new partings links unused stopped) where
+    pub partings_of_cell : All (λ (p : Parting). IsPassOf hall.cell p.pass) partings
     partings_of_cell =
         subst (All (λ (p : Parting). IsPassOf hall.cell p.pass)) (sym did.partings_are)
         (All-from_recursion (λ (p : Parting). IsPassOf hall.cell p.pass) (partings_of did.visits) (partings_stay did.visits (recursion_from_All (hosts.IsVisit (DoesVisit hall)) did.visits did.each)))
 
-    pub unused_of_cell : (own : PassValue AuthorisedValue) (all : Passes) → own ∷ passes_of guests ≡ all → All (IsPassOf hall.cell) all → All (λ (g : Guest). IsPassOf hall.cell g.pass) hosted.unused.items
+    pub unused_of_cell : (own : PassValue AuthorisedValue) (all : Passes) → own ∷ passes_of guests ≡ all → All (IsPassOf hall.cell) all → All (λ (g : Guest). IsPassOf hall.cell g.pass) unused
     unused_of_cell own all passes of_cell =
         let each = recursion_from_All (IsPassOf hall.cell) (own ∷ passes_of guests) (subst (All (IsPassOf hall.cell)) (sym passes) of_cell) in
-        let whole = subst (AllByRecursion (λ (g : Guest). IsPassOf hall.cell g.pass)) did.jobs_are (guests_stay guests each.1) in
-        All-from_recursion (λ (g : Guest). IsPassOf hall.cell g.pass) hosted.unused.items (All-right (λ (g : Guest). IsPassOf hall.cell g.pass) (jobs_of did.visits) hosted.unused.items whole)
+        let whole = subst (AllByRecursion (λ (g : Guest). IsPassOf hall.cell g.pass)) did.guests_are (guests_stay guests each.1) in
+        All-from_recursion (λ (g : Guest). IsPassOf hall.cell g.pass) unused (All-right (λ (g : Guest). IsPassOf hall.cell g.pass) (jobs_of did.visits) unused whole)
+
+    -- each has seen the log with which its session began
+    pub seen_own : All HasSeenOwn partings
+    seen_own = subst (All HasSeenOwn) (sym did.partings_are) (All-from_recursion HasSeenOwn (partings_of did.visits) (partings_seen did.visits (recursion_from_All (hosts.IsVisit (DoesVisit hall)) did.visits did.each)))
 
     as_many_partings : (visits : List Hosting) → length (jobs_of visits) ≡ length (partings_of visits)
     as_many_partings [] = refl
     as_many_partings (v ∷ vs) = ap suc (as_many_partings vs)
 
-    pub all_back : length hosted.partings.items + length hosted.unused.items ≡ length guests
-    all_back = omega (arith, ap length did.jobs_are, ap length did.partings_are, as_many_partings did.visits, length-append (jobs_of did.visits) hosted.unused.items)
+    as_many_links : (visits : List Hosting) → length (map (λ (v : Hosting). v.link) visits) ≡ length (partings_of visits)
+    as_many_links [] = refl
+    as_many_links (v ∷ vs) = ap suc (as_many_links vs)
+
+    -- and has its link
+    pub link_each : length links ≡ length partings
+    link_each = ap length did.links_are ∙ as_many_links did.visits ∙ sym (ap length did.partings_are)
+
+    -- of those that the door handed out
+    pub links_out : length links ≤ new.out
+    links_out = omega (arith, did.out, link_each, ap length did.partings_are, as_many_partings did.visits, length-map did.visits (λ (v : Hosting). v.job))
+
+    pub all_back : length partings + length unused ≡ length guests
+    all_back = omega (arith, ap length did.guests_are, ap length did.partings_are, as_many_partings did.visits, length-append (jobs_of did.visits) unused)
 
 -- ---- all passes, and how the sessions ended
 
 -- of these partings some were taken apart
-pub record HasParted (own : PassValue AuthorisedValue) (partings : List Parting) (passes : Passes) (ends : List Answer) (taken rest : List Parting) : Type 0 where
-  pub passes_are : passes ≡ own ∷ handed_on taken
+pub record HasParted (partings : List Parting) (passes : Passes) (ends : List Answer) (taken rest : List Parting) : Type 0 where
+  pub passes_are : passes ≡ handed_on taken
   pub ends_are : ends ≡ map (λ (p : Parting). p.end) taken
   pub whole : taken ++ rest ≡ partings
 
-module _ (own : PassValue AuthorisedValue) (partings : List Parting) where
-  pub parted_on : (passes : Passes) (ends : List Answer) (taken rest rest' : List Parting) (parting : Parting) → HasParted own partings passes ends taken rest → rest ≡ parting ∷ rest'
-      → HasParted own partings (passes ++ parting.pass ∷ []) (ends ++ parting.end ∷ []) (taken ++ parting ∷ []) rest'
+module _ (partings : List Parting) where
+  pub parted_on : (passes : Passes) (ends : List Answer) (taken rest rest' : List Parting) (parting : Parting) → HasParted partings passes ends taken rest → rest ≡ parting ∷ rest'
+      → HasParted partings (passes ++ parting.pass ∷ []) (ends ++ parting.end ∷ []) (taken ++ parting ∷ []) rest'
   parted_on passes ends taken rest rest' parting h next =
       record {
-        passes_are = ap (λ (ps : Passes). ps ++ parting.pass ∷ []) h.passes_are ∙ ap (λ (ps : Passes). own ∷ ps) (sym (map-append (λ (p : Parting). p.pass) taken (parting ∷ [])));
+        passes_are = ap (λ (ps : Passes). ps ++ parting.pass ∷ []) h.passes_are ∙ sym (map-append (λ (p : Parting). p.pass) taken (parting ∷ []));
         ends_are = ap (λ (es : List Answer). es ++ parting.end ∷ []) h.ends_are ∙ sym (map-append (λ (p : Parting). p.end) taken (parting ∷ []));
         whole = append_assoc taken (parting ∷ []) rest' ∙ (ap (λ (ps : List Parting). taken ++ ps) (sym next) ∙ h.whole);
       }
 
-  pub parted_end : (passes : Passes) (ends : List Answer) (taken rest : List Parting) → HasParted own partings passes ends taken rest → rest ≡ [] → (passes ≡ own ∷ handed_on partings) × (ends ≡ map (λ (p : Parting). p.end) partings)
+  pub parted_end : (passes : Passes) (ends : List Answer) (taken rest : List Parting) → HasParted partings passes ends taken rest → rest ≡ [] → (passes ≡ handed_on partings) × (ends ≡ map (λ (p : Parting). p.end) partings)
   parted_end passes ends taken rest h none =
       let all : taken ≡ partings = sym (append-nil taken) ∙ (ap (λ (ps : List Parting). taken ++ ps) (sym none) ∙ h.whole) in
-      (h.passes_are ∙ ap (λ (ps : List Parting). own ∷ handed_on ps) all, h.ends_are ∙ ap (map (λ (p : Parting). p.end)) all)
+      (h.passes_are ∙ ap handed_on all, h.ends_are ∙ ap (map (λ (p : Parting). p.end)) all)
 
 -- of these guests the passes of some were taken behind others
 pub record HasGathered (front : Passes) (unused : List Guest) (passes : Passes) (taken rest : List Guest) : Type 0 where
@@ -186,11 +214,20 @@ module _ (front : Passes) (unused : List Guest) where
       let all : taken ≡ unused = sym (append-nil taken) ∙ (ap (λ (gs : List Guest). taken ++ gs) (sym none) ∙ h.whole) in
       h.passes_are ∙ ap (λ (gs : List Guest). front ++ passes_of gs) all
 
--- all of them are of the cell
-pub behind_of_cell : (cell : CellValue) (own : PassValue AuthorisedValue) (partings : List Parting) (unused : List Guest) (passes : Passes) → passes ≡ own ∷ (handed_on partings ++ passes_of unused) → IsPassOf cell own
-    → All (λ (p : Parting). IsPassOf cell p.pass) partings → All (λ (g : Guest). IsPassOf cell g.pass) unused → All (IsPassOf cell) passes
-behind_of_cell cell own partings unused passes is first each others =
-    let parted = All-map (IsPassOf cell) (λ (p : Parting). p.pass) partings each in
-    let left = All-map (IsPassOf cell) (λ (g : Guest). g.pass) unused others in
-    subst (All (IsPassOf cell)) (sym is)
-    (All-cons (IsPassOf cell) own (handed_on partings ++ passes_of unused) first (All-append (IsPassOf cell) (handed_on partings) (passes_of unused) parted left))
+-- of these passes some were taken behind the own one
+pub record HasJoined (own : PassValue AuthorisedValue) (others passes taken rest : Passes) : Type 0 where
+  pub passes_are : passes ≡ own ∷ taken
+  pub whole : taken ++ rest ≡ others
+
+module _ (own : PassValue AuthorisedValue) (others : Passes) where
+  pub joined_on : (passes taken rest rest' : Passes) (pass : PassValue AuthorisedValue) → HasJoined own others passes taken rest → rest ≡ pass ∷ rest' → HasJoined own others (passes ++ pass ∷ []) (taken ++ pass ∷ []) rest'
+  joined_on passes taken rest rest' pass h next =
+      record {
+        passes_are = ap (λ (ps : Passes). ps ++ pass ∷ []) h.passes_are;
+        whole = append_assoc taken (pass ∷ []) rest' ∙ (ap (λ (ps : Passes). taken ++ ps) (sym next) ∙ h.whole);
+      }
+
+  pub joined_end : (passes taken rest : Passes) → HasJoined own others passes taken rest → rest ≡ [] → passes ≡ own ∷ others
+  joined_end passes taken rest h none =
+      let all : taken ≡ others = sym (append-nil taken) ∙ (ap (λ (ps : Passes). taken ++ ps) (sym none) ∙ h.whole) in
+      h.passes_are ∙ ap (λ (ps : Passes). own ∷ ps) all

@@ -1,10 +1,11 @@
 -- What a side owes for the steps before it meets another one.
-use Rattle.std.proofs.Common.{◌≡◌, ℕ, subst}
+use Rattle.std.proofs.Common.{◌≡◌, ℕ, List, ◌++◌, Option, Some, None, ap, subst}
 use Rattle.std.specs.Prelude.{Result, Err}
 use Rattle.std.specs.declared.string.String.{String}
 use Rattle.std.specs.declared.alloc.Global.{Global}
 use Rattle.willow_outside.specs.Counts.{Rose}
 use Rattle.peer_words.specs.declared.command.AreaWords.{AreaWords}
+use Rattle.cap_codec.specs.Rows.{RawValue}
 use Rattle.peer_rows.specs.Images.{ReadsImageFrom}
 use Rattle.peer_make.specs.Reading.{ReadsCapabilityFrom}
 use Rattle.peer_stage.specs.World.{World}
@@ -18,8 +19,10 @@ use Rattle.peer_stage.proofs.Owing.{Owes, IsLasting, then_owes, inside_counts, i
 use Rattle.peer_run.specs.Getting.{GetsImage, GetsCapability}
 use Rattle.peer_run.specs.Greeting.{Greets}
 use Rattle.peer_run.specs.Meet.{Yields}
+use Rattle.peer_run.specs.LogFiles.{FileState}
+use Rattle.peer_run.specs.LogOpening.{OpensFile}
 use Rattle.peer_run.specs.Opening.{OpensLog}
-use Rattle.peer_run.specs.Preparing.{Prepares, no_nonce}
+use Rattle.peer_run.specs.Preparing.{Prepares, PreparesBehind, no_nonce}
 
 -- ---- what may rise
 
@@ -66,7 +69,7 @@ getting_owes name =
       goes_on = λ old new got need s. need;
     }
 
-image_owes : (name : String Global) → Owes GotReads GotWrites Nothing (λ image. Nothing) (GetsImage name)
+pub image_owes : (name : String Global) → Owes GotReads GotWrites Nothing (λ image. Nothing) (GetsImage name)
 image_owes name =
     then_owes GotReads GotWrites Nothing (λ got. Nothing) (λ image. Nothing) _ _ got_reads_last got_writes_last (getting_owes name)
     (λ got. inside_owes (ReadsImageFrom (origin.Name got.0) got.1.items) (λ h. h) (λ h. h) (λ h. h))
@@ -76,13 +79,13 @@ capability_owes name =
     then_owes GotReads GotWrites Nothing (λ got. Nothing) (λ c. Nothing) _ _ got_reads_last got_writes_last (getting_owes name)
     (λ got. inside_owes (ReadsCapabilityFrom (origin.Name got.0) got.1.items) (λ h. h) (λ h. h) (λ h. h))
 
-pub preparing_owes : (image cap : String Global) (area : AreaWords) → Owes GotReads GotWrites Nothing (λ r. Nothing) (Prepares image cap area)
-preparing_owes image cap area =
-    then_owes GotReads GotWrites Nothing (λ i. Nothing) (λ r. Nothing) _ _ got_reads_last got_writes_last (image_owes image)
-    (λ i. then_owes GotReads GotWrites Nothing (λ opening. Nothing) (λ r. Nothing) _ _ got_reads_last got_writes_last (inside_owes (OpensLog i.namespace i.rows.items) (λ h. h) (λ h. h) (λ h. h))
+-- behind the image, with the rows of a log file
+pub behind_owes : (n : List ℕ) (rows : List RawValue) (cap : String Global) (area : AreaWords) → Owes GotReads GotWrites Nothing (λ r. Nothing) (PreparesBehind n rows cap area)
+behind_owes n rows cap area =
+    then_owes GotReads GotWrites Nothing (λ opening. Nothing) (λ r. Nothing) _ _ got_reads_last got_writes_last (inside_owes (OpensLog n rows) (λ h. h) (λ h. h) (λ h. h))
     (λ opening. then_owes GotReads GotWrites Nothing (λ c. Nothing) (λ r. Nothing) _ _ got_reads_last got_writes_last (capability_owes cap)
-    (λ c. then_owes GotReads GotWrites Nothing (λ h. Nothing) (λ r. Nothing) _ _ got_reads_last got_writes_last (inside_owes (Greets i.namespace area c no_nonce) (λ h. h) (λ h. h) (λ h. h))
-    (λ h. inside_owes (Yields (record { opening = opening; hello = h })) (λ g. g) (λ g. g) (λ g. g)))))
+    (λ c. then_owes GotReads GotWrites Nothing (λ h. Nothing) (λ r. Nothing) _ _ got_reads_last got_writes_last (inside_owes (Greets n area c no_nonce) (λ h. h) (λ h. h) (λ h. h))
+    (λ h. inside_owes (Yields (record { opening = opening; hello = h })) (λ g. g) (λ g. g) (λ g. g))))
 
 -- ---- the door
 
@@ -92,12 +95,18 @@ image_keeps name = then_keeps _ _ (shelf_keeps (GetsBytes name)) (λ got. inside
 capability_keeps : (name : String Global) → KeepsDoor (GetsCapability name)
 capability_keeps name = then_keeps _ _ (shelf_keeps (GetsBytes name)) (λ got. inside_keeps (ReadsCapabilityFrom (origin.Name got.0) got.1.items))
 
-pub preparing_keeps_door : (image cap : String Global) (area : AreaWords) → KeepsDoor (Prepares image cap area)
-preparing_keeps_door image cap area =
+file_keeps : (log : Option (String Global)) (file : Option FileState) (n : List ℕ) → KeepsDoor (OpensFile log file n)
+file_keeps None None n old new end s = ap (λ (w : World). w.door) s.1
+file_keeps None (Some f) n old new end s = absurd s
+file_keeps (Some name) file n old new end s = ap (λ (w : World). w.door) s.others
+
+pub preparing_keeps_door : (image cap : String Global) (area : AreaWords) (log : Option (String Global)) (file : Option FileState) → KeepsDoor (Prepares image cap area log file)
+preparing_keeps_door image cap area log file =
     then_keeps _ _ (image_keeps image) (λ i.
-    then_keeps _ _ (inside_keeps (OpensLog i.namespace i.rows.items)) (λ opening.
+    then_keeps _ _ (file_keeps log file i.namespace) (λ filed.
+    then_keeps _ _ (inside_keeps (OpensLog i.namespace (i.rows.items ++ filed.items))) (λ opening.
     then_keeps _ _ (capability_keeps cap) (λ c.
-    then_keeps _ _ (inside_keeps (Greets i.namespace area c no_nonce)) (λ h. inside_keeps (Yields (record { opening = opening; hello = h }))))))
+    then_keeps _ _ (inside_keeps (Greets i.namespace area c no_nonce)) (λ h. inside_keeps (Yields (record { opening = opening; hello = h })))))))
 
 -- a count that was 0 as the link was handed out, and rose in the session, rose from 0
 pub from_none : (before now : ℕ) → before ≡ 0 → Rose before now → Rose 0 now

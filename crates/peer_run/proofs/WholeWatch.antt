@@ -1,5 +1,5 @@
 -- A run of a watch with status 0 or 1 is a whole watch.
-use Rattle.std.proofs.Common.{◌≡◌, ◌≢◌, ℕ, List, false, refl, Option, Some, None, inl, inr, sym, ap, ◌∙◌, subst, arith}
+use Rattle.std.proofs.Common.{◌≡◌, ◌≢◌, ℕ, List, false, refl, Option, Some, None, sym, ap, ◌∙◌, subst, arith}
 use Rattle.std.proofs.lemmas.Bool.Decides.{nat_tests}
 use Rattle.std.specs.Prelude.{Result, Ok, Err, IsSome, unwrap_or}
 use Rattle.std.specs.String.{string_bytes}
@@ -10,7 +10,6 @@ use Rattle.mc_cap.specs.declared.refusal.RefusedRow.{RefusedRow}
 use Rattle.peer_stage.specs.Stages.{IsWritten}
 use Rattle.peer_stage.specs.Status.{status_of, first_status}
 use Rattle.peer_stage.specs.declared.outcome.Done.{Done}
-use Rattle.peer_stage.specs.declared.outcome.Done.TheVariants as done
 use Rattle.peer_stage.specs.declared.outcome.Stop.{Stop}
 use Rattle.peer_stage.specs.declared.outcome.Stop.TheVariants as stop
 use Rattle.peer_stage.specs.declared.outcome.WatchCounts.{WatchCounts}

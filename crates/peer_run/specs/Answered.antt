@@ -1,13 +1,17 @@
--- What keeps a session from going wrong: another side that answers over its link, and a signer that signs for it.
-use Rattle.std.specs.Prelude.{◌≡◌, ℕ, true, List, ◌∷◌, Some, IsTrue}
+-- What keeps a session from going wrong: another side that answers over its link and feeds it behind that, and a signer that signs
+-- for it.
+use Rattle.std.specs.Prelude.{◌≡◌, ℕ, true, List, ◌∷◌, ◌++◌, Some, IsTrue}
 use Rattle.willow_outside.specs.Counts.{HasRisen}
 use Rattle.willow_outside.specs.Facts.{LinkFacts}
+use Rattle.willow_area.specs.declared.area.Area.{Area}
 use Rattle.willow_entry.specs.Row.{RowValue}
 use Rattle.lms_core.specs.Use.{peer_rules}
 use Rattle.mc_cap.specs.Grant.{receiver_of}
 use Rattle.mc_cap.specs.Signature.{IsSignature}
 use Rattle.mc_cap.specs.declared.capability.Capability.{Capability}
 use Rattle.session_rules.specs.Rounds.{IsFront}
+use Rattle.sync_follow.specs.FeedLaws.{AreFit}
+use Rattle.sync_follow.specs.Feeds.{feed_spelling}
 use Rattle.sync_link.specs.Ran.{AreBothRoles}
 use Rattle.sync_link.specs.Sessions.{Party, out}
 use Rattle.sync_link.specs.Settling.{Accepts, IsOpening}
@@ -42,6 +46,18 @@ pub record IsAnsweredOver (p : List ℕ → Party) (link : LinkFacts) : Type 0 w
 abbrev pub AreAnswered : (List ℕ → List ℕ → Party) → List (List ℕ) → List LinkFacts → Type 0
 AreAnswered p (draw ∷ draws) (link ∷ links) = IsAnsweredOver (p draw) link × AreAnswered p draws links
 AreAnswered p draws links = Unit {0}
+
+-- A feed of such rows of the area came over the link, or a front of it, while it was followed. The link tells its bytes; a read met
+-- the end only where the link gave all of it.
+pub record GivesFeed (area : Area) (old new : LinkFacts) : Type 0 where
+  pub rows : List RowValue
+  pub fit : AreFit area rows
+  pub before : List ℕ
+  pub bytes : List ℕ
+  pub had : old.taken ≡ Some before
+  pub took : new.taken ≡ Some (before ++ bytes)
+  pub hears : IsFront bytes (feed_spelling rows)
+  pub hears_all : HasRisen old.ends new.ends → bytes ≡ feed_spelling rows
 
 -- ---- the signer
 

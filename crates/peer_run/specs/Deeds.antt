@@ -1,6 +1,5 @@
 -- The deed of each command.
-use Rattle.std.specs.Prelude.{false, None}
-use Rattle.peer_stage.specs.Deed.{Deed, not_built}
+use Rattle.peer_stage.specs.Deed.{Deed}
 use Rattle.peer_rows.specs.Deeds.{join_deed, show_deed, gen_deed, watch_deed}
 use Rattle.peer_make.specs.Deeds.{key_deed, grant_deed, delegate_deed, write_deed}
 use Rattle.peer_run.specs.PairDeeds.{drill_deed, meet_deed}
@@ -9,7 +8,7 @@ use Rattle.peer_run.specs.Hosting.{calling_words, serving_words}
 use Rattle.peer_words.specs.declared.command.Command.{Command}
 use Rattle.peer_words.specs.declared.command.Command.TheVariants as cmd
 
--- One line a command. What follows or keeps a log is not built yet.
+-- One line a command.
 abbrev pub deed_of : Command → Deed
 deed_of (cmd.Join namespace) = join_deed namespace
 deed_of (cmd.Show newest) = show_deed newest
@@ -21,7 +20,6 @@ deed_of (cmd.Gen rows) = gen_deed rows
 deed_of (cmd.Drill rows) = drill_deed rows
 deed_of (cmd.Meet left right left_cap right_cap left_out right_out area newest bytes) =
     meet_deed (record { left = left; right = right; left_cap = left_cap; right_cap = right_cap; left_out = left_out; right_out = right_out; area = area; limits = record { newest = newest; bytes = bytes } })
-deed_of (cmd.Sync image cap key to area newest bytes false) = host_deed (calling_words image cap key to area (record { newest = newest; bytes = bytes }))
-deed_of (cmd.Serve image cap key at links area newest bytes false None) = host_deed (serving_words image cap key at links area (record { newest = newest; bytes = bytes }))
+deed_of (cmd.Sync image cap key to area newest bytes follow) = host_deed (calling_words image cap key to area (record { newest = newest; bytes = bytes }) follow)
+deed_of (cmd.Serve image cap key at links area newest bytes follow log) = host_deed (serving_words image cap key at links area (record { newest = newest; bytes = bytes }) follow log)
 deed_of (cmd.Watch image area) = watch_deed image area
-deed_of command = not_built

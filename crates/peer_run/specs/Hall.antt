@@ -1,17 +1,16 @@
 -- What one visit of a server is: a session over its link, with the pass, the signer and the nonce of its guest.
-use Rattle.std.specs.Prelude.{◌≡◌, ◌≤◌, ℕ, ◌+◌, Bool, true, false, List, ◌∷◌, ◌++◌, length, map, All, Option, Some, None, Result, Ok, Err}
+use Rattle.std.specs.Prelude.{◌≡◌, ◌≤◌, ℕ, ◌+◌, Bool, true, false, List, ◌∷◌, length, map, All, Option, Some, None, Result, Ok, Err}
 use Rattle.willow_outside.specs.Counts.{HasRisen}
 use Rattle.willow_outside.specs.Facts.{LinkFacts, DoorFacts}
 use Rattle.willow_outside.specs.Links.{list_with}
 use Rattle.willow_outside.specs.declared.fault.Fault.{Fault}
 use Rattle.willow_outside.specs.declared.fault.Fault.TheVariants as fault
-use Rattle.link_host.specs.declared.hosting.Hosted.{Hosted}
 use Rattle.auth_entry.specs.Authorised.{AuthorisedValue}
 use Rattle.lms_core.specs.Use.{peer_rules}
 use Rattle.lms_core.specs.declared.scheme.PeerScheme.{PeerScheme}
 use Rattle.ns_state.specs.Log.{StateValue, IsLog}
 use Rattle.ns_cell.specs.Closed.{IsClosed}
-use Rattle.ns_cell.specs.Passes.{PassValue, IsPassOf, new_passes}
+use Rattle.ns_cell.specs.Passes.{IsPassOf, new_passes}
 use Rattle.sync_hello.specs.Checked.{hello_refusal}
 use Rattle.sync_core.specs.SyncRules.{IsVersion}
 use Rattle.auth_entry.specs.Rows.{entry_row}
@@ -24,10 +23,11 @@ use Rattle.peer_stage.specs.declared.outcome.Stop.{Stop}
 use Rattle.peer_stage.specs.declared.outcome.Stop.TheVariants as stop
 use Rattle.peer_run.specs.Calling.{IsUnasked}
 use Rattle.peer_run.specs.Preparing.{nonce_of}
+use Rattle.peer_run.specs.declared.behind.Behind.{Behind}
 use Rattle.peer_run.specs.declared.hosting.Attended.{Attended}
-use Rattle.peer_run.specs.declared.hosting.Guest.{Guest}
-use Rattle.peer_run.specs.declared.hosting.Hall.{Hall}
-use Rattle.peer_run.specs.declared.hosting.Parting.{Parting}
+use Rattle.peer_run.specs.declared.hall.Guest.{Guest}
+use Rattle.peer_run.specs.declared.hall.Hall.{Hall}
+use Rattle.peer_run.specs.declared.hall.Parting.{Parting}
 use Rattle.peer_run.specs.declared.hosting.Room.{Room}
 
 -- The hall has this plan, and a cell of this log with one pass more than there are signers. The own pass is the first of these,
@@ -71,20 +71,17 @@ IsAccepted None true = Unit {0}
 IsAccepted (Some fault.Failed) false = Unit {0}
 IsAccepted stopped all_came = ⊥
 
--- the own pass, those that the visits handed on, and those of the guests for whom no link came
-abbrev pub passes_behind : PassValue AuthorisedValue → Hosted Guest Parting → List (PassValue AuthorisedValue)
-passes_behind own hosted = own ∷ (map (λ (parting : Parting). parting.pass) hosted.partings.items ++ map (λ (guest : Guest). guest.pass) hosted.unused.items)
-
--- The cell is closed with all passes: this is its log, and so the visits ended.
-pub record HasLeft (hall : Hall) (own : PassValue AuthorisedValue) (hosted : Hosted Guest Parting) (x : Attended) : Type 0 where
-  pub ends : x.ends.items ≡ map (λ (parting : Parting). parting.end) hosted.partings.items
-  pub accepts : IsAccepted hosted.stopped x.all_came
-  pub closed : IsClosed (passes_behind own hosted) x.state.log
+-- The cell is closed with all passes: this is its log, and so the visits ended, and what followed them.
+pub record HasLeft (hall : Hall) (behind : Behind) (x : Attended) : Type 0 where
+  pub ends : x.ends.items ≡ behind.ends.items
+  pub tails : x.tails.items ≡ behind.tails.items
+  pub accepts : IsAccepted behind.stopped x.all_came
+  pub closed : IsClosed behind.passes.items x.state.log
   pub is_log : IsLog entry_row hall.cell.namespace x.state.log
   pub of_namespace : x.state.namespace ≡ hall.cell.namespace
 
 -- how the hall is left: memory was wanting where accepting a link told so, and nowhere else
-abbrev pub Leaves : Hall → PassValue AuthorisedValue → Hosted Guest Parting → Result Attended Stop → Type 0
-Leaves hall own hosted (Ok x) = HasLeft hall own hosted x
-Leaves hall own hosted (Err stop.NoMemory) = hosted.stopped ≡ Some fault.NoMemory
-Leaves hall own hosted (Err e) = ⊥
+abbrev pub Leaves : Hall → Behind → Result Attended Stop → Type 0
+Leaves hall behind (Ok x) = HasLeft hall behind x
+Leaves hall behind (Err stop.NoMemory) = behind.stopped ≡ Some fault.NoMemory
+Leaves hall behind (Err e) = ⊥

@@ -1,5 +1,5 @@
 -- What comes of it when the rows of two images meet.
-use Rattle.std.specs.Prelude.{◌≡◌, ◌⊎◌, ℕ, ◌+◌, ◌-◌, ◌<◌, ◌^◌, List, ◌++◌, length, map, Option, Some, None, Result, Ok, Err}
+use Rattle.std.specs.Prelude.{◌≡◌, ◌⊎◌, ℕ, ◌+◌, ◌-◌, ◌<◌, ◌^◌, List, ◌++◌, length, map, Option, Some, None, Result, Ok, Err, IfOk}
 use Rattle.std.specs.List.{AllByRecursion}
 use Rattle.spelling.specs.Answers.{or_else}
 use Rattle.cap_codec.specs.Rows.{RawValue, IsRaw}
@@ -9,6 +9,9 @@ use Rattle.willow_area.specs.declared.area.Area.{Area}
 use Rattle.area_interest.specs.declared.interest.Interest.{Interest}
 use Rattle.willow_entry.specs.Row.{RowValue, join}
 use Rattle.peer_image.specs.Image.{image}
+use Rattle.ns_state.specs.Log.{StateValue}
+use Rattle.auth_entry.specs.Authorised.{AuthorisedValue}
+use Rattle.peer_rows.specs.Images.{LogsImage}
 use Rattle.peer_rows.specs.RowLogs.{ArePastLog}
 use Rattle.peer_rows.specs.Logged.{authorised_rows, first_refused}
 use Rattle.peer_stage.specs.declared.outcome.JoinCounts.{JoinCounts}
@@ -29,6 +32,10 @@ use Rattle.peer_run.specs.declared.images_met.Met.{Met}
 pub record IsImageOfRows (rows : List RawValue) : Type 0 where
   pub fit : AllByRecursion IsRaw rows
   pub count : length rows < 2 ^ 32
+
+-- the log of an image's rows is of the image's namespace
+abbrev pub LogsOne : List ℕ → List RawValue → Result (StateValue AuthorisedValue × JoinCounts) Stop → Type 0
+LogsOne n rows result = LogsImage n rows result × IfOk result (λ (x : StateValue AuthorisedValue × JoinCounts). x.0.namespace ≡ n)
 
 -- ---- the numbers
 

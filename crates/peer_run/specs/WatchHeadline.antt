@@ -1,6 +1,6 @@
 -- The headline of `watch`: with status 0 or 1 the name holds the image of what is live of the image's authorised rows followed by
 -- the input's, and each of those who watch heard of just those of its area that are new behind the image's.
-use Rattle.std.specs.Prelude.{◌≡◌, ℕ, ◌≤◌, List, None, IsSome}
+use Rattle.std.specs.Prelude.{◌≡◌, ◌≤◌, None, IsSome}
 use Rattle.std.specs.String.{string_bytes}
 use Rattle.std.specs.declared.string.String.{String}
 use Rattle.std.specs.declared.alloc.Global.{Global}

@@ -8,12 +8,14 @@ ghost use Rattle.sync_hello.specs.Checked.{hello_refusal};
 ghost use Rattle.sync_core.specs.SyncRules.{IsVersion};
 ghost use Rattle.ns_cell.specs.Passes.{IsPassOf};
 ghost use Rattle.sync_link.specs.Plans.{own_hello, planned};
-ghost use Rattle.sync_link.specs.Run.{Runs};
+ghost use Rattle.sync_link.specs.Run.{ActsInTime, Runs};
+ghost use Rattle.sub_hub.specs.Hubs.{HubValue};
 ghost use Rattle.peer_run.specs.Calling.{Connects};
 ghost use Rattle.peer_run.specs.Preparing.{nonce_of};
 ghost use Rattle.peer_run.specs.Visiting.{Attends};
 
-use crate::hosting::{Attended, ends_for};
+use crate::following::{Talked, converse};
+use crate::hosting::{Attended, ends_for, tails_for};
 use crate::judging::RowChecker;
 use crate::preparing::nonce_of;
 use auth_entry::{AuthorisedEntry, NewChecker};
@@ -29,11 +31,12 @@ use sync_link::{SessionEnd, SessionPlan, SessionReport, known_plan, run_session}
 use willow_outside::{Door, Fault, Link};
 use willow_path::NamespaceKey;
 
-/// Connects to the place, runs one session over the link and gives the link back, however the session ended. The rows that
-/// come are stored in the log.
+/// Connects to the place, runs one session over the link, follows the feed behind it where `follows` is set, and gives the link
+/// back, however both ended. The rows that come are stored in the log. Those who watch are told nothing.
 pub(crate) fn call<R: Wait + Threads + Sync, D: Door>(
     rt: &R,
     alloc: Global,
+    follows: bool,
     state: NsState<AuthorisedEntry<PeerScheme>>,
     plan: SessionPlan<PeerScheme>,
     place: &str,
@@ -47,30 +50,36 @@ pub(crate) fn call<R: Wait + Threads + Sync, D: Door>(
     requires sign { All (λ signer. 1 ≤ left_of signer) signers.items }
     requires draws { length draws.now ≡ vec_len signers }
     requires one { vec_len signers ≡ 1 }
-    ensures { Attends (record { awaited = false; place = place.now }) (λ draw. planned peer_rules state.namespace plan (nonce_of draw)) signers.items draws.now state (D.facts door.old) (D.facts door.new) result }
+    ensures { (hub : HubValue) → Attends (record { awaited = false; follows = follows; place = place.now }) plan.ask (λ draw. planned peer_rules state.namespace plan (nonce_of draw)) signers.items draws.now state
+        (D.facts door.old) (D.facts door.new) hub hub result }
 {
     let namespace = state.namespace();
     let (cell, mut passes) = NsCell::new(alloc, state, 1)?;
     let (signer, nonce) = only_of(signers, draws);
     let mut ends = ends_for(alloc, 1)?;
-    let mut link = connect(door, place)?;
-    let end = talk(
+    let mut tails = tails_for(alloc, 1)?;
+    let link = connect(door, place)?;
+    let Talked { link, end, tail } = converse(
         rt,
         alloc,
+        follows,
         namespace,
         &cell,
         &mut passes[0],
         &plan,
         signer,
         nonce,
-        &mut link,
+        link,
     );
     door.give_back(link);
     ends.push_reserved(end);
+    tails.push_reserved(tail);
     Ok(Attended {
         ends,
+        tails,
         all_came: true,
         state: cell.close(rt, passes),
+        left: 0,
     })
 }
 
@@ -88,7 +97,8 @@ fn only_of(signers: Vec<KeySigner>, draws: &[[u8; 32]]) -> (KeySigner, [u8; 16])
     (signer, nonce_of(&draws[0]))
 }
 
-/// Runs one session over the link, in which the rows of a list that come with a piece are judged together.
+/// Runs one session over the link, in which the rows of a list that come with a piece are judged together. It does each thing in
+/// its time; the signer is gone with it.
 pub(crate) fn talk<R: Wait + Threads + Sync, L: Link>(
     rt: &R,
     alloc: Global,
@@ -106,6 +116,8 @@ pub(crate) fn talk<R: Wait + Threads + Sync, L: Link>(
     requires version { IsVersion plan.now.version }
     requires signs { 1 ≤ left_of signer }
     ensures runs { Runs (planned peer_rules cell.now.namespace plan.now nonce) (gives_of signer) pass.old pass.new (L.facts link.old) (L.facts link.new) 0 0 result }
+    ensures in_time { ActsInTime (Unit {0}) (L.most link.old) (planned peer_rules cell.now.namespace plan.now nonce) (gives_of signer)
+        pass.old pass.new (L.facts link.old) (L.facts link.new) 0 0 result }
     ensures pass { IsPassOf cell.now pass.new }
 {
     known_plan(plan, nonce);

@@ -3,13 +3,13 @@
 ghost use Rattle.std.specs.Prelude.{◌≡◌, ◌^◌, ◌<◌, ◌≤◌, IfSome};
 ghost use Rattle.peer_run.specs.ImagesMet.{IsImageOfRows, MeetsImages, first_of_both, meet_counts, side_counts};
 
+use crate::both_logs::log_both;
 use crate::exchanging::{Came, Exchanged, exchange, hash_logs};
-use crate::judging::RowChecker;
 use crate::transcript::transcript_of;
 use area_interest::Interest;
 use mc_cap::RefusedRow;
 use peer_image::{Image, write_store_image};
-use peer_rows::{log_image, log_stop};
+use peer_rows::log_stop;
 use peer_stage::{JoinCounts, MeetCounts, SideCounts, Stop};
 use std::alloc::Global;
 use std::thread::Threads;
@@ -40,8 +40,9 @@ pub(crate) fn meet_images<R: Threads + Sync>(
     ensures { MeetsImages left.namespace left.rows.items right.rows.items area.now limits.now result }
 {
     let namespace = left.namespace;
-    let (mut left_log, left_counts) = log_image::<RowChecker, R>(rt, alloc, left)?;
-    let (mut right_log, right_counts) = log_image::<RowChecker, R>(rt, alloc, right)?;
+    let (mut left_log, mut right_log, left_counts, right_counts) = log_both(
+        rt, alloc, left, right,
+    )?;
     hash_logs(rt, alloc, &left_log, &right_log);
     let exchanged = match exchange(alloc, &mut left_log, &mut right_log, area, limits) {
         Ok(exchanged) => exchanged,

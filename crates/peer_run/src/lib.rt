@@ -2,21 +2,33 @@
 //! answers a status. Its contract says what is read, written and reported at each status, and why it comes.
 #![tactic(auto)]
 
+mod accepting;
+mod behind;
+mod both_logs;
 mod calling;
 mod closing;
 mod drilling;
 mod exchanging;
+mod feeding;
+mod following;
 mod getting;
 mod greeting;
+mod hall;
+mod hearing;
 mod hosting;
 mod images_met;
 mod judging;
+mod log_closing;
+mod log_file;
+mod log_keeping;
+mod log_opening;
 mod meeting;
 mod opening;
 mod preparing;
 mod program;
 mod run;
 mod sessions;
+mod tails;
 mod transcript;
 
 pub use program::run_program;

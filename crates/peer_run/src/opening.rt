@@ -21,7 +21,8 @@ use std::thread::Threads;
 // All opening rows are those of the first pass.
 const OPENING_PASS: u32 = 0;
 
-/// The log of the authorised rows of an image, the number of all its rows, and the first that is not authorised.
+/// The log of the authorised rows of an image, and of a log file where there is one; the number of all these rows; and the first
+/// that is not authorised.
 #[derive(Drop)]
 pub(crate) struct Opening {
     pub(crate) state: NsState<AuthorisedEntry<PeerScheme>>,
@@ -35,7 +36,7 @@ pub(crate) fn open_log<R: Threads + Sync>(
     alloc: Global,
     image: Image,
 ) -> Result<Opening, Stop>
-    requires few { length image.rows.items < 2 ^ 32 }
+    requires few { length image.rows.items < 2 ^ 64 }
     ensures { OpensLog image.namespace image.rows.items result }
 {
     let Image { namespace, rows } = image;
@@ -61,7 +62,7 @@ impl Opening {
         &mut self,
         judged: Result<AuthorisedEntry<PeerScheme>, RowRefusal>,
     ) -> Result<(), End<LogFull>>
-        requires few { self.old.rows < 2 ^ 32 }
+        requires few { self.old.rows + 1 < 2 ^ 64 }
         requires judged { (row : RawValue) × (judged ≡ verdict peer_rules self.old.state.namespace row) }
         ensures { (namespace : List ℕ) (seen : List RawValue) (row : RawValue) → judged ≡ verdict peer_rules namespace row
             → IsOpened namespace seen self.old → TakesRow namespace seen row self.new result }
@@ -77,7 +78,7 @@ impl Opening {
 
     // Counts a row that is not authorised.
     fn leave_out(&mut self, refusal: RowRefusal)
-        requires { self.old.rows < 2 ^ 32 }
+        requires { self.old.rows + 1 < 2 ^ 64 }
         ensures { self.new ≡ with_refused refusal self.old }
     {
         self.rows += 1;
@@ -91,7 +92,7 @@ impl Opening {
 
     // Offers an authorised row to the log.
     fn keep(&mut self, entry: AuthorisedEntry<PeerScheme>) -> Result<(), End<LogFull>>
-        requires few { self.old.rows < 2 ^ 32 }
+        requires few { self.old.rows + 1 < 2 ^ 64 }
         requires namespace { entry.namespace ≡ self.old.state.namespace }
         requires authorised { row_refusal peer_rules entry.namespace entry.row ≡ None }
         ensures { (seen : List RawValue) → IsOpened entry.namespace seen self.old → TakesRow entry.namespace seen entry.row self.new result }

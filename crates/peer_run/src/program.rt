@@ -4,7 +4,6 @@ ghost use Rattle.std.specs.Prelude.{◌≡◌, drop};
 ghost use Rattle.std.specs.Process.{exit_status};
 ghost use Rattle.peer_words.specs.Words.{texts};
 ghost use Rattle.sub_hub.specs.Seen.{hub_seen};
-ghost use Rattle.willow_outside.specs.Facts.{BayFacts};
 ghost use Rattle.peer_run.specs.Promises.{KeepsPromises};
 
 use crate::run::peer_run;
@@ -13,7 +12,7 @@ use std::process::ExitCode;
 use std::sync::Wait;
 use std::thread::Threads;
 use sub_hub::Hub;
-use willow_outside::{Door, Noise, Shelf, Sink, Source};
+use willow_outside::{Bay, Door, Noise, Shelf, Sink, Source};
 
 // The words behind the first, which is the program's name.
 fn behind_name(all: &[String]) -> &[String]
@@ -35,6 +34,7 @@ pub fn run_program<
     E: Sink,
     D: Door,
     N: Noise,
+    B: Bay,
 >(
     rt: &R,
     alloc: Global,
@@ -45,9 +45,10 @@ pub fn run_program<
     report: &mut E,
     door: &mut D,
     noise: &mut N,
+    bay: &mut B,
     hub: &mut Hub,
 ) -> ExitCode
-    ensures promises { (bay : BayFacts) → KeepsPromises (record {
+    ensures promises { KeepsPromises (record {
       words = texts (drop 1 all.now);
       old = record {
         shelf = H.facts shelf.old;
@@ -57,7 +58,7 @@ pub fn run_program<
         door = D.facts door.old;
         noise = N.facts noise.old;
         hub = hub_seen (λ w. told (w.vtable, w.value)) hub.old;
-        bay = bay;
+        bay = B.facts bay.old;
       };
       new = record {
         shelf = H.facts shelf.new;
@@ -67,14 +68,14 @@ pub fn run_program<
         door = D.facts door.new;
         noise = N.facts noise.new;
         hub = hub_seen (λ w. told (w.vtable, w.value)) hub.new;
-        bay = bay;
+        bay = B.facts bay.new;
       };
       status = exit_status result;
     }) }
 {
     let words = behind_name(all);
     let status = peer_run(
-        rt, alloc, words, shelf, input, output, report, door, noise, hub,
+        rt, alloc, words, shelf, input, output, report, door, noise, bay, hub,
     );
     ExitCode::from(status)
 }

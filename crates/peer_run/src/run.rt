@@ -1,9 +1,8 @@
 //! The one call that `main` makes.
 
-ghost use Rattle.std.specs.Prelude.{◌≡◌, ℕ, List, ◌≤◌, ◌↔◌, ◌||◌, IsTrue, is_some};
+ghost use Rattle.std.specs.Prelude.{◌≡◌, ℕ, List, ◌≤◌, ◌↔◌, IsTrue};
 ghost use Rattle.peer_run.specs.Locals.{IsLocal, IsMaker, IsServer};
 ghost use Rattle.sub_hub.specs.Seen.{hub_seen};
-ghost use Rattle.willow_outside.specs.Facts.{BayFacts};
 ghost use Rattle.peer_stage.specs.World.{World};
 ghost use Rattle.peer_words.specs.Words.{texts};
 ghost use Rattle.peer_words.specs.Commands.{IsWords};
@@ -27,7 +26,7 @@ use std::alloc::Global;
 use std::sync::Wait;
 use std::thread::Threads;
 use sub_hub::Hub;
-use willow_outside::{Door, Noise, Shelf, Sink, Source};
+use willow_outside::{Bay, Door, Noise, Shelf, Sink, Source};
 
 /// Runs a command that calls nobody over the objects that it calls.
 fn run_command<R: Threads + Sync, H: Shelf, I: Source, O: Sink, N: Noise>(
@@ -134,13 +133,6 @@ fn is_local(command: &Command) -> bool
     !matches!(command, Command::Sync { .. } | Command::Serve { .. })
 }
 
-/// Whether a server is to do what is not built yet: to follow behind its sessions, or to keep a log.
-fn is_more_than_service(follow: bool, log: &Option<String>) -> bool
-    ensures { result ≡ (follow || is_some log.now) }
-{
-    follow || log.is_some()
-}
-
 /// A link to the place is called for.
 fn calling_words(
     image: String,
@@ -149,8 +141,9 @@ fn calling_words(
     to: String,
     area: AreaWords,
     limits: Interest,
+    follow: bool,
 ) -> HostWords
-    ensures { result ≡ calling_words image cap key to area limits }
+    ensures { result ≡ calling_words image cap key to area limits follow }
 {
     HostWords {
         awaited: false,
@@ -161,10 +154,12 @@ fn calling_words(
         links: 1,
         area,
         limits,
+        follow,
+        log: None,
     }
 }
 
-/// So many links are waited for at the place.
+/// So many links are waited for at the place, with a log file where one is named.
 fn serving_words(
     image: String,
     cap: String,
@@ -173,8 +168,10 @@ fn serving_words(
     links: u32,
     area: AreaWords,
     limits: Interest,
+    follow: bool,
+    log: Option<String>,
 ) -> HostWords
-    ensures { result ≡ serving_words image cap key at links area limits }
+    ensures { result ≡ serving_words image cap key at links area limits follow log }
 {
     HostWords {
         awaited: true,
@@ -185,23 +182,27 @@ fn serving_words(
         links,
         area,
         limits,
+        follow,
+        log,
     }
 }
 
 /// Runs a command that talks to others over links.
-fn run_afar<R: Wait + Threads + Sync, H: Shelf, D: Door, N: Noise>(
+fn run_afar<R: Wait + Threads + Sync, H: Shelf, D: Door, N: Noise, B: Bay>(
     rt: &R,
     alloc: Global,
     command: Command,
     shelf: &mut H,
     door: &mut D,
     noise: &mut N,
+    bay: &mut B,
+    hub: &mut Hub,
 ) -> Result<Done, Stop>
     requires words { (words : List (List ℕ)) × IsWords words command }
     requires afar { IsLocal command → ⊥ }
     ensures { (others : World) → (deed_of command).meets
-        (record others { shelf = H.facts shelf.old; door = D.facts door.old; noise = N.facts noise.old })
-        (record others { shelf = H.facts shelf.new; door = D.facts door.new; noise = N.facts noise.new }) result }
+        (record others { shelf = H.facts shelf.old; door = D.facts door.old; noise = N.facts noise.old; bay = B.facts bay.old; hub = hub_seen (λ w. told (w.vtable, w.value)) hub.old })
+        (record others { shelf = H.facts shelf.new; door = D.facts door.new; noise = N.facts noise.new; bay = B.facts bay.new; hub = hub_seen (λ w. told (w.vtable, w.value)) hub.new }) result }
 {
     match command {
         Command::Sync {
@@ -214,31 +215,30 @@ fn run_afar<R: Wait + Threads + Sync, H: Shelf, D: Door, N: Noise>(
             bytes,
             follow,
         } => {
-            if follow {
-                return Err(Stop::Usage);
-            }
             let limits = Interest { newest, bytes };
-            let words = calling_words(image, cap, key, to, area, limits);
-            host(rt, alloc, words, shelf, door, noise)
+            let words = calling_words(image, cap, key, to, area, limits, follow);
+            host(rt, alloc, words, shelf, door, noise, bay, hub)
         }
-        server => run_server(rt, alloc, server, shelf, door, noise),
+        server => run_server(rt, alloc, server, shelf, door, noise, bay, hub),
     }
 }
 
 /// Runs a command that waits for those who come.
-fn run_server<R: Wait + Threads + Sync, H: Shelf, D: Door, N: Noise>(
+fn run_server<R: Wait + Threads + Sync, H: Shelf, D: Door, N: Noise, B: Bay>(
     rt: &R,
     alloc: Global,
     command: Command,
     shelf: &mut H,
     door: &mut D,
     noise: &mut N,
+    bay: &mut B,
+    hub: &mut Hub,
 ) -> Result<Done, Stop>
     requires words { (words : List (List ℕ)) × IsWords words command }
     requires server { IsServer command }
     ensures { (others : World) → (deed_of command).meets
-        (record others { shelf = H.facts shelf.old; door = D.facts door.old; noise = N.facts noise.old })
-        (record others { shelf = H.facts shelf.new; door = D.facts door.new; noise = N.facts noise.new }) result }
+        (record others { shelf = H.facts shelf.old; door = D.facts door.old; noise = N.facts noise.old; bay = B.facts bay.old; hub = hub_seen (λ w. told (w.vtable, w.value)) hub.old })
+        (record others { shelf = H.facts shelf.new; door = D.facts door.new; noise = N.facts noise.new; bay = B.facts bay.new; hub = hub_seen (λ w. told (w.vtable, w.value)) hub.new }) result }
 {
     match command {
         Command::Serve {
@@ -253,12 +253,9 @@ fn run_server<R: Wait + Threads + Sync, H: Shelf, D: Door, N: Noise>(
             follow,
             log,
         } => {
-            if is_more_than_service(follow, &log) {
-                return Err(Stop::Usage);
-            }
             let limits = Interest { newest, bytes };
-            let words = serving_words(image, cap, key, at, links, area, limits);
-            host(rt, alloc, words, shelf, door, noise)
+            let words = serving_words(image, cap, key, at, links, area, limits, follow, log);
+            host(rt, alloc, words, shelf, door, noise, bay, hub)
         }
         _ => unreachable!(),
     }
@@ -296,13 +293,26 @@ pub fn run_local<R: Threads + Sync, H: Shelf, I: Source, O: Sink, E: Sink, N: No
 /// a session is refused, before it begins or in it; 7 for want of memory; 8 where a row met a full log; 9 for a key
 /// file without an index left. The report gets the lines of that end. What a command does not call stays as it was.
 ///
-/// Those who watch in the hub are told by `watch` alone: it begins the hub at the log of the image, with the area of the words,
-/// and its front is the length of the log behind a run with 0 or 1. By any other command the hub stays as it was.
+/// Those who watch in the hub are told by `watch` and by `serve`: each begins the hub at the log of the image, with the area of
+/// its words (a server once it listens, with the area that it asks for), and tells of the rows that come into the log behind it.
+/// The hub's front is the length of the log behind a `watch` with 0 or 1, and a `serve` that put an image. By any other command
+/// the hub stays as it was.
 ///
-/// No command has a bay yet: whichever there is, it is the same behind the run.
+/// A `serve` with a log file opens its name at the bay, and gives the disk back however it ends. It keeps each row that comes into its
+/// log, behind those that the file held, and these stand behind the image's in the log with which it begins. By any other command
+/// the bay stays as it was.
 ///
 /// In `sync` it waits for the one that it calls, and in `serve` for those who come. Of every other command it answers what `run_local` answers.
-pub fn peer_run<R: Wait + Threads + Sync, H: Shelf, I: Source, O: Sink, E: Sink, D: Door, N: Noise>(
+pub fn peer_run<
+    R: Wait + Threads + Sync,
+    H: Shelf,
+    I: Source,
+    O: Sink,
+    E: Sink,
+    D: Door,
+    N: Noise,
+    B: Bay,
+>(
     rt: &R,
     alloc: Global,
     words: &[String],
@@ -312,9 +322,10 @@ pub fn peer_run<R: Wait + Threads + Sync, H: Shelf, I: Source, O: Sink, E: Sink,
     report: &mut E,
     door: &mut D,
     noise: &mut N,
+    bay: &mut B,
     hub: &mut Hub,
 ) -> u8
-    ensures promises { (bay : BayFacts) → KeepsPromises (record {
+    ensures promises { KeepsPromises (record {
       words = texts words.now;
       old = record {
         shelf = H.facts shelf.old;
@@ -324,7 +335,7 @@ pub fn peer_run<R: Wait + Threads + Sync, H: Shelf, I: Source, O: Sink, E: Sink,
         door = D.facts door.old;
         noise = N.facts noise.old;
         hub = hub_seen (λ w. told (w.vtable, w.value)) hub.old;
-        bay = bay;
+        bay = B.facts bay.old;
       };
       new = record {
         shelf = H.facts shelf.new;
@@ -334,7 +345,7 @@ pub fn peer_run<R: Wait + Threads + Sync, H: Shelf, I: Source, O: Sink, E: Sink,
         door = D.facts door.new;
         noise = N.facts noise.new;
         hub = hub_seen (λ w. told (w.vtable, w.value)) hub.new;
-        bay = bay;
+        bay = B.facts bay.new;
       };
       status = result;
     }) }
@@ -344,7 +355,7 @@ pub fn peer_run<R: Wait + Threads + Sync, H: Shelf, I: Source, O: Sink, E: Sink,
             if is_local(&command) {
                 run_local(rt, alloc, command, shelf, input, output, report, noise, hub)
             } else {
-                let end = run_afar(rt, alloc, command, shelf, door, noise);
+                let end = run_afar(rt, alloc, command, shelf, door, noise, bay, hub);
                 end_run(alloc, &end, report)
             }
         }

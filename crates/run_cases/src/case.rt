@@ -9,7 +9,7 @@ use sha2::{Digest, Sha256};
 use std::alloc::Global;
 use std::sync::Wait;
 use std::thread::Threads;
-use willow_outside::{MemLink, MemShelf};
+use willow_outside::{MemDisk, MemLink, MemShelf};
 
 /// What stands before the digest and the length of an output that is told by them.
 const DIGEST_MARK: &str = "sha256:";
@@ -23,6 +23,8 @@ struct Expected<'a> {
     names: &'a str,
     /// What each link that came back holds behind the run; None where the door leads to none.
     held: Option<&'a str>,
+    /// What each disk holds that came back; None where there is no log file.
+    disks: Option<&'a str>,
 }
 
 /// Whether the bytes are those of the field, or have the digest and the length that it tells.
@@ -100,6 +102,9 @@ fn told<R: Wait + Threads + Sync>(
     if !holds_traffic(alloc, objects.door.back(), expected.held)? {
         return Ok(Some("link"));
     }
+    if !holds_disks(alloc, objects.bay.back(), expected.disks)? {
+        return Ok(Some("log file"));
+    }
     Ok(None)
 }
 
@@ -126,6 +131,21 @@ fn holds_traffic(
     Ok(items.next().is_none())
 }
 
+/// Whether the bay has back just as many disks as the field has items, and each holds the bytes of its item, in order.
+fn holds_disks(alloc: Global, back: &[MemDisk], disks: Option<&str>) -> Result<bool, FromHexError> {
+    let mut items = disks
+        .unwrap_or("")
+        .split(',')
+        .filter(|item| !item.is_empty() && *item != "-");
+    for disk in back {
+        match items.next() {
+            Some(bytes) if disk.contents() == bytes_of(alloc, bytes)?.as_slice() => {}
+            _ => return Ok(false),
+        }
+    }
+    Ok(items.next().is_none())
+}
+
 /// The first part of a line's run that is not as expected, also where the line is no case.
 fn differs_in<R: Wait + Threads + Sync>(
     rt: &R,
@@ -145,10 +165,16 @@ fn differs_in<R: Wait + Threads + Sync>(
         status: fields.next().unwrap_or(""),
         names: fields.next().unwrap_or(""),
         held: None,
+        disks: None,
     };
     let links = all_made(rt, alloc, fields.next())?;
     let expected = Expected {
         held: fields.next(),
+        ..expected
+    };
+    let files = fields.next().unwrap_or("");
+    let expected = Expected {
+        disks: fields.next(),
         ..expected
     };
     let piece = if expected.output.starts_with(DIGEST_MARK)
@@ -158,7 +184,7 @@ fn differs_in<R: Wait + Threads + Sync>(
     } else {
         PIECE
     };
-    let mut objects = Objects::new(alloc, names, draws, input, faults, links, piece)?;
+    let mut objects = Objects::new(alloc, names, draws, input, faults, links, files, piece)?;
     told(rt, alloc, &words, &mut objects, &expected)
 }
 

@@ -21,7 +21,7 @@ fn put_output<R: Wait + Threads + Sync>(
     bytes: &mut Vec<u8>,
 ) -> Result<(), FromHexError> {
     let none = Vec::new(alloc);
-    let mut objects = Objects::new(alloc, "-", "-", input, "-", none, LARGE_PIECE)?;
+    let mut objects = Objects::new(alloc, "-", "-", input, "-", none, "-", LARGE_PIECE)?;
     let _status = run(rt, alloc, words, &mut objects);
     bytes.extend_from_slice(objects.output.held())?;
     Ok(())

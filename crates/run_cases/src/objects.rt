@@ -7,7 +7,9 @@ ghost use Rattle.willow_outside.specs.Links.{IsFresh};
 use crate::fields::{draws_of, fails_of, link_fails_of, names_of};
 use hex::FromHexError;
 use std::alloc::{AllocError, Global};
-use willow_outside::{Link, MemDoor, MemLink, MemNoise, MemShelf, MemSink, MemSource, Shelf};
+use willow_outside::{
+    Link, MemBay, MemDoor, MemLink, MemNoise, MemShelf, MemSink, MemSource, Shelf,
+};
 
 /// The most bytes that a call of the input, the output or a link moves.
 pub(crate) const PIECE: usize = 100;
@@ -24,6 +26,7 @@ pub struct Objects {
     pub report: MemSink,
     pub noise: MemNoise,
     pub door: MemDoor<MemLink>,
+    pub bay: MemBay,
 }
 
 fn output_of(alloc: Global, faults: &str, piece: usize) -> Result<MemSink, FromHexError>
@@ -97,9 +100,16 @@ fn links_of(
     Ok(links)
 }
 
+// A bay whose names hold this, to disks that fail alike.
+fn bay_of(alloc: Global, files: &str, faults: &str) -> Result<MemBay, FromHexError> {
+    let names = names_of(alloc, files)?;
+    let fails = fails_of(alloc, faults, 'b')?;
+    Ok(MemBay::new(alloc, names, fails, fails_of(alloc, faults, 'k')?))
+}
+
 impl Objects {
-    /// The objects that the fields say, with that input and links that give these bytes; a call of the input, the output or
-    /// a link moves at most so large a piece.
+    /// The objects that the fields say, with that input, links that give these bytes, and log files that hold these; a call of the
+    /// input, the output or a link moves at most so large a piece.
     pub(crate) fn new(
         alloc: Global,
         names: &str,
@@ -107,6 +117,7 @@ impl Objects {
         input: Vec<u8>,
         faults: &str,
         links: Vec<Vec<u8>>,
+        files: &str,
         piece: usize,
     ) -> Result<Objects, FromHexError>
         requires { 1 ≤ piece }
@@ -116,6 +127,7 @@ impl Objects {
         let input = input_of(alloc, input, faults, piece)?;
         let output = output_of(alloc, faults, piece)?;
         let door = door_of(alloc, links, faults, piece)?;
+        let bay = bay_of(alloc, files, faults)?;
         let report = report_of(alloc, faults)?;
         Ok(Objects {
             shelf,
@@ -124,6 +136,7 @@ impl Objects {
             report,
             noise,
             door,
+            bay,
         })
     }
 }

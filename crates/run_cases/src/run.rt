@@ -6,11 +6,20 @@ use std::alloc::Global;
 use std::sync::Wait;
 use std::thread::Threads;
 use sub_hub::Hub;
-use willow_outside::{Door, Noise, Shelf, Sink, Source};
+use willow_outside::{Bay, Door, Noise, Shelf, Sink, Source};
 
 /// The status of a run. It has no clause, and knows nothing of the objects: so what a run promises is not looked through again
 /// for the objects in memory, which takes a check of this program many times as long.
-fn status_of<R: Wait + Threads + Sync, H: Shelf, I: Source, O: Sink, E: Sink, D: Door, N: Noise>(
+fn status_of<
+    R: Wait + Threads + Sync,
+    H: Shelf,
+    I: Source,
+    O: Sink,
+    E: Sink,
+    D: Door,
+    N: Noise,
+    B: Bay,
+>(
     rt: &R,
     alloc: Global,
     words: &[String],
@@ -20,11 +29,12 @@ fn status_of<R: Wait + Threads + Sync, H: Shelf, I: Source, O: Sink, E: Sink, D:
     report: &mut E,
     door: &mut D,
     noise: &mut N,
+    bay: &mut B,
 ) -> u8 {
     // nobody watches
     let mut hub = Hub::new(alloc);
     peer_run(
-        rt, alloc, words, shelf, input, output, report, door, noise, &mut hub,
+        rt, alloc, words, shelf, input, output, report, door, noise, bay, &mut hub,
     )
 }
 
@@ -45,5 +55,6 @@ pub(crate) fn run<R: Wait + Threads + Sync>(
         &mut objects.report,
         &mut objects.door,
         &mut objects.noise,
+        &mut objects.bay,
     )
 }

@@ -5,7 +5,7 @@
 mod printing;
 
 use crate::printing::Printer;
-use peer_real::{FileShelf, RandomNoise, StdReport, StdSink, StdSource, TcpDoor};
+use peer_real::{FileBay, FileShelf, RandomNoise, StdReport, StdSink, StdSource, TcpDoor};
 use peer_run::run_program;
 use std::alloc::AllocError;
 use std::env;
@@ -48,6 +48,7 @@ fn run_here<R: Wait + Threads + Sync>(waits: &R, rt: &HostRuntime, all: &[String
         &mut StdReport::new(rt.stderr()),
         &mut TcpDoor::new(rt),
         &mut RandomNoise::new(rt),
+        &mut FileBay::new(rt),
         &mut hub,
     )
 }

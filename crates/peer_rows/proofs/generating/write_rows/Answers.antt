@@ -1,10 +1,11 @@
-use Rattle.std.proofs.Common.{◌+◌, ◌*◌, ◌≤◌, [], length, refl, ap, ◌∙◌, arith}
+use Rattle.std.proofs.Common.{ℕ, ◌+◌, ◌*◌, ◌≤◌, [], refl, sym, ap, subst, arith}
 use Rattle.std.proofs.lemmas.Result.{err_from_is_err_and}
 use Rattle.peer_listing.specs.Ranges.{frames_between}
 use Rattle.peer_rows.specs.Generate.{generated_frames}
-use Rattle.peer_rows.specs.declared.generating.TheConstants.{SHARE, SHARES}
+use Rattle.peer_rows.specs.declared.shares.TheConstants.{SHARE, SHARES}
 use Rattle.peer_rows.proofs.Generated.{all_left, some_left}
-use Rattle.peer_rows.proofs.Shares.{next_share, last_piece}
+use Rattle.peer_rows.specs.Shares.{AreShares}
+use Rattle.peer_rows.proofs.InShares.{shares_left, frame_shares, next_share, last_piece}
 use Rattle.peer_rows.proofs.Writing.{nothing_written, piece_written, writing_unpaid, writing_stops, writing_ends}
 use Rattle.peer_rows.proofs.generating.write_rows.Goals as goal
 
@@ -14,9 +15,6 @@ rounds-init g c =
       within = omega arith;
       writing = nothing_written (g.O.Sink.facts c.args.output.now) (generated_frames c.args.rows) [] (frames_between 0 c.args.rows) (all_left c.args.rows);
     }
-
-pub write_shares-requires-clause-count : goal.write_shares-requires-clause-count
-write_shares-requires-clause-count g c = ap length c.deref.ensures.value ∙ c.in_ok-shares.ensures.count
 
 pub returns-in_err-shares-clause-writes : goal.returns-in_err-shares-clause-writes
 returns-in_err-shares-clause-writes g c =
@@ -33,8 +31,10 @@ returns-in_err-write_shares-clause-writes g c =
     let next = made + SHARES * SHARE in
     let more : next ≤ c.args.rows = omega (arith, c.is_worth_threads.ensures c.rounds-test.true, c.rounds.invariant.within) in
     let held = next_share o now (generated_frames c.args.rows) made next c.args.rows (omega arith) more c.rounds.invariant.writing in
-    rw (p.1, p.2) (writing_stops o now (generated_frames c.args.rows) (frames_between made next) (g.O.Sink.facts c.write_shares.new.output) (frames_between made next) (frames_between next c.args.rows)
-    c.in_err-write_shares.field-0.0 held refl c.in_err-write_shares.ensures.writes)
+    let given = shares_left made in
+    let are = subst (AreShares given) (sym c.deref.ensures.value) (frame_shares made c.in_ok-shares.shares.items c.in_ok-shares.ensures.shares c.in_ok-shares.ensures.count) in
+    rw (p.1, p.2) (writing_stops o now (generated_frames c.args.rows) (frames_between made next) (g.O.Sink.facts c.write_shares.new.output) (given 0) (frames_between next c.args.rows)
+    c.in_err-write_shares.field-0.0 held (ap (λ (i : ℕ). frames_between i next) (omega arith)) (c.in_err-write_shares.ensures.writes given are))
 
 pub rounds-preserved : goal.rounds-preserved
 rounds-preserved g c =
@@ -44,11 +44,13 @@ rounds-preserved g c =
     let next = made + SHARES * SHARE in
     let more : next ≤ c.args.rows = omega (arith, c.is_worth_threads.ensures c.rounds-test.true, c.rounds.invariant.within) in
     let held = next_share o now (generated_frames c.args.rows) made next c.args.rows (omega arith) more c.rounds.invariant.writing in
+    let given = shares_left made in
+    let are = subst (AreShares given) (sym c.deref.ensures.value) (frame_shares made c.in_ok-shares.shares.items c.in_ok-shares.ensures.shares c.in_ok-shares.ensures.count) in
     record {
       within = more;
       writing =
-          piece_written o now (generated_frames c.args.rows) (frames_between made next) (g.O.Sink.facts c.write_shares.new.output) (frames_between made next) [] (frames_between next c.args.rows) held refl
-          c.in_ok-write_shares.ensures.writes c.in_ok-write_shares.ensures.faults refl;
+          piece_written o now (generated_frames c.args.rows) (frames_between made next) (g.O.Sink.facts c.write_shares.new.output) (given 0) [] (frames_between next c.args.rows) held (ap (λ (i : ℕ). frames_between i next) (omega arith))
+          (c.in_ok-write_shares.ensures.writes given are) c.in_ok-write_shares.ensures.faults refl;
     }
 
 pub returns-clause-writes : goal.returns-clause-writes

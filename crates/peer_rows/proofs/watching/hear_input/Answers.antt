@@ -17,7 +17,7 @@ pieces-init g c = record {
 pub next-requires-clause-namespace : goal.next-requires-clause-namespace
 next-requires-clause-namespace g c κs within =
     let opened = c.requires.opened in
-    c.pieces.invariant.checks ∙ sym (c.pieces.invariant.read opened.0 opened.1).seen.taken_in.is_log.of_namespace
+    c.pieces.invariant.checks ∙ sym (c.pieces.invariant.read opened.0 opened.1).taken_in.is_log.of_namespace
 
 pub next-requires-clause-read : goal.next-requires-clause-read
 next-requires-clause-read g c κs within =
@@ -70,8 +70,8 @@ pieces-preserved g c =
       checks = c.in_ok-came.ensures.namespace ∙ so_far.checks;
       heard =
           heard_on c.args.intake.now.log c.pieces.intake.log h now c.pieces.left (kept_many c.args.intake.now.log c.args.hub.now.front c.requires.front) so_far.heard c.next.new.intake.log next c.tell-left.result c.in_ok-came.ensures.longer c.tell-left.ensures.told;
-      no_fault = on.no_fault;
-      not_ended = on.not_ended;
+      no_fault = on.come.no_fault;
+      not_ended = on.come.not_ended;
     }
 
 pub returns-then-not-came-clause-hears : goal.returns-then-not-came-clause-hears

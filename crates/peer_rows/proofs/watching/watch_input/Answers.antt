@@ -24,6 +24,14 @@ returns-in_err-reading-clause-watches g c = λ had whole few.
     let p = err_from_is_err_and c.from_residual-in_err-reading.result c.from_residual-in_err-reading.ensures.1 in
     rw (p.1, p.2) (watched_none opening had whole i i h begun c.args.area begun (begun_is opening had whole h begun c.args.area c.front.result c.begin.ensures c.front.ensures.front) opening refl refl refl)
 
+pub hear_input-requires-clause-opened : goal.hear_input-requires-clause-opened
+hear_input-requires-clause-opened g c κs within =
+    let had = c.requires.0 in
+    let i = g.I.Source.facts c.args.input.now in
+    let reading = c.in_ok-reading in
+    let intake = c.behind-intake in
+    (had, opens_reading c.args.opening had c.requires.1 i reading.reading intake.result c.requires.2 reading.ensures.stream reading.ensures.room reading.ensures.all intake.ensures.log intake.ensures.none_wait)
+
 pub returns-in_err-left-clause-watches : goal.returns-in_err-left-clause-watches
 returns-in_err-left-clause-watches g c = λ had whole few.
     let opening = c.args.opening in

@@ -4,7 +4,7 @@ use Rattle.auth_entry.specs.Authorised.{AuthorisedValue}
 use Rattle.ns_cell.specs.Passes.{PassValue}
 use Rattle.log_rule.proofs.Prefixes.{empty_from_length}
 use Rattle.peer_run.specs.Preparing.{nonce_of}
-use Rattle.peer_run.specs.declared.hosting.Guest.{Guest}
+use Rattle.peer_run.specs.declared.hall.Guest.{Guest}
 use Rattle.peer_run.proofs.Guests.{passes_of, signers_of, nonces_of}
 use Rattle.peer_run.proofs.Paired.{HasPaired, paired_start, paired_count, paired_left, paired_on, paired_end}
 use Rattle.peer_run.proofs.hosting.guests_of.Goals as goal

@@ -1,4 +1,4 @@
 use Rattle.peer_run.proofs.program.run_program.Goals as goal
 
 pub returns : goal.returns
-returns g c = record { promises = λ bay. rw (← c.behind_name-words.ensures, c.from.ensures) (c.peer_run-status.ensures.promises bay) }
+returns g c = record { promises = rw (← c.behind_name-words.ensures, c.from.ensures) c.peer_run-status.ensures.promises }

@@ -1,5 +1,4 @@
 use Rattle.std.proofs.Common.{inl, inr, refl}
-use Rattle.willow_outside.specs.Facts.{BayFacts}
 use Rattle.sub_hub.specs.Seen.{hub_seen}
 use Rattle.peer_stage.specs.World.{World}
 use Rattle.peer_words.specs.Words.{texts}
@@ -8,7 +7,7 @@ use Rattle.peer_run.proofs.run.peer_run.Goals as goal
 
 pub returns-then-is_local : goal.returns-then-is_local
 returns-then-is_local g c = record {
-  promises = λ bay.
+  promises =
       let others : World = record {
         shelf = g.H.Shelf.facts c.args.shelf.now;
         input = g.I.Source.facts c.args.input.now;
@@ -17,14 +16,14 @@ returns-then-is_local g c = record {
         door = g.D.Door.facts c.args.door.now;
         noise = g.N.Noise.facts c.args.noise.now;
         hub = hub_seen (λ w. (goal.Watcher-dyn g (w.vtable, w.value)).told w.value) c.args.hub.now;
-        bay = bay;
+        bay = g.B.Bay.facts c.args.bay.now;
       } in
       c.run_local.ensures.promises (texts c.args.words.now) others c.in-Ok.ensures.reads;
 }
 
 pub returns-else-is_local : goal.returns-else-is_local
 returns-else-is_local g c = record {
-  promises = λ bay.
+  promises =
       let others : World = record {
         shelf = g.H.Shelf.facts c.args.shelf.now;
         input = g.I.Source.facts c.args.input.now;
@@ -33,7 +32,7 @@ returns-else-is_local g c = record {
         door = g.D.Door.facts c.args.door.now;
         noise = g.N.Noise.facts c.args.noise.now;
         hub = hub_seen (λ w. (goal.Watcher-dyn g (w.vtable, w.value)).told w.value) c.args.hub.now;
-        bay = bay;
+        bay = g.B.Bay.facts c.args.bay.now;
       } in
       keeps _ (inl (record {
         command = c.in-Ok.command;
@@ -46,12 +45,12 @@ returns-else-is_local g c = record {
 
 pub returns-in-Err-Refused : goal.returns-in-Err-Refused
 returns-in-Err-Refused g c = record {
-  promises = λ bay.
+  promises =
       keeps _ (inr (inl (record { no_command = rw c.in-Err-Refused.field-0-is at c.in-Err-Refused.ensures.reads; same = refl; reports = c.end_run-in-Err-Refused.ensures.reports }))) c.end_run-in-Err-Refused.ensures.faults;
 }
 
 pub returns-in-Err-NoMemory : goal.returns-in-Err-NoMemory
 returns-in-Err-NoMemory g c = record {
-  promises = λ bay.
+  promises =
       keeps _ (inr (inr (record { asked = c.in-Err-NoMemory.ensures.asked cc; same = refl; reports = c.end_run-in-Err-NoMemory.ensures.reports }))) c.end_run-in-Err-NoMemory.ensures.faults;
 }

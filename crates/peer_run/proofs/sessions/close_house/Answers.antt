@@ -1,10 +1,9 @@
 use Rattle.std.proofs.Common.{◌∙◌, List, None, map, refl, ap, rules}
 use Rattle.std.specs.String.{string_bytes}
-use Rattle.spelling.specs.Answers.{or_else}
 use Rattle.sync_link.specs.Run.{Answer}
 use Rattle.peer_stage.proofs.Faults.{stands_at}
 use Rattle.peer_run.specs.Closing.{image_of, put_answer}
-use Rattle.peer_run.specs.Telling.{AreNotForWant, first_of_links, told_of}
+use Rattle.peer_run.specs.Telling.{AreNotForWant, AreTailsNotForWant, first_with_tails, told_of, told_tail}
 use Rattle.peer_run.proofs.HostSteps.{closes_so, puts_same}
 use Rattle.peer_run.proofs.sessions.close_house.Goals as goal
 
@@ -16,16 +15,17 @@ returns g c =
     let h1 = g.H.Shelf.facts c.put_image.new.shelf in
     let put = c.in_ok-put.put in
     let none : AreNotForWant x.ends.items = search rules in
-    let puts = puts_same c.as_str.result.now c.deref-4.result.now name (image_of x.state) h h1 (put_answer put) c.as_str.ensures.value (c.deref-4.ensures.value ∙ c.in_ok-image.ensures) c.in_ok-put.ensures.puts in
-    λ others. closes_so name c.args.awaited c.args.rows c.args.first x (record { awaited = c.args.awaited; sessions = c.in_ok-sessions.sessions; tails = c.new-tails.result; all_came = x.all_came; first = c.first_of_all-first.result; left = 0; kept = None; put = put })
-    (record others { shelf = h }) (record others { shelf = h1 }) none
+    let no_tail : AreTailsNotForWant x.tails.items = search rules in
+    let puts = puts_same c.as_str.result.now c.deref-7.result.now name (image_of x.state) h h1 (put_answer put) c.as_str.ensures.value (c.deref-7.ensures.value ∙ c.in_ok-image.ensures) c.in_ok-put.ensures.puts in
+    λ others. closes_so name c.args.awaited c.args.rows c.args.first x (record { awaited = c.args.awaited; sessions = c.in_ok-sessions.sessions; tails = c.in_ok-tails.tails; all_came = x.all_came; first = c.first_with_tails-first.result; left = x.left; kept = None; put = put })
+    (record others { shelf = h }) (record others { shelf = h1 }) none no_tail
     (record {
       awaited_is = refl;
-      sessions = c.in_ok-sessions.ensures ∙ ap (map told_of) c.deref-3.ensures.value;
-      none_followed = search rules;
+      sessions = c.in_ok-sessions.ensures ∙ ap (map told_of) c.deref-5.ensures.value;
+      tails = c.in_ok-tails.ensures ∙ ap (map told_tail) c.deref-6.ensures.value;
       accepted_is = refl;
-      first_is = c.first_of_all-first.ensures ∙ ap (λ (answers : List Answer). or_else c.args.first (first_of_links c.args.rows answers)) c.deref-2.ensures.value;
-      nobody_left = refl;
+      first_is = c.first_with_tails-first.ensures ∙ ap (λ (answers : List Answer). first_with_tails c.args.rows c.args.first answers c.deref-4.result.now) c.deref-3.ensures.value ∙ ap (first_with_tails c.args.rows c.args.first x.ends.items) c.deref-4.ensures.value;
+      left_is = refl;
       no_log = refl;
       put_is = refl;
     })

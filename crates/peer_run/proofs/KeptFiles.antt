@@ -1,0 +1,157 @@
+-- How a log file goes on, slice by slice.
+use Rattle.std.proofs.Common.{◌≡◌, ◌∙◌, ◌⊎◌, ℕ, ◌+◌, ◌*◌, ◌^◌, ◌≤◌, Bool, true, false, List, [], ◌++◌, length, Option, Some, None, inl, inr, refl, sym, ap, subst, arith, append_assoc, append-nil, length-append}
+use Rattle.std.specs.Prelude.{IfSome}
+use mathlib.Core.List.{IsPrefix}
+use Rattle.willow_outside.specs.Counts.{Rose}
+use Rattle.willow_entry.specs.Row.{RowValue}
+use Rattle.ns_state.specs.declared.live_log.TheConstants.{LOG_LIMIT}
+use Rattle.peer_run.specs.LogFiles.{FileState, GoesOn, GoesOnIf, HasFailed, HasKept, HasRoom, HoldsFile, IsAtIf, Keeps, KeepsOn, KeepsOnIf, LeavesRoom}
+
+pub not_both : (b : Bool) → b ≡ true → b ≡ false → ⊥
+not_both true is other = absurd cc
+not_both false is other = absurd cc
+
+-- ---- counts
+
+pub goes_self : (f : FileState) → GoesOn f f
+goes_self f = record { kept = omega arith; reads = refl; writes = omega arith }
+
+pub goes_further : (a b c : FileState) → GoesOn a b → GoesOn b c → GoesOn a c
+goes_further a b c one two = record { kept = omega (arith, one.kept, two.kept); reads = two.reads ∙ one.reads; writes = omega (arith, one.writes, two.writes) }
+
+pub keeps_goes : (rows : List RowValue) (a b : FileState) → Keeps rows a b → GoesOn a b
+keeps_goes rows a b (inl k) = record { kept = omega (arith, k.counted); reads = k.faults.reads; writes = omega (arith, k.faults.writes) }
+keeps_goes rows a b (inr k) = record { kept = omega (arith, k.counted); reads = k.reads; writes = k.never_falls }
+
+pub goes_on : (rows : List RowValue) (a b : FileState) → KeepsOn rows a b → GoesOn a b
+goes_on rows a b on = keeps_goes rows a b on.kept
+
+-- ---- no rows
+
+none_kept : (f : FileState) (broken : Bool) → f.broken ≡ broken → (broken ≡ false → f.kept ≡ f.count) → Keeps [] f f
+none_kept f false is known = inl (record {
+  began = is;
+  unbroken = is;
+  holds = λ n before holds. subst (λ (rows : List RowValue). HoldsFile n rows f) (sym (append-nil before)) holds;
+  counted = omega arith;
+  known = known refl;
+  end = omega arith;
+  faults = record { reads = refl; writes = refl };
+  told = refl;
+})
+none_kept f true is known = inr (record {
+  broken = is;
+  first = [];
+  front = ([], refl);
+  counted = omega arith;
+  reads = refl;
+  never_falls = omega arith;
+  rose = λ unbroken. absurd (not_both f.broken is unbroken);
+  stays = λ broken. refl;
+})
+
+pub keeps_none : (front : ℕ) (f : FileState) → LeavesRoom front f → KeepsOn [] f f
+keeps_none front f room = record { front = omega arith; kept = none_kept f f.broken refl (λ is. (room is).1) }
+
+-- ---- one behind the other
+
+rose_further : (a b c : ℕ) → Rose a b → b ≤ c → Rose a c
+rose_further a b c rose up = omega (arith, rose, up)
+
+module _ (rows more : List RowValue) (a b c : FileState) where
+  kept_both : HasKept rows a b → HasKept more b c → HasKept (rows ++ more) a c
+  kept_both one two = record {
+    began = one.began;
+    unbroken = two.unbroken;
+    holds = λ n before holds. subst (λ (all : List RowValue). HoldsFile n all c) (append_assoc before rows more) (two.holds n (before ++ rows) (one.holds n before holds));
+    counted = omega (arith, one.counted, two.counted, length-append rows more);
+    known = two.known;
+    end = omega (arith, one.end, two.end, length-append rows more);
+    faults = record { reads = two.faults.reads ∙ one.faults.reads; writes = two.faults.writes ∙ one.faults.writes };
+    told = two.told ∙ one.told;
+  }
+
+  failed_behind : HasKept rows a b → HasFailed more b c → HasFailed (rows ++ more) a c
+  failed_behind one two = record {
+    broken = two.broken;
+    first = rows ++ two.first;
+    front = (two.front.0, append_assoc rows two.first two.front.0 ∙ ap (λ (l : List RowValue). rows ++ l) two.front.1);
+    counted = omega (arith, one.counted, two.counted, length-append rows two.first);
+    reads = two.reads ∙ one.faults.reads;
+    never_falls = omega (arith, two.never_falls, one.faults.writes);
+    rose = λ unbroken. subst (λ (n : ℕ). Rose n c.disk.write_faults) one.faults.writes (two.rose one.unbroken);
+    stays = λ broken. absurd (not_both a.broken broken one.began);
+  }
+
+  failed_before : HasFailed rows a b → HasFailed more b c → HasFailed (rows ++ more) a c
+  failed_before one two = record {
+    broken = two.broken;
+    first = one.first;
+    front = (one.front.0 ++ more, sym (append_assoc one.first one.front.0 more) ∙ ap (λ (l : List RowValue). l ++ more) one.front.1);
+    counted = omega (arith, one.counted, two.counted, ap length (two.stays one.broken));
+    reads = two.reads ∙ one.reads;
+    never_falls = omega (arith, one.never_falls, two.never_falls);
+    rose = λ unbroken. rose_further a.disk.write_faults b.disk.write_faults c.disk.write_faults (one.rose unbroken) two.never_falls;
+    stays = one.stays;
+  }
+
+  pub both : Keeps rows a b → Keeps more b c → Keeps (rows ++ more) a c
+  both (inl one) (inl two) = inl (kept_both one two)
+  both (inl one) (inr two) = inr (failed_behind one two)
+  both (inr one) (inl two) = absurd (not_both b.broken one.broken two.began)
+  both (inr one) (inr two) = inr (failed_before one two)
+
+  pub keeps_both : KeepsOn rows a b → KeepsOn more b c → KeepsOn (rows ++ more) a c
+  keeps_both one two = record { front = omega (arith, one.front, two.front, length-append rows more); kept = both one.kept two.kept }
+
+-- ---- where there is a file
+
+pub goes_if_self : (f : Option FileState) → GoesOnIf f f
+goes_if_self None = tt
+goes_if_self (Some f) = goes_self f
+
+pub goes_if_further : (a b c : Option FileState) → GoesOnIf a b → GoesOnIf b c → GoesOnIf a c
+goes_if_further None None None one two = tt
+goes_if_further (Some a) (Some b) (Some c) one two = goes_further a b c one two
+goes_if_further (Some a) (Some b) None one two = absurd two
+goes_if_further (Some a) None c one two = absurd one
+goes_if_further None (Some b) c one two = absurd one
+goes_if_further None None (Some c) one two = absurd two
+
+pub keeps_if_goes : (rows : List RowValue) (a b : Option FileState) → KeepsOnIf rows a b → GoesOnIf a b
+keeps_if_goes rows None None on = tt
+keeps_if_goes rows (Some a) (Some b) on = goes_on rows a b on
+keeps_if_goes rows (Some a) None on = absurd on
+keeps_if_goes rows None (Some b) on = absurd on
+
+pub keeps_if_none : (k : ℕ) (f : Option FileState) → IsAtIf k f → KeepsOnIf [] f f
+keeps_if_none k None at = tt
+keeps_if_none k (Some f) at = keeps_none k f at.room
+
+pub keeps_if_both : (rows more : List RowValue) (a b c : Option FileState) → KeepsOnIf rows a b → KeepsOnIf more b c → KeepsOnIf (rows ++ more) a c
+keeps_if_both rows more None None None one two = tt
+keeps_if_both rows more (Some a) (Some b) (Some c) one two = keeps_both rows more a b c one two
+keeps_if_both rows more (Some a) (Some b) None one two = absurd two
+keeps_if_both rows more (Some a) None c one two = absurd one
+keeps_if_both rows more None (Some b) c one two = absurd one
+keeps_if_both rows more None None (Some c) one two = absurd two
+
+-- ---- up to which row
+
+room_further : (k : ℕ) (rows : List RowValue) (a b : FileState) → LeavesRoom k a → Keeps rows a b → LeavesRoom (k + length rows) b
+room_further k rows a b room (inl kept) unbroken = (omega (arith, kept.end, (room kept.began).0), kept.known)
+room_further k rows a b room (inr kept) unbroken = absurd (not_both b.broken kept.broken unbroken)
+
+-- the same, told by its own front
+pub room_on : (rows : List RowValue) (a b : FileState) → LeavesRoom a.front a → KeepsOn rows a b → LeavesRoom b.front b
+room_on rows a b room on = subst (λ (k : ℕ). LeavesRoom k b) (sym on.front) (room_further a.front rows a b room on.kept)
+
+pub at_further : (k : ℕ) (rows : List RowValue) (a b : Option FileState) → IsAtIf k a → KeepsOnIf rows a b → IsAtIf (k + length rows) b
+at_further k rows None None at on = tt
+at_further k rows (Some a) (Some b) at on = record { at = omega (arith, on.front, at.at); room = room_further k rows a b at.room on.kept }
+at_further k rows (Some a) None at on = absurd on
+at_further k rows None (Some b) at on = absurd on
+
+pub room_of : (k count : ℕ) (f : Option FileState) → IsAtIf k f → k + count ≤ LOG_LIMIT → IfSome f (HasRoom count)
+room_of k count None at few = tt
+room_of k count (Some f) at few = record { few = omega (arith, at.at, few); room = subst (λ (front : ℕ). LeavesRoom front f) (sym at.at) at.room }

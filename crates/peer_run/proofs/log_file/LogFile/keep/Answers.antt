@@ -1,0 +1,10 @@
+use Rattle.peer_run.specs.LogFiles.{file_state}
+use Rattle.peer_run.proofs.KeptSlices.{cut, front_more}
+use Rattle.peer_run.proofs.log_file.LogFile.keep.Goals as goal
+
+pub loop-left-preserved : goal.loop-left-preserved
+loop-left-preserved g c =
+    let slice = c.split_at.result.0.now in
+    let others = c.split_at.result.1.now in
+    front_more c.args.rows.now c.loop-left.left.now slice others (file_state g.K.Disk.facts c.args.self.now) (file_state g.K.Disk.facts c.loop-left.self) (file_state g.K.Disk.facts c.keep_slice.new.self) c.loop-left.invariant
+    (cut _ c.loop-left.left.now slice others c.split_at.ensures.front c.split_at.ensures.back) c.in_ok-keep_slice.ensures.kept

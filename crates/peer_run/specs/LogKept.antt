@@ -1,0 +1,45 @@
+-- What a server's log file holds behind a run that tells of sessions.
+use Rattle.std.specs.Prelude.{◌≡◌, ◌⊎◌, ℕ, ◌+◌, Bool, true, false, ◌&&◌, not, List, ◌++◌, length, Some, None, IfSome}
+use Rattle.std.specs.String.{string_bytes}
+use Rattle.std.specs.declared.option.Option.{Option}
+use Rattle.std.specs.declared.string.String.{String}
+use Rattle.std.specs.declared.alloc.Global.{Global}
+use mathlib.Core.List.{IsPrefix}
+use Rattle.willow_outside.specs.Bays.{bytes_under}
+use Rattle.willow_outside.specs.Counts.{Rose}
+use Rattle.willow_outside.specs.Facts.{BayFacts, DiskFacts}
+use Rattle.willow_outside.specs.Links.{list_with}
+use Rattle.willow_entry.specs.Row.{RowValue}
+use Rattle.cap_codec.specs.Rows.{IsRawRow}
+use Rattle.log_keeper.specs.LogFile.{HoldsRows}
+use Rattle.peer_stage.specs.declared.outcome.Hosted.{Hosted}
+use Rattle.peer_run.specs.LogOpening.{HeldRows, IsBack, TellsRows}
+
+-- The disk's bytes hold the rows that were there before, and behind them these. So many rows it holds.
+pub record HoldsOldAndNew (namespace : List ℕ) (before : List RowValue) (rows : List RowValue) (disk : DiskFacts) (kept : ℕ) : Type 0 where
+  pub after : List ℕ
+  pub told : disk.contents ≡ Some after
+  pub holds : HoldsRows IsRawRow namespace after (before ++ rows)
+  pub counted : kept ≡ length (before ++ rows)
+
+-- The name was opened at the bay, once, and its disk is back. It held these rows before; behind the run it holds these and then those
+-- that came into the log, unless a write of it failed: then it was told of the first of those alone.
+pub record HasKeptLog (name namespace : List ℕ) (rows : List RowValue) (old new : BayFacts) (hosted reported : Hosted) : Type 0 where
+  pub disk : DiskFacts
+  pub back : IsBack name old new disk
+  pub before : List RowValue
+  pub held : TellsRows name namespace old before
+  pub failed : Bool
+  pub kept : ℕ
+  pub reads : disk.read_faults ≡ 0
+  pub unfailed : failed ≡ false → (disk.write_faults ≡ 0) × (kept ≡ length (before ++ rows))
+  pub holds : failed ≡ false → IfSome old.names (λ names. HoldsOldAndNew namespace before rows disk kept)
+  pub rose : failed ≡ true → Rose 0 disk.write_faults
+  pub first : failed ≡ true → (first : List RowValue) × IsPrefix first rows × (kept ≡ length (before ++ first))
+  -- so many rows it keeps, and a write that failed is told as a failed put
+  pub tells : reported ≡ record hosted { kept = Some kept; put = hosted.put && not failed }
+
+-- without a log file the bay is as it was, and nothing more is told
+abbrev pub KeepsLog : Option (String Global) → List ℕ → List RowValue → BayFacts → BayFacts → Hosted → Hosted → Type 0
+KeepsLog None namespace rows old new hosted reported = (new ≡ old) × (reported ≡ hosted)
+KeepsLog (Some name) namespace rows old new hosted reported = HasKeptLog (string_bytes name) namespace rows old new hosted reported
