@@ -14,7 +14,7 @@ from meet_cases import FORTY, ONE_LATER, R
 from outside import Objects, one_by_one
 from serve_cases import DRAWS, GREETED, HELLO, calls
 from situations import BY_U, U, image_of, old_image_of, row, words_of
-from sync_cases import OTHER_NONCE
+from sync_cases import OTHER_NONCE, live_of
 
 CALLER_DRAW = OTHER_NONCE + bytes(16)
 PLACE = "127.0.0.1:1"  # whichever it is, it is not told
@@ -149,6 +149,34 @@ def tcp_lines(server: Came) -> str:
     ))
 
 
+# Over links between three threads: who calls stays, and is fed what another brought since its own session began
+
+ONE_NEW, OTHER_NEW = live_of([*FORTY, NEW]), live_of([*FORTY, LATER])
+
+# The sessions run one before the other, or both at once. What each reads rests on that, and what comes of it all does not.
+MET = {(0, 0, 1, 1): (FORTY, ONE_NEW), (1, 1, 0, 0): (OTHER_NEW, FORTY), (0, 1, 0, 1): (FORTY, FORTY)}
+
+
+def who_follow(order: tuple, met: tuple) -> tuple:
+    """The server, and the two who call it: the log of the server stands so as the session of each begins."""
+    said = calls(met[0], ONE_NEW, 1), calls(met[1], OTHER_NEW, 2)
+    server = run_over(words_of("serve", **OPTIONS, at=PLACE, links=2, follow="yes"), FORTY, DRAWS[:2], said, lambda _: order, 40)
+    callers = [run_over(words_of("sync", **OPTIONS, to=PLACE, follow="yes"), rows, (CALLER_DRAW,), (answers,))
+               for rows, answers in zip((ONE_NEW, OTHER_NEW), server.held)]
+    assert tuple(held for caller in callers for held in caller.held) == said
+    return tuple(replace(came, report="", held=()) for came in (server, *callers))
+
+
+def follow_lines() -> str:
+    came = {who_follow(order, met) for order, met in MET.items()}
+    assert len(came) == 1, "what comes rests on the order of the sessions"
+    (server, one, other), = came
+    assert {each.image for each in (server, one, other)} == {joined(FORTY, [NEW, LATER])}
+    assert server.status == one.status == other.status == 0
+    return "".join(f"where both stay, {title}: status {each.status}, image {measure(each.image)}\n{heard}" for title, each, heard in (
+        ("the server", server, "heard 2 rows from 40 on\n"), ("the first", one, one.heard()), ("the second", other, other.heard())))
+
+
 def files() -> dict:
     """The program's input and output, by name. Of its images two are of version 1."""
     gates, server = gated(), tcp_server()
@@ -156,8 +184,9 @@ def files() -> dict:
         "cap": R.spelled(), "server-draws": b"".join(DRAWS[:8]), "caller-draw": CALLER_DRAW,
         "forty": old_image_of(*FORTY), "later": image_of(*ONE_LATER),
         "early-peer": EARLY_PEER, "late-peer": LATE_PEER, "late-answers": gates.held[1],
+        "one-new": image_of(*ONE_NEW), "other-new": image_of(*OTHER_NEW),
         "front": image_of(*FRONT), "middle": old_image_of(*MIDDLE), "back": image_of(*BACK),
         "noise": NOISE, "other-noise": OTHER_NOISE, "cut": CUT, "cut-behind": CUT_BEHIND, "greeting": server.held[5],
     }
     lines = "".join(f"{name} {data.hex()}\n" for name, data in given.items())
-    return {"stdin": lines.encode(), "stdout": (pair_lines() + gate_lines(gates) + tcp_lines(server)).encode()}
+    return {"stdin": lines.encode(), "stdout": (pair_lines() + gate_lines(gates) + follow_lines() + tcp_lines(server)).encode()}

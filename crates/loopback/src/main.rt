@@ -6,6 +6,7 @@
 //! `peer_run`.
 #![tactic(auto)]
 
+mod follows;
 mod gates;
 mod given;
 mod hearing;
@@ -30,5 +31,6 @@ fn main(rt: HostRuntime) -> io::Result<()> {
     let far = MemDoor::new(alloc, vec![in alloc; far]?, vec![in alloc]?);
     print!(rt; "{}", pairs::pair_lines(&rt, alloc, &given, near, far)?)?;
     print!(rt; "{}", gates::gate_lines(&rt, alloc, &given)?)?;
+    print!(rt; "{}", follows::follow_lines(&rt, alloc, &given)?)?;
     print!(rt; "{}", places::place_lines(&rt, &rt, &given)?)
 }

@@ -32,6 +32,21 @@ pub(crate) fn serve_words<'a>(place: &'a str, links: &'a str) -> [&'a str; 11] {
     ]
 }
 
+/// The words of a call of the one at the place that follows behind its session.
+pub(crate) fn following_words<'a>(place: &'a str) -> [&'a str; 11] {
+    [
+        "sync", "--image", "i", "--cap", "c", "--key", SIGNER, "--to", place, "--follow", "yes",
+    ]
+}
+
+/// The words of a server for so many links that feeds those who stay.
+pub(crate) fn feeding_words<'a>(place: &'a str, links: &'a str) -> [&'a str; 13] {
+    [
+        "serve", "--image", "i", "--cap", "c", "--key", SIGNER, "--at", place, "--links", links,
+        "--follow", "yes",
+    ]
+}
+
 /// What a run is over besides the door: the names that its image and its draws of noise have in what is given.
 #[derive(Clone, Copy)]
 pub(crate) struct Side<'a> {
@@ -104,8 +119,8 @@ impl Outcome {
         Ok(lines)
     }
 
-    // The status, the image that is there behind the run, and what one who watches heard, below a title.
-    fn head(&self, alloc: Global, title: &str) -> Result<String, AllocError> {
+    /// The status, the image that is there behind the run, and what one who watches heard, below a title.
+    pub(crate) fn head(&self, alloc: Global, title: &str) -> Result<String, AllocError> {
         let image = match &self.image {
             Some(image) => image.as_slice(),
             None => &[],

@@ -1,10 +1,11 @@
 -- Rows in order are all new: none is covered by those before it.
-use Rattle.std.proofs.Common.{◌≡◌, ◌||◌, Bool, true, false, cond, ℕ, List, [], ◌∷◌, ◌++◌, refl, sym, ap, ◌∙◌, ◌⊎◌, inl, inr, Option, Some, None, Less, append-nil}
+use Rattle.std.proofs.Common.{◌≡◌, ◌||◌, Bool, true, false, cond, ℕ, All, List, [], ◌∷◌, ◌++◌, refl, sym, ap, ◌∙◌, ◌⊎◌, inl, inr, Option, Some, None, Less, append-nil, subst}
 use Rattle.std.specs.declared.string.String.{String}
 use Rattle.std.specs.declared.alloc.Global.{Global}
 use Rattle.std.specs.List.{list_any, AllByRecursion, Contains}
 use Rattle.std.specs.List.Sorted.{IsStrictlySortedBy}
 use Rattle.std.proofs.lemmas.Bool.{false_from_ne_true}
+use Rattle.std.proofs.lemmas.List.Elements.{All-nil}
 use Rattle.std.proofs.lemmas.List.Folds.{list_any-append}
 use Rattle.willow_entry.specs.Pruning.{new_after}
 use Rattle.willow_entry.specs.Row.{RowValue, is_covering, inner_place_cmp, new, Dominates}
@@ -12,7 +13,7 @@ use Rattle.willow_entry.proofs.Members.{Member, contains_from_member}
 use Rattle.willow_entry.proofs.Ranks.{inner_place_total}
 use Rattle.willow_entry.proofs.Rising.{all_from_members, not_below_itself}
 use Rattle.willow_entry.proofs.RowLaws.{covering_means}
-use Rattle.cap_codec.specs.Rows.{RawValue}
+use Rattle.cap_codec.specs.Rows.{IsRaw, RawValue}
 use Rattle.peer_image.specs.ImageReading.{raw_rows}
 use Rattle.peer_image.specs.Order.{IsInOrder, order_refusal}
 use Rattle.peer_image.proofs.InOrder.{order_decides, order_of_live}
@@ -90,6 +91,13 @@ filed_is None None n bay bay' filed by = by.0
 filed_is None (Some f) n bay bay' filed by = absurd by
 filed_is (Some name) None n bay bay' filed by = absurd by
 filed_is (Some name) (Some f) n bay bay' filed by = by.held
+
+-- those of the file are read out
+pub filed_raw : (log : Option (String Global)) (file : Option FileState) (n : List ℕ) (bay bay' : BayFacts) (filed : List RawValue) → FiledBy log file n bay bay' filed → All IsRaw filed
+filed_raw None None n bay bay' filed by = subst (λ (rows : List RawValue). All IsRaw rows) (sym by.0) (All-nil IsRaw)
+filed_raw None (Some f) n bay bay' filed by = absurd by
+filed_raw (Some name) None n bay bay' filed by = absurd by
+filed_raw (Some name) (Some f) n bay bay' filed by = by.read_out
 
 pub opening_is : (log : Option (String Global)) (file : Option FileState) (n : List ℕ) (rows : List RawValue) (bay bay' : BayFacts) (filed : List RawValue) (x : Opening) → order_refusal (raw_rows rows) ≡ None → FiledBy log file n bay bay' filed
     → IsOpened n (rows ++ filed) x → log_rows x.state.log ≡ opening_rows log n rows filed

@@ -1,5 +1,5 @@
 -- Feeds behind the sessions of a cell are all of the log with which that is closed.
-use Rattle.std.proofs.Common.{◌≡◌, ◌⊎◌, inl, inr, ℕ, Bool, ◌∙◌, List, Contains, get_or, sym, subst, arith}
+use Rattle.std.proofs.Common.{◌≡◌, ◌⊎◌, inl, inr, ℕ, Bool, ◌∙◌, List, Contains, sym, subst, arith}
 use mathlib.Core.List.{IsPrefix}
 use Rattle.willow_outside.specs.Facts.{LinkFacts}
 use Rattle.willow_entry.specs.declared.row.LogRow.{LogRow}

@@ -1,7 +1,6 @@
 -- Links that one pass feeds in order.
-use Rattle.std.proofs.Common.{◌≡◌, ℕ, Bool, ◌+◌, ◌<◌, ◌≤◌, List, ◌∷◌, [], ◌++◌, length, get_or, set, map, sym, ap, ◌∙◌, subst, arith}
+use Rattle.std.proofs.Common.{◌≡◌, ℕ, Bool, ◌+◌, ◌<◌, List, ◌∷◌, [], ◌++◌, length, get_or, set, sym, ap, ◌∙◌, subst, arith}
 use Rattle.std.specs.Prelude.{Ok, Err}
-use mathlib.Core.List.{IsPrefix}
 use Rattle.log_rule.proofs.Prefixes.{prefix_length, prefix_whole}
 use Rattle.willow_outside.specs.Facts.{LinkFacts}
 use Rattle.willow_entry.specs.declared.row.LogRow.{LogRow}

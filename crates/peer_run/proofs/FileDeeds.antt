@@ -1,13 +1,9 @@
 -- What a server owes for the step that opens its log file, and the steps round it.
-use Rattle.std.proofs.Common.{◌≡◌, ◌≢◌, ◌≤◌, ◌⊎◌, ◌∙◌, ℕ, List, [], ◌∷◌, ◌++◌, Option, Some, None, inl, inr, refl, sym, ap, subst, arith}
+use Rattle.std.proofs.Common.{◌≡◌, ◌≤◌, ◌⊎◌, ℕ, List, [], ◌∷◌, ◌++◌, Option, Some, None, inl, inr, refl, sym, ap, subst, arith}
 use Rattle.std.specs.Prelude.{Result, Ok, Err}
-use Rattle.std.specs.Global.{Vec}
-use Rattle.std.specs.String.{string_bytes}
 use Rattle.std.specs.declared.string.String.{String}
 use Rattle.std.specs.declared.alloc.Global.{Global}
-use Rattle.willow_outside.specs.Counts.{Rose}
-use Rattle.willow_outside.specs.Facts.{BayFacts, DiskFacts}
-use Rattle.cap_codec.specs.Rows.{RawValue}
+use Rattle.willow_outside.specs.Facts.{BayFacts}
 use Rattle.peer_words.specs.declared.command.AreaWords.{AreaWords}
 use Rattle.peer_stage.specs.World.{World, NeverFall, Unfailed}
 use Rattle.peer_stage.specs.Status.{status_of}
@@ -120,7 +116,7 @@ bay_unfailed P old new end none s = bay_stood old new (stood _ _ end none s.faul
 -- a disk that is back, of which a count rose
 opening_reads : (name : String Global) (n : List ℕ) (old new : World) → StopsOpening name n old.bay new.bay stop.ReadFault → BayReads old new
 opening_reads name n old new (inl s) = inl s.1
-opening_reads name n old new (inr s) = inr (record { disks = s.0 ∷ []; back = ap (λ (b : BayFacts). b.back) s.1; disk = s.0; among = (0, omega arith, refl); rose = s.2 })
+opening_reads name n old new (inr s) = inr (record { disks = s.0 ∷ []; back = ap (λ (b : BayFacts). b.back) s.1.back; disk = s.0; among = (0, omega arith, refl); rose = s.2 })
 
 opening_writes : (name : String Global) (n : List ℕ) (old new : World) → StopsOpening name n old.bay new.bay stop.WriteFault → BayWrites old new
 opening_writes name n old new s = record { disks = s.0 ∷ []; back = ap (λ (b : BayFacts). b.back) s.1; disk = s.0; among = (0, omega arith, refl); rose = s.2 }

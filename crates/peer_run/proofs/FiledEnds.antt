@@ -1,11 +1,11 @@
 -- What the end of a run with a log file says of what it came to.
-use Rattle.std.proofs.Common.{◌≡◌, ◌≢◌, ◌⊎◌, ◌∙◌, ℕ, ◌≤◌, Bool, true, false, ◌&&◌, not, eqb, List, [], ◌∷◌, ◌++◌, map, Contains, Option, inl, inr, refl, sym, ap, subst, arith, eqb-true, eq-eqb}
+use Rattle.std.proofs.Common.{◌≡◌, ◌≢◌, ◌⊎◌, ◌∙◌, ℕ, ◌≤◌, Bool, true, false, ◌&&◌, not, eqb, List, [], ◌∷◌, ◌++◌, map, Contains, inl, inr, refl, sym, ap, subst, arith, eqb-true, eq-eqb}
 use Rattle.std.specs.Prelude.{Result, Ok, Err}
 use Rattle.std.proofs.lemmas.List.Elements.{Contains-append_cases, Contains-append_left, Contains-append_right}
-use Rattle.call_rules.specs.Told.{IsUnmet, first_met, told_order}
+use Rattle.call_rules.specs.Told.{first_met, told_order}
 use Rattle.call_rules.proofs.Elements.{one_of_three}
 use Rattle.call_rules.proofs.Told.{four_told, seven_told, three_told, told_met}
-use Rattle.peer_stage.specs.Status.{accept_status, first_status, put_status, session_status, status_of, statuses_met, tail_status}
+use Rattle.peer_stage.specs.Status.{accept_status, first_status, put_status, session_status, status_of, tail_status}
 use Rattle.peer_stage.specs.declared.outcome.Done.{Done}
 use Rattle.peer_stage.specs.declared.outcome.Done.TheVariants as done
 use Rattle.peer_stage.specs.declared.outcome.Hosted.{Hosted}

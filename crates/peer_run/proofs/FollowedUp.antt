@@ -1,5 +1,5 @@
 -- What followed a session on its link: the pass is the same later, and no count fell.
-use Rattle.std.proofs.Common.{◌≡◌, ◌∙◌, ◌≤◌, ℕ, Bool, true, false, List, Option, Some, None, sym, subst, arith}
+use Rattle.std.proofs.Common.{◌≡◌, ◌≤◌, ℕ, Bool, true, false, List, Option, Some, None, sym, subst, arith}
 use Rattle.std.specs.Prelude.{Result, Ok, Err}
 use Rattle.scheme_core.specs.Rules.{Rules}
 use Rattle.willow_outside.specs.Facts.{LinkFacts}

@@ -32,7 +32,7 @@ use Rattle.peer_run.specs.Visiting.{Visit, AreAttended}
 use Rattle.peer_run.specs.declared.sessions.House as house
 use Rattle.peer_run.specs.declared.sessions.HostWords.{HostWords}
 use Rattle.peer_run.specs.declared.tails.Tail.{Tail}
-use Rattle.peer_run.proofs.AllNew.{filed_is, opening_is}
+use Rattle.peer_run.proofs.AllNew.{filed_is, filed_raw, opening_is}
 use Rattle.peer_run.proofs.HostBegun.{HasHouse, plan_asks}
 
 -- those that it had by what is given, each of which ended so
@@ -107,6 +107,7 @@ module _ (words : HostWords) (file : Option FileState) (old new : World) (s : ho
           log = t.state.log;
           opens = record {
             filed = opened.front.filed;
+            read_out = filed_raw words.log file n old.bay opened.prepared.bay opened.front.filed opened.front.is_filed;
             are_filed = filed_is words.log file n old.bay opened.prepared.bay opened.front.filed opened.front.is_filed;
             are_rows = opening_is words.log file n opened.front.given.rows.items old.bay opened.prepared.bay opened.front.filed s.opening opened.front.has_image.is_image.in_order opened.front.is_filed opened.front.opened;
           };

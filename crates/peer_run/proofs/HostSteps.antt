@@ -1,6 +1,6 @@
 -- The steps of `sync` and of `serve` put together from the stages of the code.
 use Rattle.std.proofs.Common.{◌≡◌, ℕ, Bool, List, Option, Some, None, inl, inr, refl, subst}
-use Rattle.std.specs.Prelude.{Result, Ok, Err, IfSome}
+use Rattle.std.specs.Prelude.{Result, Ok, Err, IfOk, IfSome}
 use Rattle.std.specs.Global.{Vec}
 use Rattle.std.specs.String.{string_bytes}
 use Rattle.willow_outside.specs.Facts.{BayFacts, ShelfFacts, DoorFacts, NoiseFacts}
@@ -19,15 +19,15 @@ use Rattle.peer_stage.specs.declared.outcome.Stop.TheVariants as stop
 use Rattle.peer_stage.proofs.Steps.{passes, noise_on}
 use Rattle.peer_run.specs.Closing.{image_of, put_answer}
 use Rattle.peer_run.specs.Hosting.{HasAttended, HostsFile, HostsLinks, HostsWith, OpensHouse, PutsImage, Tells, plans_of, own_role, way_of, with_put}
-use Rattle.peer_run.specs.LogFiles.{FileState, StopsFile}
+use Rattle.peer_run.specs.LogFiles.{FileState, GoesOnIf, KeepsRest, KeepsSeenIf, StopsFile}
 use Rattle.peer_run.specs.LogOpening.{IsFileOpened}
 use Rattle.peer_run.specs.Telling.{AreNotForWant, AreTailsNotForWant, TellsHosted, TellsJust, Told, none_told, told_behind}
 use Rattle.peer_run.specs.Visiting.{Attends}
 use Rattle.peer_run.specs.declared.hosting.Attended.{Attended}
 use Rattle.peer_run.specs.declared.sessions.House as house
 use Rattle.peer_run.specs.declared.sessions.HostWords.{HostWords}
-use Rattle.peer_run.proofs.HeardBehind.{Log}
-use Rattle.peer_run.proofs.KeptPumps.{KeepsAll, all_goes}
+use Rattle.peer_run.proofs.KeptFiles.{goes_if_further}
+use Rattle.peer_run.proofs.KeptPumps.{KeepsAll, keeps_all, seen_goes}
 
 -- the put of the bytes of a name, told of the same bytes and the same name
 pub puts_same : (name bytes is_name are_bytes : List ℕ) (h h' : ShelfFacts) (end : Result (Unit {0}) Stop) → name ≡ is_name → bytes ≡ are_bytes → PutsBytes name bytes h h' end → PutsBytes is_name are_bytes h h' end
@@ -64,9 +64,9 @@ filed_done words None (Some f') old new d hosts is_opened kept = absurd kept
 filed_done words (Some f) None old new d hosts is_opened kept = absurd kept
 
 -- where the image was not put for want of memory
-put_goes : (opening log : Log) (name : List ℕ) (told : Told) (w w' : World) (f f' : Option FileState) (e : Stop) → PutsImage name w told w' (Err e) → KeepsAll opening log f f' → StopsFile e f f'
-put_goes opening log name told w w' f f' stop.NoMemory puts kept = all_goes opening log f f' kept
-put_goes opening log name told w w' f f' e puts kept = absurd puts
+put_goes : (name : List ℕ) (told : Told) (w w' : World) (f f' : Option FileState) (e : Stop) → PutsImage name w told w' (Err e) → GoesOnIf f f' → StopsFile e f f'
+put_goes name told w w' f f' stop.NoMemory puts goes = goes
+put_goes name told w w' f f' e puts goes = absurd puts
 
 module _ (words : HostWords) (file : Option FileState) (others : World) (h h1 : ShelfFacts) (b b1 : BayFacts) (n n1 : NoiseFacts) (d : DoorFacts) (u : HubValue) where
   -- the objects before, and behind the reservation, the draws and the sessions
@@ -115,13 +115,6 @@ module _ (words : HostWords) (file : Option FileState) (others : World) (h h1 : 
       tells d1 u1 x new (Err e) does rest =
           inr (record { between = attended d1 u1; so_far = told_behind s.opening.rows s.opening.first x; given = has_attended d1 u1 x does; rest = rest })
 
-      -- no memory was found behind the sessions, and no image was put
-      pub keeping_stops : (d1 : DoorFacts) (u1 : HubValue) (x : Attended) → AttendsWith s draws.items d1 u1 (Ok x) → HostsWith words file before (attended d1 u1) (Err stop.NoMemory)
-      keeping_stops d1 u1 x does =
-          passes Opens _ before opened (attended d1 u1) s (Err stop.NoMemory) opens
-          (noise_on (DrawsAll words.links) _ opened n n1 (attended d1 u1) draws (Err stop.NoMemory) draw stood
-          (inr (record { between = attended d1 u1; so_far = told_behind s.opening.rows s.opening.first x; given = has_attended d1 u1 x does; rest = record { does = refl; read_faults = refl; write_faults = refl; others = refl } })))
-
       pub all_steps : (d1 : DoorFacts) (u1 : HubValue) (x : Attended) (new : World) (end : Result Done Stop) → AttendsWith s draws.items d1 u1 (Ok x)
           → Tells (PutsImage (string_bytes words.image)) (told_behind s.opening.rows s.opening.first x) (TellsHosted words.awaited) (attended d1 u1) new end → HostsWith words file before new end
       all_steps d1 u1 x new end does rest =
@@ -129,10 +122,11 @@ module _ (words : HostWords) (file : Option FileState) (others : World) (h h1 : 
           (noise_on (DrawsAll words.links) _ opened n n1 new draws end draw stood (tells d1 u1 x new end does rest))
 
       -- and with the log file, which keeps what came
-      pub all_filed : (d1 : DoorFacts) (u1 : HubValue) (x : Attended) (new : World) (end : Result Done Stop) (left : Option FileState) → AttendsWith s draws.items d1 u1 (Ok x)
+      pub all_filed : (d1 : DoorFacts) (u1 : HubValue) (x : Attended) (new : World) (end : Result Done Stop) (middle left : Option FileState) → AttendsWith s draws.items d1 u1 (Ok x)
           → Tells (PutsImage (string_bytes words.image)) (told_behind s.opening.rows s.opening.first x) (TellsHosted words.awaited) (attended d1 u1) new end
-          → IfSome file (IsFileOpened words.log b new.bay) → KeepsAll s.opening.state.log x.state.log file left → HostsFile words left before new end
-      all_filed d1 u1 x new (Ok d) left does rest is_opened kept =
+          → IfSome file (IsFileOpened words.log b new.bay)
+          → KeepsSeenIf s.opening.state.log x.state.log file middle → IfOk end (λ d. KeepsRest x.state.log middle left) → GoesOnIf middle left → HostsFile words left before new end
+      all_filed d1 u1 x new (Ok d) middle left does rest is_opened seen kept goes =
           let hosts : HostsWith words file before new (Ok d) =
           record {
             value = s;
@@ -145,7 +139,8 @@ module _ (words : HostWords) (file : Option FileState) (others : World) (h h1 : 
               rest = (rest.0, record { between = attended d1 u1; so_far = told_behind s.opening.rows s.opening.first x; given = has_attended d1 u1 x does; rest = rest.1 }, rest.2);
             };
           } in
-          filed_done words file left before new d hosts is_opened kept
-      all_filed d1 u1 x new (Err e) left does rest is_opened kept =
+          filed_done words file left before new d hosts is_opened (keeps_all s.opening.state.log x.state.log file middle left seen kept)
+      all_filed d1 u1 x new (Err e) middle left does rest is_opened seen kept goes =
           file_stops words file left before new e (all_steps d1 u1 x new (Err e) does rest) is_opened
-          (put_goes s.opening.state.log x.state.log (string_bytes words.image) (told_behind s.opening.rows s.opening.first x) (attended d1 u1) new file left e rest kept)
+          (put_goes (string_bytes words.image) (told_behind s.opening.rows s.opening.first x) (attended d1 u1) new file left e rest
+          (goes_if_further file middle left (seen_goes s.opening.state.log x.state.log file middle seen) goes))

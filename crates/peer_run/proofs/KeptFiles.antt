@@ -1,7 +1,6 @@
 -- How a log file goes on, slice by slice.
-use Rattle.std.proofs.Common.{◌≡◌, ◌∙◌, ◌⊎◌, ℕ, ◌+◌, ◌*◌, ◌^◌, ◌≤◌, Bool, true, false, List, [], ◌++◌, length, Option, Some, None, inl, inr, refl, sym, ap, subst, arith, append_assoc, append-nil, length-append}
+use Rattle.std.proofs.Common.{◌≡◌, ◌∙◌, ℕ, ◌+◌, ◌≤◌, Bool, true, false, List, [], ◌++◌, length, Option, Some, None, inl, inr, refl, sym, ap, subst, arith, append_assoc, append-nil, length-append}
 use Rattle.std.specs.Prelude.{IfSome}
-use mathlib.Core.List.{IsPrefix}
 use Rattle.willow_outside.specs.Counts.{Rose}
 use Rattle.willow_entry.specs.Row.{RowValue}
 use Rattle.ns_state.specs.declared.live_log.TheConstants.{LOG_LIMIT}
@@ -14,14 +13,46 @@ not_both false is other = absurd cc
 -- ---- counts
 
 pub goes_self : (f : FileState) → GoesOn f f
-goes_self f = record { kept = omega arith; reads = refl; writes = omega arith }
+goes_self f = record {
+  more = [];
+  counted = omega arith;
+  unbroken = λ is. is;
+  holds = λ is n before holds. subst (λ (rows : List RowValue). HoldsFile n rows f) (sym (append-nil before)) holds;
+  told = λ is. refl;
+  reads = refl;
+  writes = omega arith;
+}
 
 pub goes_further : (a b c : FileState) → GoesOn a b → GoesOn b c → GoesOn a c
-goes_further a b c one two = record { kept = omega (arith, one.kept, two.kept); reads = two.reads ∙ one.reads; writes = omega (arith, one.writes, two.writes) }
+goes_further a b c one two = record {
+  more = one.more ++ two.more;
+  counted = omega (arith, one.counted, two.counted, length-append one.more two.more);
+  unbroken = λ is. one.unbroken (two.unbroken is);
+  holds = λ is n before holds. subst (λ (rows : List RowValue). HoldsFile n rows c) (append_assoc before one.more two.more) (two.holds is n (before ++ one.more) (one.holds (two.unbroken is) n before holds));
+  told = λ is. two.told is ∙ one.told (two.unbroken is);
+  reads = two.reads ∙ one.reads;
+  writes = omega (arith, one.writes, two.writes);
+}
 
 pub keeps_goes : (rows : List RowValue) (a b : FileState) → Keeps rows a b → GoesOn a b
-keeps_goes rows a b (inl k) = record { kept = omega (arith, k.counted); reads = k.faults.reads; writes = omega (arith, k.faults.writes) }
-keeps_goes rows a b (inr k) = record { kept = omega (arith, k.counted); reads = k.reads; writes = k.never_falls }
+keeps_goes rows a b (inl k) = record {
+  more = rows;
+  counted = k.counted;
+  unbroken = λ is. k.began;
+  holds = λ is. k.holds;
+  told = λ is. k.told;
+  reads = k.faults.reads;
+  writes = omega (arith, k.faults.writes);
+}
+keeps_goes rows a b (inr k) = record {
+  more = k.first;
+  counted = k.counted;
+  unbroken = λ is. absurd (not_both b.broken k.broken is);
+  holds = λ is. absurd (not_both b.broken k.broken is);
+  told = λ is. absurd (not_both b.broken k.broken is);
+  reads = k.reads;
+  writes = k.never_falls;
+}
 
 pub goes_on : (rows : List RowValue) (a b : FileState) → KeepsOn rows a b → GoesOn a b
 goes_on rows a b on = keeps_goes rows a b on.kept

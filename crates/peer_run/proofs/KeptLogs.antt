@@ -1,18 +1,17 @@
 -- What the log file of a server holds behind a run that tells of sessions.
-use Rattle.std.proofs.Common.{◌≡◌, ◌∙◌, ◌⊎◌, ℕ, ◌+◌, ◌-◌, Bool, true, false, List, ◌++◌, map, length, Option, Some, None, inl, inr, refl, sym, ap, subst, arith, length-append}
+use Rattle.std.proofs.Common.{◌≡◌, ◌∙◌, ℕ, ◌+◌, ◌-◌, true, false, List, ◌++◌, map, Option, Some, None, inl, inr, refl, ap, subst, arith, length-append}
 use Rattle.std.specs.Prelude.{IfSome, is_some}
 use Rattle.std.specs.String.{string_bytes}
 use Rattle.std.specs.declared.string.String.{String}
 use Rattle.std.specs.declared.alloc.Global.{Global}
-use Rattle.willow_outside.specs.Counts.{Rose}
-use Rattle.willow_outside.specs.Facts.{BayFacts, DiskFacts, Names}
+use Rattle.willow_outside.specs.Facts.{BayFacts, Names}
 use Rattle.willow_outside.specs.Links.{list_with}
 use Rattle.willow_entry.specs.Row.{RowValue}
 use Rattle.cap_codec.specs.Rows.{RawValue, IsRawRow, row_of}
 use Rattle.log_keeper.specs.LogFile.{HoldsRowsTo}
 use Rattle.peer_stage.specs.declared.outcome.Hosted.{Hosted}
 use Rattle.peer_run.specs.LogClosing.{GivesBack, kept_told}
-use Rattle.peer_run.specs.LogFiles.{FileState, HasFailed, HasKept, HoldsFile, Keeps}
+use Rattle.peer_run.specs.LogFiles.{FileState, HasFailed, HasKept, Keeps}
 use Rattle.peer_run.specs.LogKept.{HasKeptLog, HoldsOldAndNew, KeepsLog}
 use Rattle.peer_run.specs.LogOpening.{HasOpened, IsBack}
 use Rattle.peer_run.proofs.FiledDeeds.{lost_rose}

@@ -1,5 +1,5 @@
 -- A log file goes on while links come, and behind them.
-use Rattle.std.proofs.Common.{◌≡◌, ◌∙◌, ◌≤◌, ℕ, ◌+◌, ◌-◌, ◌*◌, ◌^◌, List, [], ◌∷◌, ◌++◌, drop, length, Option, Some, None, inl, inr, refl, sym, ap, subst, arith, append-nil, length-append}
+use Rattle.std.proofs.Common.{◌≡◌, ◌≤◌, ℕ, ◌+◌, ◌-◌, List, [], ◌∷◌, drop, length, Option, Some, None, inl, inr, refl, sym, subst, arith, append-nil}
 use Rattle.std.specs.Prelude.{IfSome, IfOk, IfErr, Result, Ok, Err, option_map}
 use Rattle.std.proofs.lemmas.List.{length-drop, length-map}
 use mathlib.Core.List.{IsPrefix}
@@ -21,7 +21,7 @@ use Rattle.peer_run.specs.declared.behind.Behind.{Behind}
 use Rattle.peer_run.specs.declared.hall.Hall.{Hall}
 use Rattle.peer_run.specs.declared.hosting.Attended.{Attended}
 use Rattle.peer_run.specs.Hearing.{rows_behind}
-use Rattle.peer_run.specs.LogFiles.{FileState, GoesOn, GoesOnIf, HasRoom, IsAt, IsAtIf, IsLowIf, Keeps, KeepsOn, KeepsOnIf, KeepsRest, KeepsSeen, KeepsSeenIf, LeavesRoom, StopsFile, begun_at}
+use Rattle.peer_run.specs.LogFiles.{FileState, GoesOnIf, HasRoom, IsAtIf, IsLowIf, Keeps, KeepsOnIf, KeepsRest, KeepsSeenIf, LeavesRoom, StopsFile, begun_at}
 use Rattle.peer_run.specs.LogPumping.{KeepsUpTo}
 use Rattle.peer_run.proofs.HeardBehind.{Log, rows_further, unwanted}
 use Rattle.peer_run.proofs.KeptFiles.{at_further, both, goes_if_further, goes_if_self, keeps_goes, keeps_if_both, keeps_if_goes, keeps_if_none}
@@ -85,7 +85,15 @@ begun_goes : (front : ℕ) (f f' : Option FileState) → GoesOnIf (option_map (b
 begun_goes front None None goes = tt
 begun_goes front None (Some f') goes = absurd goes
 begun_goes front (Some f) None goes = absurd goes
-begun_goes front (Some f) (Some f') goes = record { kept = goes.kept; reads = goes.reads; writes = goes.writes }
+begun_goes front (Some f) (Some f') goes = record {
+  more = goes.more;
+  counted = goes.counted;
+  unbroken = goes.unbroken;
+  holds = λ is n before holds. goes.holds is n before (record { held = holds.held; counted = holds.counted });
+  told = goes.told;
+  reads = goes.reads;
+  writes = goes.writes;
+}
 
 pub begun_at_if : (front : ℕ) (f : Option FileState) → IsLowIf f → IsAtIf front (option_map (begun_at front) f)
 begun_at_if front None low = tt
@@ -142,11 +150,11 @@ seen_goes opening log None (Some f') seen = absurd seen
 seen_goes opening log (Some f) None seen = absurd seen
 seen_goes opening log (Some f) (Some f') seen = keeps_goes (rows_behind opening seen.seen) f f' seen.kept
 
-pub all_goes : (opening log : Log) (f f' : Option FileState) → KeepsAll opening log f f' → GoesOnIf f f'
-all_goes opening log None None kept = tt
-all_goes opening log None (Some f') kept = absurd kept
-all_goes opening log (Some f) None kept = absurd kept
-all_goes opening log (Some f) (Some f') kept = keeps_goes (rows_behind opening log) f f' kept
+pub rest_goes : (log : Log) (f f' : Option FileState) → KeepsRest log f f' → GoesOnIf f f'
+rest_goes log None None kept = tt
+rest_goes log None (Some f') kept = absurd kept
+rest_goes log (Some f) None kept = absurd kept
+rest_goes log (Some f) (Some f') kept = keeps_if_goes (log_rows (drop f.front log)) (Some f) (Some f') kept
 
 -- ---- behind all sessions
 

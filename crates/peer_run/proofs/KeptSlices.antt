@@ -1,6 +1,6 @@
 -- Slices of a log as a log file takes them.
-use Rattle.std.proofs.Common.{◌≡◌, ◌∙◌, ◌≤◌, ◌<◌, ℕ, zero, suc, ◌+◌, ◌-◌, ◌*◌, ◌^◌, List, [], ◌∷◌, ◌++◌, take, drop, map, length, get_or, Option, Some, refl, sym, ap, subst, arith, append_assoc, append-nil, length-append, take-append-drop}
-use Rattle.std.specs.Prelude.{IfSome}
+use Rattle.std.proofs.Common.{◌≡◌, ◌∙◌, ◌≤◌, ◌<◌, ℕ, zero, suc, ◌-◌, List, [], ◌∷◌, ◌++◌, take, drop, map, length, get_or, Option, Some, refl, sym, ap, subst, arith, append_assoc, append-nil, length-append, take-append-drop}
+use Rattle.std.specs.Prelude.{IfSome, OnErr, Result, Ok, Err}
 use Rattle.std.specs.List.{AllByRecursion}
 use Rattle.std.specs.declared.sync.Arc.{Arc}
 use Rattle.std.specs.declared.alloc.Global.{Global}
@@ -14,12 +14,11 @@ use Rattle.row_stream.specs.Streams.{IsStreamRow}
 use Rattle.auth_entry.specs.Authorised.{AuthorisedValue}
 use Rattle.auth_entry.specs.Rows.{entry_row}
 use Rattle.ns_state.specs.Log.{plain_row}
-use Rattle.ns_state.specs.declared.live_log.TheConstants.{LOG_LIMIT}
 use Rattle.sync_link.specs.Kept.{log_rows}
 use Rattle.sync_link.proofs.Openings.{CanTell}
-use Rattle.peer_run.specs.LogFiles.{FileState, HasRoom, KeepsOn, file_state, file_states, slice_values}
+use Rattle.peer_run.specs.LogFiles.{FileState, GoesOn, HasRoom, KeepsOn, file_state, file_states, slice_values}
 use Rattle.peer_run.specs.declared.log_file.LogFile.{LogFile}
-use Rattle.peer_run.proofs.KeptFiles.{keeps_both, keeps_none, room_on}
+use Rattle.peer_run.proofs.KeptFiles.{goes_further, goes_on, keeps_both, keeps_none, room_on}
 
 abbrev pub Slice : Type 0
 Slice = List (LogRow (Arc AuthorisedValue Global))
@@ -78,6 +77,15 @@ module _ (rows left slice others : Slice) (a b c : FileState) (so_far : KeepsFro
       room = room_on (slice_values slice) b c so_far.room.room on;
     };
   }
+
+-- what holds at each end holds at an error
+pub at_err : {A E P : Type 0} (end : Result A E) → P → OnErr end P
+at_err (Ok x) holds = tt
+at_err (Err e) holds = holds
+
+-- what was kept before a slice that was not
+pub front_goes : (rows left : Slice) (a b c : FileState) → KeepsFront rows left a b → GoesOn b c → GoesOn a c
+front_goes rows left a b c so_far goes = goes_further a b c (goes_on so_far.first a b so_far.kept) goes
 
 pub front_all : (rows left : Slice) (a b : FileState) → KeepsFront rows left a b → length left ≡ 0 → KeepsOn (slice_values rows) a b
 front_all rows left a b so_far none =

@@ -1,5 +1,4 @@
 -- The laws of each command.
-use Rattle.std.proofs.Common.{◌++◌}
 use Rattle.peer_stage.specs.Deed.{IsLawful}
 use Rattle.peer_stage.specs.declared.outcome.Done.TheVariants as done
 use Rattle.peer_stage.proofs.Owing.{StaysLocal, then_local, writes_local}

@@ -72,7 +72,7 @@ room_for None None n rows bay bay' filed can by passes = can (subst (λ (all : L
 room_for None (Some f) n rows bay bay' filed can by passes = by
 room_for (Some name) None n rows bay bay' filed can by passes = by
 room_for (Some name) (Some f) n rows bay bay' filed can by passes =
-    can.room filed (subst (λ (told : Option Names). IfSome told (λ names. HeldRows n (bytes_under names (string_bytes name)) (map row_of filed))) can.are_told by.held) passes
+    can.room filed by.read_out (subst (λ (told : Option Names). IfSome told (λ names. HeldRows n (bytes_under names (string_bytes name)) (map row_of filed))) can.are_told by.held) passes
 
 -- `old`: the objects that tell these names; `g`: what a side goes by, as the names hold it
 module _ (old : World) (names : Names) (g : SideGiven) (image cap : String Global) (area : AreaWords) (are_told : old.shelf.names ≡ Some names) (are_given : AreSideGiven (string_bytes image) (string_bytes cap) area (Some names) g) (log : Option (String Global)) (file : Option FileState) where

@@ -81,7 +81,7 @@ use Rattle.peer_run.specs.declared.sessions.House as house
 use Rattle.peer_run.specs.declared.sessions.HostWords.{HostWords}
 use Rattle.peer_run.specs.declared.tails.Tail.{Tail}
 use Rattle.peer_run.specs.declared.tails.Tail.TheVariants.{Nothing, Fed, Followed}
-use Rattle.peer_run.proofs.AllNew.{filed_is, opening_is}
+use Rattle.peer_run.proofs.AllNew.{filed_is, filed_raw, opening_is}
 use Rattle.peer_run.proofs.Ends.{memory_end, own_seven, own_status}
 use Rattle.peer_run.proofs.NeverStops.{Never, then_never}
 use Rattle.peer_run.proofs.FiledEnds.{hosted_small, kept_same, put_stays}
@@ -137,6 +137,7 @@ module _ (words : HostWords) (file : Option FileState) (run : Run) (s : house.Ho
   abbrev opens : HasOpeningRows words.log n rows run.old.bay opening
   opens = record {
     filed = opened.front.filed;
+    read_out = filed_raw words.log file n run.old.bay opened.prepared.bay opened.front.filed opened.front.is_filed;
     are_filed = filed_is words.log file n run.old.bay opened.prepared.bay opened.front.filed opened.front.is_filed;
     are_rows = opening_is words.log file n rows run.old.bay opened.prepared.bay opened.front.filed s.opening opened.front.has_image.is_image.in_order opened.front.is_filed opened.front.opened;
   }
@@ -559,7 +560,7 @@ rows_as (Some a) None same n image filed = absurd same
 rows_as None (Some b) same n image filed = absurd same
 
 abbrev opens_as : (log other : Option (String Global)) → AreSameTextIfAny log other → (n : List ℕ) (rows : List RawValue) (bay : BayFacts) (opening : List (LogRow AuthorisedValue)) → HasOpeningRows other n rows bay opening → HasOpeningRows log n rows bay opening
-opens_as log other same n image bay begun opens = record { filed = opens.filed; are_filed = filed_as log other same n bay opens.filed opens.are_filed; are_rows = opens.are_rows ∙ rows_as log other same n image opens.filed }
+opens_as log other same n image bay begun opens = record { filed = opens.filed; read_out = opens.read_out; are_filed = filed_as log other same n bay opens.filed opens.are_filed; are_rows = opens.are_rows ∙ rows_as log other same n image opens.filed }
 
 log_as : (log other : Option (String Global)) → AreSameTextIfAny log other → (n : List ℕ) (rows : List RowValue) (old new : BayFacts) (hosted reported : Hosted) → KeepsLog other n rows old new hosted reported → KeepsLog log n rows old new hosted reported
 log_as None None same n came old new hosted reported keeps = keeps

@@ -12,7 +12,7 @@ use Rattle.willow_area.specs.declared.area.Area.{Area}
 use Rattle.willow_entry.specs.Row.{live}
 use Rattle.willow_entry.specs.declared.row.LogRow.{LogRow}
 use Rattle.auth_entry.specs.Authorised.{AuthorisedValue}
-use Rattle.cap_codec.specs.Rows.{IsRawRow, RawValue, row_of}
+use Rattle.cap_codec.specs.Rows.{IsRaw, IsRawRow, RawValue, row_of}
 use Rattle.log_keeper.specs.BadLogs.{IsBadFile}
 use Rattle.lms_core.specs.Accepts.{leaves}
 use Rattle.lms_core.specs.Key.{Key, IsKey, key_file}
@@ -90,7 +90,7 @@ pub record CanFile (name namespace : List ℕ) (rows : List RawValue) (bay : Bay
   pub names : Names
   pub are_told : bay.names ≡ Some names
   pub sound : (at : ℕ) → IsBadFile IsRawRow namespace at (bytes_under names name) → ⊥
-  pub room : (filed : List RawValue) → HeldRows namespace (bytes_under names name) (map row_of filed) → PassesLog namespace (rows ++ filed) → ⊥
+  pub room : (filed : List RawValue) → All IsRaw filed → HeldRows namespace (bytes_under names name) (map row_of filed) → PassesLog namespace (rows ++ filed) → ⊥
 
 -- the rows of an image fit a log, with those of a log file where one is named
 abbrev pub CanOpen : Option (String Global) → List ℕ → List RawValue → BayFacts → Type 0

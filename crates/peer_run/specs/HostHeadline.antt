@@ -5,7 +5,7 @@
 -- with and of that one's rows in the area that both may read. What was written on a link is a function of the rows with which
 -- its session began in that area and of what was read. Each session told rows of the whole log as it stood at a turn of its own,
 -- and only to one that may read them. Each of those who watch a server hears of just the rows of its area that came over the links.
-use Rattle.std.specs.Prelude.{◌≡◌, ◌≢◌, ◌⊎◌, ℕ, ◌+◌, ◌≤◌, Bool, true, false, List, ◌++◌, length, map, All, None, Some, IsNone, IsSome, Result, Ok, Err}
+use Rattle.std.specs.Prelude.{◌≡◌, ◌≢◌, ◌⊎◌, ℕ, ◌+◌, ◌≤◌, Bool, true, false, List, ◌++◌, length, map, All, Some, IsNone, IsSome, Result, Ok, Err}
 use Rattle.std.specs.declared.option.Option.{Option}
 use Rattle.std.specs.List.{sum_by}
 use Rattle.std.specs.String.{string_bytes}

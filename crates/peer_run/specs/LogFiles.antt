@@ -79,9 +79,14 @@ pub record KeepsOn (rows : List RowValue) (old new : FileState) : Type 0 where
   pub front : new.front ≡ old.front + length rows
   pub kept : Keeps rows old new
 
--- at any time: no count falls, and none of reads rises
+-- At any time: unless a write failed it holds what it held, with some rows behind, and these are counted; where one failed so many
+-- more were kept before. No count falls, and none of reads rises.
 pub record GoesOn (old new : FileState) : Type 0 where
-  pub kept : old.kept ≤ new.kept
+  pub more : List RowValue
+  pub counted : new.kept ≡ old.kept + length more
+  pub unbroken : new.broken ≡ false → old.broken ≡ false
+  pub holds : new.broken ≡ false → (namespace : List ℕ) (before : List RowValue) → HoldsFile namespace before old → HoldsFile namespace (before ++ more) new
+  pub told : new.broken ≡ false → is_some new.disk.contents ≡ is_some old.disk.contents
   pub reads : new.disk.read_faults ≡ old.disk.read_faults
   pub writes : old.disk.write_faults ≤ new.disk.write_faults
 

@@ -1,5 +1,5 @@
 -- The rows with which a side begins: those of its image, and behind them those of its log file, where there is one.
-use Rattle.std.specs.Prelude.{◌≡◌, ℕ, List, [], ◌++◌, map, Some, None}
+use Rattle.std.specs.Prelude.{◌≡◌, ℕ, All, List, [], ◌++◌, map, Some, None}
 use Rattle.std.specs.String.{string_bytes}
 use Rattle.std.specs.declared.option.Option.{Option}
 use Rattle.std.specs.declared.string.String.{String}
@@ -7,7 +7,7 @@ use Rattle.std.specs.declared.alloc.Global.{Global}
 use Rattle.willow_outside.specs.Facts.{BayFacts}
 use Rattle.willow_entry.specs.Row.{RowValue, new}
 use Rattle.willow_entry.specs.declared.row.LogRow.{LogRow}
-use Rattle.cap_codec.specs.Rows.{RawValue, row_of}
+use Rattle.cap_codec.specs.Rows.{IsRaw, RawValue, row_of}
 use Rattle.auth_entry.specs.Authorised.{AuthorisedValue}
 use Rattle.sync_link.specs.Kept.{log_rows}
 use Rattle.peer_rows.specs.Logged.{authorised_rows}
@@ -23,8 +23,9 @@ abbrev pub opening_rows : Option (String Global) → List ℕ → List RawValue 
 opening_rows None namespace rows filed = authorised_rows namespace rows
 opening_rows (Some name) namespace rows filed = new (authorised_rows namespace (rows ++ filed))
 
--- the log of these rows, by what the bay tells of the file
+-- the log of these rows, by what the bay tells of the file; those of the file are read out, each with its token
 pub record HasOpeningRows (log : Option (String Global)) (namespace : List ℕ) (rows : List RawValue) (bay : BayFacts) (opening : List (LogRow AuthorisedValue)) : Type 0 where
   pub filed : List RawValue
+  pub read_out : All IsRaw filed
   pub are_filed : AreFiled log namespace bay filed
   pub are_rows : log_rows opening ≡ opening_rows log namespace rows filed

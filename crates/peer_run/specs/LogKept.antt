@@ -1,19 +1,17 @@
 -- What a server's log file holds behind a run that tells of sessions.
-use Rattle.std.specs.Prelude.{◌≡◌, ◌⊎◌, ℕ, ◌+◌, Bool, true, false, ◌&&◌, not, List, ◌++◌, length, Some, None, IfSome}
+use Rattle.std.specs.Prelude.{◌≡◌, ℕ, Bool, true, false, ◌&&◌, not, List, ◌++◌, length, Some, None, IfSome}
 use Rattle.std.specs.String.{string_bytes}
 use Rattle.std.specs.declared.option.Option.{Option}
 use Rattle.std.specs.declared.string.String.{String}
 use Rattle.std.specs.declared.alloc.Global.{Global}
 use mathlib.Core.List.{IsPrefix}
-use Rattle.willow_outside.specs.Bays.{bytes_under}
 use Rattle.willow_outside.specs.Counts.{Rose}
 use Rattle.willow_outside.specs.Facts.{BayFacts, DiskFacts}
-use Rattle.willow_outside.specs.Links.{list_with}
 use Rattle.willow_entry.specs.Row.{RowValue}
 use Rattle.cap_codec.specs.Rows.{IsRawRow}
 use Rattle.log_keeper.specs.LogFile.{HoldsRows}
 use Rattle.peer_stage.specs.declared.outcome.Hosted.{Hosted}
-use Rattle.peer_run.specs.LogOpening.{HeldRows, IsBack, TellsRows}
+use Rattle.peer_run.specs.LogOpening.{IsBack, TellsRows}
 
 -- The disk's bytes hold the rows that were there before, and behind them these. So many rows it holds.
 pub record HoldsOldAndNew (namespace : List ℕ) (before : List RowValue) (rows : List RowValue) (disk : DiskFacts) (kept : ℕ) : Type 0 where

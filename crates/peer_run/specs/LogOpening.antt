@@ -1,5 +1,5 @@
 -- How a server opens its log file, or begins it.
-use Rattle.std.specs.Prelude.{◌≡◌, ◌⊎◌, ℕ, ◌+◌, Bool, true, false, List, [], map, Some, None, IfSome, is_some, Result, Ok, Err}
+use Rattle.std.specs.Prelude.{◌≡◌, ◌⊎◌, ℕ, ◌+◌, true, false, All, List, [], map, Some, None, IfSome, is_some, Result, Ok, Err}
 use Rattle.std.specs.declared.option.Option.{Option}
 use Rattle.std.specs.declared.string.String.{String}
 use Rattle.std.specs.declared.alloc.Global.{Global}
@@ -7,14 +7,14 @@ use Rattle.std.specs.Global.{Vec}
 use Rattle.std.specs.String.{string_bytes}
 use Rattle.spelling.specs.declared.ending.End.{End}
 use Rattle.spelling.specs.declared.ending.End.TheVariants as ends
-use Rattle.willow_outside.specs.Bays.{OpensDisk, bytes_under}
+use Rattle.willow_outside.specs.Bays.{bytes_under}
 use Rattle.willow_outside.specs.Counts.{Rose}
 use Rattle.willow_outside.specs.Facts.{BayFacts, DiskFacts}
 use Rattle.willow_outside.specs.Links.{list_with}
 use Rattle.willow_entry.specs.Row.{RowValue}
-use Rattle.cap_codec.specs.Rows.{IsRawRow, RawValue, row_of}
+use Rattle.cap_codec.specs.Rows.{IsRaw, IsRawRow, RawValue, row_of}
 use Rattle.log_keeper.specs.BadLogs.{IsBadFile}
-use Rattle.log_keeper.specs.Causes.{CountsNoFault, HasCause}
+use Rattle.log_keeper.specs.Causes.{CountsNoFault, HasCause, IfUnwritten}
 use Rattle.log_keeper.specs.LogFile.{HoldsNoLog, HoldsRows}
 use Rattle.log_keeper.specs.declared.refusal.KeepRefusal.{KeepRefusal}
 use Rattle.log_keeper.specs.declared.refusal.KeepRefusal.TheVariants as refusals
@@ -43,6 +43,7 @@ TellsRows name namespace bay rows = IfSome bay.names (λ names. HeldRows namespa
 -- tells its contents where the bay tells those of its names.
 pub record HasOpened (name namespace : List ℕ) (old new : BayFacts) (f : FileState) (rows : List RawValue) : Type 0 where
   pub bay_is : new ≡ record old { out = old.out + 1; asked = list_with name old.asked }
+  pub read_out : All IsRaw rows
   pub held : TellsRows name namespace old (map row_of rows)
   pub holds : HoldsFile namespace (map row_of rows) f
   pub told : IfSome old.names (λ names. is_some f.disk.contents ≡ true)
@@ -68,17 +69,23 @@ pub record IsUnopened (old new : BayFacts) : Type 0 where
 abbrev pub IsBack : List ℕ → BayFacts → BayFacts → DiskFacts → Type 0
 IsBack name old new disk = new ≡ record old { asked = list_with name old.asked; back = list_with disk old.back }
 
+-- The disk that is back has the bytes that the name held, where the bay tells them, and no write of it failed.
+pub record IsBackUnwritten (name : List ℕ) (old new : BayFacts) (disk : DiskFacts) : Type 0 where
+  pub back : IsBack name old new disk
+  pub contents : IfSome old.names (λ names. disk.contents ≡ Some (bytes_under names name))
+  pub writes : disk.write_faults ≡ 0
+
 -- from this place on the file is bad
 abbrev pub IsBadAt : List ℕ → List ℕ → BayFacts → ℕ → Type 0
 IsBadAt name namespace bay at = IfSome bay.names (λ names. IsBadFile IsRawRow namespace at (bytes_under names name))
 
 -- Opening fails at the bay or in a read of the disk, or a write of the disk fails, or the file is bad. Each disk that was handed
--- out is back.
+-- out is back, as it came, unless a write of it failed.
 abbrev pub StopsOpening : String Global → List ℕ → BayFacts → BayFacts → Stop → Type 0
-StopsOpening name namespace old new stop.ReadFault = (IsUnopened old new × Rose old.faults new.faults) ⊎ ((disk : DiskFacts) × IsBack (string_bytes name) old new disk × Rose 0 disk.read_faults)
+StopsOpening name namespace old new stop.ReadFault = (IsUnopened old new × Rose old.faults new.faults) ⊎ ((disk : DiskFacts) × IsBackUnwritten (string_bytes name) old new disk × Rose 0 disk.read_faults)
 StopsOpening name namespace old new stop.WriteFault = (disk : DiskFacts) × IsBack (string_bytes name) old new disk × Rose 0 disk.write_faults
-StopsOpening name namespace old new (stop.BadInput from at) = (from ≡ origin.Name name) × ((disk : DiskFacts) × IsBack (string_bytes name) old new disk) × IsBadAt (string_bytes name) namespace old at
-StopsOpening name namespace old new stop.NoMemory = (new ≡ old) ⊎ ((disk : DiskFacts) × IsBack (string_bytes name) old new disk)
+StopsOpening name namespace old new (stop.BadInput from at) = (from ≡ origin.Name name) × ((disk : DiskFacts) × IsBackUnwritten (string_bytes name) old new disk × (disk.read_faults ≡ 0)) × IsBadAt (string_bytes name) namespace old at
+StopsOpening name namespace old new stop.NoMemory = (new ≡ old) ⊎ ((disk : DiskFacts) × IsBackUnwritten (string_bytes name) old new disk × (disk.read_faults ≡ 0))
 StopsOpening name namespace old new e = ⊥
 
 -- ---- as a step
@@ -117,6 +124,7 @@ refused_stop ends.NoMemory name = stop.NoMemory
 
 -- The file of a disk is open. It holds the rows that the disk held, and no fault is counted.
 pub record HasBegun (namespace : List ℕ) (d : DiskFacts) (f : FileState) (rows : List RawValue) : Type 0 where
+  pub read_out : All IsRaw rows
   pub held : IfSome d.contents (λ bytes. HeldRows namespace bytes (map row_of rows))
   pub holds : HoldsFile namespace (map row_of rows) f
   pub told : is_some f.disk.contents ≡ is_some d.contents
@@ -127,4 +135,4 @@ pub record HasBegun (namespace : List ℕ) (d : DiskFacts) (f : FileState) (rows
 -- how the file of a disk is opened, or begun where it holds no log
 abbrev pub BeginsFile : {K : Type 0} → (K → DiskFacts) → List ℕ → DiskFacts → Result (LogFile K × Vec RawValue) (K × End KeepRefusal) → Type 0
 BeginsFile facts namespace d (Ok x) = HasBegun namespace d (file_state facts x.0) x.1.items
-BeginsFile facts namespace d (Err back) = HasCause (λ at. IfSome d.contents (IsBadFile IsRawRow namespace at)) d (facts back.0) back.1
+BeginsFile facts namespace d (Err back) = HasCause (λ at. IfSome d.contents (IsBadFile IsRawRow namespace at)) d (facts back.0) back.1 × IfUnwritten back.1 ((facts back.0).contents ≡ d.contents)

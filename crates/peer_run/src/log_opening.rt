@@ -12,6 +12,7 @@ use crate::log_file::LogFile;
 use cap_codec::{RawRow, RawRows};
 use log_keeper::{KeepRefusal, LogKeeper, Opened};
 use peer_stage::{Origin, Stop};
+use row_intake::known_raws;
 use spelling::End;
 use std::alloc::Global;
 use willow_outside::{Bay, Disk, Fault};
@@ -73,6 +74,7 @@ fn read_or_begin<K: Disk>(
 {
     match LogKeeper::<RawRows, K>::open(alloc, disk, namespace) {
         Ok(Opened::Log { keeper, rows }) => {
+            known_raws(&rows);
             let kept = rows.len() as u64;
             Ok((
                 LogFile {

@@ -15,7 +15,7 @@ ghost use Rattle.peer_stage.specs.World.{World};
 ghost use Rattle.peer_words.specs.Signers.{IsSigner};
 ghost use Rattle.peer_words.specs.declared.limits.TheConstants.{MOST_LINKS};
 ghost use Rattle.peer_run.specs.Hosting.{DoesHost, HostsFile, OpensHouse, PutsImage, Tells, own_role};
-ghost use Rattle.peer_run.specs.LogFiles.{IsLowIf, KeepsSeenIf, StopsFile, file_states};
+ghost use Rattle.peer_run.specs.LogFiles.{GoesOnIf, HasRoom, IsLowIf, KeepsRest, KeepsSeenIf, StopsFile, file_states};
 ghost use Rattle.peer_run.specs.LogOpening.{IsFileOpened};
 ghost use Rattle.peer_run.specs.Preparing.{nonce_of};
 ghost use Rattle.peer_run.specs.Telling.{TellsHosted, first_of_links, told_behind, told_of};
@@ -155,8 +155,7 @@ fn host_links<R: Wait + Threads + Sync, H: Shelf, D: Door, N: Noise, K: Disk, B:
         hub,
         file,
     )?;
-    keep_rest(file, &attended.state)?;
-    close_house(alloc, shelf, &name, awaited, rows, first, attended)
+    keep_and_close(alloc, shelf, &name, awaited, rows, first, &attended, file)
 }
 
 // The same as `open_house`, and the name of the image once more.
@@ -275,6 +274,27 @@ fn run_sessions<R: Wait + Threads + Sync, D: Door, K: Disk>(
     }
 }
 
+// Keeps in the log file, where there is one, what it does not hold yet, and only then puts the image: for want of memory there is
+// none, so no image is put in front of a log file that wants some of its rows.
+fn keep_and_close<H: Shelf, K: Disk>(
+    alloc: Global,
+    shelf: &mut H,
+    name: &String,
+    awaited: bool,
+    rows: u64,
+    first: Option<RefusedRow>,
+    attended: &Attended,
+    file: &mut Option<LogFile<K>>,
+) -> Result<Done, Stop>
+    requires room { IfSome (file_states K.facts file.old) (λ f. HasRoom (length attended.now.state.log - f.front) f × (f.front ≤ length attended.now.state.log)) }
+    ensures tells { (others : World) → Tells (PutsImage (string_bytes name.now)) (told_behind rows first attended.now) (TellsHosted awaited) (record others { shelf = H.facts shelf.old }) (record others { shelf = H.facts shelf.new }) result }
+    ensures kept { IfOk result (λ d. KeepsRest attended.now.state.log (file_states K.facts file.old) (file_states K.facts file.new)) }
+    ensures goes_on { GoesOnIf (file_states K.facts file.old) (file_states K.facts file.new) }
+{
+    keep_rest(file, &attended.state)?;
+    close_house(alloc, shelf, name, awaited, rows, first, attended)
+}
+
 // Puts the image of what is live behind all sessions, unless memory was wanting in one of them or in what followed it.
 fn close_house<H: Shelf>(
     alloc: Global,
@@ -283,35 +303,28 @@ fn close_house<H: Shelf>(
     awaited: bool,
     rows: u64,
     first: Option<RefusedRow>,
-    attended: Attended,
+    attended: &Attended,
 ) -> Result<Done, Stop>
-    ensures { (others : World) → Tells (PutsImage (string_bytes name.now)) (told_behind rows first attended) (TellsHosted awaited) (record others { shelf = H.facts shelf.old }) (record others { shelf = H.facts shelf.new }) result }
+    ensures { (others : World) → Tells (PutsImage (string_bytes name.now)) (told_behind rows first attended.now) (TellsHosted awaited) (record others { shelf = H.facts shelf.old }) (record others { shelf = H.facts shelf.new }) result }
 {
-    let Attended {
-        ends,
-        tails,
-        all_came,
-        state,
-        left,
-    } = attended;
-    if ends.iter().any(wants_memory) {
+    if attended.ends.iter().any(wants_memory) {
         return Err(Stop::NoMemory);
     }
-    if tails.iter().any(tail_wants_memory) {
+    if attended.tails.iter().any(tail_wants_memory) {
         return Err(Stop::NoMemory);
     }
-    let first = first_with_tails(rows, first, &ends, &tails);
-    let sessions = told_of_all(alloc, &ends)?;
-    let tails = told_tails(alloc, &tails)?;
-    let image = image_of(alloc, &state)?;
+    let first = first_with_tails(rows, first, &attended.ends, &attended.tails);
+    let sessions = told_of_all(alloc, &attended.ends)?;
+    let tails = told_tails(alloc, &attended.tails)?;
+    let image = image_of(alloc, &attended.state)?;
     let put = put_image(shelf, name.as_str(), &image)?;
     Ok(Done::Hosted(Hosted {
         awaited,
         sessions,
         tails,
-        all_came,
+        all_came: attended.all_came,
         first,
-        left,
+        left: attended.left,
         kept: None,
         put,
     }))

@@ -1,5 +1,5 @@
 use Rattle.std.specs.Vec.Iter.{into_iter_items}
-use Rattle.std.proofs.Common.{◌∷◌, ◌+◌, ◌≤◌, length, vec_len, vec_capacity}
+use Rattle.std.proofs.Common.{◌+◌, ◌≤◌, length, vec_len, vec_capacity}
 use Rattle.peer_run.proofs.Guests.{handed_on}
 use Rattle.peer_run.proofs.Paired.{HasParted, HasGathered}
 use Rattle.peer_run.proofs.behind.part.Given as goal

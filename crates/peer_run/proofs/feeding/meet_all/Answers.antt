@@ -1,4 +1,4 @@
-use Rattle.std.proofs.Common.{◌≡◌, ◌∙◌, ◌<◌, length, get_or, refl, sym, ap, arith}
+use Rattle.std.proofs.Common.{◌∙◌, ◌<◌, length, get_or, refl, sym, ap, arith}
 use Rattle.std.proofs.lemmas.List.{get_or_default, length-set}
 use Rattle.sync_link.proofs.Offered.{later_self, later_trans}
 use Rattle.peer_run.proofs.FedPlaces.{before_on}

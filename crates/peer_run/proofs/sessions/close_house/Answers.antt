@@ -10,7 +10,7 @@ use Rattle.peer_run.proofs.sessions.close_house.Goals as goal
 pub returns : goal.returns
 returns g c =
     let name = string_bytes c.args.name.now in
-    let x = c.args.attended in
+    let x = c.args.attended.now in
     let h = g.H.Shelf.facts c.args.shelf.now in
     let h1 = g.H.Shelf.facts c.put_image.new.shelf in
     let put = c.in_ok-put.put in

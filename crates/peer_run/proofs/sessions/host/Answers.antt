@@ -1,4 +1,4 @@
-use Rattle.std.proofs.Common.{None, refl}
+use Rattle.std.proofs.Common.{refl}
 use Rattle.peer_run.proofs.FiledBays.{closed_host, hosts_out}
 use Rattle.peer_run.proofs.GotImages.{untold}
 use Rattle.peer_run.proofs.sessions.host.Goals as goal

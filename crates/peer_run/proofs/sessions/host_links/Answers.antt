@@ -4,16 +4,14 @@ use Rattle.std.specs.String.{string_bytes}
 use Rattle.std.proofs.lemmas.Result.{err_from_is_err_and}
 use Rattle.sub_hub.specs.Seen.{hub_seen}
 use Rattle.peer_stage.specs.World.{World}
-use Rattle.peer_stage.specs.declared.outcome.Stop.TheVariants as stop
 use Rattle.peer_run.specs.Hosting.{PutsImage, Tells, own_role}
 use Rattle.peer_run.specs.LogFiles.{file_states}
 use Rattle.peer_run.specs.Telling.{TellsHosted, told_behind}
 use Rattle.peer_run.proofs.GotImages.{untold}
 use Rattle.peer_run.proofs.FiledBays.{none_opened, opened_low}
 use Rattle.peer_run.proofs.HostReady.{house_own, house_hello, house_version, house_many, house_signs}
-use Rattle.peer_run.proofs.HostSteps.{all_filed, attends_as, attending_stops, drawing_stops, file_stops, keeping_stops}
-use Rattle.peer_run.proofs.KeptFiles.{goes_if_further}
-use Rattle.peer_run.proofs.KeptPumps.{keeps_all, rest_room, seen_goes, stops_self}
+use Rattle.peer_run.proofs.HostSteps.{all_filed, attends_as, attending_stops, drawing_stops, file_stops}
+use Rattle.peer_run.proofs.KeptPumps.{rest_room, stops_self}
 use Rattle.peer_run.proofs.sessions.host_links.Goals as goal
 
 pub returns-in_err-name : goal.returns-in_err-name
@@ -107,40 +105,16 @@ returns-in_err-attended g c =
     rw (p.1, p.2) (λ others. file_stops c.args.words f left _ _ e (attending_stops c.args.words f others h h1 b b1 n n1 d u brings (c.in_ok-name.ensures.opens (record others { door = d; noise = n; hub = u })) draws c.in_ok-draws.ensures.draws c.in_ok-draws.ensures.faults d1 u1 e attends) c.in_ok-name.ensures.opened c.in_err-attended.ensures.stopped)
 
 -- the file is kept up to the end of the log, which has room
-pub keep_rest-requires : goal.keep_rest-requires
-keep_rest-requires g c =
+pub keep_and_close-requires : goal.keep_and_close-requires
+keep_and_close-requires g c =
     let x = c.in_ok-attended.attended in
     record { room = rest_room c.in_ok-name.house.opening.state.log x.state.log (file_states g.K.Disk.facts c.open_named.new.file) (file_states g.K.Disk.facts c.run_sessions.new.file) c.in_ok-attended.ensures.attends.0.is_log.few c.in_ok-attended.ensures.kept }
-
-pub returns-in_err-keep_rest : goal.returns-in_err-keep_rest
-returns-in_err-keep_rest g c =
-    let p = err_from_is_err_and c.from_residual-in_err-keep_rest.result c.from_residual-in_err-keep_rest.ensures.1 in
-    let h = g.H.Shelf.facts c.args.shelf.now in
-    let h1 = g.H.Shelf.facts c.open_named.new.shelf in
-    let d = g.D.Door.facts c.args.door.now in
-    let d1 = g.D.Door.facts c.run_sessions.new.door in
-    let n = g.N.Noise.facts c.args.noise.now in
-    let n1 = g.N.Noise.facts c.draw_all.new.noise in
-    let brings = c.in_ok-name.house in
-    let draws = c.in_ok-draws.draws in
-    let x = c.in_ok-attended.attended in
-    let u = hub_seen (λ w. (goal.Watcher-dyn g (w.vtable, w.value)).told w.value) c.args.hub.now in
-    let u1 = hub_seen (λ w. (goal.Watcher-dyn g (w.vtable, w.value)).told w.value) c.run_sessions.new.hub in
-    let attends = attends_as c.args.words.awaited c.args.words.follow c.as_str.result.now (string_bytes c.args.words.place) c.deref.result.now draws.items brings d d1 u u1 (Ok x) c.as_str.ensures.value c.deref.ensures.value c.in_ok-attended.ensures.attends in
-    let f = file_states g.K.Disk.facts c.open_named.new.file in
-    let middle = file_states g.K.Disk.facts c.run_sessions.new.file in
-    let left = file_states g.K.Disk.facts c.keep_rest.new.file in
-    let b = g.B.Bay.facts c.args.bay.now in
-    let b1 = g.B.Bay.facts c.open_named.new.bay in
-    rw (p.1, p.2) (λ others. file_stops c.args.words f left _ _ stop.NoMemory
-    (keeping_stops c.args.words f others h h1 b b1 n n1 d u brings (c.in_ok-name.ensures.opens (record others { door = d; noise = n; hub = u })) draws c.in_ok-draws.ensures.draws c.in_ok-draws.ensures.faults d1 u1 x attends) c.in_ok-name.ensures.opened
-    (goes_if_further f middle left (seen_goes brings.opening.state.log x.state.log f middle c.in_ok-attended.ensures.kept) c.in_err-keep_rest.ensures.goes_on))
 
 pub returns : goal.returns
 returns g c =
     let h = g.H.Shelf.facts c.args.shelf.now in
     let h1 = g.H.Shelf.facts c.open_named.new.shelf in
-    let h2 = g.H.Shelf.facts c.close_house.new.shelf in
+    let h2 = g.H.Shelf.facts c.keep_and_close.new.shelf in
     let d = g.D.Door.facts c.args.door.now in
     let d1 = g.D.Door.facts c.run_sessions.new.door in
     let n = g.N.Noise.facts c.args.noise.now in
@@ -153,12 +127,13 @@ returns g c =
     let attends = attends_as c.args.words.awaited c.args.words.follow c.as_str.result.now (string_bytes c.args.words.place) c.deref.result.now draws.items brings d d1 u u1 (Ok x) c.as_str.ensures.value c.deref.ensures.value c.in_ok-attended.ensures.attends in
     let f = file_states g.K.Disk.facts c.open_named.new.file in
     let middle = file_states g.K.Disk.facts c.run_sessions.new.file in
-    let left = file_states g.K.Disk.facts c.keep_rest.new.file in
+    let left = file_states g.K.Disk.facts c.keep_and_close.new.file in
     let b = g.B.Bay.facts c.args.bay.now in
     let b1 = g.B.Bay.facts c.open_named.new.bay in
-    let kept = keeps_all brings.opening.state.log x.state.log f middle left c.in_ok-attended.ensures.kept c.in_ok-keep_rest.ensures.kept in
+    let ends = c.keep_and_close.ensures in
     λ others.
     let after : World = record others { shelf = h2; door = d1; noise = n1; hub = u1; bay = b1 } in
     let between : World = record others { shelf = h1; door = d1; noise = n1; hub = u1; bay = b1 } in
-    let rest = subst (λ (name : List ℕ). Tells (PutsImage name) (told_behind brings.opening.rows brings.opening.first x) (TellsHosted c.args.words.awaited) between after c.close_house.result) c.in_ok-name.ensures.name (c.close_house.ensures (record others { door = d1; noise = n1; hub = u1; bay = b1 })) in
-    all_filed c.args.words f others h h1 b b1 n n1 d u brings (c.in_ok-name.ensures.opens (record others { door = d; noise = n; hub = u })) draws c.in_ok-draws.ensures.draws c.in_ok-draws.ensures.faults d1 u1 x after c.close_house.result left attends rest c.in_ok-name.ensures.opened kept
+    let rest = subst (λ (name : List ℕ). Tells (PutsImage name) (told_behind brings.opening.rows brings.opening.first x) (TellsHosted c.args.words.awaited) between after c.keep_and_close.result) c.in_ok-name.ensures.name (ends.tells (record others { door = d1; noise = n1; hub = u1; bay = b1 })) in
+    all_filed c.args.words f others h h1 b b1 n n1 d u brings (c.in_ok-name.ensures.opens (record others { door = d; noise = n; hub = u })) draws c.in_ok-draws.ensures.draws c.in_ok-draws.ensures.faults d1 u1 x after c.keep_and_close.result middle left attends rest c.in_ok-name.ensures.opened
+    c.in_ok-attended.ensures.kept ends.kept ends.goes_on

@@ -1,0 +1,23 @@
+use Rattle.std.proofs.Common.{refl}
+use Rattle.std.specs.Prelude.{IfOk, Result, Ok, Err}
+use Rattle.std.proofs.lemmas.Result.{err_from_is_err_and}
+use Rattle.peer_run.specs.LogFiles.{file_states}
+use Rattle.peer_run.proofs.KeptPumps.{rest_goes}
+use Rattle.peer_run.proofs.sessions.keep_and_close.Goals as goal
+
+-- what holds at each end holds where it is Ok
+at_ok : {A E P : Type 0} (end : Result A E) → P → IfOk end (λ x. P)
+at_ok (Ok x) holds = holds
+at_ok (Err e) holds = tt
+
+-- no image was put
+pub returns-in_err-keep_rest-clause-tells : goal.returns-in_err-keep_rest-clause-tells
+returns-in_err-keep_rest-clause-tells g c =
+    let p = err_from_is_err_and c.from_residual.result c.from_residual.ensures.1 in
+    rw (p.1, p.2) (λ others. record { does = refl; read_faults = refl; write_faults = refl; others = refl })
+
+pub returns-clause-kept : goal.returns-clause-kept
+returns-clause-kept g c = at_ok _ c.in_ok-keep_rest.ensures.kept
+
+pub returns-clause-goes_on : goal.returns-clause-goes_on
+returns-clause-goes_on g c = rest_goes c.args.attended.now.state.log (file_states g.K.Disk.facts c.args.file.now) (file_states g.K.Disk.facts c.keep_rest.new.file) c.in_ok-keep_rest.ensures.kept
