@@ -16,6 +16,7 @@ ghost use Rattle.log_keeper.specs.LogFile.{HoldsNoLog, last_record, new_log, rec
 ghost use Rattle.log_keeper.specs.Opening.{WasOnlyRead, IsReadWell, IsUnchanged};
 ghost use Rattle.log_keeper.specs.Runs.{KeepsSlice};
 ghost use Rattle.log_keeper.specs.Slices.{logged_rows};
+ghost use Rattle.log_keeper.specs.Sound.{IsSoundKeeper};
 
 use crate::beginning::begin_log;
 use crate::opening::read_disk;
@@ -147,6 +148,14 @@ impl<F: RowForm, D: Disk> LogKeeper<F, D> {
         ensures { result ≡ self.now.broken }
     {
         self.broken
+    }
+
+    /// Does nothing: it is called for its clause, that a keeper of which no write failed keeps some rows in its file, all of them
+    /// on the disk.
+    pub fn known(&self)
+        ensures { IsSoundKeeper F.IsRow (D.facts self.now.disk).contents (D.may_leave self.now.disk) self.now.end self.now.count self.now.broken }
+    {
+        let _end = self.end;
     }
 
     /// The disk.

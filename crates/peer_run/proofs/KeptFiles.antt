@@ -2,9 +2,12 @@
 use Rattle.std.proofs.Common.{◌≡◌, ◌∙◌, ℕ, ◌+◌, ◌≤◌, Bool, true, false, List, [], ◌++◌, length, Option, Some, None, inl, inr, refl, sym, ap, subst, arith, append_assoc, append-nil, length-append}
 use Rattle.std.specs.Prelude.{IfSome}
 use Rattle.willow_outside.specs.Counts.{Rose}
+use Rattle.willow_outside.specs.Facts.{DiskFacts}
 use Rattle.willow_entry.specs.Row.{RowValue}
+use Rattle.cap_codec.specs.Rows.{IsRawRow}
+use Rattle.log_keeper.specs.LogFile.{HoldsRows, HoldsRowsTo}
 use Rattle.ns_state.specs.declared.live_log.TheConstants.{LOG_LIMIT}
-use Rattle.peer_run.specs.LogFiles.{FileState, GoesOn, GoesOnIf, HasFailed, HasKept, HasRoom, HoldsFile, IsAtIf, Keeps, KeepsOn, KeepsOnIf, LeavesRoom}
+use Rattle.peer_run.specs.LogFiles.{FileState, GoesOn, GoesOnIf, HasFailed, HasKept, HasRoom, HoldsFile, HoldsFirst, IsAtIf, Keeps, KeepsOn, KeepsOnIf, LeavesRoom}
 
 pub not_both : (b : Bool) → b ≡ true → b ≡ false → ⊥
 not_both true is other = absurd cc
@@ -57,6 +60,41 @@ keeps_goes rows a b (inr k) = record {
 pub goes_on : (rows : List RowValue) (a b : FileState) → KeepsOn rows a b → GoesOn a b
 goes_on rows a b on = keeps_goes rows a b on.kept
 
+-- ---- where a write failed
+
+-- of nothing that was to be kept something is there
+pub first_none : (n : List ℕ) (before rows : List RowValue) (contents : Option (List ℕ)) (end : ℕ) → IfSome contents (λ bytes. HoldsRowsTo IsRawRow n bytes before end) → IfSome contents (HoldsFirst n before [] rows)
+first_none n before rows None end holds = tt
+first_none n before rows (Some bytes) end holds = record {
+  held = [];
+  front = (rows, refl);
+  behind = ([], refl);
+  few = omega arith;
+  holds = subst (λ (all : List RowValue). HoldsRows IsRawRow n bytes all) (sym (append-nil before)) (record { end = end; to = holds });
+}
+
+-- behind rows that were kept
+first_behind : (n : List ℕ) (before rows first more : List RowValue) (contents : Option (List ℕ)) → IfSome contents (HoldsFirst n (before ++ rows) first more) → IfSome contents (HoldsFirst n before (rows ++ first) (rows ++ more))
+first_behind n before rows first more None holds = tt
+first_behind n before rows first more (Some bytes) holds = record {
+  held = rows ++ holds.held;
+  front = (holds.front.0, append_assoc rows holds.held holds.front.0 ∙ ap (λ (l : List RowValue). rows ++ l) holds.front.1);
+  behind = (holds.behind.0, append_assoc rows first holds.behind.0 ∙ ap (λ (l : List RowValue). rows ++ l) holds.behind.1);
+  few = omega (arith, holds.few, length-append rows holds.held, length-append rows first);
+  holds = subst (λ (all : List RowValue). HoldsRows IsRawRow n bytes all) (append_assoc before rows holds.held) holds.holds;
+}
+
+-- with more that was to be kept
+first_before : (n : List ℕ) (before first rows more : List RowValue) (contents : Option (List ℕ)) → IfSome contents (HoldsFirst n before first rows) → IfSome contents (HoldsFirst n before first (rows ++ more))
+first_before n before first rows more None holds = tt
+first_before n before first rows more (Some bytes) holds = record {
+  held = holds.held;
+  front = (holds.front.0 ++ more, sym (append_assoc holds.held holds.front.0 more) ∙ ap (λ (l : List RowValue). l ++ more) holds.front.1);
+  behind = holds.behind;
+  few = holds.few;
+  holds = holds.holds;
+}
+
 -- ---- no rows
 
 none_kept : (f : FileState) (broken : Bool) → f.broken ≡ broken → (broken ≡ false → f.kept ≡ f.count) → Keeps [] f f
@@ -74,11 +112,13 @@ none_kept f true is known = inr (record {
   broken = is;
   first = [];
   front = ([], refl);
+  holds = λ n before holds. first_none n before [] f.disk.contents f.end holds.held;
+  told = refl;
   counted = omega arith;
   reads = refl;
   never_falls = omega arith;
   rose = λ unbroken. absurd (not_both f.broken is unbroken);
-  stays = λ broken. refl;
+  stays = λ broken. (refl, refl);
 })
 
 pub keeps_none : (front : ℕ) (f : FileState) → LeavesRoom front f → KeepsOn [] f f
@@ -107,6 +147,8 @@ module _ (rows more : List RowValue) (a b c : FileState) where
     broken = two.broken;
     first = rows ++ two.first;
     front = (two.front.0, append_assoc rows two.first two.front.0 ∙ ap (λ (l : List RowValue). rows ++ l) two.front.1);
+    holds = λ n before holds. first_behind n before rows two.first more c.disk.contents (two.holds n (before ++ rows) (one.holds n before holds));
+    told = two.told ∙ one.told;
     counted = omega (arith, one.counted, two.counted, length-append rows two.first);
     reads = two.reads ∙ one.faults.reads;
     never_falls = omega (arith, two.never_falls, one.faults.writes);
@@ -119,11 +161,14 @@ module _ (rows more : List RowValue) (a b c : FileState) where
     broken = two.broken;
     first = one.first;
     front = (one.front.0 ++ more, sym (append_assoc one.first one.front.0 more) ∙ ap (λ (l : List RowValue). l ++ more) one.front.1);
-    counted = omega (arith, one.counted, two.counted, ap length (two.stays one.broken));
+    holds = λ n before holds.
+        subst (λ (d : DiskFacts). IfSome d.contents (HoldsFirst n before one.first (rows ++ more))) (sym (two.stays one.broken).1) (first_before n before one.first rows more b.disk.contents (one.holds n before holds));
+    told = two.told ∙ one.told;
+    counted = omega (arith, one.counted, two.counted, ap length (two.stays one.broken).0);
     reads = two.reads ∙ one.reads;
     never_falls = omega (arith, one.never_falls, two.never_falls);
     rose = λ unbroken. rose_further a.disk.write_faults b.disk.write_faults c.disk.write_faults (one.rose unbroken) two.never_falls;
-    stays = one.stays;
+    stays = λ broken. ((one.stays broken).0, (two.stays one.broken).1 ∙ (one.stays broken).1);
   }
 
   pub both : Keeps rows a b → Keeps more b c → Keeps (rows ++ more) a c

@@ -11,7 +11,7 @@ use Rattle.cap_codec.specs.Rows.{RawValue, IsRawRow, row_of}
 use Rattle.log_keeper.specs.LogFile.{HoldsRowsTo}
 use Rattle.peer_stage.specs.declared.outcome.Hosted.{Hosted}
 use Rattle.peer_run.specs.LogClosing.{GivesBack, kept_told}
-use Rattle.peer_run.specs.LogFiles.{FileState, HasFailed, HasKept, Keeps}
+use Rattle.peer_run.specs.LogFiles.{FileState, HasFailed, HasKept, HoldsFirst, Keeps}
 use Rattle.peer_run.specs.LogKept.{HasKeptLog, HoldsOldAndNew, KeepsLog}
 use Rattle.peer_run.specs.LogOpening.{HasOpened, IsBack}
 use Rattle.peer_run.proofs.FiledDeeds.{lost_rose}
@@ -65,6 +65,12 @@ module _ (name n : List ℕ) (rows : List RowValue) (filed : List RawValue) (bay
     by (inl k) = absurd (not_both f'.broken is k.unbroken)
     by (inr k) = k
 
+  held_first : (told : Option Names) → IfSome told (λ names. is_some f.disk.contents ≡ true) → (k : HasFailed rows f f') → IfSome told (λ names. (after : List ℕ) × (f'.disk.contents ≡ Some after) × HoldsFirst n before k.first rows after)
+  held_first None tells k = tt
+  held_first (Some names) tells k =
+      let some = some_of f'.disk.contents (k.told ∙ tells) in
+      (some.0, some.1, subst (λ (contents : Option (List ℕ)). IfSome contents (HoldsFirst n before k.first rows)) some.1 (k.holds n before opened.holds))
+
   reads_are : f'.disk.read_faults ≡ 0
   reads_are = by kept where
     by : Keeps rows f f' → f'.disk.read_faults ≡ 0
@@ -84,7 +90,13 @@ module _ (name n : List ℕ) (rows : List RowValue) (filed : List RawValue) (bay
         unfailed = λ is. let k = was_kept is in (k.faults.writes ∙ opened.writes, omega (arith, k.counted, opened.holds.counted, length-append before rows));
         holds = λ is. held_all bay.names opened.told (was_kept is);
         rose = λ is. lost_rose rows f f' opened.unbroken opened.writes is kept;
-        first = λ is. let k = was_lost is in (k.first, k.front, omega (arith, k.counted, opened.holds.counted, length-append before k.first));
+        first = λ is. let k = was_lost is in
+            record {
+              first = k.first;
+              front = k.front;
+              counted = omega (arith, k.counted, opened.holds.counted, length-append before k.first);
+              holds = held_first bay.names opened.told k;
+            };
         tells = refl;
       }
 

@@ -74,6 +74,8 @@ begun_keeps front rows f f' (inr k) = inr (record {
   broken = k.broken;
   first = k.first;
   front = k.front;
+  holds = λ n before holds. k.holds n before (record { held = holds.held; counted = holds.counted });
+  told = k.told;
   counted = k.counted;
   reads = k.reads;
   never_falls = k.never_falls;

@@ -14,7 +14,7 @@ use Rattle.auth_entry.specs.Authorised.{AuthorisedValue}
 use Rattle.auth_entry.specs.Rows.{entry_row}
 use Rattle.ns_state.specs.declared.live_log.TheConstants.{LOG_LIMIT}
 use Rattle.log_keeper.specs.Causes.{CountsNoFault}
-use Rattle.log_keeper.specs.LogFile.{HoldsRowsTo}
+use Rattle.log_keeper.specs.LogFile.{HoldsRows, HoldsRowsTo}
 use Rattle.log_keeper.specs.Slices.{logged_rows}
 use Rattle.sync_link.specs.Kept.{log_rows}
 use Rattle.peer_stage.specs.declared.outcome.Stop.{Stop}
@@ -59,16 +59,27 @@ pub record HasKept (rows : List RowValue) (old new : FileState) : Type 0 where
   pub faults : CountsNoFault old.disk new.disk
   pub told : is_some new.disk.contents ≡ is_some old.disk.contents
 
--- A write failed, it may be earlier: the first of these rows are kept, and no others.
+-- The bytes hold these rows, and behind them the first of those that were to be kept: those that are counted, and it may be some
+-- more, no more than a slice has.
+pub record HoldsFirst (namespace : List ℕ) (before first rows : List RowValue) (bytes : List ℕ) : Type 0 where
+  pub held : List RowValue
+  pub front : IsPrefix held rows
+  pub behind : IsPrefix first held
+  pub few : length held ≤ length first + 256
+  pub holds : HoldsRows IsRawRow namespace bytes (before ++ held)
+
+-- A write failed, it may be earlier: the first of these rows are kept, and the file is not written again.
 pub record HasFailed (rows : List RowValue) (old new : FileState) : Type 0 where
   pub broken : new.broken ≡ true
   pub first : List RowValue
   pub front : IsPrefix first rows
+  pub holds : (namespace : List ℕ) (before : List RowValue) → HoldsFile namespace before old → IfSome new.disk.contents (HoldsFirst namespace before first rows)
+  pub told : is_some new.disk.contents ≡ is_some old.disk.contents
   pub counted : new.kept ≡ old.kept + length first
   pub reads : new.disk.read_faults ≡ old.disk.read_faults
   pub never_falls : old.disk.write_faults ≤ new.disk.write_faults
   pub rose : old.broken ≡ false → Rose old.disk.write_faults new.disk.write_faults
-  pub stays : old.broken ≡ true → first ≡ []
+  pub stays : old.broken ≡ true → (first ≡ []) × (new.disk ≡ old.disk)
 
 -- one of the two
 abbrev pub Keeps : List RowValue → FileState → FileState → Type 0

@@ -95,6 +95,7 @@ impl<K: Disk> LogFile<K> {
             self.front = front;
             return Ok(());
         }
+        self.keeper.known();
         known_slice(slice);
         slices_are_short::<RawRows>();
         match self.keeper.keep(slice) {
