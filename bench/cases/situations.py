@@ -250,11 +250,11 @@ class Case:
         return links + self.disks(objects)
 
     def disks(self, objects: Objects) -> list:
-        """What the names of the bay hold, and what each disk that came back holds; nothing where no log file is named."""
+        """What the names of the bay hold, and what each disk that came back holds, or that none did; nothing where no log file is named."""
         if self.files is None:
             return []
         return [listed(f"{name}:{data.hex()}" for name, data in sorted(self.files.items())),
-                listed(disk.data.hex() or "-" for disk in objects.bay.back)]
+                ",".join(disk.data.hex() or "-" for disk in objects.bay.back) or "none"]
 
 
 def word_of(value) -> str:

@@ -152,8 +152,18 @@ fn sink_of(alloc: Global) -> MemSink {
     MemSink::new(alloc, Vec::new(alloc), Vec::new(alloc), PIECE)
 }
 
-// The one place that calls: over any objects, so that the contract is met once for all.
-fn call<R: Wait + Threads + Sync, H: Shelf, I: Source, O: Sink, E: Sink, D: Door, N: Noise, B: Bay>(
+// The status of a run that one watches, who shows in this word what it heard of. It knows nothing of the objects, so that the
+// contract of a run is met once for all; and the hub stays within it, since who makes one that watches hands it to nobody.
+fn status_of<
+    R: Wait + Threads + Sync,
+    H: Shelf,
+    I: Source,
+    O: Sink,
+    E: Sink,
+    D: Door,
+    N: Noise,
+    B: Bay,
+>(
     rt: &R,
     alloc: Global,
     words: &[String],
@@ -164,24 +174,19 @@ fn call<R: Wait + Threads + Sync, H: Shelf, I: Source, O: Sink, E: Sink, D: Door
     door: &mut D,
     noise: &mut N,
     bay: &mut B,
-    hub: &mut Hub,
-) -> u8 {
-    peer_run(
-        rt, alloc, words, shelf, input, output, report, door, noise, bay, hub,
-    )
-}
-
-// A hub with one who watches, and shows in this word what it heard of.
-fn watched(alloc: Global, shown: &Arc<AtomicU64>) -> Result<Hub, AllocError> {
+    shown: &Arc<AtomicU64>,
+) -> Result<u8, AllocError> {
     let mut hub = Hub::new(alloc);
     let listener = Listener::new(shown.clone()?);
     let watcher: Box<dyn Watcher> = Box::new(alloc, listener).map_err(|unsaid| AllocError::from(
         unsaid,
     ))?;
-    match hub.add(Area::full(alloc), watcher) {
-        Ok(_) => Ok(hub),
-        Err(_) => Err(AllocError),
+    if hub.add(Area::full(alloc), watcher).is_err() {
+        return Err(AllocError);
     }
+    Ok(peer_run(
+        rt, alloc, words, shelf, input, output, report, door, noise, bay, &mut hub,
+    ))
 }
 
 /// Runs the words over the side's objects and the door, with no input and without faults but the door's. One watches.
@@ -206,8 +211,7 @@ pub(crate) fn over<R: Wait + Threads + Sync, D: Door>(
         Vec::new(alloc),
     );
     let shown = Arc::new(alloc, AtomicU64::new(0))?;
-    let mut hub = watched(alloc, &shown)?;
-    let status = call(
+    let status = status_of(
         rt,
         alloc,
         &words,
@@ -218,8 +222,8 @@ pub(crate) fn over<R: Wait + Threads + Sync, D: Door>(
         door,
         &mut noise,
         &mut bay,
-        &mut hub,
-    );
+        &shown,
+    )?;
     Ok(Outcome {
         status,
         image: shelf.get("i").unwrap_or(None),

@@ -14,6 +14,9 @@ use willow_outside::{MemDisk, MemLink, MemShelf};
 /// What stands before the digest and the length of an output that is told by them.
 const DIGEST_MARK: &str = "sha256:";
 
+// What stands for no disk in place of what each holds.
+const NO_DISK: &str = "none";
+
 /// What a case expects.
 #[derive(Drop)]
 struct Expected<'a> {
@@ -133,10 +136,11 @@ fn holds_traffic(
 
 /// Whether the bay has back just as many disks as the field has items, and each holds the bytes of its item, in order.
 fn holds_disks(alloc: Global, back: &[MemDisk], disks: Option<&str>) -> Result<bool, FromHexError> {
-    let mut items = disks
-        .unwrap_or("")
-        .split(',')
-        .filter(|item| !item.is_empty() && *item != "-");
+    let disks = disks.unwrap_or(NO_DISK);
+    if disks == NO_DISK {
+        return Ok(back.is_empty());
+    }
+    let mut items = disks.split(',');
     for disk in back {
         match items.next() {
             Some(bytes) if disk.contents() == bytes_of(alloc, bytes)?.as_slice() => {}

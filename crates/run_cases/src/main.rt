@@ -15,7 +15,7 @@
 //! 6. Where the door leads to links: the bytes that each gives, told as those of the input, and those that each holds that came
 //!    back; both joined by commas.
 //! 7. Where a log file is named, and behind the fields of 6: what the names of the bay hold, each as `NAME:BYTES`, and what each disk
-//!    holds that came back; both joined by commas.
+//!    holds that came back, or `none`; both joined by commas.
 //!
 //! Input, output and links move at most 100 bytes a call, the report 7. Where something is told by its digest, they move up to
 //! 1,048,576. The cases are made by `bench/cases/make.py`, which shares no code with this program. It promises
