@@ -49,10 +49,8 @@ pub fn authorise<S: Verify>(
     ensures namespace { IfOk result (λ entry. entry.namespace ≡ namespace.now) }
     ensures row { IfOk result (λ entry. entry.row ≡ row) }
 {
-    match check_row(alloc, scheme, namespace, &row) {
-        Ok(()) => Ok(AuthorisedEntry::new(*namespace, row)),
-        Err(end) => Err(end),
-    }
+    check_row(alloc, scheme, namespace, &row)?;
+    Ok(AuthorisedEntry::new(*namespace, row))
 }
 
 impl<S: Verify> AuthorisedEntry<S> {
