@@ -103,11 +103,10 @@ settled_more rules n causes stood k s lt is pending p now all before settles gro
     let here : IsStoodBy rules n causes s = subst (IsStoodBy rules n causes) (sym is) (all k s lt) in
     subst (λ (l : List Stood). AllZip (IsSettled rules n) l now) (sym (passed stood k s lt is)) (subst (AllZip (IsSettled rules n) (take k stood ++ s ∷ [])) (sym grown) (all_zipped_more (IsSettled rules n) (take k stood) pending s p before (settles here)))
 
-pub stood_more : (rules : Rules) (n : List ℕ) (old new : List Capability) (rows : List RawValue) (k : ℕ) (r : RawValue) → k < length rows → r ≡ slice_index_or rows k r
-    → (stood : List Stood) (s : Stood) (now : List Stood) → Stay old new → AllZip (IsStood rules n old) (take k rows) stood
-    → Stands rules n new r s.standing → s.row.now ≡ r → now ≡ stood ++ s ∷ [] → AllZip (IsStood rules n new) (take (k + 1) rows) now
-stood_more rules n old new rows k r lt is stood s now stay before stands same grown =
-    subst (λ (l : List RawValue). AllZip (IsStood rules n new) l now) (sym (passed rows k r lt is)) (subst (AllZip (IsStood rules n new) (take k rows ++ r ∷ [])) (sym grown) (all_zipped_more (IsStood rules n new) (take k rows) stood r s (stood_on rules n old new stay (take k rows) stood before) (same, stands)))
+pub stood_more : (rules : Rules) (n : List ℕ) (old new : List Capability) (rows : List RawValue) (r : RawValue) (stood : List Stood) (s : Stood) (now : List Stood)
+    → Stay old new → AllZip (IsStood rules n old) rows stood → Stands rules n new r s.standing → s.row.now ≡ r → now ≡ stood ++ s ∷ [] → AllZip (IsStood rules n new) (rows ++ r ∷ []) now
+stood_more rules n old new rows r stood s now stay before stands same grown =
+    subst (AllZip (IsStood rules n new) (rows ++ r ∷ [])) (sym grown) (all_zipped_more (IsStood rules n new) rows stood r s (stood_on rules n old new stay rows stood before) (same, stands))
 
 pub carried_causes : (rules : Rules) (rows : List (Bor RawValue)) → map (λ (row : Bor RawValue). capability_refusal rules row.now.token.capability) rows ≡ map (capability_refusal rules) (carried rows)
 carried_causes rules [] = refl

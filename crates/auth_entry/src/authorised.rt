@@ -49,8 +49,10 @@ pub fn authorise<S: Verify>(
     ensures namespace { IfOk result (λ entry. entry.namespace ≡ namespace.now) }
     ensures row { IfOk result (λ entry. entry.row ≡ row) }
 {
-    check_row(alloc, scheme, namespace, &row)?;
-    Ok(AuthorisedEntry::new(*namespace, row))
+    match check_row(alloc, scheme, namespace, &row) {
+        Ok(()) => Ok(AuthorisedEntry::new(*namespace, row)),
+        Err(end) => Err(end),
+    }
 }
 
 impl<S: Verify> AuthorisedEntry<S> {

@@ -1,13 +1,18 @@
 //! What checks many rows.
 
-ghost use Rattle.std.specs.Prelude.{◌≡◌, ℕ, List, map, None, IfOk, IsTrue};
+ghost use Rattle.std.specs.Prelude.{◌≡◌, ◌++◌, ◌∷◌, [], ℕ, List, map, None, IfOk, IsTrue, OnOk};
+ghost use Rattle.std.specs.List.{AllZip};
+ghost use Rattle.std.specs.Vec.Iter.{into_iter_items};
+ghost use Rattle.cap_codec.specs.Rows.{RawValue};
 ghost use Rattle.auth_entry.specs.Authorised.{capability_refusal, row_refusal, verdict};
+ghost use Rattle.auth_entry.specs.Batch.{pending_refusal};
 ghost use Rattle.auth_entry.specs.Places.{carried};
+ghost use Rattle.auth_entry.specs.Standings.{IsStood};
 
 use crate::authorised::AuthorisedEntry;
 use crate::checks::capability_causes;
-use crate::signatures::row_causes;
-use crate::standing::{all_settled, all_stand};
+use crate::signatures::{Pending, row_causes};
+use crate::standing::{Stood, all_settled, all_stand};
 use crate::unknown::Unknown;
 use crate::work::Sharing;
 use cap_codec::RawRow;
@@ -15,6 +20,7 @@ use mc_cap::RowRefusal;
 use scheme_core::{Scheme, Verify};
 use std::alloc::Global;
 use std::thread::Threads;
+use std::vec::IntoIter;
 use willow_path::{NamespaceKey, NoMemory};
 
 /// What checks rows in one namespace by the rules of S. A checker tells its namespace and its scheme; it may remember
@@ -122,13 +128,46 @@ fn refusals_of<S: Scheme, C: Checker<S>>(
 {
     let sharing = Sharing::of(checker.takes_threads(), rows.len());
     let mut refusals = Vec::with_capacity(alloc, rows.len())?;
+    put_all_refusals(rt, alloc, checker, sharing, rows, &mut refusals)?;
+    Ok(refusals)
+}
+
+// Appends why each of the rows is refused, where it is, segment by segment.
+fn put_all_refusals<S: Scheme, C: Checker<S>>(
+    rt: &(impl Threads + Sync),
+    alloc: Global,
+    checker: &mut C,
+    sharing: Sharing,
+    rows: &[RawRow],
+    refusals: &mut Vec<Option<RowRefusal>>,
+) -> Result<(), NoMemory>
+    ensures refusals { OnOk result (refusals.new.items ≡ refusals.old.items ++ map (row_refusal S.rules (C.judged_in checker.old)) rows.now) }
+    ensures same { C.judged_in checker.new ≡ C.judged_in checker.old }
+{
     let mut left = rows;
     'segments: while !left.is_empty() {
         let (segment, behind) = left.split_at(left.len().min(sharing.segment()));
-        refusals.extend_from_slice(&refusals_in(rt, alloc, checker, sharing, segment)?)?;
+        put_refusals(rt, alloc, checker, sharing, segment, refusals)?;
         left = behind;
     }
-    Ok(refusals)
+    Ok(())
+}
+
+// Appends why each of these rows is refused, where it is. They are judged together.
+fn put_refusals<S: Scheme, C: Checker<S>>(
+    rt: &(impl Threads + Sync),
+    alloc: Global,
+    checker: &mut C,
+    sharing: Sharing,
+    rows: &[RawRow],
+    refusals: &mut Vec<Option<RowRefusal>>,
+) -> Result<(), NoMemory>
+    ensures refusals { OnOk result (refusals.new.items ≡ refusals.old.items ++ map (row_refusal S.rules (C.judged_in checker.old)) rows.now) }
+    ensures same { C.judged_in checker.new ≡ C.judged_in checker.old }
+{
+    let more = refusals_in(rt, alloc, checker, sharing, rows)?;
+    refusals.extend_from_slice(&more)?;
+    Ok(())
 }
 
 // Why each of these rows is refused, where it is. Each of their capabilities that is not remembered is checked once.
@@ -142,13 +181,78 @@ fn refusals_in<S: Scheme, C: Checker<S>>(
     ensures refusals { IfOk result (λ refusals. refusals.items ≡ map (row_refusal S.rules (C.judged_in checker.old)) rows.now) }
     ensures same { C.judged_in checker.new ≡ C.judged_in checker.old }
 {
-    let (namespace, scheme) = (checker.namespace(), checker.scheme());
-    let mut unknown = Unknown::new(alloc);
-    let stood = all_stand(alloc, &namespace, checker, &mut unknown, rows)?;
-    let causes = capability_causes(rt, alloc, &scheme, sharing, unknown.rows())?;
-    remember_valid(alloc, checker, unknown.rows(), &causes)?;
-    let pending = all_settled(alloc, &causes, &stood)?;
+    let scheme = checker.scheme();
+    let pending = pending_in(rt, alloc, checker, &scheme, sharing, rows)?;
     row_causes(rt, alloc, &scheme, sharing, &pending)
+}
+
+// What is known of each of these rows before its signature is checked.
+fn pending_in<'r, S: Scheme, C: Checker<S>>(
+    rt: &(impl Threads + Sync),
+    alloc: Global,
+    checker: &mut C,
+    scheme: &S,
+    sharing: Sharing,
+    rows: &'r [RawRow],
+) -> Result<Vec<Pending<'r>>, NoMemory>
+    ensures refusals { IfOk result (λ pending. map (pending_refusal S.rules) pending.items ≡ map (row_refusal S.rules (C.judged_in checker.old)) rows.now) }
+    ensures same { C.judged_in checker.new ≡ C.judged_in checker.old }
+{
+    let mut unknown = Unknown::new(alloc);
+    pending_beside(rt, alloc, checker, scheme, sharing, &mut unknown, rows)
+}
+
+// The same, where it is noted beside them which capabilities are to be checked.
+fn pending_beside<'r, S: Scheme, C: Checker<S>>(
+    rt: &(impl Threads + Sync),
+    alloc: Global,
+    checker: &mut C,
+    scheme: &S,
+    sharing: Sharing,
+    unknown: &mut Unknown<'r>,
+    rows: &'r [RawRow],
+) -> Result<Vec<Pending<'r>>, NoMemory>
+    ensures refusals { IfOk result (λ pending. map (pending_refusal S.rules) pending.items ≡ map (row_refusal S.rules (C.judged_in checker.old)) rows.now) }
+    ensures same { C.judged_in checker.new ≡ C.judged_in checker.old }
+{
+    let stood = all_stand(alloc, checker, unknown, rows)?;
+    pending_of(rt, alloc, checker, scheme, sharing, unknown.rows(), &stood)
+}
+
+// The same of rows that stand so, where the capabilities that the unknown rows carry are to be checked.
+fn pending_of<'r, S: Scheme, C: Checker<S>>(
+    rt: &(impl Threads + Sync),
+    alloc: Global,
+    checker: &mut C,
+    scheme: &S,
+    sharing: Sharing,
+    unknown: &[&RawRow],
+    stood: &[Stood<'r>],
+) -> Result<Vec<Pending<'r>>, NoMemory>
+    requires stood { (n : List ℕ) × (rows : List RawValue) × AllZip (IsStood S.rules n (carried unknown.now)) rows stood.now }
+    ensures refusals { (n : List ℕ) (rows : List RawValue) → AllZip (IsStood S.rules n (carried unknown.now)) rows stood.now
+        → IfOk result (λ pending. map (pending_refusal S.rules) pending.items ≡ map (row_refusal S.rules n) rows) }
+    ensures same { C.judged_in checker.new ≡ C.judged_in checker.old }
+{
+    let causes = causes_remembered(rt, alloc, checker, scheme, sharing, unknown)?;
+    all_settled(alloc, &causes, stood)
+}
+
+// Why the capability of each row is not valid, where it is not. The checker is handed those that are.
+fn causes_remembered<S: Scheme, C: Checker<S>>(
+    rt: &(impl Threads + Sync),
+    alloc: Global,
+    checker: &mut C,
+    scheme: &S,
+    sharing: Sharing,
+    rows: &[&RawRow],
+) -> Result<Vec<Option<RowRefusal>>, NoMemory>
+    ensures causes { IfOk result (λ causes. causes.items ≡ map (capability_refusal S.rules) (carried rows.now)) }
+    ensures same { C.judged_in checker.new ≡ C.judged_in checker.old }
+{
+    let causes = capability_causes(rt, alloc, scheme, sharing, rows)?;
+    remember_valid(alloc, checker, rows, &causes)?;
+    Ok(causes)
 }
 
 // The checker is handed the capabilities of those rows for which there is no cause to refuse them.
@@ -194,10 +298,38 @@ fn verdicts<S: Verify>(
     ensures { IfOk result (λ verdicts. verdicts.items ≡ map (verdict S.rules namespace.now) rows.items) }
 {
     let mut verdicts = Vec::with_capacity(alloc, rows.len())?;
-    for (row, refusal) in rows.into_iter().zip(refusals) {
-        verdicts.push(verdict_by(namespace, row, *refusal))?;
-    }
+    put_verdicts(namespace, rows.into_iter(), refusals, &mut verdicts)?;
     Ok(verdicts)
+}
+
+// Appends the rows that are not refused, and why the others are, in order.
+fn put_verdicts<S: Verify>(
+    namespace: &NamespaceKey,
+    rows: IntoIter<RawRow>,
+    refusals: &[Option<RowRefusal>],
+    verdicts: &mut Vec<Result<AuthorisedEntry<S>, RowRefusal>>,
+) -> Result<(), NoMemory>
+    requires refusals { refusals.now ≡ map (row_refusal S.rules namespace.now) (into_iter_items rows) }
+    ensures verdicts { OnOk result (verdicts.new.items ≡ verdicts.old.items ++ map (verdict S.rules namespace.now) (into_iter_items rows)) }
+{
+    for (row, refusal) in rows.zip(refusals) {
+        put_verdict(namespace, row, refusal, verdicts)?;
+    }
+    Ok(())
+}
+
+// Appends the row, or why it is refused.
+fn put_verdict<S: Verify>(
+    namespace: &NamespaceKey,
+    row: RawRow,
+    refusal: &Option<RowRefusal>,
+    verdicts: &mut Vec<Result<AuthorisedEntry<S>, RowRefusal>>,
+) -> Result<(), NoMemory>
+    requires refusal { refusal.now ≡ row_refusal S.rules namespace.now row }
+    ensures verdict { OnOk result (verdicts.new.items ≡ verdicts.old.items ++ verdict S.rules namespace.now row ∷ []) }
+{
+    verdicts.push(verdict_by(namespace, row, *refusal))?;
+    Ok(())
 }
 
 // The row, or why it is refused.

@@ -1,6 +1,6 @@
 //! The signatures of rows, many by one call.
 
-ghost use Rattle.std.specs.Prelude.{◌≡◌, not, map, filter, IfOk};
+ghost use Rattle.std.specs.Prelude.{◌≡◌, ◌++◌, not, map, filter, IfOk, OnOk};
 ghost use Rattle.spelling.specs.Answers.{cause_if};
 ghost use Rattle.scheme_core.specs.Claims.{accepts_claim};
 ghost use Rattle.scheme_core.specs.Rules.{Rules};
@@ -73,6 +73,19 @@ fn causes_by<S: Verify>(
     ensures { IfOk result (λ causes. causes.items ≡ map (pending_refusal S.rules) pendings.now) }
 {
     let mut causes = Vec::with_capacity(alloc, pendings.len())?;
+    put_causes_by::<S>(pendings, answers, &mut causes)?;
+    Ok(causes)
+}
+
+// Appends why each row is refused, where it is, by the same answers.
+fn put_causes_by<S: Verify>(
+    pendings: &[Pending],
+    answers: &[bool],
+    causes: &mut Vec<Option<RowRefusal>>,
+) -> Result<(), NoMemory>
+    requires answers { answers.now ≡ map (pending_signed S.rules) (filter awaits_signature pendings.now) }
+    ensures causes { OnOk result (causes.new.items ≡ causes.old.items ++ map (pending_refusal S.rules) pendings.now) }
+{
     let mut next = 0;
     'rows: for pending in pendings {
         if awaits_signature(pending) {
@@ -82,7 +95,7 @@ fn causes_by<S: Verify>(
             causes.push(pending.cause)?;
         }
     }
-    Ok(causes)
+    Ok(())
 }
 
 /// Why a row is refused, where it is.

@@ -1,7 +1,8 @@
 //! Where rows stand before a signature is checked.
 
-ghost use Rattle.std.specs.Prelude.{◌≡◌, ℕ, List, All, Some, slice_get, IfOk};
+ghost use Rattle.std.specs.Prelude.{◌≡◌, ◌++◌, ◌∷◌, [], ℕ, List, All, Some, slice_get, IfOk, OnOk};
 ghost use Rattle.std.specs.List.{AllZip};
+ghost use Rattle.cap_codec.specs.Rows.{RawValue};
 ghost use Rattle.mc_cap.specs.declared.capability.Capability.{Capability};
 ghost use Rattle.scheme_core.specs.Rules.{Rules};
 ghost use Rattle.auth_entry.specs.Standings.{Stands, IsStood, IsStoodBy, IsSettled};
@@ -58,20 +59,52 @@ fn stand<'r, S: Verify, C: Checker<S>>(
 /// Where each of the rows stands. Each capability that is not known is to be checked once.
 pub(crate) fn all_stand<'r, S: Verify, C: Checker<S>>(
     alloc: Global,
-    namespace: &NamespaceKey,
     checker: &mut C,
     unknown: &mut Unknown<'r>,
     rows: &'r [RawRow],
 ) -> Result<Vec<Stood<'r>>, NoMemory>
-    ensures stood { IfOk result (λ stood. AllZip (IsStood S.rules namespace.now unknown.new) rows.now stood.items) }
+    ensures stood { IfOk result (λ stood. AllZip (IsStood S.rules (C.judged_in checker.old) unknown.new) rows.now stood.items) }
     ensures same { C.judged_in checker.new ≡ C.judged_in checker.old }
 {
+    let namespace = checker.namespace();
     let mut stood = Vec::with_capacity(alloc, rows.len())?;
-    for row in rows {
-        let standing = stand(namespace, checker, unknown, row)?;
-        stood.push(Stood { row, standing })?;
-    }
+    put_all_stood(&namespace, checker, unknown, rows, &mut stood)?;
     Ok(stood)
+}
+
+// Appends where each of the rows stands. Those that stood so before still do.
+fn put_all_stood<'r, S: Verify, C: Checker<S>>(
+    namespace: &NamespaceKey,
+    checker: &mut C,
+    unknown: &mut Unknown<'r>,
+    rows: &'r [RawRow],
+    stood: &mut Vec<Stood<'r>>,
+) -> Result<(), NoMemory>
+    ensures stood { (before : List RawValue) → AllZip (IsStood S.rules namespace.now unknown.old) before stood.old.items
+        → OnOk result (AllZip (IsStood S.rules namespace.now unknown.new) (before ++ rows.now) stood.new.items) }
+    ensures same { C.judged_in checker.new ≡ C.judged_in checker.old }
+{
+    for row in rows {
+        put_stood(namespace, checker, unknown, row, stood)?;
+    }
+    Ok(())
+}
+
+// Appends where the row stands. Those that stood so before still do.
+fn put_stood<'r, S: Verify, C: Checker<S>>(
+    namespace: &NamespaceKey,
+    checker: &mut C,
+    unknown: &mut Unknown<'r>,
+    row: &'r RawRow,
+    stood: &mut Vec<Stood<'r>>,
+) -> Result<(), NoMemory>
+    ensures stood { (before : List RawValue) → AllZip (IsStood S.rules namespace.now unknown.old) before stood.old.items
+        → OnOk result (AllZip (IsStood S.rules namespace.now unknown.new) (before ++ row.now ∷ []) stood.new.items) }
+    ensures same { C.judged_in checker.new ≡ C.judged_in checker.old }
+{
+    let standing = stand(namespace, checker, unknown, row)?;
+    stood.push(Stood { row, standing })?;
+    Ok(())
 }
 
 // What is known of a row that stood so, where the capabilities that were to be checked are refused with these causes.

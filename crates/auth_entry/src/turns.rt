@@ -1,6 +1,6 @@
 //! Signatures that are checked in threads, row by row: whichever thread is free takes the next.
 
-ghost use Rattle.std.specs.Prelude.{◌≡◌, ◌<◌, List, All, Some, length, map, slice_get, IfOk, IfSome};
+ghost use Rattle.std.specs.Prelude.{◌≡◌, ◌+◌, ◌<◌, List, All, Some, length, map, take, slice_get, IfOk, IfSome, OnOk};
 ghost use Rattle.std.specs.Global.{Vec};
 ghost use Rattle.scheme_core.specs.Rules.{Rules};
 ghost use Rattle.auth_entry.specs.Batch.{IsTold, pending_refusal};
@@ -128,9 +128,28 @@ fn in_order<S: Scheme>(
 {
     let mut causes = Vec::with_capacity(alloc, pendings.len())?;
     'rows: for at in 0..pendings.len() {
-        causes.push(cause_at(alloc, scheme, pendings, placed, at)?)?;
+        put_cause(alloc, scheme, pendings, placed, at, &mut causes)?;
     }
     Ok(causes)
+}
+
+// Appends why the row at a place is refused, where those before it are judged.
+fn put_cause<S: Scheme>(
+    alloc: Global,
+    scheme: &S,
+    pendings: &[Pending],
+    placed: &[Option<Told>],
+    at: usize,
+    causes: &mut Vec<Option<RowRefusal>>,
+) -> Result<(), NoMemory>
+    requires place { at < length pendings.now }
+    requires placed { All (λ told. IfSome told (IsTold S.rules pendings.now)) placed.now }
+    requires before { causes.old.items ≡ map (pending_refusal S.rules) (take at pendings.now) }
+    ensures judged { OnOk result (causes.new.items ≡ map (pending_refusal S.rules) (take (at + 1) pendings.now)) }
+{
+    let cause = cause_at(alloc, scheme, pendings, placed, at)?;
+    causes.push(cause)?;
+    Ok(())
 }
 
 // Why the row at a place is refused, where it is: as it is told there, or else as it is judged now.

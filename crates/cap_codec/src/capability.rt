@@ -2,6 +2,7 @@
 
 ghost use Rattle.std.specs.Prelude.{◌≡◌, length, IfOk, IsErrOf};
 ghost use Rattle.spelling.specs.Form.{Decodes};
+ghost use Rattle.spelling.specs.Front.{Whole, ◌>>=◌ as ◌|>>◌};
 ghost use Rattle.spelling.specs.Reading.{Gives, NeedsNoMemory, many_at};
 ghost use Rattle.spelling.specs.declared.ending.End.TheVariants as ends;
 ghost use Rattle.spelling.specs.declared.input.Unread.TheVariants as unread;
@@ -15,7 +16,7 @@ use scheme_core::MAX_SIGNATURE;
 use spelling::{End, Input, NotHere, Unread};
 use std::alloc::Global;
 use willow_area::read_area;
-use willow_path::{read_namespace_key, read_user_key};
+use willow_path::{NamespaceKey, UserKey, read_namespace_key, read_user_key};
 
 /// The capability that is spelled at the front of the bytes, with the number of bytes taken. It is not here
 /// exactly where no front of the bytes is the spelling of a capability. Whether it is valid is not judged.
@@ -30,16 +31,35 @@ pub fn decode_capability(alloc: Global, bytes: &[u8]) -> Result<(Capability, usi
 
 /// Reads a capability from the front of the input. It is wrong as soon as no capability begins so. An owned one asks for
 /// memory with its initial signature, a communal one behind the path of its first delegation.
-#[tactic(auto, unfolding(crate::specs::Reading::capability_at), using(crate::proofs::Asking::behind_initial))]
+#[tactic(auto, unfolding(crate::specs::Reading::capability_at))]
 pub fn read_capability(alloc: Global, input: &mut Input) -> Result<Capability, Unread>
     ensures gives { Gives (λ capability. capability) result input.new (capability_at input.old) }
     ensures asked { IsErrOf result unread.NoMemory → CapabilityAsks input.old }
 {
     let (mode, owned) = read_form(input)?;
+    let namespace = read_namespace_key(input)?;
+    let user = read_user_key(input)?;
+    read_behind_keys(alloc, mode, owned, namespace, user, input)
+}
+
+// Reads what a capability of this form and these keys has behind them.
+#[tactic(auto, using(crate::proofs::Asking::behind_initial))]
+fn read_behind_keys(
+    alloc: Global,
+    mode: Mode,
+    owned: bool,
+    namespace: NamespaceKey,
+    user: UserKey,
+    input: &mut Input,
+) -> Result<Capability, Unread>
+    ensures gives { Gives (λ capability. capability) result input.new
+        (initial_at owned input.old |>> (λ i. chain_at i.1 |>> (λ c. Whole (record { mode = mode; namespace = namespace; user = user; initial = i.0; chain = c.0 }) c.1))) }
+    ensures asked { IsErrOf result unread.NoMemory → AsksBehindKeys owned input.old }
+{
     Ok(Capability {
         mode,
-        namespace: read_namespace_key(input)?,
-        user: read_user_key(input)?,
+        namespace,
+        user,
         initial: read_initial(alloc, owned, input)?,
         chain: read_chain(alloc, input)?,
     })

@@ -1,6 +1,7 @@
 //! The slots of an arena, and what each names by index.
 
-ghost use Rattle.std.specs.Prelude.{◌≡◌, ℕ, ◌<◌, length, option_copied};
+ghost use Rattle.std.specs.Prelude.{◌≡◌, ℕ, ◌<◌, true, false, length, option_copied};
+ghost use Rattle.std.specs.declared.cmp.Ordering.TheVariants.{Less};
 ghost use Rattle.link_arena.specs.Slots.{side, rest, afters, befores, slot_cmp, value_at, IsSetAt};
 
 use crate::twice::{Order, Twice, compare};
@@ -90,8 +91,25 @@ pub(crate) fn ends_at<T>(slots: &[Slot<T>], order: Order, at: u32) -> Ends
     }
 }
 
+// Whether the value of a slot stands before that of another: not where one is vacant.
+pub(crate) fn stands_before<T: Twice, L: Ledger>(
+    slots: &[Slot<T>],
+    order: Order,
+    a: u32,
+    b: u32,
+    steps: &mut Steps<L>,
+) -> bool
+    ensures before { result ≡ true → slot_cmp (T.cmp_by order) (value_at slots.now a) (value_at slots.now b) ≡ Less }
+    ensures not_before { result ≡ false → slot_cmp (T.cmp_by order) (value_at slots.now a) (value_at slots.now b) ≡ Less → ⊥ }
+{
+    match compare_slots(slots, order, a, b, steps) {
+        Ordering::Less => true,
+        _ => false,
+    }
+}
+
 // How the values of two slots are ordered: as equal where one is vacant.
-pub(crate) fn compare_slots<T: Twice, L: Ledger>(
+fn compare_slots<T: Twice, L: Ledger>(
     slots: &[Slot<T>],
     order: Order,
     a: u32,

@@ -5,9 +5,8 @@ ghost use Rattle.link_arena.specs.Tree.{Tree, IsTree, CanTake, IsOut, IsLeastOut
 ghost use Rattle.link_arena.specs.Slots.{side, rest, Precedes};
 
 use crate::join::weave;
-use crate::slot::{Slot, compare_slots, link_at};
+use crate::slot::{Slot, link_at, stands_before};
 use crate::twice::{Order, Twice};
-use std::cmp::Ordering;
 use std::sync::ledger::Ledger;
 use step_count::Steps;
 
@@ -65,14 +64,11 @@ pub(crate) fn take<T: Twice, L: Ledger>(
         return take_top(slots, order, at);
     }
     let link = link_at(slots, order, at);
-    match compare_slots(slots, order, slot, at, steps) {
-        Ordering::Less => {
-            let left = take(slots, order, link.left, slot, steps);
-            weave(slots, order, left, at, link.right)
-        }
-        _ => {
-            let right = take(slots, order, link.right, slot, steps);
-            weave(slots, order, link.left, at, right)
-        }
+    if stands_before(slots, order, slot, at, steps) {
+        let left = take(slots, order, link.left, slot, steps);
+        weave(slots, order, left, at, link.right)
+    } else {
+        let right = take(slots, order, link.right, slot, steps);
+        weave(slots, order, link.left, at, right)
     }
 }

@@ -14,6 +14,7 @@ use crate::known_tree::KnownTree;
 use crate::one_use::OneUse;
 use spelling::{End, NoMemory};
 use std::alloc::Global;
+use std::fmt;
 use std::thread::Threads;
 use thiserror::Error;
 use willow_outside::{Fault, Shelf};
@@ -22,20 +23,29 @@ use willow_outside::{Fault, Shelf};
 #[derive(Clone, Copy, Debug, PartialEq, Eq, Error)]
 pub enum KeyRefusal {
     /// The shelf's read failed, as its count of read faults shows.
-    #[error("the shelf could not be read")]
     ShelfRead,
     /// There is no such name.
-    #[error("the shelf has no such name")]
     Missing,
     /// The name holds no key file.
-    #[error("the name holds no key file")]
     BadKeyFile,
     /// The key has fewer indices left than were asked for: `next` is the first that is not used.
-    #[error("from index {next} on the key has too few indices left")]
     KeySpent { next: u32 },
     /// The shelf's write failed, as its count of write faults shows; the name holds the old or the new file.
-    #[error("the shelf could not be written")]
     ShelfWrite,
+}
+
+impl fmt::Display for KeyRefusal {
+    fn fmt<W: fmt::Write>(&self, f: &mut fmt::Formatter<W>) -> fmt::Result {
+        match self {
+            KeyRefusal::ShelfRead => f.write_str("the shelf could not be read"),
+            KeyRefusal::Missing => f.write_str("the shelf has no such name"),
+            KeyRefusal::BadKeyFile => f.write_str("the name holds no key file"),
+            KeyRefusal::KeySpent { next } => {
+                write!(f, "from index {next} on the key has too few indices left")
+            }
+            KeyRefusal::ShelfWrite => f.write_str("the shelf could not be written"),
+        }
+    }
 }
 
 impl LmsKey {

@@ -3,6 +3,7 @@
 ghost use Rattle.std.specs.Prelude.{◌≡◌, ◌++◌, ◌+◌, ◌<◌, length, IfOk, OnOk};
 ghost use Rattle.lms_core.specs.Bytes.{u32_str};
 ghost use Rattle.lms_core.specs.Accepts.{one_time_type, levels, leaves, type_of};
+ghost use Rattle.lms_core.specs.OneTime.{digits, message_hash};
 ghost use Rattle.lms_core.specs.Signer.{key_of_leaf, values_at, node_value, root_value, sibling, path_of, randomizer, public_key, signature_of};
 
 use crate::bytes::{four_bytes, join_into};
@@ -67,13 +68,39 @@ impl Tree {
         ensures { IfOk result (λ v. v.items ≡ (((public.now ++ head.now) ++ values.now) ++ u32_str (type_of self.now.height)) ++ path.now) }
     {
         let mut bytes = Vec::new(alloc);
-        bytes.extend_from_slice(public)?;
-        bytes.extend_from_slice(head)?;
-        bytes.extend_from_slice(values)?;
-        bytes.extend_from_slice(&four_bytes(self.height.tree_type()))?;
-        bytes.extend_from_slice(path)?;
+        append_two(public, head, &mut bytes)?;
+        self.append_rest(values, path, &mut bytes)?;
         Ok(bytes)
     }
+
+    /// Appends the parts of a signature behind its head.
+    fn append_rest(&self, values: &[u8], path: &[u8], bytes: &mut Vec<u8>) -> Result<(), NoMemory>
+        ensures { OnOk result (bytes.new.items ≡ ((bytes.old.items ++ values.now) ++ u32_str (type_of self.now.height)) ++ path.now) }
+    {
+        append_two(values, &four_bytes(self.height.tree_type()), bytes)?;
+        bytes.extend_from_slice(path)?;
+        Ok(())
+    }
+}
+
+/// Appends two pieces.
+fn append_two(first: &[u8], second: &[u8], bytes: &mut Vec<u8>) -> Result<(), NoMemory>
+    ensures { OnOk result (bytes.new.items ≡ (bytes.old.items ++ first.now) ++ second.now) }
+{
+    bytes.extend_from_slice(first)?;
+    bytes.extend_from_slice(second)?;
+    Ok(())
+}
+
+/// What stands in front of a signature's chain values: the leaf's number, the one-time type and the randomizer.
+fn head_of(index: u32, randomizer: &[u8; 32]) -> [u8; 40]
+    ensures { result ≡ (u32_str index ++ u32_str one_time_type) ++ randomizer.now }
+{
+    let mut numbers = [0; 8];
+    join_into(&mut numbers, &four_bytes(index), &four_bytes(ONE_TIME_TYPE));
+    let mut head = [0; 40];
+    join_into(&mut head, &numbers, randomizer);
+    head
 }
 
 impl KnownTree {
@@ -116,16 +143,34 @@ impl KnownTree {
     {
         let tree = self.tree();
         let randomizer = tree.randomizer(index, message);
-        let digits = digits_of(&tree.identifier, index, &randomizer, message);
         let mut values = Vec::new(alloc);
-        let key = tree.sign_chains(index, &digits, &mut values)?;
-        let leaf = leaf(&tree.identifier, tree.height.leaves() + index, &key);
         let mut path = Vec::new(alloc);
-        let root = self.append_path(index, &leaf, &mut path)?;
-        let mut numbers = [0; 8];
-        join_into(&mut numbers, &four_bytes(index), &four_bytes(ONE_TIME_TYPE));
-        let mut head = [0; 40];
-        join_into(&mut head, &numbers, &randomizer);
-        tree.joined(alloc, &tree.public_of_root(&root), &head, &values, &path)
+        let public = self.append_parts(index, &randomizer, message, &mut values, &mut path)?;
+        tree.joined(alloc, &public, &head_of(index, &randomizer), &values, &path)
+    }
+
+    /// Appends the chain values of a leaf's signature of a message to `values`, and the siblings on the leaf's way to
+    /// the root to `path`, and answers the public key.
+    fn append_parts(
+        &self,
+        index: u32,
+        randomizer: &[u8; 32],
+        message: &[u8],
+        values: &mut Vec<u8>,
+        path: &mut Vec<u8>,
+    ) -> Result<[u8; 56], NoMemory>
+        requires { index < leaves self.now.height }
+        ensures public { IfOk result (λ public. public ≡ public_key self.now.height self.now.identifier self.now.seed) }
+        ensures signed { OnOk result (values.new.items ≡ values.old.items
+            ++ values_at self.now.identifier self.now.seed index 0 (digits (message_hash self.now.identifier index randomizer.now message.now))) }
+        ensures siblings { OnOk result (path.new.items ≡ path.old.items
+            ++ path_of self.now.height self.now.identifier self.now.seed 0 (leaves self.now.height + index) (levels self.now.height)) }
+    {
+        let tree = self.tree();
+        let digits = digits_of(&tree.identifier, index, randomizer, message);
+        let key = tree.sign_chains(index, &digits, values)?;
+        let leaf = leaf(&tree.identifier, tree.height.leaves() + index, &key);
+        let root = self.append_path(index, &leaf, path)?;
+        Ok(tree.public_of_root(&root))
     }
 }

@@ -1,6 +1,8 @@
 //! The bytes of a record.
 
-ghost use Rattle.std.specs.Prelude.{◌≡◌, ◌≤◌, length, IfOk};
+ghost use Rattle.std.specs.Int.{w32, to_be_bytes};
+ghost use Rattle.std.specs.Prelude.{◌≡◌, ◌<◌, ◌≤◌, ◌^◌, [], ◌∷◌, ◌++◌, length, IfOk, OnOk};
+ghost use Rattle.spelling.specs.Spelling.{text_spelling};
 ghost use Rattle.row_stream.specs.Streams.{frames_of};
 ghost use Rattle.log_keeper.specs.LogFile.{last_record};
 ghost use Rattle.log_keeper.specs.Slices.{logged_rows, AreFramed};
@@ -27,6 +29,18 @@ fn frames<R: Row>(alloc: Global, slice: &[LogRow<R>]) -> Result<Vec<u8>, NoMemor
     Ok(out)
 }
 
+// Appends the record of these frames: an open gate, their length, the frames, and a closed gate behind them. Without memory
+// a front of it was appended.
+fn put_record(frames: &[u8], out: &mut Vec<u8>) -> Result<(), NoMemory>
+    requires { length frames.now < 2 ^ 32 }
+    ensures { OnOk result (out.new.items ≡ out.old.items ++ ((1 ∷ text_spelling (to_be_bytes w32) frames.now) ++ 0 ∷ [])) }
+{
+    put_byte(out, OPEN)?;
+    put_u32(out, frames.len() as u32)?;
+    put_bytes(out, frames)?;
+    put_byte(out, 0)
+}
+
 /// The bytes of a record of these rows: an open gate, the length and the frames, and a closed gate behind them.
 pub(crate) fn record_of<R: Row>(alloc: Global, slice: &[LogRow<R>]) -> Result<Vec<u8>, NoMemory>
     requires framed { AreFramed (logged_rows R.value slice.now) }
@@ -34,11 +48,7 @@ pub(crate) fn record_of<R: Row>(alloc: Global, slice: &[LogRow<R>]) -> Result<Ve
     ensures spelled { IfOk result (λ v. v.items ≡ last_record (logged_rows R.value slice.now)) }
 {
     let frames = frames(alloc, slice)?;
-    let size = frames.len();
-    let mut out = Vec::with_capacity(alloc, size.saturating_add(AROUND))?;
-    put_byte(&mut out, OPEN)?;
-    put_u32(&mut out, size as u32)?;
-    put_bytes(&mut out, &frames)?;
-    put_byte(&mut out, 0)?;
+    let mut out = Vec::with_capacity(alloc, frames.len().saturating_add(AROUND))?;
+    put_record(&frames, &mut out)?;
     Ok(out)
 }

@@ -287,7 +287,7 @@ fn keep_and_close<H: Shelf, K: Disk>(
     file: &mut Option<LogFile<K>>,
 ) -> Result<Done, Stop>
     requires room { IfSome (file_states K.facts file.old) (λ f. HasRoom (length attended.now.state.log - f.front) f × (f.front ≤ length attended.now.state.log)) }
-    ensures tells { (others : World) → Tells (PutsImage (string_bytes name.now)) (told_behind rows first attended.now) (TellsHosted awaited) (record others { shelf = H.facts shelf.old }) (record others { shelf = H.facts shelf.new }) result }
+    ensures told { (others : World) → Tells (PutsImage (string_bytes name.now)) (told_behind rows first attended.now) (TellsHosted awaited) (record others { shelf = H.facts shelf.old }) (record others { shelf = H.facts shelf.new }) result }
     ensures kept { IfOk result (λ d. KeepsRest attended.now.state.log (file_states K.facts file.old) (file_states K.facts file.new)) }
     ensures goes_on { GoesOnIf (file_states K.facts file.old) (file_states K.facts file.new) }
 {

@@ -1,11 +1,11 @@
 //! Reading the frames of a piece.
 
-ghost use Rattle.std.specs.Prelude.{◌≡◌, ◌+◌, ◌^◌, ◌<◌, ◌≤◌, [], ◌++◌, length, take, OnErr, IsErrOf};
+ghost use Rattle.std.specs.Prelude.{◌≡◌, ◌+◌, ◌^◌, ◌<◌, ◌≤◌, ℕ, List, [], ◌++◌, length, take, OnErr, IsErrOf};
 ghost use Rattle.spelling.specs.declared.ending.End.TheVariants as ends;
 ghost use Rattle.willow_entry.specs.EntryForm.{EntryAsks};
 ghost use Rattle.row_stream.specs.Memory.{PieceAsks};
 ghost use Rattle.row_stream.specs.Places.{IsUnfinished};
-ghost use Rattle.row_stream.specs.Steps.{AddsRow, ReadsFrames, ReadsOn, ReadsRow};
+ghost use Rattle.row_stream.specs.Steps.{AddsRow, IsCompleted, ReadsFrames, ReadsOn, ReadsRow};
 
 use crate::begun::{begin_with, complete};
 use crate::frame::{FIELD, split_frame};
@@ -53,6 +53,23 @@ fn read_into<F: RowForm>(
         return read_on::<F>(alloc, at, begun, piece, rows);
     }
     let rest = complete(begun, piece)?;
+    read_rest::<F>(alloc, at, begun, rest, rows)
+}
+
+// The same where the frame that had begun is completed as far as the piece goes, and the rest of the piece is given.
+fn read_rest<F: RowForm>(
+    alloc: Global,
+    at: u64,
+    begun: &mut Vec<u8>,
+    rest: &[u8],
+    rows: &mut Vec<F::R>,
+) -> Result<u64, End<StreamRefusal>>
+    requires few { at + length begun.old.items + length rest.now < 2 ^ 64 }
+    requires none { rows.old.items ≡ [] }
+    ensures reads { (had piece : List ℕ) → IsCompleted had piece begun.old.items rest.now
+        → ReadsFrames F.IsRow F.R.value (λ here. here) (λ here. begun.new.items) at (had ++ piece) [] rows.new.items result }
+    ensures kept { OnErr result (begun.new.items ≡ begun.old.items) }
+{
     match split_frame(begun) {
         Ok((body, _)) => {
             add_row::<F>(alloc, at, body, rows)?;

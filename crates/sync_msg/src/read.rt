@@ -2,12 +2,15 @@
 
 ghost use Rattle.std.specs.Prelude.{◌≡◌, ◌<◌, ◌≤◌, IfOk, IsErrOf};
 ghost use Rattle.spelling.specs.Memory.{IsWhole};
-ghost use Rattle.spelling.specs.Reading.{Gives, NeedsNoMemory, bytes_at, many_at};
+ghost use Rattle.std.specs.Int.{w32};
+ghost use Rattle.spelling.specs.Front.{Whole, ◌>>=◌ as ◌|>>◌};
+ghost use Rattle.spelling.specs.Reading.{Gives, NeedsNoMemory, byte_up_to, bytes_at, many_at, number_up_to};
 ghost use Rattle.spelling.specs.declared.input.Unread.TheVariants as unread;
 ghost use Rattle.willow_entry.specs.Frame.{FrameAsks};
+ghost use Rattle.sync_msg.specs.declared.item.Item.TheVariants as items;
 ghost use Rattle.sync_msg.specs.Items.{item_value};
 ghost use Rattle.sync_msg.specs.CutPoints as points;
-ghost use Rattle.sync_msg.specs.ItemReading.{cut_at, split_at, part_point_at, counted_at, cut_in_parts_at, head_at, body_at, GivesRow};
+ghost use Rattle.sync_msg.specs.ItemReading.{cut_at, split_at, part_point_at, points_at, counted_at, cut_in_parts_at, head_at, body_at, GivesRow};
 ghost use Rattle.sync_msg.specs.Memory.{CutAsks, CountedAsk, PartsAsk, HeadAsks};
 
 use crate::item::{Item, MAX_ENTRIES, MAX_REST};
@@ -30,22 +33,46 @@ pub(crate) fn read_head<R: Row>(
     ensures asked { IsErrOf result unread.NoMemory → HeadAsks version input.old }
 {
     match input.byte()? {
-        1 => Ok(Item::First {
-            print: input.array()?,
-        }),
+        1 => read_first(input),
         2 => Ok(Item::Agree),
         3 if version == 1 => read_split(alloc, input),
-        4 => Ok(Item::Entries {
-            count: input.byte_up_to(MAX_ENTRIES)?,
-        }),
-        5 => Ok(Item::Rest {
-            count: input.number_u32_up_to(MAX_REST)?,
-        }),
+        4 => read_entries(input),
+        5 => read_rest(input),
         6 => Ok(Item::EndTurn),
         7 => Ok(Item::Bye),
         8 if version == 2 => read_parts(alloc, input),
         _ => Err(Unread::Wrong),
     }
+}
+
+// Reads the fingerprint of the whole box.
+fn read_first<R: Row>(input: &mut Input) -> Result<Item<R>, Unread>
+    ensures gives { Gives (item_value R.value) result input.new (bytes_at 32 input.old |>> (λ print. Whole (items.First print.0) print.1)) }
+    ensures sure { NeedsNoMemory result }
+{
+    Ok(Item::First {
+        print: input.array()?,
+    })
+}
+
+// Reads how many rows of a box follow.
+fn read_entries<R: Row>(input: &mut Input) -> Result<Item<R>, Unread>
+    ensures gives { Gives (item_value R.value) result input.new (byte_up_to MAX_ENTRIES input.old |>> (λ count. Whole (items.Entries count.0) count.1)) }
+    ensures sure { NeedsNoMemory result }
+{
+    Ok(Item::Entries {
+        count: input.byte_up_to(MAX_ENTRIES)?,
+    })
+}
+
+// Reads how many further rows of a box follow.
+fn read_rest<R: Row>(input: &mut Input) -> Result<Item<R>, Unread>
+    ensures gives { Gives (item_value R.value) result input.new (number_up_to w32 MAX_REST input.old |>> (λ count. Whole (items.Rest count.0) count.1)) }
+    ensures sure { NeedsNoMemory result }
+{
+    Ok(Item::Rest {
+        count: input.number_u32_up_to(MAX_REST)?,
+    })
 }
 
 // Reads a cut and the fingerprints of its parts.
@@ -55,6 +82,15 @@ fn read_split<R: Row>(alloc: Global, input: &mut Input) -> Result<Item<R>, Unrea
     ensures asked { IsErrOf result unread.NoMemory → CutAsks input.old }
 {
     let at = read_cut(alloc, input)?;
+    read_halves(at, input)
+}
+
+// Reads the fingerprints of the parts of a cut, which is handed over: it is let go here where they are not read.
+fn read_halves<R: Row>(at: CutAt, input: &mut Input) -> Result<Item<R>, Unread>
+    ensures gives { Gives (item_value R.value) result input.new
+        (bytes_at 32 input.old |>> (λ lower. bytes_at 32 lower.1 |>> (λ upper. Whole (items.Split at lower.0 upper.0) upper.1))) }
+    ensures sure { NeedsNoMemory result }
+{
     let lower: [u8; 32] = input.array()?;
     let upper: [u8; 32] = input.array()?;
     Ok(Item::Split { at, lower, upper })
@@ -88,7 +124,7 @@ fn read_parts<R: Row>(alloc: Global, input: &mut Input) -> Result<Item<R>, Unrea
 }
 
 // Reads the number of the points of a dimension, the points and the fingerprints.
-#[tactic(auto, unfolding(crate::specs::ItemReading::counted_at, crate::specs::ItemReading::points_at))]
+#[tactic(auto, unfolding(crate::specs::ItemReading::counted_at))]
 fn read_counted<R: Row>(alloc: Global, input: &mut Input, dimension: u8) -> Result<Item<R>, Unread>
     ensures gives { Gives (item_value R.value) result input.new (counted_at dimension input.old) }
     ensures asked { IsErrOf result unread.NoMemory → CountedAsk dimension input.old }
@@ -97,6 +133,22 @@ fn read_counted<R: Row>(alloc: Global, input: &mut Input, dimension: u8) -> Resu
     if count == 0 {
         return Err(Unread::Wrong);
     }
+    read_behind_count(alloc, input, dimension, count)
+}
+
+// Reads so many points of a dimension, and one fingerprint more.
+#[tactic(auto, unfolding(crate::specs::ItemReading::points_at))]
+fn read_behind_count<R: Row>(
+    alloc: Global,
+    input: &mut Input,
+    dimension: u8,
+    count: u8,
+) -> Result<Item<R>, Unread>
+    requires some { 0 < count }
+    requires few { count ≤ MAX_POINTS }
+    ensures gives { Gives (item_value R.value) result input.new (points_at dimension count input.old) }
+    ensures asked { IsErrOf result unread.NoMemory → IsWhole (part_point_at dimension input.old) }
+{
     let points = read_points(alloc, input, dimension, count)?;
     let prints = read_prints(alloc, input, usize::from(count) + 1)?;
     Ok(Item::Parts { points, prints })

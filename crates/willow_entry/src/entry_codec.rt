@@ -1,18 +1,24 @@
 //! How entries are spelled as bytes, and read back.
 
-ghost use Rattle.std.specs.Prelude.{◌≡◌, ◌<◌, ◌≤◌, ◌^◌, ◌++◌, length, take, vec_len, OnOk, OnErr, IsErrOf};
+ghost use Rattle.std.specs.Prelude.{◌≡◌, ◌<◌, ◌≤◌, ◌^◌, ◌++◌, ℕ, List, length, take, vec_len, OnOk, OnErr, IsErrOf};
 ghost use Rattle.std.specs.Int.{w64, to_be_bytes};
 ghost use Rattle.spelling.specs.Form.{Decodes};
-ghost use Rattle.spelling.specs.Reading.{Gives};
+ghost use Rattle.spelling.specs.Front.{Whole, ◌>>=◌ as ◌|>>◌};
+ghost use Rattle.spelling.specs.Memory.{IsWhole};
+ghost use Rattle.spelling.specs.Reading.{Gives, NeedsNoMemory, bytes_at, number_at};
 ghost use Rattle.spelling.specs.Spelling.{AreSoManyBytes};
 ghost use Rattle.spelling.specs.declared.ending.End.TheVariants as ends;
 ghost use Rattle.spelling.specs.declared.input.Unread.TheVariants as unread;
+ghost use Rattle.willow_path.specs.PathSpelling.{path_at};
+ghost use Rattle.willow_entry.specs.declared.entry.Entry.{Entry as EntryValue};
 ghost use Rattle.willow_entry.specs.EntryForm.{entry_at, entry_spelling, EntryAsks, IsEntry};
 
 use crate::entry::Entry;
 use spelling::{End, Input, NoMemory, NotHere, Unread, put_bytes, put_u64};
 use std::alloc::Global;
-use willow_path::{read_digest, read_namespace_key, read_path, read_user_key};
+use willow_path::{
+    Digest, NamespaceKey, UserKey, read_digest, read_namespace_key, read_path, read_user_key,
+};
 
 // How many bytes of an entry's spelling are not its path's: two keys of 33 bytes, two numbers of 8 and a digest of 32.
 const BESIDE_PATH: usize = 33 + 33 + 8 + 8 + 32;
@@ -68,14 +74,44 @@ pub fn read_entry(alloc: Global, input: &mut Input) -> Result<Entry, Unread>
     ensures gives { Gives (λ entry. entry) result input.new (entry_at input.old) }
     ensures asked { IsErrOf result unread.NoMemory → EntryAsks input.old }
 {
+    let namespace = read_namespace_key(input)?;
+    let subspace = read_user_key(input)?;
+    read_behind_keys(alloc, namespace, subspace, input)
+}
+
+// Reads what an entry of these keys has behind them.
+fn read_behind_keys(
+    alloc: Global,
+    namespace: NamespaceKey,
+    subspace: UserKey,
+    input: &mut Input,
+) -> Result<Entry, Unread>
+    ensures gives { Gives (λ entry. entry) result input.new
+        (path_at input.old |>> (λ p. number_at w64 p.1 |>> (λ t. number_at w64 t.1 |>> (λ l. bytes_at 32 l.1 |>> (λ d. Whole (record { namespace = namespace; subspace = subspace; path = p.0; timestamp = t.0; length = l.0; digest = record { 0 = d.0 } }) d.1))))) }
+    ensures asked { IsErrOf result unread.NoMemory → IsWhole (path_at input.old) }
+{
+    let path = read_path(alloc, input)?;
+    let (timestamp, length, digest) = read_numbers(input)?;
     Ok(Entry {
-        namespace: read_namespace_key(input)?,
-        subspace: read_user_key(input)?,
-        path: read_path(alloc, input)?,
-        timestamp: input.number_u64()?,
-        length: input.number_u64()?,
-        digest: read_digest(input)?,
+        namespace,
+        subspace,
+        path,
+        timestamp,
+        length,
+        digest,
     })
+}
+
+// Reads timestamp, payload length and digest, which an entry of any name has behind its path.
+fn read_numbers(input: &mut Input) -> Result<(u64, u64, Digest), Unread>
+    ensures gives { (n s : List ℕ) (p : List (List ℕ)) → Gives {Y = EntryValue} (λ x. record { namespace = n; subspace = s; path = p; timestamp = x.0; length = x.1; digest = x.2 }) result input.new
+        (number_at w64 input.old |>> (λ t. number_at w64 t.1 |>> (λ l. bytes_at 32 l.1 |>> (λ d. Whole (record { namespace = n; subspace = s; path = p; timestamp = t.0; length = l.0; digest = record { 0 = d.0 } }) d.1)))) }
+    ensures sure { NeedsNoMemory result }
+{
+    let timestamp = input.number_u64()?;
+    let length = input.number_u64()?;
+    let digest = read_digest(input)?;
+    Ok((timestamp, length, digest))
 }
 
 // The fields are within their limits, as their types say.

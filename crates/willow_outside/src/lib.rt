@@ -2,6 +2,7 @@
 //! A call fails only where its count rose, moves just the bytes that it says, and changes nothing else.
 #![tactic(auto)]
 
+mod asked;
 mod bay;
 mod byte_link;
 mod cabinet;

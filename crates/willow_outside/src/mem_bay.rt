@@ -9,6 +9,7 @@ ghost use Rattle.willow_outside.specs.Links.{AsksPlace as AsksName, HandsOutLink
 ghost use Rattle.willow_outside.specs.Names.{names_in};
 ghost use Rattle.willow_outside.specs.Plan.{plan_of, called, IsPlanned};
 
+use crate::asked::expect_back;
 use crate::cabinet::Cabinet;
 use crate::returns::Returns;
 use crate::schedule::Schedule;
@@ -85,6 +86,21 @@ impl MemBay {
         };
         Ok(MemDisk::new(self.alloc, contents, fails))
     }
+
+    // Counts a disk of this name as out, which has room to come back, or without memory does not.
+    fn let_out(&mut self, name: &str) -> Result<(), AllocError>
+        ensures out { HandsOutDisk self.old.out self.new.out result }
+        ensures asked { AsksName (Some self.old.asked) (Some self.new.asked) name.now result }
+        ensures back { self.new.back ≡ self.old.back }
+        ensures contents { self.new.contents ≡ self.old.contents }
+        ensures disk_fails { self.new.disk_fails ≡ self.old.disk_fails }
+        ensures plan { self.new.plan ≡ self.old.plan }
+        ensures faults { self.new.faults ≡ self.old.faults }
+    {
+        expect_back(self.alloc, &mut self.returns, &mut self.asked, name)?;
+        self.returns.go_out();
+        Ok(())
+    }
 }
 
 impl Bay for MemBay {
@@ -109,10 +125,7 @@ impl Bay for MemBay {
             return Err(Fault::Failed);
         }
         let disk = self.new_disk(name)?;
-        let name = String::from_str(self.alloc, name)?;
-        self.returns.make_room()?;
-        self.asked.push(name)?;
-        self.returns.go_out();
+        self.let_out(name)?;
         Ok(disk)
     }
 

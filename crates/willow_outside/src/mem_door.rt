@@ -6,6 +6,7 @@ ghost use Rattle.willow_outside.specs.Counts.{CountsFault, one_more};
 ghost use Rattle.willow_outside.specs.Links.{AsksPlace, HandsOutLink, IsFresh, list_with};
 ghost use Rattle.willow_outside.specs.Plan.{plan_of, called, IsPlanned, HandsOutPlanned};
 
+use crate::asked::{expect_back, take_down};
 use crate::schedule::Schedule;
 use crate::traffic::Traffic;
 use crate::{Door, Fault, Link};
@@ -82,8 +83,7 @@ impl<L: Link + Send> Door for MemDoor<L> {
             self.faults = self.faults.saturating_add(1);
             return Err(Fault::Failed);
         }
-        let place = String::from_str(self.alloc, place)?;
-        self.asked.push(place)?;
+        take_down(self.alloc, &mut self.asked, place)?;
         Ok(())
     }
 
@@ -120,9 +120,12 @@ impl<L: Link + Send> Door for MemDoor<L> {
             self.faults = self.faults.saturating_add(1);
             return Err(Fault::Failed);
         }
-        let place = String::from_str(self.alloc, place)?;
-        self.traffic.returns.make_room()?;
-        self.asked.push(place)?;
+        expect_back(
+            self.alloc,
+            &mut self.traffic.returns,
+            &mut self.asked,
+            place,
+        )?;
         Ok(self.traffic.hand_out())
     }
 

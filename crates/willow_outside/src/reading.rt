@@ -1,6 +1,6 @@
 //! Reading a source up to its end.
 
-ghost use Rattle.std.specs.Prelude.{◌≡◌, ◌≤◌, length, Ok, Err, IfOk, IfErr, OnOk, OnErr};
+ghost use Rattle.std.specs.Prelude.{◌≡◌, ◌<◌, ◌≤◌, [], length, Ok, Err, IfOk, IfErr, OnOk, OnErr};
 ghost use Rattle.std.specs.Io.KnownBytes.{Consumes, IsAtEnd};
 ghost use Rattle.spelling.specs.declared.ending.End.TheVariants as stops;
 ghost use Rattle.willow_outside.specs.declared.reading.ReadEnd.TheVariants as read_ends;
@@ -50,9 +50,33 @@ pub fn read_all<S: Source>(
 {
     let mut bytes = Vec::new(alloc);
     let mut piece = room(alloc, PIECE)?;
+    read_on(source, limit, &mut piece, &mut bytes)?;
+    Ok(bytes)
+}
+
+/// Puts all bytes of `source` into `bytes`, a piece at a time. It owns nothing that its many ends would have to let go.
+fn read_on<S: Source>(
+    source: &mut S,
+    limit: u64,
+    piece: &mut [u8],
+    bytes: &mut Vec<u8>,
+) -> Result<(), End<ReadEnd>>
+    requires none { bytes.old.items ≡ [] }
+    requires room { 0 < length piece.old }
+    ensures bytes { OnOk result (Consumes (S.facts source.old).left (S.facts source.new).left bytes.new.items) }
+    ensures all { OnOk result (IsAtEnd (S.facts source.new).left) }
+    ensures within { OnOk result (length bytes.new.items ≤ limit) }
+    ensures taken { IfErr result (λ e. TookBefore (S.facts source.old).left (S.facts source.new).left limit e) }
+    ensures ended { OnOk result (Rose (S.facts source.old).ends (S.facts source.new).ends) }
+    ensures not_ended { OnErr result ((S.facts source.new).ends ≡ (S.facts source.old).ends) }
+    ensures ends { (S.facts source.old).ends ≤ (S.facts source.new).ends }
+    ensures failed { result ≡ Err (stops.Refused read_ends.Failed) → Rose (S.facts source.old).faults (S.facts source.new).faults }
+    ensures faults { (S.facts source.old).faults ≤ (S.facts source.new).faults }
+    ensures cause { CountsReads (S.facts source.old).faults (S.facts source.new).faults result }
+{
     loop {
-        match source.read(&mut piece) {
-            Ok(0) => return Ok(bytes),
+        match source.read(piece) {
+            Ok(0) => return Ok(()),
             Ok(n) => {
                 if limit.saturating_sub(bytes.len() as u64) < n as u64 {
                     return Err(End::Refused(ReadEnd::TooLong));

@@ -7,6 +7,7 @@ ghost use Rattle.block_store.specs.Held.{values_of};
 
 use crate::block::{BLOCK_ROWS, Piece};
 use crate::changing::enter::block_of;
+use std::alloc::Global;
 use std::sync::Arc;
 use willow_entry::Row;
 use willow_path::NoMemory;
@@ -53,15 +54,61 @@ pub(crate) fn add_rows<R: Row>(all: &mut Vec<Arc<R>>, rows: &[Arc<R>]) -> Result
     Ok(())
 }
 
+// The rows of both lists, one list behind the other.
+fn both_rows<R: Row>(
+    alloc: Global,
+    front: &[Arc<R>],
+    behind: &[Arc<R>],
+) -> Result<Vec<Arc<R>>, NoMemory>
+    ensures rows { IfOk result (λ rows. values_of R.value rows.items ≡ values_of R.value front.now ++ values_of R.value behind.now) }
+    ensures count { IfOk result (λ rows. vec_len rows ≡ length front.now + length behind.now) }
+{
+    let mut rows = Vec::with_capacity(alloc, BLOCK_ROWS)?;
+    add_rows(&mut rows, front)?;
+    add_rows(&mut rows, behind)?;
+    Ok(rows)
+}
+
 // The rows of both in one block.
 fn joined<R: Row>(front: &Piece<R>, behind: &Piece<R>) -> Result<Piece<R>, NoMemory>
     requires { length front.now.block.value.rows.items + length behind.now.block.value.rows.items ≤ 64 }
     ensures { IfOk result (λ piece. values_of R.value piece.block.value.rows.items ≡ values_of R.value front.now.block.value.rows.items ++ values_of R.value behind.now.block.value.rows.items) }
 {
-    let mut rows = Vec::with_capacity(*front.block.rows.allocator(), BLOCK_ROWS)?;
-    add_rows(&mut rows, &front.block.rows)?;
-    add_rows(&mut rows, &behind.block.rows)?;
+    let alloc = *front.block.rows.allocator();
+    let rows = both_rows(alloc, &front.block.rows, &behind.block.rows)?;
     piece_of(rows)
+}
+
+// Adds the rows of the last block and of one behind it as one block.
+fn push_joined<R: Row>(
+    fresh: &mut Vec<Piece<R>>,
+    last: &Piece<R>,
+    piece: &Piece<R>,
+) -> Result<(), NoMemory>
+    requires { length last.now.block.value.rows.items + length piece.now.block.value.rows.items ≤ 64 }
+    ensures values { OnOk result (block_values R.value fresh.new.items ≡ block_values R.value (fresh.old.items ++ last.now ∷ []) ++ values_of R.value piece.now.block.value.rows.items) }
+    ensures grown { OnOk result (IsGrown (fresh.old.items ++ last.now ∷ []) fresh.new.items) }
+    ensures last { OnOk result (length piece.now.block.value.rows.items ≤ last_size fresh.new.items) }
+{
+    let both = joined(last, piece)?;
+    fresh.push(both)?;
+    Ok(())
+}
+
+// Adds the last block and one behind it, which do not fit into one block.
+fn push_both<R: Row>(
+    fresh: &mut Vec<Piece<R>>,
+    last: Piece<R>,
+    piece: Piece<R>,
+) -> Result<(), NoMemory>
+    requires { 64 < length last.block.value.rows.items + length piece.block.value.rows.items }
+    ensures values { OnOk result (block_values R.value fresh.new.items ≡ block_values R.value (fresh.old.items ++ last ∷ []) ++ values_of R.value piece.block.value.rows.items) }
+    ensures grown { OnOk result (IsGrown (fresh.old.items ++ last ∷ []) fresh.new.items) }
+    ensures last { OnOk result (length piece.block.value.rows.items ≤ last_size fresh.new.items) }
+{
+    fresh.push(last)?;
+    fresh.push(piece)?;
+    Ok(())
 }
 
 // Adds the last block and one behind it, joined where both fit into one block.
@@ -75,12 +122,9 @@ fn append_both<R: Row>(
     ensures last { OnOk result (length piece.block.value.rows.items ≤ last_size fresh.new.items) }
 {
     if last.len + piece.len <= BLOCK_ROWS as u32 {
-        fresh.push(joined(&last, &piece)?)?;
-    } else {
-        fresh.push(last)?;
-        fresh.push(piece)?;
+        return push_joined(fresh, &last, &piece);
     }
-    Ok(())
+    push_both(fresh, last, piece)
 }
 
 // Adds a block, joined with the last one where both fit into one block.

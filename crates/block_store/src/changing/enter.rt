@@ -86,6 +86,22 @@ fn with_row<R: Row>(rows: &Vec<Arc<R>>, at: usize, held: Arc<R>) -> Result<Block
     Ok(block_of(copy))
 }
 
+// A block of the rows with one more, behind an `Arc` of its own.
+fn copy_with_row<R: Row>(
+    block: &Block<R>,
+    at: usize,
+    held: Arc<R>,
+) -> Result<Arc<Block<R>>, NoMemory>
+    requires room { vec_len block.now.rows < 64 }
+    requires within { at ≤ vec_len block.now.rows }
+    ensures rows { IfOk result (λ copy. values_of R.value copy.value.rows.items ≡ insert (values_of R.value block.now.rows.items) at (R.value held.value)) }
+    ensures more { IfOk result (λ copy. vec_len copy.value.rows ≡ vec_len block.now.rows + 1) }
+{
+    let alloc = *block.rows.allocator();
+    let copy = with_row(&block.rows, at, held)?;
+    Ok(Arc::new(alloc, copy)?)
+}
+
 // Puts the row in its place in the block, or in a copy where the block is shared.
 fn enter_block<R: Row>(block: &mut Arc<Block<R>>, at: usize, held: Arc<R>) -> Result<(), NoMemory>
     requires room { vec_len block.old.value.rows < 64 }
@@ -98,9 +114,7 @@ fn enter_block<R: Row>(block: &mut Arc<Block<R>>, at: usize, held: Arc<R>) -> Re
     match Arc::get_mut(block) {
         Some(own) => enter_own(own, at, held),
         None => {
-            let alloc = *block.rows.allocator();
-            let copy = with_row(&block.rows, at, held)?;
-            *block = Arc::new(alloc, copy)?;
+            *block = copy_with_row(&**block, at, held)?;
             Ok(())
         }
     }

@@ -10,7 +10,7 @@ ghost use Rattle.block_store.specs.Held.{values_of};
 
 use crate::block::{BLOCK_ROWS, Piece};
 use crate::changing::append::{add_row, add_rows, append, append_shared, piece_of, share};
-use crate::changing::thin::{add_left, add_thinned};
+use crate::changing::thin::{add_left, add_thinned, append_rows};
 use crate::looking::spot::Spot;
 use std::alloc::Global;
 use std::sync::Arc;
@@ -41,8 +41,8 @@ fn add_halves<R: Row>(fresh: &mut Vec<Piece<R>>, rows: Vec<Arc<R>>) -> Result<()
 {
     let mut front = rows;
     let behind = front.split_off(BLOCK_ROWS / 2)?;
-    append(fresh, piece_of(front)?)?;
-    append(fresh, piece_of(behind)?)
+    append_rows(fresh, front)?;
+    append_rows(fresh, behind)
 }
 
 // Adds the rows in one block, or where they are too many in two.
@@ -58,7 +58,26 @@ fn add_split<R: Row>(fresh: &mut Vec<Piece<R>>, rows: Vec<Arc<R>>) -> Result<(),
     append(fresh, piece_of(rows)?)
 }
 
-// Rows with one more, but for those behind it that it dominates.
+// Adds the rows with one more, but for those behind it that it dominates.
+fn add_entered_rows<R: Row>(
+    all: &mut Vec<Arc<R>>,
+    rows: &[Arc<R>],
+    at: usize,
+    held: &Arc<R>,
+) -> Result<(), NoMemory>
+    requires { at ≤ length rows.now }
+    ensures rows { OnOk result (values_of R.value all.new.items ≡ values_of R.value all.old.items ++ entered (R.value held.now.value) at (values_of R.value rows.now)) }
+    ensures some { OnOk result (vec_len all.old < vec_len all.new) }
+    ensures few { OnOk result (vec_len all.new ≤ vec_len all.old + length rows.now + 1) }
+{
+    let (front, behind) = rows.split_at(at);
+    add_rows(all, front)?;
+    add_row(all, held)?;
+    add_left(all, behind, &**held)?;
+    Ok(())
+}
+
+// The rows with one more, but for those behind it that it dominates.
 fn entered_rows<R: Row>(
     alloc: Global,
     rows: &[Arc<R>],
@@ -71,10 +90,7 @@ fn entered_rows<R: Row>(
     ensures few { IfOk result (λ all. vec_len all ≤ length rows.now + 1) }
 {
     let mut all = Vec::with_capacity(alloc, BLOCK_ROWS)?;
-    let (front, behind) = rows.split_at(at);
-    add_rows(&mut all, front)?;
-    add_row(&mut all, held)?;
-    add_left(&mut all, behind, &**held)?;
+    add_entered_rows(&mut all, rows, at, held)?;
     Ok(all)
 }
 
@@ -109,6 +125,29 @@ fn end_with<R: Row>(
     Ok(())
 }
 
+// Adds, behind what ends before the spot's block, that block with the row at the spot, and the blocks up to the one at
+// `to`: of the rows behind the spot those before `to` go that the row dominates.
+fn add_renewed<R: Row>(
+    fresh: &mut Vec<Piece<R>>,
+    pieces: &[Piece<R>],
+    at: Spot,
+    to: usize,
+    held: &Arc<R>,
+) -> Result<(), NoMemory>
+    requires from { at.block < to }
+    requires within { to ≤ length pieces.now }
+    requires row { at.row ≤ size_at pieces.now at.block }
+    requires begun { block_values R.value (take (at.block - 1) pieces.now) ++ block_values R.value fresh.old.items ≡ block_values R.value (take at.block pieces.now) }
+    ensures grown { OnOk result (IsGrown fresh.old.items fresh.new.items) }
+    ensures last { OnOk result (to < length pieces.now → size_at pieces.now to ≤ last_size fresh.new.items) }
+    ensures values { OnOk result (block_values R.value (take (at.block - 1) pieces.now ++ (fresh.new.items ++ drop (to + 1) pieces.now)) ≡ entered_upto R.value pieces.now at to (R.value held.now.value)) }
+{
+    add_entered(fresh, &pieces[at.block], at.row, held)?;
+    add_thinned(fresh, &pieces[at.block + 1..to], &**held)?;
+    end_with(fresh, pieces, to)?;
+    Ok(())
+}
+
 // What stands in the place of the blocks from the one before the spot's on, up to the one at `to`: the row stands at
 // the spot, and of the rows behind it those before `to` go that it dominates.
 pub(crate) fn renewed<R: Row>(
@@ -126,9 +165,7 @@ pub(crate) fn renewed<R: Row>(
     ensures values { IfOk result (λ fresh. block_values R.value (take (at.block - 1) pieces.now ++ (fresh.items ++ drop (to + 1) pieces.now)) ≡ entered_upto R.value pieces.now at to (R.value held.now.value)) }
 {
     let mut fresh = begun(pieces, at.block)?;
-    add_entered(&mut fresh, &pieces[at.block], at.row, held)?;
-    add_thinned(&mut fresh, &pieces[at.block + 1..to], &**held)?;
-    end_with(&mut fresh, pieces, to)?;
+    add_renewed(&mut fresh, pieces, at, to, held)?;
     Ok(fresh)
 }
 

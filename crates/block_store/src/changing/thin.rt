@@ -102,7 +102,10 @@ fn left_rows<R: Row>(alloc: Global, rows: &[Arc<R>], row: &R) -> Result<Vec<Arc<
 }
 
 // Adds the rows in one block, where there are any.
-fn append_rows<R: Row>(fresh: &mut Vec<Piece<R>>, rows: Vec<Arc<R>>) -> Result<(), NoMemory>
+pub(crate) fn append_rows<R: Row>(
+    fresh: &mut Vec<Piece<R>>,
+    rows: Vec<Arc<R>>,
+) -> Result<(), NoMemory>
     requires { vec_len rows ≤ 64 }
     ensures values { OnOk result (block_values R.value fresh.new.items ≡ block_values R.value fresh.old.items ++ values_of R.value rows.items) }
     ensures grown { OnOk result (IsGrown fresh.old.items fresh.new.items) }

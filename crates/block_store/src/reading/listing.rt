@@ -1,6 +1,6 @@
 //! Blocks with where they start, what they add up to, and the leaves of their rows.
 
-ghost use Rattle.std.specs.Prelude.{◌≡◌, ◌+◌, ◌^◌, ◌<◌, ◌≤◌, length, map, take, Some, slice_get, MatchOption, IfOk, IfSome, vec_len};
+ghost use Rattle.std.specs.Prelude.{◌≡◌, ◌+◌, ◌^◌, ◌<◌, ◌≤◌, [], ◌∷◌, ◌++◌, length, map, take, Some, slice_get, MatchOption, IfOk, IfSome, OnOk, vec_len};
 ghost use Rattle.willow_entry.specs.Row.{AreLive, IsRising};
 ghost use Rattle.block_store.specs.Blocks.{block_rows, block_values, index_of, IsSpot};
 ghost use Rattle.block_store.specs.Held.{rows_of, values_of};
@@ -9,6 +9,7 @@ ghost use Rattle.block_store.specs.Starts.{AreStarts, values_at};
 ghost use Rattle.block_store.specs.Summaries.{summaries_of};
 
 use crate::block::{Block, Piece};
+use crate::changing::append;
 use crate::looking::spot::Spot;
 use crate::reading::summary::Summary;
 use lane_sum::Leaf;
@@ -45,15 +46,33 @@ fn starts_of<R: Row>(alloc: Global, pieces: &[Piece<R>]) -> Result<Vec<u32>, NoM
     Ok(starts)
 }
 
+// Adds the summary of a block.
+fn add_summary<R: Row>(summaries: &mut Vec<Summary>, piece: &Piece<R>) -> Result<(), NoMemory>
+    ensures { OnOk result (summaries.new.items ≡ summaries.old.items ++ summary_of (values_of R.value piece.now.block.value.rows.items) ∷ []) }
+{
+    let summary = piece.block.summary()?;
+    summaries.push(summary)?;
+    Ok(())
+}
+
 // The summary of each block.
 fn summaries_of<R: Row>(alloc: Global, pieces: &[Piece<R>]) -> Result<Vec<Summary>, NoMemory>
     ensures { IfOk result (λ summaries. summaries.items ≡ summaries_of R.value pieces.now) }
 {
     let mut summaries = Vec::with_capacity(alloc, pieces.len())?;
     for i in 0..pieces.len() {
-        summaries.push(pieces[i].block.summary()?)?;
+        add_summary(&mut summaries, &pieces[i])?;
     }
     Ok(summaries)
+}
+
+// Adds the same block, shared once more.
+fn add_copy<R: Row>(copy: &mut Vec<Piece<R>>, piece: &Piece<R>) -> Result<(), NoMemory>
+    ensures { OnOk result (block_rows copy.new.items ≡ block_rows copy.old.items ++ rows_of piece.now.block.value.rows.items) }
+{
+    let shared = append::share(piece)?;
+    copy.push(shared)?;
+    Ok(())
 }
 
 // The same blocks, shared once more.
@@ -62,12 +81,7 @@ fn share<R: Row>(alloc: Global, pieces: &[Piece<R>]) -> Result<Vec<Piece<R>>, No
 {
     let mut copy = Vec::with_capacity(alloc, pieces.len())?;
     for i in 0..pieces.len() {
-        let piece = &pieces[i];
-        let block = piece.block.clone()?;
-        copy.push(Piece {
-            block,
-            len: piece.len,
-        })?;
+        add_copy(&mut copy, &pieces[i])?;
     }
     Ok(copy)
 }

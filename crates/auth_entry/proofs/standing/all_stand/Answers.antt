@@ -1,10 +1,11 @@
-use Rattle.std.proofs.Common.{refl, ◌∙◌}
-use Rattle.auth_entry.proofs.Settling.{stood_more}
+use Rattle.std.proofs.Common.{ℕ, List, [], sym, subst}
+use Rattle.std.specs.List.{AllZip}
+use Rattle.auth_entry.specs.Standings.{IsStood}
 use Rattle.auth_entry.proofs.standing.all_stand.Goals as goal
 
-pub loop-row-preserved : goal.loop-row-preserved
-loop-row-preserved g c = (
-  stood_more g.S.Verify.rules c.args.namespace.now c.loop-row.unknown c.stand.new.unknown c.args.rows.now c.loop-row.row-index c.row-item.result c.loop-row-test.true c.row-item.is
-      c.loop-row.stood.items _ c.push.new.self.items c.stand.ensures.stay c.loop-row.invariant.0 c.in_ok-standing.ensures.stands refl c.in_ok-push.ensures.items,
-  c.stand.ensures.same ∙ c.loop-row.invariant.1,
-)
+pub returns-clause-stood : goal.returns-clause-stood
+returns-clause-stood g c =
+    let rules = g.S.Verify.rules in
+    let begun = subst (AllZip (IsStood rules c.namespace-namespace.result c.args.unknown.now) []) (sym c.in_ok-stood.ensures.items) tt in
+    subst (λ (n : List ℕ). AllZip (IsStood rules n c.put_all_stood.new.unknown) c.args.rows.now c.put_all_stood.new.stood.items) c.namespace-namespace.ensures
+    (c.in_ok-put_all_stood.ensures.stood [] begun)

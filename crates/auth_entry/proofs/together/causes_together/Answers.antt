@@ -1,4 +1,4 @@
-use Rattle.std.proofs.Common.{Bor, ◌+◌, ◌≤◌, length, arith}
+use Rattle.std.proofs.Common.{Bor, ◌+◌, ◌≤◌, length, refl, arith}
 use Rattle.cap_codec.specs.Rows.{RawValue}
 use Rattle.auth_entry.specs.Authorised.{capability_refusal}
 use Rattle.auth_entry.proofs.Lists.{group_more}
@@ -9,5 +9,5 @@ groups-preserved g c =
     let inv = c.groups.invariant in
     let within : c.groups.from + c.min.result ≤ length c.args.rows.now = omega (arith, c.min.ensures, inv.within) in
     let grown = group_more (capability_refusal g.S.Verify.rules) (λ (row : Bor RawValue). row.now.token.capability) c.args.rows.now c.groups.from (c.groups.from + c.min.result)
-    c.groups.causes.items c.in_ok-causes_by_one_call.field-0.items (omega arith) inv.within inv.judged c.in_ok-causes_by_one_call.ensures in
-    record { judged = rw (c.in_ok-extend_from_slice.ensures.items, c.deref.ensures.value) grown; within = within }
+    c.groups.causes.items _ (omega arith) inv.within inv.judged refl in
+    record { judged = rw c.in_ok-put_causes.ensures.causes grown; within = within }

@@ -11,8 +11,8 @@ at_ok (Ok x) holds = holds
 at_ok (Err e) holds = tt
 
 -- no image was put
-pub returns-in_err-keep_rest-clause-tells : goal.returns-in_err-keep_rest-clause-tells
-returns-in_err-keep_rest-clause-tells g c =
+pub returns-in_err-keep_rest-clause-told : goal.returns-in_err-keep_rest-clause-told
+returns-in_err-keep_rest-clause-told g c =
     let p = err_from_is_err_and c.from_residual.result c.from_residual.ensures.1 in
     rw (p.1, p.2) (λ others. record { does = refl; read_faults = refl; write_faults = refl; others = refl })
 

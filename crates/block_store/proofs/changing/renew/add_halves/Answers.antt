@@ -12,14 +12,14 @@ returns-clause-values g c =
     let value : Arc g.row.R.Denot Global → RowValue = λ a. g.R.Row.value a.value in
     let old = block_values g.R.Row.value c.args.fresh.now.items in
     let rows = c.args.rows.items in
-    let front : map value c.in_ok-piece_of.field-0.block.value.rows.items ≡ map value (take 32 rows) = ap (λ v. map value v.items) c.in_ok-piece_of.ensures ∙ ap (map value) c.in_ok-behind.ensures.items in
-    let behind : map value c.in_ok-piece_of-2.field-0.block.value.rows.items ≡ map value (drop 32 rows) = ap (λ v. map value v.items) c.in_ok-piece_of-2.ensures ∙ ap (map value) c.in_ok-behind.ensures.tail in
+    let front = ap (map value) c.in_ok-behind.ensures.items in
+    let behind = ap (map value) c.in_ok-behind.ensures.tail in
     let both : map value (take 32 rows) ++ map value (drop 32 rows) ≡ map value rows = sym (map-append value (take 32 rows) (drop 32 rows)) ∙ ap (map value) (take-append-drop 32 rows) in
-    on_ok_weaker c.append-2.result
-    (λ e. e ∙ ap₂ (λ l m. l ++ m) (c.in_ok-append.ensures.values ∙ ap (λ l. old ++ l) front) behind
+    on_ok_weaker c.append_rows-2.result
+    (λ e. e ∙ ap₂ (λ l m. l ++ m) (c.in_ok-append_rows.ensures.values ∙ ap (λ l. old ++ l) front) behind
     ∙ append_assoc old (map value (take 32 rows)) (map value (drop 32 rows)) ∙ ap (λ l. old ++ l) both)
-    c.append-2.ensures.values
+    c.append_rows-2.ensures.values
 
 pub returns-clause-grown : goal.returns-clause-grown
 returns-clause-grown g c =
-    on_ok_weaker c.append-2.result (grown_on c.args.fresh.now.items c.append.new.fresh.items c.append-2.new.fresh.items c.in_ok-append.ensures.grown) c.append-2.ensures.grown
+    on_ok_weaker c.append_rows-2.result (grown_on c.args.fresh.now.items c.append_rows.new.fresh.items c.append_rows-2.new.fresh.items c.in_ok-append_rows.ensures.grown) c.append_rows-2.ensures.grown
