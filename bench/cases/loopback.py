@@ -151,30 +151,44 @@ def tcp_lines(server: Came) -> str:
 
 # Over links between three threads: who calls stays, and is fed what another brought since its own session began
 
-ONE_NEW, OTHER_NEW = live_of([*FORTY, NEW]), live_of([*FORTY, LATER])
+@dataclass(frozen=True)
+class Three:
+    """Who stay together: what is printed of where they are, and the rows that each begins with."""
+    title: str
+    server: list
+    one: list
+    other: list
 
-# The sessions run one before the other, or both at once. What each reads rests on that, and what comes of it all does not.
-MET = {(0, 0, 1, 1): (FORTY, ONE_NEW), (1, 1, 0, 0): (OTHER_NEW, FORTY), (0, 1, 0, 1): (FORTY, FORTY)}
+    def met(self) -> dict:
+        """The sessions run one before the other, or both at once: with what the server's log has as each begins. What each
+        reads rests on that, and what comes of it all does not."""
+        return {(0, 0, 1, 1): (self.server, live_of([*self.server, *self.one])),
+                (1, 1, 0, 0): (live_of([*self.server, *self.other]), self.server),
+                (0, 1, 0, 1): (self.server, self.server)}
+
+    def come(self, order: tuple, met: tuple) -> tuple:
+        """What comes of the server and of the two who call it."""
+        said = calls(met[0], self.one, 1), calls(met[1], self.other, 2)
+        server = run_over(words_of("serve", **OPTIONS, at=PLACE, links=2, follow="yes"), self.server, DRAWS[:2], said,
+                          lambda _: order, len(self.server))
+        callers = [run_over(words_of("sync", **OPTIONS, to=PLACE, follow="yes"), rows, (CALLER_DRAW,), (answers,))
+                   for rows, answers in zip((self.one, self.other), server.held)]
+        assert tuple(held for caller in callers for held in caller.held) == said
+        return tuple(replace(came, report="", held=()) for came in (server, *callers))
+
+    def lines(self) -> str:
+        came = {self.come(order, met) for order, met in self.met().items()}
+        assert len(came) == 1, "what comes rests on the order of the sessions"
+        (server, one, other), = came
+        assert {each.image for each in (server, one, other)} == {joined(self.server, self.one, self.other)}
+        assert server.status == one.status == other.status == 0
+        heard = f"heard 2 rows from {len(self.server)} on\n", one.heard(), other.heard()
+        return "".join(f"{self.title}, the {who}: status {each.status}, image {measure(each.image)}\n{told}"
+                       for who, each, told in zip(("server", "first", "second"), (server, one, other), heard))
 
 
-def who_follow(order: tuple, met: tuple) -> tuple:
-    """The server, and the two who call it: the log of the server stands so as the session of each begins."""
-    said = calls(met[0], ONE_NEW, 1), calls(met[1], OTHER_NEW, 2)
-    server = run_over(words_of("serve", **OPTIONS, at=PLACE, links=2, follow="yes"), FORTY, DRAWS[:2], said, lambda _: order, 40)
-    callers = [run_over(words_of("sync", **OPTIONS, to=PLACE, follow="yes"), rows, (CALLER_DRAW,), (answers,))
-               for rows, answers in zip((ONE_NEW, OTHER_NEW), server.held)]
-    assert tuple(held for caller in callers for held in caller.held) == said
-    return tuple(replace(came, report="", held=()) for came in (server, *callers))
-
-
-def follow_lines() -> str:
-    came = {who_follow(order, met) for order, met in MET.items()}
-    assert len(came) == 1, "what comes rests on the order of the sessions"
-    (server, one, other), = came
-    assert {each.image for each in (server, one, other)} == {joined(FORTY, [NEW, LATER])}
-    assert server.status == one.status == other.status == 0
-    return "".join(f"where both stay, {title}: status {each.status}, image {measure(each.image)}\n{heard}" for title, each, heard in (
-        ("the server", server, "heard 2 rows from 40 on\n"), ("the first", one, one.heard()), ("the second", other, other.heard())))
+MANY = Three("where both stay", FORTY, live_of([*FORTY, NEW]), live_of([*FORTY, LATER]))
+ONE_EACH = Three("where both stay with one row each", [], [row()], [row((b"\x62",))])
 
 
 def files() -> dict:
@@ -184,9 +198,10 @@ def files() -> dict:
         "cap": R.spelled(), "server-draws": b"".join(DRAWS[:8]), "caller-draw": CALLER_DRAW,
         "forty": old_image_of(*FORTY), "later": image_of(*ONE_LATER),
         "early-peer": EARLY_PEER, "late-peer": LATE_PEER, "late-answers": gates.held[1],
-        "one-new": image_of(*ONE_NEW), "other-new": image_of(*OTHER_NEW),
+        "one-new": image_of(*MANY.one), "other-new": image_of(*MANY.other),
+        "no-row": old_image_of(), "one-row": image_of(*ONE_EACH.one), "other-row": image_of(*ONE_EACH.other),
         "front": image_of(*FRONT), "middle": old_image_of(*MIDDLE), "back": image_of(*BACK),
         "noise": NOISE, "other-noise": OTHER_NOISE, "cut": CUT, "cut-behind": CUT_BEHIND, "greeting": server.held[5],
     }
     lines = "".join(f"{name} {data.hex()}\n" for name, data in given.items())
-    return {"stdin": lines.encode(), "stdout": (pair_lines() + gate_lines(gates) + follow_lines() + tcp_lines(server)).encode()}
+    return {"stdin": lines.encode(), "stdout": (pair_lines() + gate_lines(gates) + MANY.lines() + ONE_EACH.lines() + tcp_lines(server)).encode()}

@@ -1,6 +1,6 @@
-//! A server that feeds those who stay, and two who call it and follow, in three threads. Each brings a row that is new to the other
-//! two. Which session begins or ends first is open, and with it what a session brings and what a feed; whichever it is, all three
-//! have all rows in the end.
+//! A server that feeds those who stay, and two who call it and follow, in three threads. Each of the two brings a row that is new
+//! to the others. Which session begins or ends first is open, and with it what a session brings and what a feed; whichever it is,
+//! all three have all rows in the end.
 
 ghost use Rattle.willow_outside.specs.Links.{IsFresh};
 
@@ -15,6 +15,28 @@ use willow_outside::{Door, Link, MemDoor};
 
 // A place that is not looked at.
 const PLACE: &str = "there:1";
+
+/// What three begin with who stay together: what is printed of where they are, and the names of the images of the server and of
+/// the two who call it.
+pub(crate) struct Three {
+    title: &'static str,
+    server: &'static str,
+    callers: (&'static str, &'static str),
+}
+
+/// All have many rows, and each caller has one more.
+pub(crate) static MANY: Three = Three {
+    title: "where both stay",
+    server: "forty",
+    callers: ("one-new", "other-new"),
+};
+
+/// The server has none, and each caller has one.
+pub(crate) static ONE_EACH: Three = Three {
+    title: "where both stay with one row each",
+    server: "no-row",
+    callers: ("one-row", "other-row"),
+};
 
 // A door that hands out one link.
 fn door_to<L: Link + Send + Drop>(alloc: Global, link: L) -> Result<MemDoor<L>, AllocError>
@@ -68,13 +90,14 @@ fn lines_over<
     rt: &R,
     alloc: Global,
     given: &Given,
+    three: &Three,
     mut both: D,
     mut one: E,
     mut other: F,
 ) -> Result<String, AllocError> {
     let side = Side {
         given,
-        image: "forty",
+        image: three.server,
         draws: "server-draws",
     };
     let (server, (first, second)) = thread::join(
@@ -82,14 +105,15 @@ fn lines_over<
         || over(rt, alloc, &feeding_words(PLACE, "2"), side, &mut both),
         || thread::join(
             rt,
-            || call(rt, alloc, given, "one-new", &mut one),
-            || call(rt, alloc, given, "other-new", &mut other),
+            || call(rt, alloc, given, three.callers.0, &mut one),
+            || call(rt, alloc, given, three.callers.1, &mut other),
         ),
     );
-    let server = server?.head(alloc, "where both stay, the server")?;
-    let first = first?.head(alloc, "where both stay, the first")?;
-    let second = second?.head(alloc, "where both stay, the second")?;
-    format!(in alloc; "{server}{first}{second}")
+    let title = three.title;
+    let server = server?.head(alloc, "the server")?;
+    let first = first?.head(alloc, "the first")?;
+    let second = second?.head(alloc, "the second")?;
+    format!(in alloc; "{title}, {server}{title}, {first}{title}, {second}")
 }
 
 /// Runs them over two links between threads, and tells what each has in the end.
@@ -97,6 +121,7 @@ pub(crate) fn follow_lines<R: Wait + Threads + Clone + Drop + Send + Sync>(
     rt: &R,
     alloc: Global,
     given: &Given,
+    three: &Three,
 ) -> Result<String, AllocError> {
     let Ok((near, first)) = pair(rt, alloc) else {
         return Err(AllocError);
@@ -107,5 +132,5 @@ pub(crate) fn follow_lines<R: Wait + Threads + Clone + Drop + Send + Sync>(
     let both = door_to_both(alloc, near, other)?;
     let one = door_to(alloc, first)?;
     let other = door_to(alloc, second)?;
-    lines_over(rt, alloc, given, both, one, other)
+    lines_over(rt, alloc, given, three, both, one, other)
 }

@@ -15,6 +15,7 @@ mod peers;
 mod places;
 mod run;
 
+use follows::{MANY, ONE_EACH, follow_lines};
 use given::Given;
 use paired_links::pair;
 use std::io;
@@ -31,6 +32,7 @@ fn main(rt: HostRuntime) -> io::Result<()> {
     let far = MemDoor::new(alloc, vec![in alloc; far]?, vec![in alloc]?);
     print!(rt; "{}", pairs::pair_lines(&rt, alloc, &given, near, far)?)?;
     print!(rt; "{}", gates::gate_lines(&rt, alloc, &given)?)?;
-    print!(rt; "{}", follows::follow_lines(&rt, alloc, &given)?)?;
+    print!(rt; "{}", follow_lines(&rt, alloc, &given, &MANY)?)?;
+    print!(rt; "{}", follow_lines(&rt, alloc, &given, &ONE_EACH)?)?;
     print!(rt; "{}", places::place_lines(&rt, &rt, &given)?)
 }
