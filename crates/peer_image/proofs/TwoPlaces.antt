@@ -201,23 +201,23 @@ told_few told rows is =
     let now : Text → List ℕ = λ x. x.now in
     omega (arith, length-map told now, ap length is, rising_short bytes_cmp (map capability_bytes rows), length-map rows capability_bytes)
 
-written : (h cs rs t : List ℕ) → ((h ++ cs) ++ rs) ++ t ≡ h ++ (cs ++ (rs ++ t))
-written h cs rs t = append_assoc (h ++ cs) rs t ∙ append_assoc h cs (rs ++ t)
+written : (s h cs rs t : List ℕ) → ((s ++ (h ++ cs)) ++ rs) ++ t ≡ s ++ (h ++ (cs ++ (rs ++ t)))
+written s h cs rs t =
+    ap (λ (l : List ℕ). l ++ t) (append_assoc s (h ++ cs) rs)
+    ∙ append_assoc s ((h ++ cs) ++ rs) t
+    ∙ ap (λ (l : List ℕ). s ++ l) (append_assoc (h ++ cs) rs t ∙ append_assoc h cs (rs ++ t))
 
 -- the head and the capabilities, then the rows, then the end
-pub image_written : (n : List ℕ) (rows : List RowValue) (told one two : List Text) (start a b c : List ℕ) (count : ℕ) → now_of told ≡ capabilities rows → one ≡ told → two ≡ told → start ≡ []
-    → a ≡ start ++ (head_two n (length one) ++ flat_map bytes_frame (now_of one)) → b ≡ a ++ flat_map (placed_frame (now_of two)) rows → c ≡ b ++ trailer count → count ≡ length rows → c ≡ image n rows
+pub image_written : (n : List ℕ) (rows : List RowValue) (told : List Text) (start a b c : List ℕ) (count : ℕ) → now_of told ≡ capabilities rows
+    → a ≡ start ++ (head_two n (length told) ++ flat_map bytes_frame (now_of told)) → b ≡ a ++ flat_map (placed_frame (now_of told)) rows → c ≡ b ++ trailer count → count ≡ length rows → c ≡ start ++ image n rows
 unfolding image
-image_written n rows told one two start a b c count told_is one_is two_is start_is a_is b_is c_is count_is =
+image_written n rows told start a b c count told_is a_is b_is c_is count_is =
     let now : Text → List ℕ = λ x. x.now in
-    let long : length one ≡ length (capabilities rows) = ap length one_is ∙ sym (length-map told now) ∙ ap length told_is in
-    let first : now_of one ≡ capabilities rows = ap now_of one_is ∙ told_is in
-    let second : now_of two ≡ capabilities rows = ap now_of two_is ∙ told_is in
+    let long : length told ≡ length (capabilities rows) = sym (length-map told now) ∙ ap length told_is in
     c_is
     ∙ ap (λ (l : List ℕ). l ++ trailer count) b_is
-    ∙ ap (λ (l : List ℕ). (l ++ flat_map (placed_frame (now_of two)) rows) ++ trailer count) (a_is ∙ ap (λ (l : List ℕ). l ++ (head_two n (length one) ++ flat_map bytes_frame (now_of one))) start_is)
-    ∙ ap (λ (k : ℕ). ((head_two n k ++ flat_map bytes_frame (now_of one)) ++ flat_map (placed_frame (now_of two)) rows) ++ trailer count) long
-    ∙ ap (λ (l : List (List ℕ)). ((head_two n (length (capabilities rows)) ++ flat_map bytes_frame l) ++ flat_map (placed_frame (now_of two)) rows) ++ trailer count) first
-    ∙ ap (λ (l : List (List ℕ)). ((head_two n (length (capabilities rows)) ++ flat_map bytes_frame (capabilities rows)) ++ flat_map (placed_frame l) rows) ++ trailer count) second
-    ∙ ap (λ (k : ℕ). ((head_two n (length (capabilities rows)) ++ flat_map bytes_frame (capabilities rows)) ++ flat_map (placed_frame (capabilities rows)) rows) ++ trailer k) count_is
-    ∙ written (head_two n (length (capabilities rows))) (flat_map bytes_frame (capabilities rows)) (flat_map (placed_frame (capabilities rows)) rows) (trailer (length rows))
+    ∙ ap (λ (l : List ℕ). (l ++ flat_map (placed_frame (now_of told)) rows) ++ trailer count) a_is
+    ∙ ap (λ (k : ℕ). ((start ++ (head_two n k ++ flat_map bytes_frame (now_of told))) ++ flat_map (placed_frame (now_of told)) rows) ++ trailer count) long
+    ∙ ap (λ (l : List (List ℕ)). ((start ++ (head_two n (length (capabilities rows)) ++ flat_map bytes_frame l)) ++ flat_map (placed_frame l) rows) ++ trailer count) told_is
+    ∙ ap (λ (k : ℕ). ((start ++ (head_two n (length (capabilities rows)) ++ flat_map bytes_frame (capabilities rows))) ++ flat_map (placed_frame (capabilities rows)) rows) ++ trailer k) count_is
+    ∙ written start (head_two n (length (capabilities rows))) (flat_map bytes_frame (capabilities rows)) (flat_map (placed_frame (capabilities rows)) rows) (trailer (length rows))

@@ -98,17 +98,33 @@ pub fn capabilities_in_front<'a>(
     ensures asked { OnErr result ((0 < count) × FirstIsWhole bytes.now) }
 {
     let mut told = Vec::new(alloc);
+    let left = put_known(alloc, bytes, count, &mut told)?;
+    Ok((told, left))
+}
+
+// Puts the capabilities that are told in front of the bytes, at most so many, where none are yet, and answers the bytes
+// behind them. It does not own them, so that its many ends need not let them go.
+fn put_known<'a>(
+    alloc: Global,
+    bytes: &'a [u8],
+    count: u32,
+    told: &mut Vec<KnownCapability<'a>>,
+) -> Result<&'a [u8], NoMemory>
+    requires none { told.old.items ≡ [] }
+    ensures reads { IfOk result (λ left. AreToldInFront bytes.now count told.new.items left.now) }
+    ensures asked { OnErr result ((0 < count) × FirstIsWhole bytes.now) }
+{
     let mut left = bytes;
     'told: while told.len() < count as usize {
-        let (capability, taken) = match next_capability(alloc, left, &told) {
+        let (capability, taken) = match next_capability(alloc, left, told) {
             Ok(read) => read,
-            Err(End::Refused(NotHere)) => return Ok((told, left)),
+            Err(End::Refused(NotHere)) => return Ok(left),
             Err(End::NoMemory) => return Err(NoMemory),
         };
         told.push(capability)?;
         left = behind(left, taken);
     }
-    Ok((told, left))
+    Ok(left)
 }
 
 // The capability that is told in front of the bytes and stands above those that are told before, with the number of bytes

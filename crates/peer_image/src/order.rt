@@ -1,6 +1,6 @@
 //! The order of an image's rows: they rise by subspace and path, and no row dominates a later one.
 
-ghost use Rattle.std.specs.Prelude.{◌≡◌, ◌↔◌, ◌+◌, ◌++◌, ◌<◌, ◌^◌, List, length, map, option_map, None, Some, IfOk, IsTrue, OnErr, OnOk};
+ghost use Rattle.std.specs.Prelude.{◌≡◌, ◌↔◌, ◌+◌, [], ◌∷◌, ◌++◌, ◌<◌, ◌^◌, List, length, map, option_map, None, Some, Ok, IfOk, IsTrue, OnErr, OnOk};
 ghost use Rattle.std.specs.List.{last_or};
 ghost use Rattle.willow_entry.specs.Row.{RowValue, inner_place_cmp};
 ghost use Rattle.peer_image.specs.Fronts.{at_prefixes_of, first_dominating, fronts_of, is_at_inner_prefix, last_fronts, numbered, seen, StandBehind};
@@ -120,16 +120,48 @@ fn pruned_behind<'a, R: Row>(
         → IfOk result (λ found. found ≡ pruned_after earlier (map R.value rows.now)) }
     ensures some { OnErr result (0 < length rows.now) }
 {
+    pruned_along(&mut fronts, before, rows)
+}
+
+// The same, where the fronts are borrowed and go along with the rows.
+fn pruned_along<'a, R: Row>(
+    fronts: &mut Vec<Front<'a, R>>,
+    before: u32,
+    rows: &'a [R],
+) -> Result<Option<ImageRefusal>, NoMemory>
+    requires { before + length rows.now < 2 ^ 32 }
+    ensures found { (earlier : List RowValue) → StandBehind earlier (map (seen R.value) fronts.old.items) before (map R.value rows.now)
+        → IfOk result (λ found. found ≡ pruned_after earlier (map R.value rows.now)) }
+    ensures some { OnErr result (0 < length rows.now) }
+{
     let mut at = before;
     for row in rows {
         at += 1;
-        keep_fronts(&mut fronts, row);
-        match dominating(&fronts, row) {
-            Some(by) => return Ok(Some(ImageRefusal::Pruned { at, by })),
-            None => fronts.push(Front { at, row })?,
+        if let Some(by) = judge_next(fronts, at, row)? {
+            return Ok(Some(ImageRefusal::Pruned { at, by }));
         }
     }
     Ok(None)
+}
+
+// The number of the first front that dominates the row. Where none does, the fronts become those of the row, with itself
+// behind them under this number.
+fn judge_next<'a, R: Row>(
+    fronts: &mut Vec<Front<'a, R>>,
+    at: u32,
+    row: &'a R,
+) -> Result<Option<u32>, NoMemory>
+    ensures by { IfOk result (λ by. by ≡ first_dominating (R.value row.now) (fronts_of (R.value row.now) (map (seen R.value) fronts.old.items))) }
+    ensures kept { result ≡ Ok None → map (seen R.value) fronts.new.items ≡ fronts_of (R.value row.now) (map (seen R.value) fronts.old.items) ++ record { at = at; row = R.value row.now } ∷ [] }
+{
+    keep_fronts(fronts, row);
+    match dominating(fronts, row) {
+        Some(by) => Ok(Some(by)),
+        None => {
+            fronts.push(Front { at, row })?;
+            Ok(None)
+        }
+    }
 }
 
 // ---- a part at a time

@@ -54,7 +54,6 @@ pub fn write_store_image<R: TokenRow>(
 }
 
 // The image of so many rows, which are gone over twice: for their capabilities, and for themselves.
-#[tactic(auto, unfolding(crate::specs::Image::image))]
 fn image_of<R: TokenRow>(
     alloc: Global,
     namespace: &NamespaceKey,
@@ -68,11 +67,47 @@ fn image_of<R: TokenRow>(
     ensures { IfOk result (λ v. v.items ≡ image namespace.now (map R.value rows.entry)) }
 {
     let told = capabilities_of(alloc, rows)?;
+    image_telling(alloc, namespace, &told, again, count)
+}
+
+// The image of so many rows, which tell these capabilities.
+fn image_telling<R: TokenRow>(
+    alloc: Global,
+    namespace: &NamespaceKey,
+    told: &[&[u8]],
+    rows: Rows<'_, R>,
+    count: u32,
+) -> Result<Vec<u8>, NoMemory>
+    requires frames { AllByRecursion HasFrame (map R.value rows) }
+    requires all { count ≡ length rows }
+    requires told { map (λ c. c.now) told.now ≡ capabilities (map R.value rows) }
+    requires up { IsStrictlySortedBy (λ c d. bytes_cmp c.now d.now) told.now }
+    requires short { AllByRecursion (λ c. length c ≤ MAX_FRAME) (map (λ c. c.now) told.now) }
+    ensures { IfOk result (λ v. v.items ≡ image namespace.now (map R.value rows.entry)) }
+{
     let mut out = Vec::new(alloc);
-    put_told(&mut out, namespace, &told, count)?;
-    put_rows_two(&mut out, &told, again)?;
-    put_trailer(&mut out, count)?;
+    put_image(&mut out, namespace, told, rows, count)?;
     Ok(out)
+}
+
+// Appends the image of so many rows, which tell these capabilities. It owns nothing that its many ends would have to let go.
+fn put_image<R: TokenRow>(
+    out: &mut Vec<u8>,
+    namespace: &NamespaceKey,
+    told: &[&[u8]],
+    rows: Rows<'_, R>,
+    count: u32,
+) -> Result<(), NoMemory>
+    requires frames { AllByRecursion HasFrame (map R.value rows) }
+    requires all { count ≡ length rows }
+    requires told { map (λ c. c.now) told.now ≡ capabilities (map R.value rows) }
+    requires up { IsStrictlySortedBy (λ c d. bytes_cmp c.now d.now) told.now }
+    requires short { AllByRecursion (λ c. length c ≤ MAX_FRAME) (map (λ c. c.now) told.now) }
+    ensures { OnOk result (out.new.items ≡ out.old.items ++ image namespace.now (map R.value rows.entry)) }
+{
+    put_told(out, namespace, told, count)?;
+    put_rows_two(out, told, rows)?;
+    put_trailer(out, count)
 }
 
 /// The capabilities of the rows, rising by their bytes, each once.

@@ -2,7 +2,7 @@ use Rattle.std.proofs.Common.{◌≡◌, ◌+◌, List, map}
 use Rattle.willow_entry.specs.Row.{RowValue}
 use Rattle.peer_image.specs.Fronts.{StandBehind, seen}
 use Rattle.peer_image.proofs.KeptFronts.{HasPassed}
-use Rattle.peer_image.proofs.order.pruned_behind.Given as goal
+use Rattle.peer_image.proofs.order.pruned_along.Given as goal
 
 abbrev pub invariant-loop-row : goal.invariant-loop-row
 invariant-loop-row g l = record {

@@ -1,6 +1,6 @@
 use Rattle.std.proofs.Common.{◌-◌, length}
 use Rattle.peer_image.proofs.TwoReading.{ToldSo}
-use Rattle.peer_image.proofs.known.capabilities_in_front.Given as goal
+use Rattle.peer_image.proofs.known.put_known.Given as goal
 
 abbrev pub invariant-told : goal.invariant-told
 invariant-told l = ToldSo l.bytes l.count l.told.items l.left

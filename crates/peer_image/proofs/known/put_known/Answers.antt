@@ -1,10 +1,10 @@
 use Rattle.std.proofs.Common.{◌∷◌, [], ◌++◌, drop, arith, length-append}
 use Rattle.std.proofs.lemmas.Result.{err_from_is_err_and}
 use Rattle.peer_image.proofs.TwoReading.{some_told, told_asks, told_none, told_on}
-use Rattle.peer_image.proofs.known.capabilities_in_front.Goals as goal
+use Rattle.peer_image.proofs.known.put_known.Goals as goal
 
 pub told-init : goal.told-init
-told-init c = rw c.new-told.ensures.items (told_none c.args.bytes.now c.args.count)
+told-init c = rw c.requires.none (told_none c.args.bytes.now c.args.count)
 
 pub told-preserved : goal.told-preserved
 told-preserved c =
