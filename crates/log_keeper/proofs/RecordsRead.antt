@@ -1,6 +1,5 @@
 -- How the records of a log are read, one after the other.
-use Rattle.std.proofs.Common.{◌≡◌, inr, ℕ, ◌+◌, ◌<◌, ◌^◌, List, [], ◌∷◌, ◌++◌, length, map, get_or, take, drop, Some, None, Vec, refl, sym, ◌∙◌, ap, subst, arith, append_assoc, length-append}
-use Rattle.std.specs.declared.alloc.Global.{Global}
+use Rattle.std.proofs.Common.{◌≡◌, inr, ℕ, ◌+◌, ◌<◌, ◌^◌, List, [], ◌∷◌, ◌++◌, length, map, get_or, take, drop, true, false, refl, sym, ◌∙◌, ap, subst, arith, append_assoc, length-append}
 use Rattle.std.specs.List.{AllByRecursion, flat_map}
 use Rattle.std.specs.Int.{w32, to_be_bytes, from_be_bytes}
 use Rattle.std.proofs.lemmas.List.{map-append, take_at, drop_at}
@@ -11,7 +10,7 @@ use Rattle.willow_entry.specs.Row.{RowValue}
 use Rattle.row_stream.specs.Streams.{frames_of}
 use Rattle.log_keeper.specs.LogFile.{log_mark, log_front, open_record, IsShut, IsRecord, HoldsRowsTo, HoldsNoLog}
 use Rattle.log_keeper.specs.BadLogs.{IsNoRecord, IsBadGate, IsBadLog}
-use Rattle.log_keeper.specs.Readings.{AreRecords, RecordsGoWrong, IsCutShort, IsOpenRecord, ReadsRowFrames}
+use Rattle.log_keeper.specs.Readings.{AreRecords, RecordsGoWrong, IsCutShort, IsOpenRecord, AppendsRowFrames}
 use Rattle.log_keeper.proofs.LogCrash.{records_more, rows_more}
 
 -- a record tells its frames
@@ -42,8 +41,8 @@ module _ (IsRow : RowValue → Type 0) where
   cut_wrong (gate ∷ bytes) cut = (cut.0, λ rows rest fits e. cut.1 (frames_of rows) rest (record { parts = e; within = fits.within }))
 
   -- what may be a record and is no frames of rows
-  pub bad_wrong : {R : Type 0} (value : R → RowValue) (left frames behind : List ℕ) → IsOpenRecord left frames behind → ReadsRowFrames IsRow value frames None → IsBadGate IsRow left
-  bad_wrong value left frames behind o none = subst (IsBadGate IsRow) (sym o.parts) (refl, no_frames)
+  pub bad_wrong : {R : Type 0} (value : R → RowValue) (left frames behind : List ℕ) (old new : List R) → IsOpenRecord left frames behind → AppendsRowFrames IsRow value frames old new false → IsBadGate IsRow left
+  bad_wrong value left frames behind old new o none = subst (IsBadGate IsRow) (sym o.parts) (refl, no_frames)
     where
       no_frames : IsNoRecord IsRow o.after
       no_frames rows rest fits e = none rows fits.fit (one_record frames (frames_of rows) behind rest o.split.within fits.within (sym o.split.parts ∙ e))
@@ -66,15 +65,15 @@ module _ {R : Type 0} (IsRow : RowValue → Type 0) (value : R → RowValue) (fr
     pub left_short : at + length left ≡ from + length bytes
     left_short = omega (arith, so_far.place, ap length so_far.parts, length-append (flat_map open_record so_far.records) left)
 
-    pub passed_on : (frames behind : List ℕ) (more : Vec R Global) (rows' : List R) (at' : ℕ) → IsOpenRecord left frames behind → ReadsRowFrames IsRow value frames (Some more) → rows' ≡ rows ++ more.items → at' ≡ at + (5 + length frames) → Passed IsRow value from bytes rows' at' behind
-    passed_on frames behind more rows' at' o reads goes on =
-        let slice = map value more.items in
-        let record_is : left ≡ open_record slice ++ behind = o.parts ∙ ap (λ (l : List ℕ). 1 ∷ l) (o.split.parts ∙ ap (λ (f : List ℕ). text_spelling (to_be_bytes w32) f ++ behind) reads.1) in
+    pub passed_on : (frames behind : List ℕ) (rows' : List R) (at' : ℕ) → IsOpenRecord left frames behind → AppendsRowFrames IsRow value frames rows rows' true → at' ≡ at + (5 + length frames) → Passed IsRow value from bytes rows' at' behind
+    passed_on frames behind rows' at' o (more, fit, spelled, goes) on =
+        let slice = map value more in
+        let record_is : left ≡ open_record slice ++ behind = o.parts ∙ ap (λ (l : List ℕ). 1 ∷ l) (o.split.parts ∙ ap (λ (f : List ℕ). text_spelling (to_be_bytes w32) f ++ behind) spelled) in
         record {
           records = so_far.records ++ slice ∷ [];
           parts = so_far.parts ∙ ap (λ (l : List ℕ). flat_map open_record so_far.records ++ l) record_is ∙ sym (append_assoc (flat_map open_record so_far.records) (open_record slice) behind) ∙ ap (λ (l : List ℕ). l ++ behind) (sym (records_more so_far.records slice));
-          fit = All-append (IsRecord IsRow) so_far.records (slice ∷ []) so_far.fit (record { fit = reads.0; within = subst (λ (f : List ℕ). length f < 2 ^ 32) reads.1 o.split.within }, tt);
-          rows_are = ap (map value) goes ∙ map-append value rows more.items ∙ ap (λ (l : List RowValue). l ++ slice) so_far.rows_are ∙ sym (rows_more so_far.records slice);
+          fit = All-append (IsRecord IsRow) so_far.records (slice ∷ []) so_far.fit (record { fit = fit; within = subst (λ (f : List ℕ). length f < 2 ^ 32) spelled o.split.within }, tt);
+          rows_are = ap (map value) goes ∙ map-append value rows more ∙ ap (λ (l : List RowValue). l ++ slice) so_far.rows_are ∙ sym (rows_more so_far.records slice);
           place = omega (arith, on, so_far.place, ap length (records_more so_far.records slice), length-append (flat_map open_record so_far.records) (open_record slice), ap length record_is, length-append (open_record slice) behind, open_long left frames behind o);
         }
 

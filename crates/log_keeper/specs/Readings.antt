@@ -1,5 +1,5 @@
 -- How a file is read, step by step.
-use Rattle.std.specs.Prelude.{◌≡◌, ◌≢◌, ℕ, ◌+◌, ◌<◌, ◌^◌, List, [], ◌∷◌, ◌++◌, length, map, Option, Some, None, Result, Ok, Err}
+use Rattle.std.specs.Prelude.{◌≡◌, ◌≢◌, ℕ, ◌+◌, ◌<◌, ◌≤◌, ◌^◌, Bool, true, false, List, [], ◌∷◌, ◌++◌, length, map, Option, Some, None, Result, Ok, Err}
 use Rattle.std.specs.List.{AllByRecursion, flat_map}
 use Rattle.std.specs.Global.{Vec}
 use Rattle.std.specs.Int.{w32, to_be_bytes}
@@ -44,6 +44,11 @@ abbrev pub ReadsRowFrames : {R : Type 0} → (RowValue → Type 0) → (R → Ro
 ReadsRowFrames IsRow value bytes (Some rows) = AllByRecursion (IsStreamRow IsRow) (map value rows.items) × (bytes ≡ frames_of (map value rows.items))
 ReadsRowFrames IsRow value bytes None = (rows : List RowValue) → AllByRecursion (IsStreamRow IsRow) rows → bytes ≡ frames_of rows → ⊥
 
+-- rows whose frames these are were put behind the others; or they are no rows' frames
+abbrev pub AppendsRowFrames : {R : Type 0} → (RowValue → Type 0) → (R → RowValue) → List ℕ → List R → List R → Bool → Type 0
+AppendsRowFrames {R} IsRow value bytes old new true = (more : List R) × AllByRecursion (IsStreamRow IsRow) (map value more) × (bytes ≡ frames_of (map value more)) × (new ≡ old ++ more)
+AppendsRowFrames IsRow value bytes old new false = (rows : List RowValue) → AllByRecursion (IsStreamRow IsRow) rows → bytes ≡ frames_of rows → ⊥
+
 -- the bytes are open records that hold these rows, and behind them a closed gate, at `end` counted from `from`
 pub record AreRecords (IsRow : RowValue → Type 0) (from : ℕ) (bytes : List ℕ) (rows : List RowValue) (end : ℕ) : Type 0 where
   pub records : List (List RowValue)
@@ -85,3 +90,14 @@ ReadsFile IsRow value namespace (Err (Refused ReadFailed)) bytes = Unit {0}
 ReadsFile IsRow value namespace (Err (Refused WriteFailed)) bytes = Unit {0}
 ReadsFile IsRow value namespace (Err (Refused (BadLog at))) bytes = IsBadFile IsRow namespace at bytes
 ReadsFile IsRow value namespace (Err NoMemory) bytes = Unit {0}
+
+-- the file has 2^62 bytes or more, which is bad at that place
+abbrev pub IsTooLong : ℕ → List ℕ → Type 0
+IsTooLong at bytes = (2 ^ 62 ≤ length bytes) × (at ≡ 2 ^ 62)
+
+-- the refusal is a bad log, or there is no memory
+abbrev pub IsNoFault : End KeepRefusal → Type 0
+IsNoFault (Refused ReadFailed) = ⊥
+IsNoFault (Refused WriteFailed) = ⊥
+IsNoFault (Refused (BadLog at)) = Unit {0}
+IsNoFault NoMemory = Unit {0}

@@ -188,7 +188,31 @@ impl<F: RowForm, D: Disk> LogKeeper<F, D> {
         ensures cause { EndsByCause (λ at. ⊥) (D.facts self.old.disk) (D.facts self.new.disk) result }
     {
         let piece = record_of(self.alloc, slice)?;
-        match write_gate_last(&mut self.disk, self.end, &piece) {
+        self.write_record(slice, &piece)
+    }
+
+    // Writes the piece, the record of the slice, and counts its rows. Borrows the piece, so that no way out drops it.
+    fn write_record<R: Row>(
+        &mut self,
+        slice: &[LogRow<R>],
+        piece: &[u8],
+    ) -> Result<u64, End<KeepRefusal>>
+        requires unbroken { self.old.broken ≡ false }
+        requires few { length slice.now ≤ 256 }
+        requires fit { AllByRecursion (IsStreamRow F.IsRow) (logged_rows R.value slice.now) }
+        requires room { self.old.end + 1 + length (record_body (logged_rows R.value slice.now)) < 2 ^ 63 - 1 }
+        requires piece { piece.now ≡ last_record (logged_rows R.value slice.now) }
+        ensures step { KeepsSlice F.IsRow D.facts D.may_leave D.moment D.left_since self.old self.new (logged_rows R.value slice.now) result }
+        ensures contents { OnOk result ((D.facts self.new.disk).contents ≡ option_map (written self.old.end (last_record (logged_rows R.value slice.now))) (D.facts self.old.disk).contents) }
+        ensures number { IfOk result (λ n. (n ≡ self.new.count) × (n ≡ self.old.count + length slice.now)) }
+        ensures end { OnOk result (self.new.end ≡ self.old.end + 1 + length (record_body (logged_rows R.value slice.now))) }
+        ensures unbroken { OnOk result (self.new.broken ≡ false) }
+        ensures broken { (why : _) → IsErrOf result (ends.Refused why) → (why ≡ refusals.WriteFailed) × (self.new.broken ≡ true) }
+        ensures memory { IsErrOf result ends.NoMemory → ⊥ }
+        ensures told { is_some (D.facts self.new.disk).contents ≡ is_some (D.facts self.old.disk).contents }
+        ensures cause { EndsByCause (λ at. ⊥) (D.facts self.old.disk) (D.facts self.new.disk) result }
+    {
+        match write_gate_last(&mut self.disk, self.end, piece) {
             Ok(()) => {
                 self.end += (piece.len() - 1) as u64;
                 self.count += slice.len() as u64;

@@ -4,7 +4,7 @@ ghost use Rattle.std.specs.Prelude.{◌≡◌, ◌<◌, ◌≤◌, ◌^◌, leng
 ghost use Rattle.willow_outside.specs.Disks.{LeavesContents, LeavesNoMore, LeavesOnly};
 ghost use Rattle.log_keeper.specs.BadLogs.{IsBadFile};
 ghost use Rattle.log_keeper.specs.Causes.{EndsByCause, IfUnwritten};
-ghost use Rattle.log_keeper.specs.Readings.{ReadsFile};
+ghost use Rattle.log_keeper.specs.Readings.{ReadsFile, IsTooLong, IsNoFault};
 
 use crate::beginning::size_of;
 use crate::reading::read_log;
@@ -64,6 +64,44 @@ fn read_whole<D: Disk>(alloc: Global, disk: &mut D, size: u64) -> Result<Vec<u8>
     }
 }
 
+// Brings to the disk what was written, and answers the length of a file that is not too long.
+fn settled_size<D: Disk>(disk: &mut D) -> Result<u64, End<KeepRefusal>>
+    ensures size { IfOk result (λ n. IfSome (D.facts disk.new).contents (λ bytes. n ≡ length bytes)) }
+    ensures short { IfOk result (λ n. n < 2 ^ 62) }
+    ensures moments { LeavesOnly D.moment D.left_since disk.old disk.new (D.may_leave disk.old) }
+    ensures images { LeavesNoMore (D.may_leave disk.old) (D.may_leave disk.new) }
+    ensures contents { OnOk result ((D.facts disk.new).contents ≡ (D.facts disk.old).contents) }
+    ensures told { is_some (D.facts disk.new).contents ≡ is_some (D.facts disk.old).contents }
+    ensures unwritten { IfErr result (λ why. IfUnwritten why ((D.facts disk.new).contents ≡ (D.facts disk.old).contents)) }
+    ensures settled { OnOk result (LeavesContents (D.facts disk.new).contents (D.may_leave disk.new)) }
+    ensures cause { EndsByCause (λ at. IfSome (D.facts disk.old).contents (IsTooLong at)) (D.facts disk.old) (D.facts disk.new) result }
+{
+    settle(disk)?;
+    let size = size_of(disk)?;
+    if TOO_LONG <= size {
+        return Err(End::Refused(KeepRefusal::BadLog { at: TOO_LONG }));
+    }
+    Ok(size)
+}
+
+// What the bytes of a file hold, as `read_disk` answers it. It borrows them, so that no way out drops them.
+fn read_bytes<F: RowForm>(
+    alloc: Global,
+    bytes: &[u8],
+    namespace: &NamespaceKey,
+) -> Result<Option<(Vec<F::R>, u64)>, End<KeepRefusal>>
+    requires { length bytes.now < 2 ^ 62 }
+    ensures reads { ReadsFile F.IsRow F.R.value namespace.now result bytes.now }
+    ensures no_fault { IfErr result IsNoFault }
+    ensures few { IfOk result (λ found. IfSome found (λ log. (length log.0.items ≤ log.1) × (log.1 < 2 ^ 62))) }
+{
+    match read_log::<F>(alloc, bytes, namespace) {
+        Ok(found) => Ok(found),
+        Err(End::Refused(at)) => Err(End::Refused(KeepRefusal::BadLog { at })),
+        Err(End::NoMemory) => Err(End::NoMemory),
+    }
+}
+
 /// The rows that the file of a disk holds, and the place of the closed gate; None where it holds no log. Syncs once, and then
 /// only reads.
 pub(crate) fn read_disk<F: RowForm, D: Disk>(
@@ -81,15 +119,7 @@ pub(crate) fn read_disk<F: RowForm, D: Disk>(
     ensures few { IfOk result (λ found. IfSome found (λ log. (length log.0.items ≤ log.1) × (log.1 < 2 ^ 62))) }
     ensures cause { EndsByCause (λ at. IfSome (D.facts disk.old).contents (IsBadFile F.IsRow namespace.now at)) (D.facts disk.old) (D.facts disk.new) result }
 {
-    settle(disk)?;
-    let size = size_of(disk)?;
-    if TOO_LONG <= size {
-        return Err(End::Refused(KeepRefusal::BadLog { at: TOO_LONG }));
-    }
+    let size = settled_size(disk)?;
     let bytes = read_whole(alloc, disk, size)?;
-    match read_log::<F>(alloc, &bytes, namespace) {
-        Ok(found) => Ok(found),
-        Err(End::Refused(at)) => Err(End::Refused(KeepRefusal::BadLog { at })),
-        Err(End::NoMemory) => Err(End::NoMemory),
-    }
+    read_bytes::<F>(alloc, &bytes, namespace)
 }

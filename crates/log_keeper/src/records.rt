@@ -1,7 +1,8 @@
 //! Reading the records of a log.
 
-ghost use Rattle.std.specs.Prelude.{◌≡◌, ◌+◌, ◌<◌, ◌^◌, ◌++◌, length, IfOk, IfSome, IfNone};
-ghost use Rattle.log_keeper.specs.Readings.{SplitsOff, TellsGate, ReadsRowFrames, ReadsRecords};
+ghost use Rattle.std.specs.Prelude.{◌≡◌, ◌+◌, ◌<◌, ◌^◌, [], ◌++◌, length, map, IfOk, IfSome, IfNone, IsErrOf};
+ghost use Rattle.spelling.specs.declared.ending.End.TheVariants as ends;
+ghost use Rattle.log_keeper.specs.Readings.{SplitsOff, TellsGate, ReadsRowFrames, AppendsRowFrames, AreRecords, RecordsGoWrong, ReadsRecords};
 
 use crate::header::OPEN;
 use row_stream::RowStream;
@@ -74,6 +75,53 @@ fn read_frames<F: RowForm>(alloc: Global, bytes: &[u8]) -> Result<Option<Vec<F::
     }
 }
 
+// Appends the rows whose frames the bytes are, and tells whether they are some rows'.
+fn append_frames<F: RowForm>(
+    alloc: Global,
+    bytes: &[u8],
+    rows: &mut Vec<F::R>,
+) -> Result<bool, NoMemory>
+    requires { length bytes.now < 2 ^ 63 }
+    ensures { IfOk result (AppendsRowFrames F.IsRow F.R.value bytes.now rows.old.items rows.new.items) }
+{
+    match read_frames::<F>(alloc, bytes)? {
+        Some(mut more) => {
+            rows.append(&mut more)?;
+            Ok(true)
+        }
+        None => Ok(false),
+    }
+}
+
+// Puts the rows of the open records in front of the bytes, of which the first has this place, where none are yet, and answers
+// the place of the closed gate.
+fn append_records<F: RowForm>(
+    alloc: Global,
+    from: u64,
+    bytes: &[u8],
+    rows: &mut Vec<F::R>,
+) -> Result<u64, End<u64>>
+    requires room { from + length bytes.now < 2 ^ 63 }
+    requires no_rows { rows.old.items ≡ [] }
+    ensures read { IfOk result (AreRecords F.IsRow from bytes.now (map F.R.value rows.new.items)) }
+    ensures wrong { (at : _) → IsErrOf result (ends.Refused at) → RecordsGoWrong F.IsRow from bytes.now at }
+{
+    let mut at = from;
+    let mut left = bytes;
+    'records: loop {
+        let (frames, behind) = match record_at(left) {
+            Ok(Some(record)) => record,
+            Ok(None) => return Ok(at),
+            Err(CutShort) => return Err(End::Refused(at)),
+        };
+        if !append_frames::<F>(alloc, frames, rows)? {
+            return Err(End::Refused(at));
+        }
+        at += (AROUND + frames.len()) as u64;
+        left = behind;
+    }
+}
+
 /// The rows of the open records in front of the bytes, of which the first has this place, and the place of the closed gate.
 pub(crate) fn read_records<F: RowForm>(
     alloc: Global,
@@ -84,19 +132,6 @@ pub(crate) fn read_records<F: RowForm>(
     ensures { ReadsRecords F.IsRow F.R.value from bytes.now result }
 {
     let mut rows = Vec::new(alloc);
-    let mut at = from;
-    let mut left = bytes;
-    'records: loop {
-        let (frames, behind) = match record_at(left) {
-            Ok(Some(record)) => record,
-            Ok(None) => return Ok((rows, at)),
-            Err(CutShort) => return Err(End::Refused(at)),
-        };
-        match read_frames::<F>(alloc, frames)? {
-            Some(mut more) => rows.append(&mut more)?,
-            None => return Err(End::Refused(at)),
-        }
-        at += (AROUND + frames.len()) as u64;
-        left = behind;
-    }
+    let end = append_records::<F>(alloc, from, bytes, &mut rows)?;
+    Ok((rows, end))
 }

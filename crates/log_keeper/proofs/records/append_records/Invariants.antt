@@ -1,6 +1,6 @@
 use Rattle.std.proofs.Common.{length}
 use Rattle.log_keeper.proofs.RecordsRead.{Passed}
-use Rattle.log_keeper.proofs.records.read_records.Given as goal
+use Rattle.log_keeper.proofs.records.append_records.Given as goal
 
 abbrev pub invariant-records : goal.invariant-records
 invariant-records g l = Passed g.F.RowForm.IsRow g.F.R.Row.value l.from l.bytes l.rows.items l.at l.left
