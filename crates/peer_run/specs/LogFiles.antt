@@ -68,7 +68,7 @@ pub record HoldsFirst (namespace : List ℕ) (before first rows : List RowValue)
   pub few : length held ≤ length first + 256
   pub holds : HoldsRows IsRawRow namespace bytes (before ++ held)
 
--- A write failed, it may be earlier: the first of these rows are kept, and the file is not written again.
+-- A write failed, it may be earlier: the first of these rows are kept. Where it was earlier these are none, and the disk is as it was.
 pub record HasFailed (rows : List RowValue) (old new : FileState) : Type 0 where
   pub broken : new.broken ≡ true
   pub first : List RowValue
