@@ -1,7 +1,7 @@
 -- The capabilities of rows, and their places.
-use Rattle.std.proofs.Common.{◌≡◌, inl, inr, ℕ, zero, suc, ◌+◌, ◌<◌, ◌≤◌, Bool, true, false, cond, List, [], ◌∷◌, ◌++◌, length, map, get_or, Contains, Ok, Err, refl, sym, ap, subst, ◌∙◌, append_assoc, arith, Ordering, Less, Equal, Greater, is_lt, Bor}
+use Rattle.std.proofs.Common.{◌≡◌, ◌⊎◌, inl, inr, ℕ, zero, suc, ◌+◌, ◌-◌, ◌<◌, ◌≤◌, Bool, true, false, cond, List, [], ◌∷◌, ◌++◌, length, map, get_or, Contains, Some, None, option_map, Ok, Err, refl, sym, ap, subst, ◌∙◌, append_assoc, arith, Ordering, Less, Equal, Greater, is_lt, Bor}
 use Rattle.std.specs.Cmp.Lexicographic.{bytes_decides, on_texts, on_texts_equal, texts_ties}
-use Rattle.std.specs.List.{AllByRecursion, dedup, flat_map}
+use Rattle.std.specs.List.{AllByRecursion, dedup, flat_map, slice_get}
 use Rattle.std.specs.List.Sorted.{IsStrictlySortedBy, IsPermutation, IsSorted, IsBinarySearchResult}
 use Rattle.std.specs.Ordering.{match_ordering, ordering_reverse}
 use Rattle.std.proofs.lemmas.Bool.{cases_lt}
@@ -10,13 +10,15 @@ use Rattle.std.proofs.lemmas.List.{length-map}
 use Rattle.std.proofs.Math.ListN.{get_or-map}
 use Rattle.std.proofs.lemmas.List.Kept.{Any-dedup, Contains-from_dedup, IsStrictlySortedBy-dedup}
 use Rattle.std.proofs.lemmas.List.Sorted.{Contains-permutation, IsPermutation-sym, searchable_from_sorted}
+use Rattle.std.proofs.lemmas.Option.{get_or_from_slice_get, none-some, slice_get-map, slice_get_cases, slice_get_read}
 use Rattle.willow_entry.specs.Entry.{bytes_cmp, same_bytes}
 use Rattle.willow_entry.specs.Pruning.{placed, rising}
-use Rattle.willow_entry.proofs.Members.{Member, contains_from_member, member_from_contains}
+use Rattle.willow_entry.proofs.Members.{Member, contains_from_member, member_append_cases, member_append_left, member_append_right, member_from_contains}
 use Rattle.willow_entry.proofs.Ranks.{bytes_tie}
 use Rattle.willow_entry.proofs.Rising.{IsApart, member_from_rising, member_rising, rising-rises, same_rising, Less≢Equal}
 use Rattle.willow_entry.specs.Row.{RowValue}
 use Rattle.peer_image.specs.Image.{bytes_frame, capabilities, capability_bytes, head_two, image, place_in, placed_frame, trailer}
+use Rattle.peer_image.proofs.OrderBehind.{ended, mapped_end}
 
 -- ---- all of what is placed
 
@@ -153,6 +155,48 @@ told_is gathered sorted told moved up is =
           let x = member_now gathered z (member_from_rising bytes_cmp (now_of gathered) z m) in
           let y = gathered_told gathered sorted told moved up is x.0 (contains_from_member gathered x.0 x.1) in
           subst (Member (now_of told)) (sym y.2 ∙ x.2) (now_member told y.0 (member_from_contains told y.0 y.1))
+
+-- ---- one that stands among those before it
+
+-- it adds none to those that rise
+pub rising_passed : (told left : List (List ℕ)) (c : List ℕ) → Contains told c → rising bytes_cmp (told ++ c ∷ left) ≡ rising bytes_cmp (told ++ left)
+rising_passed told left c has =
+    same_rising bytes_cmp nat_list_cmp_total (rising bytes_cmp (told ++ c ∷ left)) (rising bytes_cmp (told ++ left)) (rising-rises bytes_cmp nat_list_cmp_total (told ++ c ∷ left)) (rising-rises bytes_cmp nat_list_cmp_total (told ++ left)) there back where
+      fewer : (z : List ℕ) → Member told z ⊎ Member (c ∷ left) z → Member (told ++ left) z
+      fewer z (inl m) = member_append_left told left z m
+      fewer z (inr (inl e)) = subst (Member (told ++ left)) e (member_append_left told left c (member_from_contains told c has))
+      fewer z (inr (inr m)) = member_append_right told left z m
+
+      more : (z : List ℕ) → Member told z ⊎ Member left z → Member (told ++ c ∷ left) z
+      more z (inl m) = member_append_left told (c ∷ left) z m
+      more z (inr m) = member_append_right told (c ∷ left) z (inr m)
+
+      there : (z : List ℕ) → Member (rising bytes_cmp (told ++ c ∷ left)) z → Member (rising bytes_cmp (told ++ left)) z
+      there z m = member_rising bytes_cmp (told ++ left) (apart (told ++ left)) z (fewer z (member_append_cases told (c ∷ left) z (member_from_rising bytes_cmp (told ++ c ∷ left) z m)))
+
+      back : (z : List ℕ) → Member (rising bytes_cmp (told ++ left)) z → Member (rising bytes_cmp (told ++ c ∷ left)) z
+      back z m = member_rising bytes_cmp (told ++ c ∷ left) (apart (told ++ c ∷ left)) z (more z (member_append_cases told left z (member_from_rising bytes_cmp (told ++ left) z m)))
+
+-- the last of them is one of them
+pub last_among : (told : List Text) (last : Text) (c : List ℕ) → Some last ≡ slice_get told (length told - 1) → last.now ≡ c → Contains (now_of told) c
+last_among told last c is same =
+    let end = mapped_end (λ (x : Text). x.now) told last (ended told last is) in
+    let there : Member (now_of told) last.now = subst (λ (l : List (List ℕ)). Member l last.now) (sym end.parts) (member_append_right end.front (last.now ∷ []) last.now (inl refl)) in
+    subst (Contains (now_of told)) same (contains_from_member (now_of told) last.now there)
+
+-- ---- what stands at a place
+
+pub stands_at : (told : List Text) (k : ℕ) (there : Text) (c : List ℕ) → k < length told → there ≡ get_or told k there → there.now ≡ c → slice_get (now_of told) k ≡ Some c
+stands_at told k there c below is same =
+    let now : Text → List ℕ = λ x. x.now in
+    slice_get-map now told k ∙ ap (option_map now) (slice_get_read told (length told) k there refl below is) ∙ ap (λ (l : List ℕ). Some l) same
+
+-- of rising capabilities that one has this place
+pub place_there : (told : List (List ℕ)) (k : ℕ) (c : List ℕ) → IsStrictlySortedBy bytes_cmp told → slice_get told k ≡ Some c → place_in told c ≡ k
+place_there told k c up at = by (slice_get_cases told k).1 where
+  by : ((x : List ℕ) × (k < length told) × (slice_get told k ≡ Some x) × (get_or told k x ≡ x)) ⊎ ((length told ≤ k) × (slice_get told k ≡ None)) → place_in told c ≡ k
+  by (inl some) = place_at told k c up some.1 (get_or_from_slice_get told k c c at)
+  by (inr none) = absurd (none-some c (sym none.1 ∙ at))
 
 -- ---- what a binary search tells
 

@@ -23,7 +23,7 @@ pub use read_one::read_image_one;
 pub use read_two::{is_end_two, no_marks, read_image_two, rows_among};
 pub use refusal::ImageRefusal;
 pub use write::{
-    capabilities_of, place_of, put_capability, put_head_two, put_row_two, put_trailer, write_image,
-    write_store_image,
+    capabilities_of, place_from, put_capability, put_head_two, put_row_two, put_trailer,
+    write_image, write_store_image,
 };
 pub use write_one::{write_image_one, write_rows_one};

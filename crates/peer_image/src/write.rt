@@ -1,11 +1,12 @@
 //! Images as they are written: of version 2.
 
-ghost use Rattle.std.specs.Prelude.{◌≡◌, ◌+◌, ◌<◌, ◌≤◌, ◌^◌, ◌++◌, length, map, take, vec_len, IfOk, OnOk};
+ghost use Rattle.std.specs.Prelude.{◌≡◌, ◌+◌, ◌<◌, ◌≤◌, ◌^◌, ◌++◌, length, map, slice_get, take, vec_len, Some, Contains, IfOk, IsTrue, OnOk};
 ghost use Rattle.std.specs.List.{AllByRecursion, flat_map};
 ghost use Rattle.std.specs.List.Sorted.{IsStrictlySortedBy};
 ghost use Rattle.willow_entry.specs.Entry.{bytes_cmp};
 ghost use Rattle.willow_entry.specs.EntryForm.{entry_spelling};
 ghost use Rattle.willow_entry.specs.Frame.{HasFrame};
+ghost use Rattle.willow_entry.specs.Pruning.{rising};
 ghost use Rattle.willow_entry.specs.declared.frame.TheConstants.{MAX_FRAME};
 ghost use Rattle.cap_codec.specs.TokenParts.{signature_in};
 ghost use Rattle.peer_image.specs.Image.{bytes_frame, capabilities, capability_bytes, head_two, image, numbered_as, place_in, placed_frame, trailer};
@@ -126,18 +127,31 @@ pub fn capabilities_of<'a, R: TokenRow>(
     Ok(told)
 }
 
-// The capability of each row.
+// The capability of each row, of neighbours with the same one once.
 fn gathered<'a, R: TokenRow>(alloc: Global, rows: Rows<'a, R>) -> Result<Vec<&'a [u8]>, NoMemory>
     requires { AllByRecursion HasFrame (map R.value rows) }
-    ensures all { IfOk result (λ told. map (λ c. c.now) told.items ≡ map capability_bytes (map R.value rows.entry)) }
+    ensures all { IfOk result (λ told. rising bytes_cmp (map (λ c. c.now) told.items) ≡ capabilities (map R.value rows.entry)) }
     ensures short { IfOk result (λ told. AllByRecursion (λ c. length c ≤ MAX_FRAME) (map (λ c. c.now) told.items)) }
 {
     let mut told = Vec::new(alloc);
     let mut left = rows;
     'rows: while let Some(row) = left.next() {
-        told.push(short_capability(row))?;
+        let capability = short_capability(row);
+        if !ends_with(&told, capability) {
+            told.push(capability)?;
+        }
     }
     Ok(told)
+}
+
+// Whether the last of these is this capability.
+fn ends_with(told: &[&[u8]], capability: &[u8]) -> bool
+    ensures { IsTrue result → Contains (map (λ c. c.now) told.now) capability.now }
+{
+    match told.last() {
+        Some(last) => *last == capability,
+        None => false,
+    }
 }
 
 // The capability of a row.
@@ -198,13 +212,35 @@ fn put_capabilities(out: &mut Vec<u8>, told: &[&[u8]]) -> Result<(), NoMemory>
 }
 
 /// The place of a row's capability among those that are told, counted from 0: where it is none of them, their number. They
-/// rise by their bytes.
-pub fn place_of<R: TokenRow>(told: &[&[u8]], row: &R) -> u32
+/// rise by their bytes. The place `first` is tried before the others: neighbours often have the same capability.
+pub fn place_from<R: TokenRow>(told: &[&[u8]], first: u32, row: &R) -> u32
     requires up { IsStrictlySortedBy (λ c d. bytes_cmp c.now d.now) told.now }
     requires few { length told.now < 2 ^ 32 }
     ensures { result ≡ place_in (map (λ c. c.now) told.now) (capability_bytes (R.value row.now)) }
 {
     let capability = row.capability_bytes();
+    if is_at(told, first, capability) {
+        return first;
+    }
+    place_of(told, capability)
+}
+
+// Whether this capability stands at the place.
+fn is_at(told: &[&[u8]], place: u32, capability: &[u8]) -> bool
+    ensures { IsTrue result → slice_get (map (λ c. c.now) told.now) place ≡ Some capability.now }
+{
+    match told.get(place as usize) {
+        Some(there) => *there == capability,
+        None => false,
+    }
+}
+
+// The place of a capability.
+fn place_of(told: &[&[u8]], capability: &[u8]) -> u32
+    requires up { IsStrictlySortedBy (λ c d. bytes_cmp c.now d.now) told.now }
+    requires few { length told.now < 2 ^ 32 }
+    ensures { result ≡ place_in (map (λ c. c.now) told.now) capability.now }
+{
     match told.binary_search(&capability) {
         Ok(at) => at as u32,
         Err(_) => told.len() as u32,
@@ -248,8 +284,10 @@ fn put_rows_two<R: TokenRow>(
     ensures { OnOk result (out.new.items ≡ out.old.items ++ flat_map (placed_frame (map (λ c. c.now) told.now)) (map R.value rows.entry)) }
 {
     let mut left = rows;
+    let mut place = 0;
     'rows: while let Some(row) = left.next() {
-        put_row_two(out, row, place_of(told, row))?;
+        place = place_from(told, place, row);
+        put_row_two(out, row, place)?;
     }
     Ok(())
 }

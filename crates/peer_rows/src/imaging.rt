@@ -15,7 +15,7 @@ ghost use Rattle.peer_rows.specs.Writing.{GoesOnWriting, IsWritingOut};
 use block_store::{BlockStore, Rows};
 use cap_codec::TokenRow;
 use peer_image::{
-    capabilities_of, place_of, put_capability, put_head_two, put_row_two, put_trailer,
+    capabilities_of, place_from, put_capability, put_head_two, put_row_two, put_trailer,
 };
 use peer_stage::{Stop, write_output};
 use std::alloc::Global;
@@ -99,9 +99,11 @@ fn write_rows<R: TokenRow, O: Sink>(
     ensures faults { CountsStep (O.facts output.old).faults (O.facts output.new).faults result }
 {
     let mut left = rows;
+    let mut place = 0;
     'rows: while let Some(row) = left.next() {
         write_full(piece, output)?;
-        put_row_two(piece, row, place_of(told, row))?;
+        place = place_from(told, place, row);
+        put_row_two(piece, row, place)?;
     }
     Ok(())
 }

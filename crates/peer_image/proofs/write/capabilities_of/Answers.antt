@@ -1,4 +1,4 @@
-use Rattle.std.proofs.Common.{◌≡◌, ◌≤◌, List, ℕ, length, sym, ap, subst, ◌∙◌}
+use Rattle.std.proofs.Common.{◌≡◌, ◌≤◌, List, ℕ, length, sym, subst, ◌∙◌}
 use Rattle.std.specs.List.{AllByRecursion}
 use Rattle.std.proofs.lemmas.List.Filters.{dedup_is}
 use Rattle.willow_entry.specs.Entry.{bytes_cmp}
@@ -12,7 +12,7 @@ returns-clause-told g c =
     let gathered = c.in_ok-told.told.items in
     let sorted = c.sort_unstable.new.self.items in
     let told = c.dedup.new.self.items in
-    told_is gathered sorted told c.sort_unstable.ensures.permutation c.sort_unstable.ensures.sorted (dedup_is same_text sorted told c.dedup.ensures.filtered) ∙ ap (rising bytes_cmp) c.in_ok-told.ensures.all
+    told_is gathered sorted told c.sort_unstable.ensures.permutation c.sort_unstable.ensures.sorted (dedup_is same_text sorted told c.dedup.ensures.filtered) ∙ c.in_ok-told.ensures.all
 
 pub returns-clause-up : goal.returns-clause-up
 returns-clause-up g c =
