@@ -22,7 +22,7 @@ rows-preserved g c =
           let piece = c.write_full.new.piece.items in
           let here = c.in_ok-write_full.ensures.writes begun whole (flat_map frame left ++ behind) (c.rows.invariant.writing begun whole behind w) in
           let next = frames_left frame left more row behind (ap (map value) c.in-Some.ensures.next) in
-          let put = c.in_ok-put_row_two.ensures.written ∙ ap (λ (n : ℕ). piece ++ bytes_frame (numbered_as n row)) c.place_from.ensures in
+          let put = c.in_ok-put_row_two.ensures.written ∙ ap (λ (n : ℕ). piece ++ bytes_frame (numbered_as n row)) c.place_from-place.ensures in
           piece_grows begun o whole piece c.put_row_two.new.out.items (frame row) (flat_map frame more ++ behind)
           (subst (λ (l : List ℕ). IsWritingOut begun o whole piece l) next here) put;
       no_fault = c.in_ok-write_full.ensures.faults ∙ c.rows.invariant.no_fault;
