@@ -248,12 +248,24 @@ part_whole told bytes most old rows marks left p above = p.ended (omega (arith, 
 pub row_told : (told : List Capability) (left : List ℕ) (row : RawValue) (number taken : ℕ) → IsRowInFront told left row number taken → 0 < length told
 row_told told left row number taken next = omega (arith, next.fits.below)
 
--- a row asks where the first does, or there is a capability
-asks_by : (told : List Capability) (bytes left : List ℕ) (rows : List NumberedRow) → AllByRecursion (FitsBelow (length told)) rows → bytes ≡ flat_map numbered_frame rows ++ left → FrameAsks left → (0 < length told) ⊎ FrameAsks bytes
-asks_by told bytes left [] fit parts asks = inr (subst FrameAsks (sym parts) asks)
-asks_by told bytes left (r ∷ rows) fit parts asks = inl (omega (arith, fit.0.below))
+numbered_asks : (r : NumberedRow) (rest : List ℕ) → FitsNumbered r → FrameAsks (numbered_frame r ++ rest)
+numbered_asks r rest fits =
+    let behind = to_be_bytes w32 r.number ++ signature_spelling r.signature in
+    rw (framed_again {spell = numbered_spelling} {fits = IsNumberedRow} r rest fits)
+    (entry_asks (numbered_spelling r) r.entry behind (entry-reads.again r.entry behind fits.value_fits.entry_fits))
 
-pub rows_ask : (told : List Capability) (bytes : List ℕ) (old : List Bool) (rows : List RawValue) (marks : List Bool) (left : List ℕ) → RowsSo told bytes old rows marks left → FrameAsks left → (0 < length told) ⊎ FrameAsks bytes
+-- a row that was read asked
+pub row_asked : (bytes : List ℕ) (r : NumberedRow) (taken : ℕ) → FitsNumbered r → take taken bytes ≡ numbered_frame r → FrameAsks bytes
+row_asked bytes r taken fits spelled =
+    subst FrameAsks (ap (λ (l : List ℕ). l ++ drop taken bytes) (sym spelled) ∙ take-append-drop taken bytes) (numbered_asks r (drop taken bytes) fits)
+
+-- where a row asks, the first does
+asks_by : (told : List Capability) (bytes left : List ℕ) (rows : List NumberedRow) → AllByRecursion (FitsBelow (length told)) rows → bytes ≡ flat_map numbered_frame rows ++ left → FrameAsks left → FrameAsks bytes
+asks_by told bytes left [] fit parts asks = subst FrameAsks (sym parts) asks
+asks_by told bytes left (r ∷ rows) fit parts asks =
+    subst FrameAsks (sym (parts ∙ append_assoc (numbered_frame r) (flat_map numbered_frame rows) left)) (numbered_asks r (flat_map numbered_frame rows ++ left) fit.0.fits)
+
+pub rows_ask : (told : List Capability) (bytes : List ℕ) (old : List Bool) (rows : List RawValue) (marks : List Bool) (left : List ℕ) → RowsSo told bytes old rows marks left → FrameAsks left → FrameAsks bytes
 rows_ask told bytes old rows marks left so asks = asks_by told bytes left so.numbered so.fit so.parts asks
 
 -- ---- marks that are all set
@@ -305,17 +317,6 @@ no_row_at told bytes r taken fits spelled above s rest f parts =
     let here : numbered_frame r ++ drop taken bytes ≡ numbered_frame s ++ rest = ap (λ (l : List ℕ). l ++ drop taken bytes) (sym spelled) ∙ take-append-drop taken bytes ∙ parts in
     let same = framed_form numbered-reads r s (drop taken bytes) rest fits f.fits here in
     omega (arith, above, f.below, ap (λ (x : NumberedRow). x.number) same.0)
-
-numbered_asks : (r : NumberedRow) (rest : List ℕ) → FitsNumbered r → FrameAsks (numbered_frame r ++ rest)
-numbered_asks r rest fits =
-    let behind = to_be_bytes w32 r.number ++ signature_spelling r.signature in
-    rw (framed_again {spell = numbered_spelling} {fits = IsNumberedRow} r rest fits)
-    (entry_asks (numbered_spelling r) r.entry behind (entry-reads.again r.entry behind fits.value_fits.entry_fits))
-
--- a row that was read asked
-pub row_asked : (bytes : List ℕ) (r : NumberedRow) (taken : ℕ) → FitsNumbered r → take taken bytes ≡ numbered_frame r → FrameAsks bytes
-row_asked bytes r taken fits spelled =
-    subst FrameAsks (ap (λ (l : List ℕ). l ++ drop taken bytes) (sym spelled) ∙ take-append-drop taken bytes) (numbered_asks r (drop taken bytes) fits)
 
 -- ---- what the reader answers
 

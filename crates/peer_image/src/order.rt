@@ -11,7 +11,7 @@ use spelling::NoMemory;
 use std::alloc::Global;
 use willow_entry::{Row, by_inner_place, dominates};
 
-// Why the rows are none of a store: they do not rise, or else a row dominates a later one.
+// Why the rows are none of a store: they do not rise, or else a row dominates a later one. Memory is asked for where they rise.
 #[tactic(auto, using(crate::proofs::Falls::rising_from_none))]
 pub(crate) fn order_refusal<R: Row>(
     alloc: Global,
@@ -20,6 +20,7 @@ pub(crate) fn order_refusal<R: Row>(
     requires { length rows.now < 2 ^ 32 }
     ensures found { IfOk result (λ found. found ≡ order_refusal (map R.value rows.now)) }
     ensures some { OnErr result (0 < length rows.now) }
+    ensures rising { OnErr result (IsInnerRising (map R.value rows.now)) }
 {
     match first_fall(rows) {
         Some(refusal) => Ok(Some(refusal)),
@@ -144,8 +145,8 @@ fn pruned_along<'a, R: Row>(
     Ok(None)
 }
 
-// The number of the first front that dominates the row. Where none does, the fronts become those of the row, with itself
-// behind them under this number.
+// The number of the first front that dominates the row. Where none does, memory is asked for, and the fronts become those of
+// the row, with itself behind them under this number.
 fn judge_next<'a, R: Row>(
     fronts: &mut Vec<Front<'a, R>>,
     at: u32,
@@ -153,6 +154,7 @@ fn judge_next<'a, R: Row>(
 ) -> Result<Option<u32>, NoMemory>
     ensures by { IfOk result (λ by. by ≡ first_dominating (R.value row.now) (fronts_of (R.value row.now) (map (seen R.value) fronts.old.items))) }
     ensures kept { result ≡ Ok None → map (seen R.value) fronts.new.items ≡ fronts_of (R.value row.now) (map (seen R.value) fronts.old.items) ++ record { at = at; row = R.value row.now } ∷ [] }
+    ensures undominated { OnErr result (first_dominating (R.value row.now) (fronts_of (R.value row.now) (map (seen R.value) fronts.old.items)) ≡ None) }
 {
     keep_fronts(fronts, row);
     match dominating(fronts, row) {

@@ -4,7 +4,8 @@ ghost use Rattle.std.specs.Prelude.{◌≡◌, ◌<◌, ◌++◌, length, IsErrO
 ghost use Rattle.spelling.specs.declared.ending.End.TheVariants as ends;
 ghost use Rattle.willow_path.specs.Key.{IsKey};
 ghost use Rattle.peer_image.specs.ImageOne.{magic_one};
-ghost use Rattle.peer_image.specs.ImageOneReading.{HasNoHeader, ImageOneAsks, ReadsImageOne, ReadsRowsOne};
+ghost use Rattle.peer_image.specs.ImageOneReading.{HasNoHeader, ImageOneAsks, ReadsImageOne, ReadsRowsOne, raw_rows};
+ghost use Rattle.peer_image.specs.Order.{IsInnerRising};
 
 use crate::order::order_refusal;
 use crate::parts::image_head;
@@ -36,6 +37,7 @@ fn in_order(alloc: Global, bytes: &[u8], image: Image) -> Result<Image, End<Imag
     requires { ReadsRowsOne bytes.now (Ok image) }
     ensures image { ReadsImageOne bytes.now result }
     ensures some { IsErrOf result ends.NoMemory → 0 < length image.rows.items }
+    ensures rising { IsErrOf result ends.NoMemory → IsInnerRising (raw_rows image.rows.items) }
 {
     match order_refusal(alloc, &image.rows) {
         Ok(None) => Ok(image),

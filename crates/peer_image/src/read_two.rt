@@ -1,12 +1,14 @@
 //! Images of version 2 as they are read.
 
-ghost use Rattle.std.specs.Prelude.{◌≡◌, ◌<◌, ◌≤◌, ◌^◌, ◌++◌, ◌⊎◌, [], true, length, IfOk, IsErrOf, MatchBool, OnErr};
+ghost use Rattle.std.specs.Prelude.{◌≡◌, ◌<◌, ◌≤◌, ◌^◌, ◌++◌, [], true, length, IfOk, IsErrOf, MatchBool, OnErr};
 ghost use Rattle.std.specs.List.{list_all};
 ghost use Rattle.spelling.specs.declared.ending.End.TheVariants as ends;
 ghost use Rattle.willow_entry.specs.Frame.{FrameAsks};
 ghost use Rattle.peer_image.specs.Image.{trailer};
+ghost use Rattle.peer_image.specs.ImageOneReading.{raw_rows};
 ghost use Rattle.peer_image.specs.ImageTwoParts.{AreMarked, GoesBadAt, HasMarkedSome, IsPartTwo, ReadsRow};
 ghost use Rattle.peer_image.specs.ImageTwoReading.{AreToldInFront, FirstIsWhole, ImageTwoAsks, IsImageHead, ReadsImageTwo, ReadsRowsTwo, head_two_spelling};
+ghost use Rattle.peer_image.specs.Order.{IsInnerRising};
 
 use crate::known::{ImageHead, KnownCapability, capabilities_in_front, image_two_head};
 use crate::order::order_refusal;
@@ -38,6 +40,7 @@ fn in_order_two(alloc: Global, bytes: &[u8], image: Image) -> Result<Image, End<
     requires { ReadsRowsTwo bytes.now (Ok image) }
     ensures image { ReadsImageTwo bytes.now result }
     ensures some { IsErrOf result ends.NoMemory → 0 < length image.rows.items }
+    ensures rising { IsErrOf result ends.NoMemory → IsInnerRising (raw_rows image.rows.items) }
 {
     match order_refusal(alloc, &image.rows) {
         Ok(None) => Ok(image),
@@ -134,8 +137,8 @@ fn bad_at(bytes: &[u8], left: &[u8]) -> End<ImageRefusal>
 
 /// The rows of the first frames in front of the bytes that tell capabilities among those told, at most so many, and the bytes
 /// behind these frames. There is a mark for each capability; those of the capabilities that the rows tell are set. Memory is
-/// asked for where a capability is told, or the first frame asks. Without memory the marks of the capabilities that some of
-/// the first rows tell were set, and no other.
+/// asked for where the first frame asks. Without memory the marks of the capabilities that some of the first rows tell were
+/// set, and no other.
 pub fn rows_among<'a>(
     alloc: Global,
     told: &[KnownCapability],
@@ -145,7 +148,7 @@ pub fn rows_among<'a>(
 ) -> Result<(Vec<RawRow>, &'a [u8]), NoMemory>
     requires { length marks.old ≡ length told.now }
     ensures reads { IfOk result (λ read. IsPartTwo told.now bytes.now most marks.old read.0.items marks.new read.1.now) }
-    ensures asked { OnErr result ((0 < length told.now) ⊎ FrameAsks bytes.now) }
+    ensures asked { OnErr result (FrameAsks bytes.now) }
     ensures short { OnErr result (HasMarkedSome told.now bytes.now most marks.old marks.new) }
 {
     let mut rows = Vec::new(alloc);

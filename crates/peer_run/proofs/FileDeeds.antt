@@ -119,7 +119,7 @@ opening_reads name n old new (inl s) = inl s.1
 opening_reads name n old new (inr s) = inr (record { disks = s.0 ∷ []; back = ap (λ (b : BayFacts). b.back) s.1.back; disk = s.0; among = (0, omega arith, refl); rose = s.2 })
 
 opening_writes : (name : String Global) (n : List ℕ) (old new : World) → StopsOpening name n old.bay new.bay stop.WriteFault → BayWrites old new
-opening_writes name n old new s = record { disks = s.0 ∷ []; back = ap (λ (b : BayFacts). b.back) s.1; disk = s.0; among = (0, omega arith, refl); rose = s.2 }
+opening_writes name n old new s = record { disks = s.0 ∷ []; back = ap (λ (b : BayFacts). b.back) s.1.back; disk = s.0; among = (0, omega arith, refl); rose = s.2 }
 
 file_owes : (log : Option (String Global)) (file : Option FileState) (n : List ℕ) → Owes BayReads BayWrites Nothing (λ rows. Nothing) (OpensFile log file n)
 file_owes None None n =

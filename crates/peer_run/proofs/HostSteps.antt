@@ -1,6 +1,6 @@
 -- The steps of `sync` and of `serve` put together from the stages of the code.
 use Rattle.std.proofs.Common.{◌≡◌, ℕ, Bool, List, Option, Some, None, inl, inr, refl, subst}
-use Rattle.std.specs.Prelude.{Result, Ok, Err, IfOk, IfSome}
+use Rattle.std.specs.Prelude.{Result, Ok, Err, IfOk, IfErr, IfSome}
 use Rattle.std.specs.Global.{Vec}
 use Rattle.std.specs.String.{string_bytes}
 use Rattle.willow_outside.specs.Facts.{BayFacts, ShelfFacts, DoorFacts, NoiseFacts}
@@ -19,15 +19,14 @@ use Rattle.peer_stage.specs.declared.outcome.Stop.TheVariants as stop
 use Rattle.peer_stage.proofs.Steps.{passes, noise_on}
 use Rattle.peer_run.specs.Closing.{image_of, put_answer}
 use Rattle.peer_run.specs.Hosting.{HasAttended, HostsFile, HostsLinks, HostsWith, OpensHouse, PutsImage, Tells, plans_of, own_role, way_of, with_put}
-use Rattle.peer_run.specs.LogFiles.{FileState, GoesOnIf, KeepsRest, KeepsSeenIf, StopsFile}
+use Rattle.peer_run.specs.LogFiles.{EndsKeeping, FileState, KeepsRest, KeepsSeenIf, StopsFile}
 use Rattle.peer_run.specs.LogOpening.{IsFileOpened}
 use Rattle.peer_run.specs.Telling.{AreNotForWant, AreTailsNotForWant, TellsHosted, TellsJust, Told, none_told, told_behind}
 use Rattle.peer_run.specs.Visiting.{Attends}
 use Rattle.peer_run.specs.declared.hosting.Attended.{Attended}
 use Rattle.peer_run.specs.declared.sessions.House as house
 use Rattle.peer_run.specs.declared.sessions.HostWords.{HostWords}
-use Rattle.peer_run.proofs.KeptFiles.{goes_if_further}
-use Rattle.peer_run.proofs.KeptPumps.{KeepsAll, keeps_all, seen_goes}
+use Rattle.peer_run.proofs.KeptPumps.{KeepsAll, all_stops, keeps_all}
 
 -- the put of the bytes of a name, told of the same bytes and the same name
 pub puts_same : (name bytes is_name are_bytes : List ℕ) (h h' : ShelfFacts) (end : Result (Unit {0}) Stop) → name ≡ is_name → bytes ≡ are_bytes → PutsBytes name bytes h h' end → PutsBytes is_name are_bytes h h' end
@@ -51,9 +50,11 @@ attends_as awaited follows place is_place draws are_draws s d d' u u' end here s
 pub file_stops : (words : HostWords) (f f' : Option FileState) (old new : World) (e : Stop) → HostsWith words f old new (Err e) → IfSome f (IsFileOpened words.log old.bay new.bay) → StopsFile e f f' → HostsFile words f' old new (Err e)
 file_stops words None None old new e hosts is_opened stops = hosts
 file_stops words (Some f) (Some f') old new e hosts is_opened stops = (f, hosts, is_opened, stops)
-file_stops words None (Some f') old new stop.NoMemory hosts is_opened stops = absurd stops
+file_stops words None (Some f') old new stop.NoMemory hosts is_opened (inl same) = absurd cc
+file_stops words None (Some f') old new stop.NoMemory hosts is_opened (inr kept) = absurd kept
 file_stops words None (Some f') old new e hosts is_opened stops = absurd cc
-file_stops words (Some f) None old new stop.NoMemory hosts is_opened stops = absurd stops
+file_stops words (Some f) None old new stop.NoMemory hosts is_opened (inl same) = absurd cc
+file_stops words (Some f) None old new stop.NoMemory hosts is_opened (inr kept) = absurd kept
 file_stops words (Some f) None old new e hosts is_opened stops = absurd cc
 
 -- where it came to its end
@@ -64,9 +65,9 @@ filed_done words None (Some f') old new d hosts is_opened kept = absurd kept
 filed_done words (Some f) None old new d hosts is_opened kept = absurd kept
 
 -- where the image was not put for want of memory
-put_goes : (name : List ℕ) (told : Told) (w w' : World) (f f' : Option FileState) (e : Stop) → PutsImage name w told w' (Err e) → GoesOnIf f f' → StopsFile e f f'
-put_goes name told w w' f f' stop.NoMemory puts goes = goes
-put_goes name told w w' f f' e puts goes = absurd puts
+put_stops : (name : List ℕ) (told : Told) (w w' : World) (f f' : Option FileState) (e : Stop) → PutsImage name w told w' (Err e) → StopsFile stop.NoMemory f f' → StopsFile e f f'
+put_stops name told w w' f f' stop.NoMemory puts stops = stops
+put_stops name told w w' f f' e puts stops = absurd puts
 
 module _ (words : HostWords) (file : Option FileState) (others : World) (h h1 : ShelfFacts) (b b1 : BayFacts) (n n1 : NoiseFacts) (d : DoorFacts) (u : HubValue) where
   -- the objects before, and behind the reservation, the draws and the sessions
@@ -125,8 +126,8 @@ module _ (words : HostWords) (file : Option FileState) (others : World) (h h1 : 
       pub all_filed : (d1 : DoorFacts) (u1 : HubValue) (x : Attended) (new : World) (end : Result Done Stop) (middle left : Option FileState) → AttendsWith s draws.items d1 u1 (Ok x)
           → Tells (PutsImage (string_bytes words.image)) (told_behind s.opening.rows s.opening.first x) (TellsHosted words.awaited) (attended d1 u1) new end
           → IfSome file (IsFileOpened words.log b new.bay)
-          → KeepsSeenIf s.opening.state.log x.state.log file middle → IfOk end (λ d. KeepsRest x.state.log middle left) → GoesOnIf middle left → HostsFile words left before new end
-      all_filed d1 u1 x new (Ok d) middle left does rest is_opened seen kept goes =
+          → KeepsSeenIf s.opening.state.log x.state.log file middle → IfOk end (λ d. KeepsRest x.state.log middle left) → IfErr end (λ e. EndsKeeping x.state.log middle left) → HostsFile words left before new end
+      all_filed d1 u1 x new (Ok d) middle left does rest is_opened seen kept stops =
           let hosts : HostsWith words file before new (Ok d) =
           record {
             value = s;
@@ -140,7 +141,6 @@ module _ (words : HostWords) (file : Option FileState) (others : World) (h h1 : 
             };
           } in
           filed_done words file left before new d hosts is_opened (keeps_all s.opening.state.log x.state.log file middle left seen kept)
-      all_filed d1 u1 x new (Err e) middle left does rest is_opened seen kept goes =
+      all_filed d1 u1 x new (Err e) middle left does rest is_opened seen kept stops =
           file_stops words file left before new e (all_steps d1 u1 x new (Err e) does rest) is_opened
-          (put_goes (string_bytes words.image) (told_behind s.opening.rows s.opening.first x) (attended d1 u1) new file left e rest
-          (goes_if_further file middle left (seen_goes s.opening.state.log x.state.log file middle seen) goes))
+          (put_stops (string_bytes words.image) (told_behind s.opening.rows s.opening.first x) (attended d1 u1) new file left e rest (all_stops s.opening.state.log x.state.log file middle left seen stops))

@@ -7,58 +7,11 @@ use Rattle.willow_entry.specs.Row.{RowValue}
 use Rattle.cap_codec.specs.Rows.{IsRawRow}
 use Rattle.log_keeper.specs.LogFile.{HoldsRows, HoldsRowsTo}
 use Rattle.ns_state.specs.declared.live_log.TheConstants.{LOG_LIMIT}
-use Rattle.peer_run.specs.LogFiles.{FileState, GoesOn, GoesOnIf, HasFailed, HasKept, HasRoom, HoldsFile, HoldsFirst, IsAtIf, Keeps, KeepsOn, KeepsOnIf, LeavesRoom}
+use Rattle.peer_run.specs.LogFiles.{FileState, HasFailed, HasKept, HasRoom, HoldsFile, HoldsFirst, IsAtIf, Keeps, KeepsOn, KeepsOnIf, LeavesRoom}
 
 pub not_both : (b : Bool) → b ≡ true → b ≡ false → ⊥
 not_both true is other = absurd cc
 not_both false is other = absurd cc
-
--- ---- counts
-
-pub goes_self : (f : FileState) → GoesOn f f
-goes_self f = record {
-  more = [];
-  counted = omega arith;
-  unbroken = λ is. is;
-  holds = λ is n before holds. subst (λ (rows : List RowValue). HoldsFile n rows f) (sym (append-nil before)) holds;
-  told = λ is. refl;
-  reads = refl;
-  writes = omega arith;
-}
-
-pub goes_further : (a b c : FileState) → GoesOn a b → GoesOn b c → GoesOn a c
-goes_further a b c one two = record {
-  more = one.more ++ two.more;
-  counted = omega (arith, one.counted, two.counted, length-append one.more two.more);
-  unbroken = λ is. one.unbroken (two.unbroken is);
-  holds = λ is n before holds. subst (λ (rows : List RowValue). HoldsFile n rows c) (append_assoc before one.more two.more) (two.holds is n (before ++ one.more) (one.holds (two.unbroken is) n before holds));
-  told = λ is. two.told is ∙ one.told (two.unbroken is);
-  reads = two.reads ∙ one.reads;
-  writes = omega (arith, one.writes, two.writes);
-}
-
-pub keeps_goes : (rows : List RowValue) (a b : FileState) → Keeps rows a b → GoesOn a b
-keeps_goes rows a b (inl k) = record {
-  more = rows;
-  counted = k.counted;
-  unbroken = λ is. k.began;
-  holds = λ is. k.holds;
-  told = λ is. k.told;
-  reads = k.faults.reads;
-  writes = omega (arith, k.faults.writes);
-}
-keeps_goes rows a b (inr k) = record {
-  more = k.first;
-  counted = k.counted;
-  unbroken = λ is. absurd (not_both b.broken k.broken is);
-  holds = λ is. absurd (not_both b.broken k.broken is);
-  told = λ is. absurd (not_both b.broken k.broken is);
-  reads = k.reads;
-  writes = k.never_falls;
-}
-
-pub goes_on : (rows : List RowValue) (a b : FileState) → KeepsOn rows a b → GoesOn a b
-goes_on rows a b on = keeps_goes rows a b on.kept
 
 -- ---- where a write failed
 
@@ -180,25 +133,12 @@ module _ (rows more : List RowValue) (a b c : FileState) where
   pub keeps_both : KeepsOn rows a b → KeepsOn more b c → KeepsOn (rows ++ more) a c
   keeps_both one two = record { front = omega (arith, one.front, two.front, length-append rows more); kept = both one.kept two.kept }
 
+-- unless a write failed all is kept
+pub unfailed : (rows : List RowValue) (a b : FileState) → Keeps rows a b → b.broken ≡ false → HasKept rows a b
+unfailed rows a b (inl k) is = k
+unfailed rows a b (inr k) is = absurd (not_both b.broken k.broken is)
+
 -- ---- where there is a file
-
-pub goes_if_self : (f : Option FileState) → GoesOnIf f f
-goes_if_self None = tt
-goes_if_self (Some f) = goes_self f
-
-pub goes_if_further : (a b c : Option FileState) → GoesOnIf a b → GoesOnIf b c → GoesOnIf a c
-goes_if_further None None None one two = tt
-goes_if_further (Some a) (Some b) (Some c) one two = goes_further a b c one two
-goes_if_further (Some a) (Some b) None one two = absurd two
-goes_if_further (Some a) None c one two = absurd one
-goes_if_further None (Some b) c one two = absurd one
-goes_if_further None None (Some c) one two = absurd two
-
-pub keeps_if_goes : (rows : List RowValue) (a b : Option FileState) → KeepsOnIf rows a b → GoesOnIf a b
-keeps_if_goes rows None None on = tt
-keeps_if_goes rows (Some a) (Some b) on = goes_on rows a b on
-keeps_if_goes rows (Some a) None on = absurd on
-keeps_if_goes rows None (Some b) on = absurd on
 
 pub keeps_if_none : (k : ℕ) (f : Option FileState) → IsAtIf k f → KeepsOnIf [] f f
 keeps_if_none k None at = tt

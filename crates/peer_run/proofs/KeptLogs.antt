@@ -15,7 +15,7 @@ use Rattle.peer_run.specs.LogFiles.{FileState, HasFailed, HasKept, HoldsFirst, K
 use Rattle.peer_run.specs.LogKept.{HasKeptLog, HoldsOldAndNew, KeepsLog}
 use Rattle.peer_run.specs.LogOpening.{HasOpened, IsBack}
 use Rattle.peer_run.proofs.FiledDeeds.{lost_rose}
-use Rattle.peer_run.proofs.KeptFiles.{not_both}
+use Rattle.peer_run.proofs.KeptFiles.{not_both, unfailed}
 use Rattle.peer_run.proofs.SideBegun.{FiledBy}
 
 -- a disk that is out once more is back
@@ -40,10 +40,7 @@ module _ (name n : List ℕ) (rows : List RowValue) (filed : List RawValue) (bay
   -- ---- where no write failed
 
   was_kept : f'.broken ≡ false → HasKept rows f f'
-  was_kept is = by kept where
-    by : Keeps rows f f' → HasKept rows f f'
-    by (inl k) = k
-    by (inr k) = absurd (not_both f'.broken k.broken is)
+  was_kept is = unfailed rows f f' kept is
 
   held_all : (told : Option Names) → IfSome told (λ names. is_some f.disk.contents ≡ true) → HasKept rows f f' → IfSome told (λ names. HoldsOldAndNew n before rows f'.disk f'.kept)
   held_all None tells k = tt

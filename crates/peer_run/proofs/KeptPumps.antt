@@ -1,5 +1,5 @@
 -- A log file goes on while links come, and behind them.
-use Rattle.std.proofs.Common.{◌≡◌, ◌≤◌, ℕ, ◌+◌, ◌-◌, List, [], ◌∷◌, drop, length, Option, Some, None, inl, inr, refl, sym, subst, arith, append-nil}
+use Rattle.std.proofs.Common.{◌≡◌, ◌≤◌, ℕ, ◌+◌, ◌-◌, List, [], ◌∷◌, ◌++◌, drop, length, Option, Some, None, inl, inr, refl, sym, subst, arith, append-nil}
 use Rattle.std.specs.Prelude.{IfSome, IfOk, IfErr, Result, Ok, Err, option_map}
 use Rattle.std.proofs.lemmas.List.{length-drop, length-map}
 use mathlib.Core.List.{IsPrefix}
@@ -21,10 +21,10 @@ use Rattle.peer_run.specs.declared.behind.Behind.{Behind}
 use Rattle.peer_run.specs.declared.hall.Hall.{Hall}
 use Rattle.peer_run.specs.declared.hosting.Attended.{Attended}
 use Rattle.peer_run.specs.Hearing.{rows_behind}
-use Rattle.peer_run.specs.LogFiles.{FileState, GoesOnIf, HasRoom, IsAtIf, IsLowIf, Keeps, KeepsOnIf, KeepsRest, KeepsSeenIf, LeavesRoom, StopsFile, begun_at}
+use Rattle.peer_run.specs.LogFiles.{EndsKeeping, FileState, HasRoom, IsAtIf, IsLowIf, Keeps, KeepsOnIf, KeepsRest, KeepsSeenIf, LeavesRoom, StopsFile, StopsKeeping, WantsMemoryIf, begun_at}
 use Rattle.peer_run.specs.LogPumping.{KeepsUpTo}
 use Rattle.peer_run.proofs.HeardBehind.{Log, rows_further, unwanted}
-use Rattle.peer_run.proofs.KeptFiles.{at_further, both, goes_if_further, goes_if_self, keeps_goes, keeps_if_both, keeps_if_goes, keeps_if_none}
+use Rattle.peer_run.proofs.KeptFiles.{at_further, both, keeps_if_both, keeps_if_none}
 
 -- ---- what was seen
 
@@ -48,13 +48,21 @@ pub kept_further : (opening seen log : Log) (a b c : Option FileState) → IsPre
 kept_further opening seen log a b c front further one two =
     subst (λ (rows : List RowValue). KeepsOnIf rows a c) (rows_further opening seen log front further) (keeps_if_both (rows_behind opening seen) (rows_behind seen log) a b c one two)
 
--- where all went well
-pub kept_so : (opening seen : Log) (stopped : Option Fault) (f f' : Option FileState) → KeepsOnIf (rows_behind opening seen) f f' → KeepsUpTo opening seen stopped f f'
-kept_so opening seen stopped f f' kept = record { goes_on = keeps_if_goes (rows_behind opening seen) f f' kept; kept = λ unwanted. kept }
+-- where all that was seen is kept
+pub kept_so : (opening seen : Log) (stopped : Option Fault) (f f' : Option FileState) → IsPrefix opening seen → KeepsOnIf (rows_behind opening seen) f f' → KeepsUpTo opening seen stopped f f'
+kept_so opening seen None f f' behind kept = kept
+kept_so opening seen (Some fault.Failed) f f' behind kept = kept
+kept_so opening seen (Some fault.NoMemory) f f' behind kept = record { before = seen; behind = behind; front = ([], append-nil seen); between = f'; kept = kept; stops = inl refl }
 
 -- where memory was wanting
-pub kept_some : (opening before seen : Log) (a b c : Option FileState) → KeepsOnIf (rows_behind opening before) a b → GoesOnIf b c → KeepsUpTo opening seen (Some fault.NoMemory) a c
-kept_some opening before seen a b c kept goes = record { goes_on = goes_if_further a b c (keeps_if_goes (rows_behind opening before) a b kept) goes; kept = λ unwanted. absurd (unwanted refl) }
+pub kept_some : (opening before seen : Log) (a b c : Option FileState) → IsPrefix opening before → IsPrefix before seen → KeepsOnIf (rows_behind opening before) a b → StopsKeeping (rows_behind before seen) b c → KeepsUpTo opening seen (Some fault.NoMemory) a c
+kept_some opening before seen a b c behind front kept stops = record { before = before; behind = behind; front = front; between = b; kept = kept; stops = stops }
+
+-- where it was not
+kept_seen : (opening seen : Log) (stopped : Option Fault) (f f' : Option FileState) → KeepsUpTo opening seen stopped f f' → (stopped ≡ Some fault.NoMemory → ⊥) → KeepsOnIf (rows_behind opening seen) f f'
+kept_seen opening seen None f f' kept unwanted = kept
+kept_seen opening seen (Some fault.Failed) f f' kept unwanted = kept
+kept_seen opening seen (Some fault.NoMemory) f f' kept unwanted = absurd (unwanted refl)
 
 -- ---- from the opening rows on
 
@@ -83,27 +91,13 @@ begun_keeps front rows f f' (inr k) = inr (record {
   stays = k.stays;
 })
 
-begun_goes : (front : ℕ) (f f' : Option FileState) → GoesOnIf (option_map (begun_at front) f) f' → GoesOnIf f f'
-begun_goes front None None goes = tt
-begun_goes front None (Some f') goes = absurd goes
-begun_goes front (Some f) None goes = absurd goes
-begun_goes front (Some f) (Some f') goes = record {
-  more = goes.more;
-  counted = goes.counted;
-  unbroken = goes.unbroken;
-  holds = λ is n before holds. goes.holds is n before (record { held = holds.held; counted = holds.counted });
-  told = goes.told;
-  reads = goes.reads;
-  writes = goes.writes;
-}
-
 pub begun_at_if : (front : ℕ) (f : Option FileState) → IsLowIf f → IsAtIf front (option_map (begun_at front) f)
 begun_at_if front None low = tt
 begun_at_if front (Some f) low = record { at = refl; room = λ unbroken. (omega (arith, low.low), low.known) }
 
 pub seen_kept : (opening seen log : Log) (front : ℕ) (stopped : Option Fault) (f f' : Option FileState) → front ≡ length opening → IsPrefix opening seen → IsPrefix seen log → IsLowIf f
     → KeepsUpTo opening seen stopped (option_map (begun_at front) f) f' → (stopped ≡ Some fault.NoMemory → ⊥) → KeepsSeenIf opening log f f'
-seen_kept opening seen log front stopped f f' is behind further low kept unwanted = by f f' low (kept.kept unwanted) where
+seen_kept opening seen log front stopped f f' is behind further low kept unwanted = by f f' low (kept_seen opening seen stopped (option_map (begun_at front) f) f' kept unwanted) where
   by : (f f' : Option FileState) → IsLowIf f → KeepsOnIf (rows_behind opening seen) (option_map (begun_at front) f) f' → KeepsSeenIf opening log f f'
   by None None low on = tt
   by None (Some f') low on = absurd on
@@ -115,11 +109,38 @@ seen_kept opening seen log front stopped f f' is behind further low kept unwante
 -- ---- where a run stops
 
 pub stops_self : (e : Stop) (f : Option FileState) → StopsFile e f f
-stops_self stop.NoMemory f = goes_if_self f
+stops_self stop.NoMemory f = inl refl
 stops_self e f = refl
 
+pub stops_further : (a b c : Option FileState) → StopsFile stop.NoMemory a b → StopsFile stop.NoMemory b c → StopsFile stop.NoMemory a c
+stops_further a b c (inl same) two = subst (λ (f : Option FileState). StopsFile stop.NoMemory f c) same two
+stops_further a b c (inr one) (inl same) = subst (λ (f : Option FileState). StopsFile stop.NoMemory a f) (sym same) (inr one)
+stops_further (Some a) (Some b) (Some c) (inr one) (inr two) = inr (record { rows = one.rows ++ two.rows; kept = both one.rows two.rows a b c one.kept two.kept })
+stops_further (Some a) (Some b) None (inr one) (inr two) = absurd two
+stops_further (Some a) None c (inr one) (inr two) = absurd one
+stops_further None b c (inr one) (inr two) = absurd one
+
+-- where memory was wanting among these rows
+wants_stops : (rows : List RowValue) (f f' : Option FileState) → WantsMemoryIf rows f f' → StopsFile stop.NoMemory f f'
+wants_stops rows (Some f) (Some f') wants = inr (record { rows = wants.first; kept = inl wants.kept })
+wants_stops rows (Some f) None wants = absurd wants
+wants_stops rows None f' wants = absurd wants
+
+keeping_stops : (rows : List RowValue) (f f' : Option FileState) → StopsKeeping rows f f' → StopsFile stop.NoMemory f f'
+keeping_stops rows f f' (inl same) = inl same
+keeping_stops rows f f' (inr wants) = wants_stops rows f f' wants
+
+begun_stops : (front : ℕ) (rows : List RowValue) (f f' : Option FileState) → KeepsOnIf rows (option_map (begun_at front) f) f' → StopsFile stop.NoMemory f f'
+begun_stops front rows None None on = inl refl
+begun_stops front rows None (Some f') on = absurd on
+begun_stops front rows (Some f) None on = absurd on
+begun_stops front rows (Some f) (Some f') on = inr (record { rows = rows; kept = begun_keeps front rows f f' on.kept })
+
 pub stops_begun : (opening seen : Log) (front : ℕ) (stopped : Option Fault) (f f' : Option FileState) → KeepsUpTo opening seen stopped (option_map (begun_at front) f) f' → StopsFile stop.NoMemory f f'
-stops_begun opening seen front stopped f f' kept = begun_goes front f f' kept.goes_on
+stops_begun opening seen front None f f' kept = begun_stops front (rows_behind opening seen) f f' kept
+stops_begun opening seen front (Some fault.Failed) f f' kept = begun_stops front (rows_behind opening seen) f f' kept
+stops_begun opening seen front (Some fault.NoMemory) f f' kept =
+    stops_further f kept.between f' (begun_stops front (rows_behind opening kept.before) f kept.between kept.kept) (keeping_stops (rows_behind kept.before seen) kept.between f' kept.stops)
 
 -- ---- up to the end of the log
 
@@ -146,17 +167,24 @@ keeps_all opening log (Some a) (Some b) (Some c) seen rest =
     let more = subst (λ (k : ℕ). Keeps (log_rows (drop k log)) b c) seen.at.at rest.kept in
     subst (λ (rows : List RowValue). Keeps rows a c) (rows_further opening seen.seen log seen.behind seen.front) (both (rows_behind opening seen.seen) (rows_behind seen.seen log) a b c seen.kept more)
 
-pub seen_goes : (opening log : Log) (f f' : Option FileState) → KeepsSeenIf opening log f f' → GoesOnIf f f'
-seen_goes opening log None None seen = tt
-seen_goes opening log None (Some f') seen = absurd seen
-seen_goes opening log (Some f) None seen = absurd seen
-seen_goes opening log (Some f) (Some f') seen = keeps_goes (rows_behind opening seen.seen) f f' seen.kept
+seen_stops : (opening log : Log) (f f' : Option FileState) → KeepsSeenIf opening log f f' → StopsFile stop.NoMemory f f'
+seen_stops opening log None None seen = inl refl
+seen_stops opening log None (Some f') seen = absurd seen
+seen_stops opening log (Some f) None seen = absurd seen
+seen_stops opening log (Some f) (Some f') seen = inr (record { rows = rows_behind opening seen.seen; kept = seen.kept })
 
-pub rest_goes : (log : Log) (f f' : Option FileState) → KeepsRest log f f' → GoesOnIf f f'
-rest_goes log None None kept = tt
-rest_goes log None (Some f') kept = absurd kept
-rest_goes log (Some f) None kept = absurd kept
-rest_goes log (Some f) (Some f') kept = keeps_if_goes (log_rows (drop f.front log)) (Some f) (Some f') kept
+rest_stops : (log : Log) (f f' : Option FileState) → EndsKeeping log f f' → StopsFile stop.NoMemory f f'
+rest_stops log f f' (inr (inl same)) = inl same
+rest_stops log (Some f) (Some f') (inr (inr wants)) = wants_stops (log_rows (drop f.front log)) (Some f) (Some f') wants
+rest_stops log (Some f) None (inr (inr wants)) = absurd wants
+rest_stops log None f' (inr (inr wants)) = absurd wants
+rest_stops log (Some f) (Some f') (inl kept) = inr (record { rows = log_rows (drop f.front log); kept = kept.kept })
+rest_stops log (Some f) None (inl kept) = absurd kept
+rest_stops log None (Some f') (inl kept) = absurd kept
+rest_stops log None None (inl kept) = inl refl
+
+pub all_stops : (opening log : Log) (a b c : Option FileState) → KeepsSeenIf opening log a b → EndsKeeping log b c → StopsFile stop.NoMemory a c
+all_stops opening log a b c seen ends = stops_further a b c (seen_stops opening log a b seen) (rest_stops log b c ends)
 
 -- ---- behind all sessions
 

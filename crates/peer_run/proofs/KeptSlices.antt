@@ -1,5 +1,5 @@
 -- Slices of a log as a log file takes them.
-use Rattle.std.proofs.Common.{◌≡◌, ◌∙◌, ◌≤◌, ◌<◌, ℕ, zero, suc, ◌-◌, List, [], ◌∷◌, ◌++◌, take, drop, map, length, get_or, Option, Some, refl, sym, ap, subst, arith, append_assoc, append-nil, length-append, take-append-drop}
+use Rattle.std.proofs.Common.{◌≡◌, ◌∙◌, ◌≤◌, ◌<◌, ℕ, zero, suc, ◌-◌, false, List, [], ◌∷◌, ◌++◌, take, drop, map, length, get_or, Option, Some, refl, sym, ap, subst, arith, append_assoc, append-nil, length-append, take-append-drop}
 use Rattle.std.specs.Prelude.{IfSome, OnErr, Result, Ok, Err}
 use Rattle.std.specs.List.{AllByRecursion}
 use Rattle.std.specs.declared.sync.Arc.{Arc}
@@ -16,9 +16,9 @@ use Rattle.auth_entry.specs.Rows.{entry_row}
 use Rattle.ns_state.specs.Log.{plain_row}
 use Rattle.sync_link.specs.Kept.{log_rows}
 use Rattle.sync_link.proofs.Openings.{CanTell}
-use Rattle.peer_run.specs.LogFiles.{FileState, GoesOn, HasRoom, KeepsOn, file_state, file_states, slice_values}
+use Rattle.peer_run.specs.LogFiles.{FileState, HasRoom, KeepsOn, WantsMemory, file_state, file_states, slice_values}
 use Rattle.peer_run.specs.declared.log_file.LogFile.{LogFile}
-use Rattle.peer_run.proofs.KeptFiles.{goes_further, goes_on, keeps_both, keeps_none, room_on}
+use Rattle.peer_run.proofs.KeptFiles.{keeps_both, keeps_none, room_on, unfailed}
 
 abbrev pub Slice : Type 0
 Slice = List (LogRow (Arc AuthorisedValue Global))
@@ -83,9 +83,16 @@ pub at_err : {A E P : Type 0} (end : Result A E) → P → OnErr end P
 at_err (Ok x) holds = tt
 at_err (Err e) holds = holds
 
--- what was kept before a slice that was not
-pub front_goes : (rows left : Slice) (a b c : FileState) → KeepsFront rows left a b → GoesOn b c → GoesOn a c
-front_goes rows left a b c so_far goes = goes_further a b c (goes_on so_far.first a b so_far.kept) goes
+-- and what follows from what holds there
+pub on_err : {A E P Q : Type 0} (end : Result A E) → (P → Q) → OnErr end P → OnErr end Q
+on_err (Ok x) so holds = tt
+on_err (Err e) so holds = so holds
+
+-- where memory was wanting for the slices that are left
+pub front_wants : (rows left : Slice) (a b c : FileState) → KeepsFront rows left a b → c ≡ b → b.broken ≡ false → WantsMemory (slice_values rows) a c
+front_wants rows left a b c so_far same unbroken =
+    subst (λ (f : FileState). WantsMemory (slice_values rows) a f) (sym same)
+    (record { first = so_far.first; front = (slice_values left, so_far.parts); kept = unfailed so_far.first a b so_far.kept.kept unbroken; at = so_far.kept.front })
 
 pub front_all : (rows left : Slice) (a b : FileState) → KeepsFront rows left a b → length left ≡ 0 → KeepsOn (slice_values rows) a b
 front_all rows left a b so_far none =

@@ -36,6 +36,7 @@ pub mod KeptFiles
 pub mod KeptSlices
 pub mod KeptKeeps
 pub mod OpenedFiles
+pub mod RefusedFiles
 pub mod CalledAlone
 pub mod SideReady
 pub mod AnsweredLinks

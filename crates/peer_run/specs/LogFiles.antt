@@ -90,16 +90,17 @@ pub record KeepsOn (rows : List RowValue) (old new : FileState) : Type 0 where
   pub front : new.front ≡ old.front + length rows
   pub kept : Keeps rows old new
 
--- At any time: unless a write failed it holds what it held, with some rows behind, and these are counted; where one failed so many
--- more were kept before. No count falls, and none of reads rises.
-pub record GoesOn (old new : FileState) : Type 0 where
-  pub more : List RowValue
-  pub counted : new.kept ≡ old.kept + length more
-  pub unbroken : new.broken ≡ false → old.broken ≡ false
-  pub holds : new.broken ≡ false → (namespace : List ℕ) (before : List RowValue) → HoldsFile namespace before old → HoldsFile namespace (before ++ more) new
-  pub told : new.broken ≡ false → is_some new.disk.contents ≡ is_some old.disk.contents
-  pub reads : new.disk.read_faults ≡ old.disk.read_faults
-  pub writes : old.disk.write_faults ≤ new.disk.write_faults
+-- Memory was wanting among these rows: the first of them are kept, the file goes on by them alone, and no write has failed.
+pub record WantsMemory (rows : List RowValue) (old new : FileState) : Type 0 where
+  pub first : List RowValue
+  pub front : IsPrefix first rows
+  pub kept : HasKept first old new
+  pub at : new.front ≡ old.front + length first
+
+-- some rows, whichever
+pub record KeepsSome (old new : FileState) : Type 0 where
+  pub rows : List RowValue
+  pub kept : Keeps rows old new
 
 -- ---- where there is one
 
@@ -108,10 +109,17 @@ KeepsOnIf rows None None = Unit {0}
 KeepsOnIf rows (Some old) (Some new) = KeepsOn rows old new
 KeepsOnIf rows old new = ⊥
 
-abbrev pub GoesOnIf : Option FileState → Option FileState → Type 0
-GoesOnIf None None = Unit {0}
-GoesOnIf (Some old) (Some new) = GoesOn old new
-GoesOnIf old new = ⊥
+abbrev pub WantsMemoryIf : List RowValue → Option FileState → Option FileState → Type 0
+WantsMemoryIf rows (Some old) (Some new) = WantsMemory rows old new
+WantsMemoryIf rows old new = ⊥
+
+abbrev pub KeepsSomeIf : Option FileState → Option FileState → Type 0
+KeepsSomeIf (Some old) (Some new) = KeepsSome old new
+KeepsSomeIf old new = ⊥
+
+-- where memory is wanting for these rows, or before they are read: it is as it was, or the first of them are kept
+abbrev pub StopsKeeping : List RowValue → Option FileState → Option FileState → Type 0
+StopsKeeping rows old new = (new ≡ old) ⊎ WantsMemoryIf rows old new
 
 -- unless a write failed: its place leaves room for the rows of a log behind this one, and the keeper counts as many rows
 abbrev pub LeavesRoom : ℕ → FileState → Type 0
@@ -167,7 +175,20 @@ KeepsRest log None None = Unit {0}
 KeepsRest log (Some old) (Some new) = KeepsOn (log_rows (drop old.front log)) old new
 KeepsRest log old new = ⊥
 
--- how it stands where a run stops behind it: for want of memory some rows may be kept, and else it is as it was
+-- memory was wanting among the rows up to there
+abbrev pub WantsRest : List (LogRow AuthorisedValue) → Option FileState → Option FileState → Type 0
+WantsRest log (Some old) (Some new) = WantsMemory (log_rows (drop old.front log)) old new
+WantsRest log old new = ⊥
+
+-- the same, or before they are read
+abbrev pub StopsRest : List (LogRow AuthorisedValue) → Option FileState → Option FileState → Type 0
+StopsRest log old new = (new ≡ old) ⊎ WantsRest log old new
+
+-- one of the two
+abbrev pub EndsKeeping : List (LogRow AuthorisedValue) → Option FileState → Option FileState → Type 0
+EndsKeeping log old new = KeepsRest log old new ⊎ StopsRest log old new
+
+-- how it stands where a run stops behind it: it is as it was, or for want of memory some rows were kept
 abbrev pub StopsFile : Stop → Option FileState → Option FileState → Type 0
-StopsFile stop.NoMemory old new = GoesOnIf old new
+StopsFile stop.NoMemory old new = (new ≡ old) ⊎ KeepsSomeIf old new
 StopsFile e old new = new ≡ old

@@ -15,6 +15,7 @@ use Rattle.willow_entry.specs.Row.{RowValue}
 use Rattle.cap_codec.specs.Rows.{IsRaw, IsRawRow, RawValue, row_of}
 use Rattle.log_keeper.specs.BadLogs.{IsBadFile}
 use Rattle.log_keeper.specs.Causes.{CountsNoFault, HasCause, IfUnwritten}
+use Rattle.log_keeper.specs.Crashes.{HoldsNoRow}
 use Rattle.log_keeper.specs.LogFile.{HoldsNoLog, HoldsRows}
 use Rattle.log_keeper.specs.declared.refusal.KeepRefusal.{KeepRefusal}
 use Rattle.log_keeper.specs.declared.refusal.KeepRefusal.TheVariants as refusals
@@ -32,6 +33,10 @@ use Rattle.peer_run.specs.declared.log_file.LogFile.{LogFile}
 -- these bytes hold a log of the namespace with these rows, or no log, and then there are none
 abbrev pub HeldRows : List ℕ → List ℕ → List RowValue → Type 0
 HeldRows namespace bytes rows = (HoldsNoLog bytes × (rows ≡ [])) ⊎ HoldsRows IsRawRow namespace bytes rows
+
+-- Bytes hold as those before them: they are the same, or there was no log, and they hold no row.
+abbrev pub HoldsAsBefore : List ℕ → List ℕ → List ℕ → Type 0
+HoldsAsBefore namespace before after = (after ≡ before) ⊎ (HoldsNoLog before × HoldsNoRow IsRawRow namespace after)
 
 -- where the bay tells what its names hold, this one held these rows
 abbrev pub TellsRows : List ℕ → List ℕ → BayFacts → List RowValue → Type 0
@@ -75,15 +80,21 @@ pub record IsBackUnwritten (name : List ℕ) (old new : BayFacts) (disk : DiskFa
   pub contents : IfSome old.names (λ names. disk.contents ≡ Some (bytes_under names name))
   pub writes : disk.write_faults ≡ 0
 
+-- The disk that is back holds as before, where the bay tells what the name held, and no read of it failed.
+pub record IsBackAsBefore (name namespace : List ℕ) (old new : BayFacts) (disk : DiskFacts) : Type 0 where
+  pub back : IsBack name old new disk
+  pub holds : IfSome old.names (λ names. (after : List ℕ) × (disk.contents ≡ Some after) × HoldsAsBefore namespace (bytes_under names name) after)
+  pub reads : disk.read_faults ≡ 0
+
 -- from this place on the file is bad
 abbrev pub IsBadAt : List ℕ → List ℕ → BayFacts → ℕ → Type 0
 IsBadAt name namespace bay at = IfSome bay.names (λ names. IsBadFile IsRawRow namespace at (bytes_under names name))
 
 -- Opening fails at the bay or in a read of the disk, or a write of the disk fails, or the file is bad. Each disk that was handed
--- out is back, as it came, unless a write of it failed.
+-- out is back, as it came, or where a write of it failed so that it holds as before.
 abbrev pub StopsOpening : String Global → List ℕ → BayFacts → BayFacts → Stop → Type 0
 StopsOpening name namespace old new stop.ReadFault = (IsUnopened old new × Rose old.faults new.faults) ⊎ ((disk : DiskFacts) × IsBackUnwritten (string_bytes name) old new disk × Rose 0 disk.read_faults)
-StopsOpening name namespace old new stop.WriteFault = (disk : DiskFacts) × IsBack (string_bytes name) old new disk × Rose 0 disk.write_faults
+StopsOpening name namespace old new stop.WriteFault = (disk : DiskFacts) × IsBackAsBefore (string_bytes name) namespace old new disk × Rose 0 disk.write_faults
 StopsOpening name namespace old new (stop.BadInput from at) = (from ≡ origin.Name name) × ((disk : DiskFacts) × IsBackUnwritten (string_bytes name) old new disk × (disk.read_faults ≡ 0)) × IsBadAt (string_bytes name) namespace old at
 StopsOpening name namespace old new stop.NoMemory = (new ≡ old) ⊎ ((disk : DiskFacts) × IsBackUnwritten (string_bytes name) old new disk × (disk.read_faults ≡ 0))
 StopsOpening name namespace old new e = ⊥
@@ -132,7 +143,13 @@ pub record HasBegun (namespace : List ℕ) (d : DiskFacts) (f : FileState) (rows
   pub unbroken : f.broken ≡ false
   pub low : IsLow f
 
+-- The disk is refused, for a cause. It has the bytes that it had, unless a write of it failed; then it holds as before.
+pub record HasRefused (namespace : List ℕ) (d back : DiskFacts) (why : End KeepRefusal) : Type 0 where
+  pub cause : HasCause (λ at. IfSome d.contents (IsBadFile IsRawRow namespace at)) d back why
+  pub unwritten : IfUnwritten why (back.contents ≡ d.contents)
+  pub holds : IfSome d.contents (λ before. (after : List ℕ) × (back.contents ≡ Some after) × HoldsAsBefore namespace before after)
+
 -- how the file of a disk is opened, or begun where it holds no log
 abbrev pub BeginsFile : {K : Type 0} → (K → DiskFacts) → List ℕ → DiskFacts → Result (LogFile K × Vec RawValue) (K × End KeepRefusal) → Type 0
 BeginsFile facts namespace d (Ok x) = HasBegun namespace d (file_state facts x.0) x.1.items
-BeginsFile facts namespace d (Err back) = HasCause (λ at. IfSome d.contents (IsBadFile IsRawRow namespace at)) d (facts back.0) back.1 × IfUnwritten back.1 ((facts back.0).contents ≡ d.contents)
+BeginsFile facts namespace d (Err back) = HasRefused namespace d (facts back.0) back.1

@@ -8,7 +8,7 @@ ghost use Rattle.auth_entry.specs.Rows.{entry_row};
 ghost use Rattle.sub_hub.specs.Hubs.{IsPumped, count_left};
 ghost use Rattle.sub_hub.specs.Seen.{hub_seen};
 ghost use Rattle.sync_link.specs.Kept.{log_rows};
-ghost use Rattle.peer_run.specs.LogFiles.{GoesOnIf, IsAtIf, KeepsOnIf, file_states};
+ghost use Rattle.peer_run.specs.LogFiles.{IsAtIf, KeepsOnIf, StopsKeeping, file_states};
 ghost use Rattle.peer_run.specs.Hearing.{rows_behind};
 
 use crate::log_file::LogFile;
@@ -44,7 +44,7 @@ pub(crate) fn tell_new<R: Wait, K: Disk>(
     ensures few { IfOk result (λ left. count_left (hub_seen (λ w. told (w.vtable, w.value)) hub.new).members < 2 ^ 32) }
     ensures untold { IfErr result (λ e. hub_seen (λ w. told (w.vtable, w.value)) hub.new ≡ hub_seen (λ w. told (w.vtable, w.value)) hub.old) }
     ensures kept { OnOk result (KeepsOnIf (rows_behind own.old.seen own.new.seen) (file_states K.facts file.old) (file_states K.facts file.new)) }
-    ensures goes_on { OnErr result (GoesOnIf (file_states K.facts file.old) (file_states K.facts file.new)) }
+    ensures stops { OnErr result (StopsKeeping (rows_behind own.old.seen own.new.seen) (file_states K.facts file.old) (file_states K.facts file.new)) }
 {
     let rows = cell.read_log(rt, own, hub.front(), u32::MAX)?;
     keep_rows(file, &rows)?;

@@ -1,10 +1,10 @@
 //! The rows that come into the log of a server are kept in its log file.
 
-ghost use Rattle.std.specs.Prelude.{◌≤◌, ◌-◌, length, IfSome, OnOk, OnErr};
+ghost use Rattle.std.specs.Prelude.{◌≡◌, ◌≤◌, ◌-◌, false, length, IfSome, OnOk, OnErr};
 ghost use Rattle.std.specs.List.{AllByRecursion};
 ghost use Rattle.cap_codec.specs.Rows.{IsRawRow};
 ghost use Rattle.row_stream.specs.Streams.{IsStreamRow};
-ghost use Rattle.peer_run.specs.LogFiles.{GoesOn, GoesOnIf, HasRoom, KeepsOn, KeepsOnIf, KeepsRest, file_state, file_states, slice_values};
+ghost use Rattle.peer_run.specs.LogFiles.{HasRoom, KeepsOn, KeepsOnIf, KeepsRest, StopsRest, WantsMemory, WantsMemoryIf, file_state, file_states, slice_values};
 
 use crate::log_file::LogFile;
 use auth_entry::AuthorisedEntry;
@@ -21,14 +21,14 @@ use willow_outside::Disk;
 const SLICE: usize = 256;
 
 /// Keeps these rows of the log in the file, where there is one, in slices of at most 256 rows. Where a write fails, nothing is
-/// kept from then on. For want of memory some of the rows may be kept.
+/// kept from then on, and none of that is told as want of memory. For want of memory the first of the rows may be kept.
 pub(crate) fn keep_rows<K: Disk>(
     file: &mut Option<LogFile<K>>,
     rows: &[LogRow<Arc<AuthorisedEntry<PeerScheme>>>],
 ) -> Result<(), NoMemory>
     requires room { IfSome (file_states K.facts file.old) (HasRoom (length rows.now)) }
     ensures kept { OnOk result (KeepsOnIf (slice_values rows.now) (file_states K.facts file.old) (file_states K.facts file.new)) }
-    ensures goes_on { OnErr result (GoesOnIf (file_states K.facts file.old) (file_states K.facts file.new)) }
+    ensures wants { OnErr result (WantsMemoryIf (slice_values rows.now) (file_states K.facts file.old) (file_states K.facts file.new)) }
 {
     match file {
         Some(file) => file.keep(rows),
@@ -43,7 +43,7 @@ pub(crate) fn keep_rest<K: Disk>(
 ) -> Result<(), NoMemory>
     requires room { IfSome (file_states K.facts file.old) (λ f. HasRoom (length state.now.log - f.front) f × (f.front ≤ length state.now.log)) }
     ensures kept { OnOk result (KeepsRest state.now.log (file_states K.facts file.old) (file_states K.facts file.new)) }
-    ensures goes_on { OnErr result (GoesOnIf (file_states K.facts file.old) (file_states K.facts file.new)) }
+    ensures stops { OnErr result (StopsRest state.now.log (file_states K.facts file.old) (file_states K.facts file.new)) }
 {
     match file {
         Some(file) => {
@@ -68,7 +68,7 @@ impl<K: Disk> LogFile<K> {
     fn keep(&mut self, rows: &[LogRow<Arc<AuthorisedEntry<PeerScheme>>>]) -> Result<(), NoMemory>
         requires room { HasRoom (length rows.now) (file_state K.facts self.old) }
         ensures kept { OnOk result (KeepsOn (slice_values rows.now) (file_state K.facts self.old) (file_state K.facts self.new)) }
-        ensures goes_on { OnErr result (GoesOn (file_state K.facts self.old) (file_state K.facts self.new)) }
+        ensures wants { OnErr result (WantsMemory (slice_values rows.now) (file_state K.facts self.old) (file_state K.facts self.new)) }
     {
         let mut left = rows;
         while !left.is_empty() {
@@ -79,7 +79,7 @@ impl<K: Disk> LogFile<K> {
         Ok(())
     }
 
-    // Keeps a slice, unless a write failed before, or fails.
+    // Keeps a slice, unless a write failed before, or fails: neither of these is told as want of memory.
     fn keep_slice(
         &mut self,
         slice: &[LogRow<Arc<AuthorisedEntry<PeerScheme>>>],
@@ -88,7 +88,8 @@ impl<K: Disk> LogFile<K> {
         requires few { length slice.now ≤ 256 }
         requires room { HasRoom (length slice.now) (file_state K.facts self.old) }
         ensures kept { OnOk result (KeepsOn (slice_values slice.now) (file_state K.facts self.old) (file_state K.facts self.new)) }
-        ensures same { OnErr result (GoesOn (file_state K.facts self.old) (file_state K.facts self.new)) }
+        ensures same { OnErr result (file_state K.facts self.new ≡ file_state K.facts self.old) }
+        ensures unbroken { OnErr result ((file_state K.facts self.old).broken ≡ false) }
     {
         let front = self.front + slice.len() as u32;
         if self.keeper.is_broken() {

@@ -70,6 +70,7 @@ fn read_or_begin<K: Disk>(
     disk: K,
     namespace: &NamespaceKey,
 ) -> Result<(LogFile<K>, Vec<RawRow>), (K, End<KeepRefusal>)>
+    requires settled { LeavesContents (K.facts disk).contents (K.may_leave disk) }
     ensures { BeginsFile K.facts namespace.now (K.facts disk) result }
 {
     match LogKeeper::<RawRows, K>::open(alloc, disk, namespace) {

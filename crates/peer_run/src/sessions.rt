@@ -15,7 +15,7 @@ ghost use Rattle.peer_stage.specs.World.{World};
 ghost use Rattle.peer_words.specs.Signers.{IsSigner};
 ghost use Rattle.peer_words.specs.declared.limits.TheConstants.{MOST_LINKS};
 ghost use Rattle.peer_run.specs.Hosting.{DoesHost, HostsFile, OpensHouse, PutsImage, Tells, own_role};
-ghost use Rattle.peer_run.specs.LogFiles.{GoesOnIf, HasRoom, IsLowIf, KeepsRest, KeepsSeenIf, StopsFile, file_states};
+ghost use Rattle.peer_run.specs.LogFiles.{EndsKeeping, HasRoom, IsLowIf, KeepsRest, KeepsSeenIf, StopsFile, file_states};
 ghost use Rattle.peer_run.specs.LogOpening.{IsFileOpened};
 ghost use Rattle.peer_run.specs.Preparing.{nonce_of};
 ghost use Rattle.peer_run.specs.Telling.{TellsHosted, first_of_links, told_behind, told_of};
@@ -289,7 +289,7 @@ fn keep_and_close<H: Shelf, K: Disk>(
     requires room { IfSome (file_states K.facts file.old) (λ f. HasRoom (length attended.now.state.log - f.front) f × (f.front ≤ length attended.now.state.log)) }
     ensures told { (others : World) → Tells (PutsImage (string_bytes name.now)) (told_behind rows first attended.now) (TellsHosted awaited) (record others { shelf = H.facts shelf.old }) (record others { shelf = H.facts shelf.new }) result }
     ensures kept { IfOk result (λ d. KeepsRest attended.now.state.log (file_states K.facts file.old) (file_states K.facts file.new)) }
-    ensures goes_on { GoesOnIf (file_states K.facts file.old) (file_states K.facts file.new) }
+    ensures stops { IfErr result (λ e. EndsKeeping attended.now.state.log (file_states K.facts file.old) (file_states K.facts file.new)) }
 {
     keep_rest(file, &attended.state)?;
     close_house(alloc, shelf, name, awaited, rows, first, attended)

@@ -1,4 +1,4 @@
-use Rattle.std.proofs.Common.{◌≡◌, ◌+◌, ◌∙◌, Bool, List, [], length, drop, inl, sym, subst, arith}
+use Rattle.std.proofs.Common.{◌≡◌, ◌+◌, ◌∙◌, Bool, List, [], length, drop, inl, inr, sym, subst, arith}
 use Rattle.std.proofs.lemmas.List.{take_at}
 use Rattle.peer_image.specs.ImageTwoParts.{AreMarked}
 use Rattle.peer_image.proofs.TwoReading.{image_from, part_whole, rows_ask_whole, wrong_from}
@@ -8,7 +8,7 @@ pub returns-in-Err-clause-asked : goal.returns-in-Err-clause-asked
 returns-in-Err-clause-asked c = λ want. rows_ask_whole c.args.behind.now c.args.head.count c.args.told.now c.args.middle.now c.requires.told (inl c.in-Err.ensures.some)
 
 pub returns-in-Err-rows_among-clause-asked : goal.returns-in-Err-rows_among-clause-asked
-returns-in-Err-rows_among-clause-asked c = λ want. rows_ask_whole c.args.behind.now c.args.head.count c.args.told.now c.args.middle.now c.requires.told c.in-Err-rows_among.ensures.asked
+returns-in-Err-rows_among-clause-asked c = λ want. rows_ask_whole c.args.behind.now c.args.head.count c.args.told.now c.args.middle.now c.requires.told (inr c.in-Err-rows_among.ensures.asked)
 
 pub returns-then-is_end_two-clause-rows : goal.returns-then-is_end_two-clause-rows
 returns-then-is_end_two-clause-rows c =

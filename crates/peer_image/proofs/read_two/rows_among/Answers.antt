@@ -2,7 +2,7 @@ use Rattle.std.proofs.Common.{◌∷◌, [], ◌++◌, true, drop, length, set, 
 use Rattle.std.proofs.lemmas.List.{length-set}
 use Rattle.std.proofs.lemmas.Result.{err_from_is_err_and}
 use Rattle.peer_image.specs.ImageTwoParts.{HasMarkedSome}
-use Rattle.peer_image.proofs.TwoReading.{rows_ask, rows_on}
+use Rattle.peer_image.proofs.TwoReading.{row_asked, rows_ask, rows_on}
 use Rattle.peer_image.proofs.read_two.rows_among.Goals as goal
 
 pub returns-in-Err-NoMemory-clause-asked : goal.returns-in-Err-NoMemory-clause-asked
@@ -11,6 +11,12 @@ returns-in-Err-NoMemory-clause-asked c =
 
 pub returns-in-Err-NoMemory-clause-short : goal.returns-in-Err-NoMemory-clause-short
 returns-in-Err-NoMemory-clause-short c = record { rows = c.rows.rows.items; left = c.rows.left.now; so = c.rows.invariant.so; within = c.rows.invariant.within }
+
+pub returns-in_err-push-clause-asked : goal.returns-in_err-push-clause-asked
+returns-in_err-push-clause-asked c =
+    let next = c.in-Ok.ensures.reads in
+    let p = err_from_is_err_and c.from_residual.result c.from_residual.ensures.1 in
+    rw p.1 (rows_ask c.args.told.now c.args.bytes.now c.args.marks.now c.rows.rows.items c.rows.marks c.rows.left.now c.rows.invariant.so (row_asked c.rows.left.now next.numbered c.in-Ok.read.2 next.fits.fits next.spelled))
 
 pub returns-in_err-push-clause-short : goal.returns-in_err-push-clause-short
 returns-in_err-push-clause-short c =

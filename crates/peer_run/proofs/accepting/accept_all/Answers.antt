@@ -49,7 +49,7 @@ tell_new-requires-clause-front g c =
     front_is c.args.hall.now.cell.namespace c.args.own.seen c.loop-guest.own.seen _ _ c.loop-guest.left c.loop-guest.invariant.heard c.requires.own.2
 
 pub returns-in-Err-clause-kept : goal.returns-in-Err-clause-kept
-returns-in-Err-clause-kept g c = kept_so c.args.own.seen c.loop-guest.own.seen (Some c.in-Err.field-0.fault) _ _ c.loop-guest.invariant.kept
+returns-in-Err-clause-kept g c = kept_so c.args.own.seen c.loop-guest.own.seen (Some c.in-Err.field-0.fault) _ _ c.loop-guest.invariant.read.later.seen c.loop-guest.invariant.kept
 
 pub tell_new-requires-clause-file : goal.tell_new-requires-clause-file
 tell_new-requires-clause-file g c =
@@ -57,10 +57,10 @@ tell_new-requires-clause-file g c =
 
 pub returns-in_default-tell_new-clause-kept : goal.returns-in_default-tell_new-clause-kept
 returns-in_default-tell_new-clause-kept g c =
-    kept_some c.args.own.seen c.loop-guest.own.seen c.tell_new.new.own.seen (file_states g.K.Disk.facts c.args.file.now) (file_states g.K.Disk.facts c.loop-guest.file) (file_states g.K.Disk.facts c.tell_new.new.file) c.loop-guest.invariant.kept c.in_default-tell_new.ensures.goes_on
+    kept_some c.args.own.seen c.loop-guest.own.seen c.tell_new.new.own.seen (file_states g.K.Disk.facts c.args.file.now) (file_states g.K.Disk.facts c.loop-guest.file) (file_states g.K.Disk.facts c.tell_new.new.file) c.loop-guest.invariant.read.later.seen c.tell_new.ensures.later.seen c.loop-guest.invariant.kept c.in_default-tell_new.ensures.stops
 
 pub returns-clause-kept : goal.returns-clause-kept
-returns-clause-kept g c = kept_so c.args.own.seen c.loop-guest.own.seen None _ _ c.loop-guest.invariant.kept
+returns-clause-kept g c = kept_so c.args.own.seen c.loop-guest.own.seen None _ _ c.loop-guest.invariant.read.later.seen c.loop-guest.invariant.kept
 
 pub returns-in_default-tell_new-clause-own : goal.returns-in_default-tell_new-clause-own
 returns-in_default-tell_new-clause-own g c =

@@ -136,4 +136,4 @@ returns g c =
     let between : World = record others { shelf = h1; door = d1; noise = n1; hub = u1; bay = b1 } in
     let rest = subst (λ (name : List ℕ). Tells (PutsImage name) (told_behind brings.opening.rows brings.opening.first x) (TellsHosted c.args.words.awaited) between after c.keep_and_close.result) c.in_ok-name.ensures.name (ends.told (record others { door = d1; noise = n1; hub = u1; bay = b1 })) in
     all_filed c.args.words f others h h1 b b1 n n1 d u brings (c.in_ok-name.ensures.opens (record others { door = d; noise = n; hub = u })) draws c.in_ok-draws.ensures.draws c.in_ok-draws.ensures.faults d1 u1 x after c.keep_and_close.result middle left attends rest c.in_ok-name.ensures.opened
-    c.in_ok-attended.ensures.kept ends.kept ends.goes_on
+    c.in_ok-attended.ensures.kept ends.kept ends.stops

@@ -1,7 +1,6 @@
-use Rattle.std.proofs.Common.{◌≡◌, ◌∙◌, ◌≤◌, ◌+◌, true, length, sym, subst, arith, rules}
+use Rattle.std.proofs.Common.{◌≡◌, ◌∙◌, ◌≤◌, ◌+◌, true, length, refl, sym, subst, arith, rules}
 use Rattle.willow_outside.specs.Counts.{HasRisen}
-use Rattle.peer_run.specs.LogFiles.{GoesOn, file_state, slice_values}
-use Rattle.peer_run.proofs.KeptFiles.{goes_self}
+use Rattle.peer_run.specs.LogFiles.{FileState, file_state, slice_values}
 use Rattle.peer_run.proofs.KeptKeeps.{keep_done, keep_lost, keep_none}
 use Rattle.peer_run.proofs.KeptSlices.{many_values}
 use Rattle.peer_run.proofs.log_file.LogFile.keep_slice.Goals as goal
@@ -23,7 +22,10 @@ pub returns-in-Err-NoMemory-clause-same : goal.returns-in-Err-NoMemory-clause-sa
 returns-in-Err-NoMemory-clause-same g c =
     let f = c.args.self.now in
     let same : c.keep.new.self ≡ f.keeper = search rules in
-    subst (λ k. GoesOn (file_state g.K.Disk.facts f) (file_state g.K.Disk.facts (record { keeper = k; kept = f.kept; front = f.front }))) (sym same) (goes_self (file_state g.K.Disk.facts f))
+    subst (λ k. let file : FileState = file_state g.K.Disk.facts (record { keeper = k; kept = f.kept; front = f.front }) in file ≡ file_state g.K.Disk.facts f) (sym same) refl
+
+pub returns-in-Err-NoMemory-clause-unbroken : goal.returns-in-Err-NoMemory-clause-unbroken
+returns-in-Err-NoMemory-clause-unbroken g c = sym c.is_broken.ensures ∙ c.if-is_broken.false
 
 pub returns-then-is_broken-clause-kept : goal.returns-then-is_broken-clause-kept
 returns-then-is_broken-clause-kept g c =
