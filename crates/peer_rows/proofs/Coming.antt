@@ -16,7 +16,7 @@ use Rattle.peer_stage.specs.declared.outcome.Origin.TheVariants as origin
 use Rattle.peer_stage.specs.declared.outcome.Stop.{Stop}
 use Rattle.peer_stage.specs.declared.outcome.Stop.TheVariants as stop
 use Rattle.peer_stage.specs.declared.stage.TheConstants.{INPUT_LIMIT}
-use Rattle.peer_rows.specs.Coming.{offset_of, AreAll, AreFed, AreWrong, EndsStream, FeedsPiece, HaveCome, StopsBehind}
+use Rattle.peer_rows.specs.Coming.{offset_of, AreAll, AreFed, AreWrong, EndsStream, FeedsPiece, HaveCome, MayReadOn, StopsBehind}
 use Rattle.peer_rows.specs.Join.{AreRightSoFar, IsFullStream, IsWrongStream}
 use Rattle.peer_rows.specs.Logged.{PassesLog}
 use Rattle.peer_rows.specs.declared.reading.Reading.{Reading}
@@ -84,6 +84,13 @@ module _ (old now : SourceFacts) (reading : Reading) (rows : List RawValue) (h :
           room = room;
           not_ended = ends ∙ h.not_ended;
           no_fault = faults ∙ h.no_fault;
+        }
+
+        -- no memory for a piece
+        pub piece_unpaid : (reading' : Reading) (bytes : List ℕ) (e : Stop) → e ≡ stop.NoMemory → FeedsPiece bytes rows reading'.stream (Err e) → new.ends ≡ now.ends → MayReadOn old new reading'
+        piece_unpaid reading' bytes e is fed ends = record {
+          short = record { bytes = h.bytes ++ piece; taken = taken_on; within = omega (arith, many few); not_ended = ends ∙ h.not_ended };
+          unrefused = subst (λ (s : Stop). FeedsPiece bytes rows reading'.stream (Err s)) is fed;
         }
 
         wrong_bytes : (at : ℕ) → AreWrong (h.bytes ++ piece) at → IsWrongStream old new at

@@ -10,7 +10,7 @@ use Rattle.willow_entry.specs.Row.{RowValue}
 use Rattle.lms_core.specs.Use.{peer_rules}
 use Rattle.cap_codec.specs.Rows.{RawValue, row_of}
 use Rattle.auth_entry.specs.Authorised.{AuthorisedValue, authorised}
-use Rattle.peer_stage.specs.Stages.{IsInput, IsPartlyWritten, IsReadWhole, ReadsInput}
+use Rattle.peer_stage.specs.Stages.{IsInput, IsPartlyWritten, IsReadShort, IsReadWhole, ReadsInput}
 use Rattle.peer_stage.specs.declared.stage.TheConstants.{INPUT_LIMIT}
 use Rattle.peer_stage.specs.declared.outcome.JoinCounts.{JoinCounts}
 use Rattle.peer_stage.specs.declared.outcome.Origin.TheVariants as origin
@@ -92,11 +92,11 @@ module _ (asked : Option ℕ) where
       }
 
   -- an input that is not read whole stops the showing
-  pub reading_stops : (i i' : SourceFacts) (e : Stop) → ReadsInput INPUT_LIMIT i i' (Err e) → ShowsInput asked i i' (Err e)
-  reading_stops i i' stop.ReadFault h = h
-  reading_stops i i' (stop.BadInput from at) (far, input, same) = ((far.0, inl (far.1, same)), input)
-  reading_stops i i' stop.NoMemory h = h
-  reading_stops i i' e h = absurd h
+  pub reading_stops : (i i' : SourceFacts) (e : Stop) → (e ≡ stop.NoMemory → IsReadShort INPUT_LIMIT i i') → ReadsInput INPUT_LIMIT i i' (Err e) → ShowsInput asked i i' (Err e)
+  reading_stops i i' stop.ReadFault short h = h
+  reading_stops i i' (stop.BadInput from at) short (far, input, same) = ((far.0, inl (far.1, same)), input)
+  reading_stops i i' stop.NoMemory short h = inl (short refl)
+  reading_stops i i' e short h = absurd h
 
   -- else the log of its bytes decides
   pub log_shown : (i i' : SourceFacts) (bytes : List ℕ) (result : Result Log Stop) → IsReadWhole INPUT_LIMIT i i' bytes → LogsBytes origin.Input bytes result → ShowsInputLog asked i i' result
@@ -105,5 +105,5 @@ module _ (asked : Option ℕ) where
   log_shown i i' bytes (Err (stop.NotRising from row)) read (wrong, same) = ((bytes, read, wrong), subst IsInput (sym same) tt)
   log_shown i i' bytes (Err (stop.Pruned from row by)) read (wrong, same) = ((bytes, read, wrong), subst IsInput (sym same) tt)
   log_shown i i' bytes (Err stop.LogFull) read full = (bytes, read, full)
-  log_shown i i' bytes (Err stop.NoMemory) read none = (bytes, read.taken)
+  log_shown i i' bytes (Err stop.NoMemory) read none = inr (bytes, read)
   log_shown i i' bytes (Err e) read h = absurd h

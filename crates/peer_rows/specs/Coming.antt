@@ -10,7 +10,7 @@ use Rattle.row_stream.specs.Streams.{IsStream}
 use Rattle.row_stream.specs.Feeding.{StreamState, Finishes}
 use Rattle.row_stream.specs.declared.refusal.StreamRefusal.{StreamRefusal}
 use Rattle.row_stream.specs.declared.refusal.StreamRefusal.TheVariants.{BadFrame, FrameTooLong, CutShort}
-use Rattle.peer_stage.specs.Stages.{IsInput, IsReadWhole}
+use Rattle.peer_stage.specs.Stages.{IsInput, IsReadShort, IsReadWhole}
 use Rattle.peer_stage.specs.declared.stage.TheConstants.{INPUT_LIMIT}
 use Rattle.peer_stage.specs.declared.outcome.Stop.{Stop}
 use Rattle.peer_stage.specs.declared.outcome.Stop.TheVariants as stop
@@ -33,11 +33,12 @@ pub record AreWrong (bytes : List ℕ) (at : ℕ) : Type 0 where
   pub cause : BeginNoFrames bytes
   pub judged : (rows : List RawValue) → AreRightSoFar bytes rows → ⊥
 
--- how the feeding of a piece ends behind these rows, where the bytes are all with this piece
+-- How the feeding of a piece ends behind these rows, where the bytes are all with this piece. Without memory the stream is not
+-- refused.
 abbrev pub FeedsPiece : List ℕ → List RawValue → StreamState → Result (Vec RawValue) Stop → Type 0
 FeedsPiece bytes rows state (Ok more) = AreFed bytes (rows ++ more.items) state
 FeedsPiece bytes rows state (Err (stop.BadInput origin at)) = AreWrong bytes at × IsInput origin
-FeedsPiece bytes rows state (Err stop.NoMemory) = Unit {0}
+FeedsPiece bytes rows state (Err stop.NoMemory) = state.refusal ≡ None
 FeedsPiece bytes rows state (Err e) = ⊥
 
 -- the offset that a refusal tells
@@ -69,6 +70,11 @@ pub record AreAll (old now : SourceFacts) (rows : List RawValue) : Type 0 where
   pub bytes : List ℕ
   pub read : IsReadWhole INPUT_LIMIT old now bytes
   pub frames : AreFrames bytes rows
+
+-- more may be read: the bytes taken are within the limit, the end was not met, and the stream is not refused
+pub record MayReadOn (old now : SourceFacts) (reading : Reading) : Type 0 where
+  pub short : IsReadShort INPUT_LIMIT old now
+  pub unrefused : reading.stream.refusal ≡ None
 
 -- so the reading stops behind these rows, whatever rows were had before, if each that would be stored finds room
 abbrev pub StopsBehind : SourceFacts → SourceFacts → List RawValue → Stop → Type 0

@@ -14,7 +14,7 @@ use Rattle.peer_image.specs.declared.refusal.ImageRefusal.{ImageRefusal}
 use Rattle.peer_image.specs.declared.refusal.ImageRefusal.TheVariants as refusal
 use Rattle.peer_rows.specs.Logged.{authorised_rows, first_refused, FitsLog, PassesLog}
 use Rattle.peer_stage.specs.Steps.{Step, Then, OnInput, OnOutput}
-use Rattle.peer_stage.specs.Stages.{IsInput, IsReadWhole, IsReadTooFar, IsReadToFault, IsReadSomewhat, Writes}
+use Rattle.peer_stage.specs.Stages.{IsInput, IsReadWhole, IsReadTooFar, IsReadToFault, IsReadShort, Writes}
 use Rattle.peer_stage.specs.declared.stage.TheConstants.{INPUT_LIMIT}
 use Rattle.peer_stage.specs.declared.outcome.ShowCounts.{ShowCounts}
 use Rattle.peer_stage.specs.declared.outcome.Done.{Done}
@@ -92,6 +92,10 @@ IsReadMisordered i i' refused = (bytes : List ℕ) × IsReadWhole INPUT_LIMIT i 
 abbrev pub IsReadFull : SourceFacts → SourceFacts → Type 0
 IsReadFull i i' = (bytes : List ℕ) × IsReadWhole INPUT_LIMIT i i' bytes × IsFullImage bytes
 
+-- the bytes taken are within the limit, before the end or up to it
+abbrev pub IsReadWithin : SourceFacts → SourceFacts → Type 0
+IsReadWithin i i' = IsReadShort INPUT_LIMIT i i' ⊎ ((bytes : List ℕ) × IsReadWhole INPUT_LIMIT i i' bytes)
+
 -- how the reading and listing of an input ends, with the listing and the numbers
 abbrev pub ShowsInput : Option ℕ → SourceFacts → SourceFacts → Result (List ℕ × ShowCounts) Stop → Type 0
 ShowsInput asked i i' (Ok x) = IsShownRead asked i i' x.0 x.1
@@ -100,7 +104,7 @@ ShowsInput asked i i' (Err (stop.BadInput origin at)) = IsBadImage i i' at × Is
 ShowsInput asked i i' (Err (stop.NotRising origin row)) = IsReadMisordered i i' (refusal.NotRising row) × IsInput origin
 ShowsInput asked i i' (Err (stop.Pruned origin row by)) = IsReadMisordered i i' (refusal.Pruned row by) × IsInput origin
 ShowsInput asked i i' (Err stop.LogFull) = IsReadFull i i'
-ShowsInput asked i i' (Err stop.NoMemory) = IsReadSomewhat i i'
+ShowsInput asked i i' (Err stop.NoMemory) = IsReadWithin i i'
 ShowsInput asked i i' (Err e) = ⊥
 
 -- ---- the command

@@ -1,11 +1,12 @@
 //! The reading of an input of row frames: the rows of the next piece of it, and its end.
 
-ghost use Rattle.std.specs.Prelude.{◌≡◌, ℕ, ◌<◌, ◌≤◌, List, length, IfOk, IfSome, IsTrue, OnOk};
+ghost use Rattle.std.specs.Prelude.{◌≡◌, ℕ, ◌<◌, ◌≤◌, List, length, IfOk, IfSome, IsErrOf, IsTrue, OnOk};
 ghost use Rattle.willow_outside.specs.Facts.{SourceFacts};
 ghost use Rattle.cap_codec.specs.Rows.{RawValue};
 ghost use Rattle.row_stream.specs.Feeding.{nothing_fed};
 ghost use Rattle.peer_stage.specs.Faults.{CountsStep};
 ghost use Rattle.peer_stage.specs.Stages.{IsReadSomewhat};
+ghost use Rattle.peer_stage.specs.declared.outcome.Stop.TheVariants as stop;
 
 use crate::feeding::{end_stream, feed_piece};
 use crate::intake::Intake;
@@ -31,7 +32,7 @@ pub(crate) struct Reading {
 }
 
 impl Reading {
-    ghost use Rattle.peer_rows.specs.Coming.{ComesNext, HaveCome};
+    ghost use Rattle.peer_rows.specs.Coming.{ComesNext, HaveCome, MayReadOn};
     ghost use Rattle.peer_rows.specs.Reading.{HasRead, IsLonger, ReadsOn};
 
     /// Nothing is read yet.
@@ -48,11 +49,13 @@ impl Reading {
     }
 
     /// Reads once more, and answers the rows that became whole, or None where the input ended. What is wrong stops the
-    /// reading.
+    /// reading. Want of memory comes only where more may be read: not at the end, past the limit or of a stream that is refused.
     pub(crate) fn rows<I: Source>(&mut self, input: &mut I) -> Result<Option<Vec<RawRow>>, Stop>
         requires { (begun : SourceFacts) × (rows : List RawValue) × HaveCome begun (I.facts input.old) self.old rows }
         ensures comes { (begun : SourceFacts) (rows : List RawValue) → HaveCome begun (I.facts input.old) self.old rows
             → ComesNext begun (I.facts input.new) self.new rows result }
+        ensures memory { (begun : SourceFacts) (rows : List RawValue) → HaveCome begun (I.facts input.old) self.old rows
+            → IsErrOf result stop.NoMemory → MayReadOn begun (I.facts input.new) self.new }
         ensures somewhat { IsReadSomewhat (I.facts input.old) (I.facts input.new) }
         ensures fewer { IfOk result (λ came. IfSome came (λ rows. self.new.left < self.old.left)) }
         ensures faults { CountsStep (I.facts input.old).faults (I.facts input.new).faults result }

@@ -1,10 +1,11 @@
 use Rattle.std.proofs.Common.{◌≡◌, ℕ, List, ◌-◌, ◌≤◌, ◌<◌, ◌++◌, length, take, drop, ap, subst, arith}
 use Rattle.std.specs.Prelude.{Err}
+use Rattle.peer_stage.specs.declared.outcome.Stop.TheVariants as stop
 use Rattle.std.specs.Io.KnownBytes.{Consumes}
 use Rattle.std.specs.Vec.{with_items}
 use Rattle.std.proofs.lemmas.Result.{err_from_is_err_and}
 use Rattle.peer_rows.specs.Coming.{FeedsPiece}
-use Rattle.peer_rows.proofs.Coming.{all_come, buffer_given, come_on, end_stops, piece_stops, read_too_far}
+use Rattle.peer_rows.proofs.Coming.{all_come, buffer_given, come_on, end_stops, piece_stops, piece_unpaid, read_too_far}
 use Rattle.peer_rows.proofs.reading.Reading.rows.Goals as goal
 
 pub returns-in_err-end_stream-in-Ok-eq0-clause-comes : goal.returns-in_err-end_stream-in-Ok-eq0-clause-comes
@@ -64,3 +65,18 @@ returns-in_err-rows-in-Ok-clause-comes g c = λ begun rows h.
     let p = err_from_is_err_and c.from_residual-in_err-rows-in-Ok.result c.from_residual-in_err-rows-in-Ok.ensures.1 in
     rw (p.1, p.2) (piece_stops begun i c.args.self.now rows h i' (take k buf) c.in-Ok.ensures.bytes.0 few
     c.feed_piece.new.stream e (subst (λ (l : List ℕ). FeedsPiece (h.bytes ++ take k l) rows c.feed_piece.new.stream (Err e)) given (c.in_err-rows-in-Ok.ensures h.bytes rows h.fed)))
+
+pub returns-in_err-rows-in-Ok-clause-memory : goal.returns-in_err-rows-in-Ok-clause-memory
+returns-in_err-rows-in-Ok-clause-memory g c = λ begun rows h no_memory.
+    let i = g.I.Source.facts c.args.input.now in
+    let i' = g.I.Source.facts c.read.new.self in
+    let k = c.in-Ok.n in
+    let buf = c.read.new.buf in
+    let some : 0 < k = omega (arith, c.in-Ok.n-test) in
+    let few : length (take k buf) ≤ c.args.self.now.left = omega (arith, c.in-Ok.ensures.bound, c.read.auto.buf, c.deref_mut.ensures.len, c.truncate.ensures.len, c.max.ensures, c.if-self-eq0.false) in
+    let e = c.in_err-rows-in-Ok.field-0.0 in
+    let p = err_from_is_err_and c.from_residual-in_err-rows-in-Ok.result c.from_residual-in_err-rows-in-Ok.ensures.1 in
+    let is : e ≡ stop.NoMemory = cc in
+    piece_unpaid begun i c.args.self.now rows h i' (take k buf) c.in-Ok.ensures.bytes.0 few
+    (record { stream = c.feed_piece.new.stream; piece = with_items c.truncate.new.self buf; left = c.args.self.now.left - k })
+    (h.bytes ++ take k c.deref.result.now) e is (c.in_err-rows-in-Ok.ensures h.bytes rows h.fed) (c.in-Ok.ensures.end.gave_some some)
