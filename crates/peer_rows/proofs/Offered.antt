@@ -1,5 +1,5 @@
 -- A log to which nothing was offered, and how a log goes on by several rows.
-use Rattle.std.proofs.Common.{◌≡◌, ℕ, ◌+◌, ◌-◌, ◌^◌, ◌<◌, ◌≤◌, inl, inr, List, [], ◌∷◌, ◌++◌, map, length, None, Result, refl, sym, ap, subst, ◌∙◌, append_assoc, arith, length-append}
+use Rattle.std.proofs.Common.{◌≡◌, ℕ, ◌+◌, ◌-◌, ◌^◌, ◌<◌, ◌≤◌, inr, List, [], ◌∷◌, ◌++◌, map, length, None, Result, refl, sym, ap, subst, ◌∙◌, append_assoc, arith, length-append}
 use Rattle.std.proofs.lemmas.List.{append-nil}
 use Rattle.spelling.specs.Answers.{first_some}
 use Rattle.willow_entry.specs.Pruning.{new_after}
@@ -14,7 +14,7 @@ use Rattle.ns_state.specs.declared.live_log.LogFull.{LogFull}
 use Rattle.ns_state.specs.declared.live_log.TheConstants.{LOG_LIMIT}
 use Rattle.auth_entry.specs.Rows.{entry_row}
 use Rattle.peer_rows.specs.Logged.{authorised_rows, AreCounts, IsLogOf, Offers, PassesLog}
-use Rattle.peer_rows.specs.Stored.{LacksMemory, OffersAll}
+use Rattle.peer_rows.specs.Stored.{OffersAll, TakesAll}
 use Rattle.std.specs.Prelude.{Ok, Err}
 use Rattle.std.specs.Result.{IsErrAnd}
 use Rattle.std.proofs.lemmas.Result.{err_from_is_err_and}
@@ -66,10 +66,6 @@ none_offered namespace rows before verdicts judged fits = record {
   fits = fits;
 }
 
--- where memory was wanting before any was taken, the log is as before
-pub none_lacks : (namespace : List ℕ) (seen rows : List RawValue) (log : Log) → IsLogOf namespace seen log.kept log.counts → LacksMemory namespace (seen ++ rows) log log
-none_lacks namespace seen rows log is = record { front = seen; left = rows; parts = refl; is_log = is; cause = inl refl }
-
 -- ---- the next of them
 
 -- what is so by the offer of a row that was judged so, however it ends
@@ -104,10 +100,10 @@ module _ (namespace : List ℕ) (rows : List RawValue) (before log : Log) (judge
 
   -- where it met a full log, one of all is one too many
   pub offers_fail : (log' : Log) (e : End LogFull) (result : Result (Unit {0}) (End LogFull)) → OffersJudged judged log log' (Err e) → log' ≡ log → IsErrAnd result (λ d. d ≡ e)
-      → (seen : List RawValue) → IsLogOf namespace seen before.kept before.counts → OffersAll namespace seen rows before log' result
+      → (seen : List RawValue) → IsLogOf namespace seen before.kept before.counts → TakesAll namespace seen rows log' result
   offers_fail log' e result offers same err seen is =
       let p = err_from_is_err_and result err in
-      subst (λ (r : Result (Unit {0}) (End LogFull)). OffersAll namespace seen rows before log' r) (ap (λ (d : End LogFull). Err d) (sym p.2) ∙ sym p.1)
+      subst (λ (r : Result (Unit {0}) (End LogFull)). TakesAll namespace seen rows log' r) (ap (λ (d : End LogFull). Err d) (sym p.2) ∙ sym p.1)
       (told e (offers namespace (seen ++ h.taken) first.row first.judged_is (h.is_log seen is)))
     where
       whole : ((seen ++ h.taken) ++ first.row ∷ []) ++ first.others ≡ seen ++ rows
@@ -116,17 +112,23 @@ module _ (namespace : List ℕ) (rows : List RawValue) (before log : Log) (judge
           ∙ append_assoc seen (h.taken ++ first.row ∷ []) first.others
           ∙ ap (λ (l : List RawValue). seen ++ l) (sym parts_on)
 
-      told : (d : End LogFull) → Offers namespace (seen ++ h.taken) first.row log'.kept log'.counts (Err d) → OffersAll namespace seen rows before log' (Err d)
+      told : (d : End LogFull) → Offers namespace (seen ++ h.taken) first.row log'.kept log'.counts (Err d) → TakesAll namespace seen rows log' (Err d)
       told (Refused full) passes = subst (PassesLog namespace) whole (PassesLog-longer namespace ((seen ++ h.taken) ++ first.row ∷ []) first.others passes)
       told NoMemory none_past = record {
         front = seen ++ h.taken;
         left = first.row ∷ first.others;
         parts = ap (λ (l : List RawValue). seen ++ l) (h.parts ∙ ap (λ (l : List RawValue). h.taken ++ l) first.parts) ∙ sym (append_assoc seen h.taken (first.row ∷ first.others));
         is_log = subst (λ (l : Log). IsLogOf namespace (seen ++ h.taken) l.kept l.counts) (sym same) (h.is_log seen is);
-        cause = inr none_past;
+        room = none_past;
       }
 
 -- ---- all of them
+
+-- so what is taken was offered
+pub taken_offers : (namespace : List ℕ) (seen rows : List RawValue) (before log : Log) (result : Result (Unit {0}) (End LogFull)) → TakesAll namespace seen rows log result → OffersAll namespace seen rows before log result
+taken_offers namespace seen rows before log (Ok tt) takes = takes
+taken_offers namespace seen rows before log (Err (Refused full)) takes = takes
+taken_offers namespace seen rows before log (Err NoMemory) takes = inr takes
 
 pub offered_all : (namespace : List ℕ) (rows : List RawValue) (before log : Log) (verdicts : List (Result AuthorisedValue RowRefusal)) → HasOffered namespace rows before verdicts log → verdicts ≡ []
     → (seen : List RawValue) → IsLogOf namespace seen before.kept before.counts → IsLogOf namespace (seen ++ rows) log.kept log.counts

@@ -54,8 +54,8 @@ module _ (namespace : List ℕ) (had : List RawValue) (old now : SourceFacts) (r
     few_more = omega (arith, h.few, few_come old new reading' (h.seen ++ rows) come, length-append had h.seen, length-append h.seen rows)
 
     module _ (intake' : Intake) where
-      pub has_read_on : TakesRows namespace ((had ++ h.seen) ++ rows) intake' (Ok tt) → HasRead namespace had old new reading' intake'
-      has_read_on took = record {
+      pub has_read_on : (before : Log) → TakesRows namespace ((had ++ h.seen) ++ rows) before intake' (Ok tt) → HasRead namespace had old new reading' intake'
+      has_read_on before took = record {
         few = h.few;
         seen = h.seen ++ rows;
         come = come;
@@ -63,10 +63,10 @@ module _ (namespace : List ℕ) (had : List RawValue) (old now : SourceFacts) (r
         waits = took.1;
       }
 
-      pub taking_stops : (e : Stop) → TakesRows namespace ((had ++ h.seen) ++ rows) intake' (Err e) → StopsInput namespace had old new e
-      taking_stops stop.LogFull passes = full_there old new reading' (h.seen ++ rows) come namespace had (subst (PassesLog namespace) (append_assoc had h.seen rows) passes)
-      taking_stops stop.NoMemory t = (come.bytes, come.consumed)
-      taking_stops e t = absurd t
+      pub taking_stops : (before : Log) (e : Stop) → TakesRows namespace ((had ++ h.seen) ++ rows) before intake' (Err e) → StopsInput namespace had old new e
+      taking_stops before stop.LogFull passes = full_there old new reading' (h.seen ++ rows) come namespace had (subst (PassesLog namespace) (append_assoc had h.seen rows) passes)
+      taking_stops before stop.NoMemory t = (come.bytes, come.consumed)
+      taking_stops before e t = absurd t
 
   -- ---- the end
 

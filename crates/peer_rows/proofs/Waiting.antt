@@ -1,5 +1,5 @@
 -- Rows that wait, and what the log is when they are judged.
-use Rattle.std.proofs.Common.{◌≡◌, ℕ, ◌≤◌, inl, List, [], ◌∷◌, ◌++◌, length, sym, ap, subst, ◌∙◌, append_assoc, append-nil, arith}
+use Rattle.std.proofs.Common.{◌≡◌, ℕ, ◌≤◌, List, [], ◌++◌, length, sym, ap, subst, ◌∙◌, append_assoc, append-nil, arith}
 use Rattle.std.specs.Prelude.{Result, Ok, Err, OnOk}
 use Rattle.willow_entry.specs.Row.{RowValue, is_covering, new}
 use Rattle.cap_codec.specs.Rows.{RawValue}
@@ -8,7 +8,7 @@ use Rattle.peer_stage.specs.declared.outcome.Stop.{Stop}
 use Rattle.peer_stage.specs.declared.outcome.Stop.TheVariants as stop
 use Rattle.peer_rows.specs.Logged.{authorised_rows, IsLogOf, FitsLog}
 use Rattle.peer_rows.specs.Reading.{IsLonger}
-use Rattle.peer_rows.specs.Stored.{HasTakenIn, HasJudged, JudgesAll, LacksMemory, MayWait, TakesRows}
+use Rattle.peer_rows.specs.Stored.{HasTakenIn, HasJudged, JudgesAll, MayWait, TakesRows}
 use Rattle.peer_rows.specs.declared.log.Log.{Log}
 use Rattle.peer_rows.specs.declared.intake.Intake.{Intake}
 use Rattle.peer_rows.proofs.AuthorisedRows.{authorised_parts, authorised_few}
@@ -34,16 +34,6 @@ module _ (namespace : List ℕ) (rows : List RawValue) (intake : Intake) (h : Ha
     fits = subst (λ (log : Log). log.counts.stored ≤ LOG_LIMIT) (sym same) h.fits;
   }
 
-  -- no memory was found for one more, and nothing was judged
-  pub waits_no_more : (row : RawValue) (log : Log) → log ≡ intake.log → LacksMemory namespace (rows ++ row ∷ []) intake.log log
-  waits_no_more row log same = record {
-    front = h.judged;
-    left = intake.waiting.items ++ row ∷ [];
-    parts = ap (λ (l : List RawValue). l ++ row ∷ []) h.parts ∙ append_assoc h.judged intake.waiting.items (row ∷ []);
-    is_log = subst (λ (l : Log). IsLogOf namespace h.judged l.kept l.counts) (sym same) h.is_log;
-    cause = inl same;
-  }
-
   -- of rows that wait none is stored before it is judged, so with room for all of them none meets a full log
   pub waiting_fit : MayWait intake → FitsLog namespace rows
   waiting_fit may =
@@ -67,10 +57,10 @@ judged_may_wait namespace rows intake h = record {
 }
 
 -- so what is judged was taken in
-pub judged_takes : (namespace : List ℕ) (rows : List RawValue) (before : Log) (intake : Intake) (result : Result (Unit {0}) Stop) → JudgesAll namespace rows before intake result → TakesRows namespace rows intake result
+pub judged_takes : (namespace : List ℕ) (rows : List RawValue) (before : Log) (intake : Intake) (result : Result (Unit {0}) Stop) → JudgesAll namespace rows before intake result → TakesRows namespace rows before intake result
 judged_takes namespace rows before intake (Ok tt) judged = (none_waits namespace rows intake judged, judged_may_wait namespace rows intake judged)
 judged_takes namespace rows before intake (Err stop.LogFull) judged = judged
-judged_takes namespace rows before intake (Err stop.NoMemory) judged = tt
+judged_takes namespace rows before intake (Err stop.NoMemory) judged = judged
 judged_takes namespace rows before intake (Err e) judged = absurd judged
 
 -- ---- the log with more behind it

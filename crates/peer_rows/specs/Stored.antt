@@ -17,14 +17,24 @@ abbrev pub HasRoomNext : List ℕ → List RawValue → List RawValue → Type 0
 HasRoomNext namespace seen [] = ⊥
 HasRoomNext namespace seen (row ∷ rows) = PassesLog namespace (seen ++ row ∷ []) → ⊥
 
--- Memory was wanting before any row more was taken, or at a row for which the log had room: the log is that of the rows
--- in front of it.
-pub record LacksMemory (namespace : List ℕ) (rows : List RawValue) (before log : Log) : Type 0 where
+-- Memory was wanting at one of the rows: the log is that of the rows in front of it, and had room for it.
+pub record WantsAtRow (namespace : List ℕ) (rows : List RawValue) (log : Log) : Type 0 where
   pub front : List RawValue
   pub left : List RawValue
   pub parts : rows ≡ front ++ left
   pub is_log : IsLogOf namespace front log.kept log.counts
-  pub cause : (log ≡ before) ⊎ HasRoomNext namespace front left
+  pub room : HasRoomNext namespace front left
+
+-- memory was wanting before any row more was taken to the log there was before, or at a row for which there was room
+abbrev pub LacksMemory : List ℕ → List RawValue → Log → Log → Type 0
+LacksMemory namespace rows before log = (log ≡ before) ⊎ WantsAtRow namespace rows log
+
+-- how the taking of rows that were judged ends, over the rows seen before them: the log is that of all of them, or one of
+-- them is one too many, or memory was wanting at one of them
+abbrev pub TakesAll : List ℕ → List RawValue → List RawValue → Log → Result (Unit {0}) (End LogFull) → Type 0
+TakesAll namespace seen rows log (Ok u) = IsLogOf namespace (seen ++ rows) log.kept log.counts
+TakesAll namespace seen rows log (Err (ends.Refused full)) = PassesLog namespace (seen ++ rows)
+TakesAll namespace seen rows log (Err ends.NoMemory) = WantsAtRow namespace (seen ++ rows) log
 
 -- how the offers of rows end, over the rows seen before them and their log: the log is that of all of them, or one of them
 -- is one too many, or memory was wanting
@@ -68,12 +78,12 @@ AdmitsRow namespace rows before intake (Err stop.LogFull) = PassesLog namespace 
 AdmitsRow namespace rows before intake (Err stop.NoMemory) = LacksMemory namespace rows before intake.log
 AdmitsRow namespace rows before intake (Err e) = ⊥
 
--- how the taking in of the rows of a piece ends, where these are all with them
-abbrev pub TakesRows : List ℕ → List RawValue → Intake → Result (Unit {0}) Stop → Type 0
-TakesRows namespace rows intake (Ok u) = HasTakenIn namespace rows intake × MayWait intake
-TakesRows namespace rows intake (Err stop.LogFull) = PassesLog namespace rows
-TakesRows namespace rows intake (Err stop.NoMemory) = Unit {0}
-TakesRows namespace rows intake (Err e) = ⊥
+-- how the taking in of the rows of a piece ends, where these are all with them, and this was the log
+abbrev pub TakesRows : List ℕ → List RawValue → Log → Intake → Result (Unit {0}) Stop → Type 0
+TakesRows namespace rows before intake (Ok u) = HasTakenIn namespace rows intake × MayWait intake
+TakesRows namespace rows before intake (Err stop.LogFull) = PassesLog namespace rows
+TakesRows namespace rows before intake (Err stop.NoMemory) = LacksMemory namespace rows before intake.log
+TakesRows namespace rows before intake (Err e) = ⊥
 
 -- ---- a whole log
 

@@ -66,7 +66,7 @@ impl Intake {
         requires namespace { C.judged_in checker.old ≡ self.old.log.kept.namespace }
         requires few { (namespace : List ℕ) × (before : List RawValue) × HasTakenIn namespace before self.old × (length before + length rows.items < 2 ^ 64) }
         ensures namespace { C.judged_in checker.new ≡ C.judged_in checker.old }
-        ensures takes { (namespace : List ℕ) (before : List RawValue) → HasTakenIn namespace before self.old → TakesRows namespace (before ++ rows.items) self.new result }
+        ensures takes { (namespace : List ℕ) (before : List RawValue) → HasTakenIn namespace before self.old → TakesRows namespace (before ++ rows.items) self.old.log self.new result }
         ensures longer { OnOk result (IsLonger self.old.log self.new.log) }
     {
         let brought = rows.len();

@@ -5,7 +5,7 @@ ghost use Rattle.lms_core.specs.Use.{peer_rules};
 ghost use Rattle.auth_entry.specs.Authorised.{verdict};
 ghost use Rattle.cap_codec.specs.Rows.{RawValue};
 ghost use Rattle.peer_rows.specs.Logged.{IsLogOf};
-ghost use Rattle.peer_rows.specs.Stored.{OffersAll};
+ghost use Rattle.peer_rows.specs.Stored.{OffersAll, TakesAll};
 
 use crate::keeping::Verdict;
 use crate::log::Log;
@@ -38,13 +38,14 @@ pub(crate) fn offer_all<C: Checker<PeerScheme>, R: Threads + Sync>(
     take_all(log, verdicts)
 }
 
-/// Takes rows that were judged in the log's namespace, in order, up to the first that meets a full log.
+/// Takes rows that were judged in the log's namespace, in order, up to the first that meets a full log. Memory is asked for
+/// where the log has room.
 pub(crate) fn take_all(log: &mut Log, verdicts: Vec<Verdict>) -> Result<(), End<LogFull>>
     requires few { (namespace : List ℕ) × (seen : List RawValue) × (rows : List RawValue) × IsLogOf namespace seen log.old.kept log.old.counts
         × (verdicts.items ≡ map (verdict peer_rules namespace) rows) × (length seen + length rows < 2 ^ 64) }
     requires fits { log.old.counts.stored ≤ LOG_LIMIT }
-    ensures offers { (namespace : List ℕ) (seen rows : List RawValue) → IsLogOf namespace seen log.old.kept log.old.counts → verdicts.items ≡ map (verdict peer_rules namespace) rows
-        → OffersAll namespace seen rows log.old log.new result }
+    ensures takes { (namespace : List ℕ) (seen rows : List RawValue) → IsLogOf namespace seen log.old.kept log.old.counts → verdicts.items ≡ map (verdict peer_rules namespace) rows
+        → TakesAll namespace seen rows log.new result }
     ensures fits { OnOk result (log.new.counts.stored ≤ LOG_LIMIT) }
 {
     for judged in verdicts {

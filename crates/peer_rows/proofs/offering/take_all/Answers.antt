@@ -26,13 +26,13 @@ loop-judged-preserved c = λ n rows judged.
     offered_on n rows c.args.log.now c.loop-judged.log c.in-Some.judged (into_iter_items c.loop-judged.judged-iterator) (into_iter_items c.next.new.self) (c.loop-judged.invariant n rows judged) next
     c.take.new.self c.in_ok-take.ensures.offers c.in_ok-take.ensures.fits
 
-pub returns-in_err-take-clause-offers : goal.returns-in_err-take-clause-offers
-returns-in_err-take-clause-offers c = λ n seen rows is judged.
+pub returns-in_err-take-clause-takes : goal.returns-in_err-take-clause-takes
+returns-in_err-take-clause-takes c = λ n seen rows is judged.
     let next : into_iter_items c.loop-judged.judged-iterator ≡ c.in-Some.judged ∷ into_iter_items c.next.new.self = c.in-Some.ensures.steps.0 in
     offers_fail n rows c.args.log.now c.loop-judged.log c.in-Some.judged (into_iter_items c.loop-judged.judged-iterator) (into_iter_items c.next.new.self) (c.loop-judged.invariant n rows judged) next
     c.take.new.self c.in_err-take.field-0.0 c.from_residual.result c.in_err-take.ensures.offers c.in_err-take.ensures.err c.from_residual.ensures.1 seen is
 
-pub returns-clause-offers : goal.returns-clause-offers
-returns-clause-offers c = λ n seen rows is judged.
+pub returns-clause-takes : goal.returns-clause-takes
+returns-clause-takes c = λ n seen rows is judged.
     let none : into_iter_items c.loop-judged.judged-iterator ≡ [] = nil_from_length (into_iter_items c.loop-judged.judged-iterator) (omega (arith, c.in-None.ensures.steps.0)) in
     offered_all n rows c.args.log.now c.loop-judged.log (into_iter_items c.loop-judged.judged-iterator) (c.loop-judged.invariant n rows judged) none seen is

@@ -1,15 +1,15 @@
-use Rattle.std.proofs.Common.{◌∷◌, [], ◌++◌, subst, arith, length-append}
+use Rattle.std.proofs.Common.{inl, ◌∷◌, [], ◌++◌, subst, arith, length-append}
 use Rattle.std.proofs.lemmas.Result.{err_from_is_err_and}
 use Rattle.peer_rows.specs.Stored.{AdmitsRow}
 use Rattle.peer_rows.specs.declared.log.Log.{Log}
 use Rattle.peer_rows.proofs.Imaged.{judged_admits}
-use Rattle.peer_rows.proofs.Waiting.{waits_on, waits_no_more}
+use Rattle.peer_rows.proofs.Waiting.{waits_on}
 use Rattle.peer_rows.proofs.intake.Intake.admit.Goals as goal
 
 pub returns-in_err-hold-clause-admits : goal.returns-in_err-hold-clause-admits
 returns-in_err-hold-clause-admits g c = λ n rows was.
     let p = err_from_is_err_and c.from_residual.result c.from_residual.ensures.1 in
-    rw (p.1, p.2) (waits_no_more n rows c.args.self.now was c.args.row c.hold.new.self.log c.hold.ensures.log)
+    rw (p.1, p.2) (inl c.hold.ensures.log)
 
 pub returns-then-len-lt-TOGETHER-clause-admits : goal.returns-then-len-lt-TOGETHER-clause-admits
 returns-then-len-lt-TOGETHER-clause-admits g c = λ n rows was. waits_on n rows c.args.self.now was (c.args.row ∷ []) c.hold.new.self c.hold.ensures.log c.in_ok-hold.ensures.waits

@@ -1,4 +1,6 @@
-use Rattle.std.proofs.Common.{◌++◌, arith, length-append}
+use Rattle.std.proofs.Common.{◌++◌, subst, arith, length-append}
+use Rattle.peer_rows.specs.Stored.{TakesRows}
+use Rattle.peer_rows.specs.declared.log.Log.{Log}
 use Rattle.peer_rows.proofs.Waiting.{waits_on, judged_takes, judging_longer}
 use Rattle.peer_rows.proofs.intake.Intake.take_in.Goals as goal
 
@@ -10,8 +12,9 @@ judge-requires-clause-few g c κs within =
 pub returns-clause-takes : goal.returns-clause-takes
 returns-clause-takes g c = λ n before was.
     let all = before ++ c.args.rows.items in
-    judged_takes n all c.wait.new.self.log c.judge.new.self c.judge.result
-    (c.judge.ensures.judges n all (waits_on n before c.args.self.now was c.args.rows.items c.wait.new.self c.wait.ensures.log c.in_ok-wait.ensures.waits))
+    subst (λ (l : Log). TakesRows n all l c.judge.new.self c.judge.result) c.wait.ensures.log
+    (judged_takes n all c.wait.new.self.log c.judge.new.self c.judge.result
+    (c.judge.ensures.judges n all (waits_on n before c.args.self.now was c.args.rows.items c.wait.new.self c.wait.ensures.log c.in_ok-wait.ensures.waits)))
 
 pub returns-clause-longer : goal.returns-clause-longer
 returns-clause-longer g c =

@@ -56,11 +56,11 @@ returns-in_err-take_in-clause-reads g c = λ n had begun h.
     let i' = g.I.Source.facts c.rows.new.input in
     let come : HaveCome begun i' c.rows.new.self (h.seen ++ c.in-Some.rows.items) = subst (λ (o : Option (Vec RawValue)). ComesNext begun i' c.rows.new.self h.seen (Ok o)) c.in-Some.is (c.in_ok-rows.ensures.comes begun h.seen h.come) in
     let p = err_from_is_err_and c.from_residual-in_err-take_in.result c.from_residual-in_err-take_in.ensures.1 in
-    rw (p.1, p.2) (taking_stops n had begun i c.args.self.now c.args.intake.now h i' c.rows.new.self c.in-Some.rows.items come c.take_in.new.self c.in_err-take_in.field-0.0 (c.in_err-take_in.ensures.takes n (had ++ h.seen) h.taken_in))
+    rw (p.1, p.2) (taking_stops n had begun i c.args.self.now c.args.intake.now h i' c.rows.new.self c.in-Some.rows.items come c.take_in.new.self c.args.intake.now.log c.in_err-take_in.field-0.0 (c.in_err-take_in.ensures.takes n (had ++ h.seen) h.taken_in))
 
 pub returns-clause-reads : goal.returns-clause-reads
 returns-clause-reads g c = λ n had begun h.
     let i = g.I.Source.facts c.args.input.now in
     let i' = g.I.Source.facts c.rows.new.input in
     let come : HaveCome begun i' c.rows.new.self (h.seen ++ c.in-Some.rows.items) = subst (λ (o : Option (Vec RawValue)). ComesNext begun i' c.rows.new.self h.seen (Ok o)) c.in-Some.is (c.in_ok-rows.ensures.comes begun h.seen h.come) in
-    has_read_on n had begun i c.args.self.now c.args.intake.now h i' c.rows.new.self c.in-Some.rows.items come c.take_in.new.self (c.in_ok-take_in.ensures.takes n (had ++ h.seen) h.taken_in)
+    has_read_on n had begun i c.args.self.now c.args.intake.now h i' c.rows.new.self c.in-Some.rows.items come c.take_in.new.self c.args.intake.now.log (c.in_ok-take_in.ensures.takes n (had ++ h.seen) h.taken_in)
