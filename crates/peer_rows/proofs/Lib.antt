@@ -18,6 +18,7 @@ pub mod Joined
 pub mod Imaged
 pub mod Listed
 pub mod PartedImages
+pub mod AskingParts
 pub mod Generated
 pub mod DrilledRows
 pub mod Watched

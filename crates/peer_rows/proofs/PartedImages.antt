@@ -10,8 +10,9 @@ use Rattle.peer_image.specs.Fronts.{at_prefixes_of, last_fronts}
 use Rattle.peer_image.specs.Image.{trailer}
 use Rattle.peer_image.specs.ImageOneReading.{IsFront}
 use Rattle.peer_image.specs.ImageReading.{raw_rows}
-use Rattle.peer_image.specs.Order.{order_refusal, first_fall, pruned_after}
+use Rattle.peer_image.specs.Order.{order_refusal, first_fall, pruned_after, IsInnerRising}
 use Rattle.peer_image.specs.Parts.{IsHead}
+use Rattle.peer_image.proofs.InOrder.{order_decides}
 use Rattle.peer_image.proofs.LastFronts.{fronts_decide_order, fronts_go_on}
 use Rattle.peer_image.proofs.ReadParts.{front_none, front_on}
 use Rattle.peer_image.proofs.TwoParts.{IsFrontRows, front_rows_on, image_of_rows}
@@ -40,6 +41,10 @@ none_in_order : order_refusal [] ≡ None
 unfolding first_fall pruned_after
 none_in_order = refl
 
+-- rows in order rise
+pub in_order_rise : (rows : List RowValue) → order_refusal rows ≡ None → IsInnerRising rows
+in_order_rise rows order = ((order_decides rows).0 order).rising
+
 module _ (rows fronts : List RawValue) (h : HaveFronts rows fronts) where
   -- they are not more than the rows
   pub few_fronts : length fronts ≤ length rows
@@ -61,6 +66,12 @@ module _ (rows fronts : List RawValue) (h : HaveFronts rows fronts) where
         in_order = ap order_refusal same ∙ all;
         are_fronts = are ∙ ap (λ (l : List RowValue). last_fronts (l ++ raw_rows more)) h.are_fronts ∙ sym (fronts_go_on (raw_rows rows) (raw_rows more) all) ∙ sym (ap last_fronts same);
       }
+
+  -- where all are in order, the fronts and the others rise
+  pub fronts_rise : (more : List RawValue) → order_refusal (raw_rows (rows ++ more)) ≡ None → IsInnerRising (raw_rows fronts ++ raw_rows more)
+  fronts_rise more order =
+      let ahead = (fronts_decide_order (raw_rows rows) (raw_rows more) h.in_order).0 (ap order_refusal (sym (map-append row_of rows more)) ∙ order) in
+      in_order_rise (raw_rows fronts ++ raw_rows more) (ap (λ (l : List RowValue). order_refusal (l ++ raw_rows more)) h.are_fronts ∙ ahead)
 
 pub no_fronts : (fronts : List RawValue) → fronts ≡ [] → HaveFronts [] fronts
 no_fronts fronts none = record { in_order = none_in_order; are_fronts = ap raw_rows none }

@@ -7,6 +7,7 @@ use Rattle.auth_entry.specs.Authorised.{AuthorisedValue}
 use Rattle.peer_image.specs.ImageReading.{ImageAsks, IsImage, IsWrong, IsMisordered, raw_rows}
 use Rattle.peer_image.specs.Order.{order_refusal}
 use Rattle.peer_image.specs.declared.read.Image.{Image}
+use Rattle.peer_image.specs.declared.refusal.ImageRefusal.{ImageRefusal}
 use Rattle.peer_image.specs.declared.refusal.ImageRefusal.TheVariants as refusal
 use Rattle.peer_stage.specs.declared.outcome.JoinCounts.{JoinCounts}
 use Rattle.peer_stage.specs.declared.outcome.Origin.{Origin}
@@ -32,6 +33,14 @@ ReadsImageFrom origin bytes (Err (stop.NotRising from row)) = IsMisordered bytes
 ReadsImageFrom origin bytes (Err (stop.Pruned from row by)) = IsMisordered bytes (refusal.Pruned row by) × (from ≡ origin)
 ReadsImageFrom origin bytes (Err stop.NoMemory) = ImageAsks bytes
 ReadsImageFrom origin bytes (Err e) = ⊥
+
+-- what was read, told of where its bytes came from
+abbrev pub image_told : Origin → Result Image (End ImageRefusal) → Result Image Stop
+image_told origin (Ok image) = Ok image
+image_told origin (Err (Refused (refusal.BadImage at))) = Err (stop.BadInput origin at)
+image_told origin (Err (Refused (refusal.NotRising at))) = Err (stop.NotRising origin at)
+image_told origin (Err (Refused (refusal.Pruned at by))) = Err (stop.Pruned origin at by)
+image_told origin (Err NoMemory) = Err stop.NoMemory
 
 -- the log of the authorised rows, with the numbers of all of them; or one too many would be stored
 abbrev pub LogsImage : List ℕ → List RawValue → Result (StateValue AuthorisedValue × JoinCounts) Stop → Type 0

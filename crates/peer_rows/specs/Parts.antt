@@ -1,10 +1,13 @@
 -- Images that are taken a part at a time, as long as their rows are in order.
-use Rattle.std.specs.Prelude.{◌≡◌, ℕ, ◌<◌, ◌≤◌, Bool, List, ◌++◌, length, None}
+use Rattle.std.specs.Prelude.{◌≡◌, ℕ, ◌<◌, ◌≤◌, ◌⊎◌, Bool, List, ◌++◌, length, None}
+use Rattle.spelling.specs.Memory.{Behind, IsWhole}
 use Rattle.mc_cap.specs.declared.capability.Capability.{Capability}
 use Rattle.cap_codec.specs.Rows.{RawValue}
 use Rattle.ns_state.specs.declared.live_log.TheConstants.{LOG_LIMIT}
 use Rattle.peer_image.specs.Fronts.{last_fronts}
-use Rattle.peer_image.specs.ImageReading.{raw_rows}
+use Rattle.peer_image.specs.ImageOneReading.{header_at}
+use Rattle.peer_image.specs.ImageReading.{IsOfVersionTwo, raw_rows}
+use Rattle.peer_image.specs.ImageTwoReading.{FirstIsWhole, head_two_at}
 use Rattle.peer_image.specs.Order.{order_refusal}
 use Rattle.peer_image.specs.ImageTwoParts.{IsPartTwo}
 use Rattle.peer_image.specs.Parts.{IsPart}
@@ -46,3 +49,19 @@ pub record IsLoggedImage (bytes : List ℕ) (log : Log) : Type 0 where
   pub rows : List RawValue
   pub is_image : IsImageInOrder bytes log.kept.namespace rows
   pub whole : IsWholeLog log.kept.namespace rows log
+
+-- ---- where memory is asked for
+
+-- The log of an image of version 1 is begun, and asks for memory, behind the header.
+abbrev pub OpeningOneAsks : List ℕ → Type 0
+OpeningOneAsks bytes = IsWhole (header_at bytes)
+
+-- That of an image of version 2 is begun behind the capabilities. The first of these asks where its frame is whole, and there
+-- may be none.
+abbrev pub OpeningTwoAsks : List ℕ → Type 0
+OpeningTwoAsks bytes = Behind (head_two_at bytes) (λ head rest. (head.count ≡ 0) ⊎ FirstIsWhole rest)
+
+-- where the log of an image of either version asks for memory
+pub record OpeningAsks (bytes : List ℕ) : Type 0 where
+  pub two : IsOfVersionTwo bytes → OpeningTwoAsks bytes
+  pub one : (IsOfVersionTwo bytes → ⊥) → OpeningOneAsks bytes

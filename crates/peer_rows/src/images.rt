@@ -2,7 +2,7 @@
 
 ghost use Rattle.std.specs.Prelude.{◌≡◌, ◌^◌, ◌<◌, length, IfOk};
 ghost use Rattle.spelling.specs.declared.ending.End.TheVariants as ends;
-ghost use Rattle.peer_rows.specs.Images.{ReadsImageFrom, LogsImage, log_stop};
+ghost use Rattle.peer_rows.specs.Images.{ReadsImageFrom, LogsImage, image_told, log_stop};
 ghost use Rattle.peer_rows.specs.Opened.{LogsBytes, LogsRows};
 
 use crate::intake::Intake;
@@ -24,7 +24,14 @@ pub type EntryLog = LiveLog<AuthorisedEntry<PeerScheme>>;
 pub fn image_from(alloc: Global, bytes: &[u8], origin: Origin) -> Result<Image, Stop>
     ensures { ReadsImageFrom origin bytes.now result }
 {
-    match read_image(alloc, bytes) {
+    tell_image(origin, read_image(alloc, bytes))
+}
+
+// The image that was read, or why there is none, told of where its bytes came from.
+fn tell_image(origin: Origin, read: Result<Image, End<ImageRefusal>>) -> Result<Image, Stop>
+    ensures { result ≡ image_told origin read }
+{
+    match read {
         Ok(image) => Ok(image),
         Err(End::Refused(ImageRefusal::BadImage { at })) => Err(Stop::BadInput { origin, at }),
         Err(End::Refused(ImageRefusal::NotRising { at })) => {

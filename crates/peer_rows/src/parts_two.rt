@@ -1,9 +1,10 @@
 //! The logs of images of version 2, taken a part at a time.
 
-ghost use Rattle.std.specs.Prelude.{◌≡◌, ℕ, ◌<◌, ◌++◌, List, length, IfOk, IfSome};
+ghost use Rattle.std.specs.Prelude.{◌≡◌, ℕ, ◌<◌, ◌++◌, List, length, IfOk, IfSome, OnErr};
+ghost use Rattle.willow_entry.specs.Frame.{FrameAsks};
 ghost use Rattle.cap_codec.specs.Rows.{RawValue};
 ghost use Rattle.peer_image.specs.ImageTwoReading.{AreToldInFront, IsImageHead, head_two_spelling};
-ghost use Rattle.peer_rows.specs.Parts.{HasTakenPartTwo, HasTakenRows, IsLoggedImage};
+ghost use Rattle.peer_rows.specs.Parts.{HasTakenPartTwo, HasTakenRows, IsLoggedImage, OpeningTwoAsks};
 
 use crate::log::Log;
 use crate::parts::{MOST, PART, TRAILER, Taken, take_rows};
@@ -17,13 +18,15 @@ use spelling::NoMemory;
 use std::alloc::Global;
 use std::thread::Threads;
 
-// As `log_in_parts`, of an image of version 2. Its capabilities stand in memory beside the log.
+// As `log_in_parts`, of an image of version 2. Its capabilities stand in memory beside the log. Memory is asked for behind its
+// head, where the first capability's frame is whole, or none is counted.
 pub(crate) fn log_of_two<C: NewChecker<PeerScheme>, R: Threads + Sync>(
     rt: &R,
     alloc: Global,
     bytes: &[u8],
 ) -> Result<Option<Log>, NoMemory>
-    ensures { IfOk result (λ found. IfSome found (λ log. IsLoggedImage bytes.now log)) }
+    ensures logs { IfOk result (λ found. IfSome found (λ log. IsLoggedImage bytes.now log)) }
+    ensures asked { OnErr result (OpeningTwoAsks bytes.now) }
 {
     let Some(front) = image_two_head(bytes) else {
         return Ok(None);
@@ -73,7 +76,8 @@ fn log_behind_told<C: NewChecker<PeerScheme>, R: Threads + Sync>(
 }
 
 // Takes the rows of the first frames in front of the bytes, marks the capabilities that they tell, and answers the bytes
-// behind them; None where there are none, or they are not in order, or one finds no room.
+// behind them; None where there are none, or they are not in order, or one finds no room. Memory is asked for where the
+// first frame asks.
 fn take_part_two<'a, C: Checker<PeerScheme>, R: Threads + Sync>(
     rt: &R,
     alloc: Global,
@@ -90,6 +94,7 @@ fn take_part_two<'a, C: Checker<PeerScheme>, R: Threads + Sync>(
     ensures judged_in { C.judged_in checker.new ≡ C.judged_in checker.old }
     ensures takes { (namespace : List ℕ) (seen : List RawValue) → HasTakenRows namespace seen taken.old
         → IfOk result (λ found. IfSome found (λ left. HasTakenPartTwo told.now marks.old namespace seen bytes.now left.now marks.new taken.new)) }
+    ensures asked { OnErr result (FrameAsks bytes.now) }
 {
     let (rows, left) = rows_among(alloc, told, marks, bytes, PART)?;
     if take_rows(rt, alloc, checker, taken, rows)? {
