@@ -1,6 +1,5 @@
 use Rattle.std.proofs.Common.{◌≡◌}
 use Rattle.std.specs.Vec.Iter.{into_iter_items}
-use Rattle.peer_listing.specs.Generator.{generator_namespace}
 use Rattle.peer_rows.specs.Logged.{stored_rows}
 use Rattle.peer_rows.proofs.DrilledRows.{AreJudged}
 use Rattle.peer_rows.proofs.drilled.judge_shares.Given as goal
