@@ -4,6 +4,11 @@
 
 mod printing;
 
+ghost use Rattle.std.specs.Prelude.{◌≡◌, ℕ, List, drop};
+ghost use Rattle.std.specs.Process.{exit_status};
+ghost use Rattle.peer_words.specs.Words.{texts};
+ghost use Rattle.willow_peer.specs.Machine.{EndsAsRun};
+
 use crate::printing::Printer;
 use peer_real::{FileBay, FileShelf, RandomNoise, StdReport, StdSink, StdSource, TcpDoor};
 use peer_run::run_program;
@@ -27,7 +32,9 @@ fn all_words(rt: &HostRuntime) -> Result<Vec<String>, AllocError> {
 }
 
 /// Runs the words behind the program's name over the machine. One watches who prints what it hears of.
-fn run_here<R: Wait + Threads + Sync>(waits: &R, rt: &HostRuntime, all: &[String]) -> ExitCode {
+fn run_here<R: Wait + Threads + Sync>(waits: &R, rt: &HostRuntime, all: &[String]) -> ExitCode
+    ensures { EndsAsRun (texts (drop 1 all.now)) (exit_status result) }
+{
     let alloc = rt.alloc();
     let mut hub = Hub::new(alloc);
     let printer = Printer::new(alloc, StdSink::new(rt.stdout()));
@@ -54,16 +61,25 @@ fn run_here<R: Wait + Threads + Sync>(waits: &R, rt: &HostRuntime, all: &[String
 }
 
 /// Says that no memory was found before anything was done.
-fn no_memory(rt: &HostRuntime) -> ExitCode {
+fn no_memory(rt: &HostRuntime) -> ExitCode
+    ensures { exit_status result ≡ 7 }
+{
     let _ = rt.eprintln("no memory");
     ExitCode::from(7)
 }
 
-fn main(rt: HostRuntime) -> ExitCode {
-    match all_words(&rt) {
-        Ok(all) => run_here(&rt, &rt, &all),
-        Err(AllocError) => no_memory(&rt),
+/// Runs the words of the command line over the machine.
+fn run_command_line<R: Wait + Threads + Sync>(waits: &R, rt: &HostRuntime) -> ExitCode
+    ensures { (words : List (List ℕ)) × EndsAsRun words (exit_status result) }
+{
+    match all_words(rt) {
+        Ok(all) => run_here(waits, rt, &all),
+        Err(AllocError) => no_memory(rt),
     }
+}
+
+fn main(rt: HostRuntime) -> ExitCode {
+    run_command_line(&rt, &rt)
 }
 
 #[cfg(test)]

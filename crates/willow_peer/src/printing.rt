@@ -1,10 +1,9 @@
 //! One who watches, and prints what it hears of.
 
-ghost use Rattle.std.specs.Prelude.{◌≡◌, IsTrue};
-ghost use Rattle.std.specs.Io.KnownBytes.{Appends};
+ghost use Rattle.std.specs.Prelude.{◌≡◌};
 ghost use Rattle.peer_listing.specs.Listing.{listing_line};
 ghost use Rattle.sub_hub.specs.Watchers.{CountsLeave, KeepsNote};
-ghost use Rattle.sub_hub.specs.declared.watcher.Wish.TheVariants as wish;
+ghost use Rattle.willow_peer.specs.Printing.{PrintsLine, PrintsOrLeaves};
 
 use peer_listing::listing_line;
 use std::alloc::Global;
@@ -21,8 +20,12 @@ pub(crate) struct Printer<S> {
 }
 
 impl<S: Sink + Drop> Printer<S> {
-    /// One that prints to this output.
-    pub(crate) fn new(alloc: Global, output: S) -> Printer<S> {
+    /// One that prints to this output, and never left.
+    pub(crate) fn new(alloc: Global, output: S) -> Printer<S>
+        ensures output { result.output ≡ output }
+        ensures alloc { result.alloc ≡ alloc }
+        ensures leaves { result.leaves ≡ 0 }
+    {
         Printer {
             alloc,
             output,
@@ -39,7 +42,7 @@ impl<S: Sink + Drop> Watcher for Printer<S> {
     fn note(&mut self, at: u32, entry: &Entry) -> Wish
         ensures leaves { CountsLeave self.old.leaves self.new.leaves result }
         ensures heard { KeepsNote None None (record { at = at; entry = entry.now }) result }
-        ensures prints { result ≡ wish.Stay → Appends (S.facts self.old.output).held (S.facts self.new.output).held (listing_line entry.now) }
+        ensures prints { PrintsOrLeaves (S.facts self.old.output) (S.facts self.new.output) (listing_line entry.now) result }
     {
         let _ = at;
         if prints(self.alloc, &mut self.output, entry) {
@@ -50,9 +53,9 @@ impl<S: Sink + Drop> Watcher for Printer<S> {
     }
 }
 
-// Writes the line of an entry. Answers whether all of it is written.
+// Writes the line of an entry. Answers whether all of it is written; else a front of it may stand there.
 fn prints<S: Sink>(alloc: Global, output: &mut S, entry: &Entry) -> bool
-    ensures { IsTrue result → Appends (S.facts output.old).held (S.facts output.new).held (listing_line entry.now) }
+    ensures { PrintsLine (S.facts output.old) (S.facts output.new) (listing_line entry.now) result }
 {
     let mut line = Vec::new(alloc);
     listing_line(entry, &mut line).is_ok() && write_whole(output, &line).is_ok()
